@@ -1,0 +1,58 @@
+-- The formulas by SCRAM mechanism: SHA-1 for SCRAM-SHA-1 (RFC 5802), SHA-256 for SCRAM-SHA-256
+-- (RFC 7677). Both hash functions have blocks of 64 bytes.
+use Rattle.std.specs.Prelude.{ℕ, List, codes}
+use Rattle.sha1.specs.Sha1.{Holds, sha1}
+use Rattle.sha2.specs.Sha256.{sha256}
+use Rattle.sha2.specs.Hashers.{Holds256}
+use Rattle.mac_core.specs.Hmac.{hmac, IsMacOf}
+use Rattle.mac_core.specs.Keys.{hi, client_key, stored_key, server_key}
+use Rattle.mac_core.specs.declared.digest.HSha1.{HSha1}
+use Rattle.mac_core.specs.declared.digest.HSha256.{HSha256}
+use Rattle.mac_core.specs.declared.chosen.Mechanism.{Mechanism}
+use Rattle.mac_core.specs.declared.chosen.Mechanism.TheVariants.{ScramSha1, ScramSha256}
+use Rattle.mac_core.specs.declared.chosen.ScramMac.{ScramMac}
+use Rattle.mac_core.specs.declared.chosen.ScramMac.TheVariants.{BySha1, BySha256}
+
+-- the mechanism's name (RFC 5802, section 4, and RFC 7677, section 3)
+abbrev pub name_of : Mechanism → List ℕ
+name_of ScramSha1 = codes "SCRAM-SHA-1"
+name_of ScramSha256 = codes "SCRAM-SHA-256"
+
+-- H of the mechanism
+abbrev pub hash_by : Mechanism → List ℕ → List ℕ
+hash_by ScramSha1 = sha1
+hash_by ScramSha256 = sha256
+
+-- the length in bytes of a digest, a MAC and a key of the mechanism
+abbrev pub length_by : Mechanism → ℕ
+length_by ScramSha1 = 20
+length_by ScramSha256 = 32
+
+-- HMAC of the mechanism
+abbrev pub hmac_by : Mechanism → List ℕ → List ℕ → List ℕ
+hmac_by mechanism = hmac (hash_by mechanism) 64
+
+-- Hi of the mechanism, which of a password is its SaltedPassword
+abbrev pub hi_by : Mechanism → List ℕ → List ℕ → ℕ → List ℕ
+hi_by mechanism = hi (hash_by mechanism) 64
+
+-- ClientKey of a SaltedPassword
+abbrev pub client_key_by : Mechanism → List ℕ → List ℕ
+client_key_by mechanism = client_key (hash_by mechanism) 64
+
+-- StoredKey of a ClientKey
+abbrev pub stored_key_by : Mechanism → List ℕ → List ℕ
+stored_key_by mechanism = stored_key (hash_by mechanism)
+
+-- ServerKey of a SaltedPassword
+abbrev pub server_key_by : Mechanism → List ℕ → List ℕ
+server_key_by mechanism = server_key (hash_by mechanism) 64
+
+-- the running MAC stands for this key and text under the mechanism
+abbrev pub IsScramMac : Mechanism → ScramMac → List ℕ → List ℕ → Type 0
+IsScramMac ScramSha1 (BySha1 mac) key text =
+    IsMacOf (λ (h : HSha1) (m : List ℕ). Holds h.hasher m) sha1 64 mac key text
+IsScramMac ScramSha256 (BySha256 mac) key text =
+    IsMacOf (λ (h : HSha256) (m : List ℕ). Holds256 h.hasher m) sha256 64 mac key text
+IsScramMac ScramSha1 (BySha256 mac) key text = ⊥
+IsScramMac ScramSha256 (BySha1 mac) key text = ⊥

@@ -1,0 +1,46 @@
+-- Hi and the keys of SCRAM (RFC 5802, sections 2.2 and 3). `hash` and `block` are those of HMAC.
+use Rattle.std.specs.Prelude.{ℕ, zero, suc, List, [], ◌∷◌, ◌++◌, bit_xor, codes}
+use Rattle.mac_core.specs.Hmac.{hmac}
+
+-- two lists of bytes xor-ed place by place, up to the end of the shorter one
+unfoldable pub xor_bytes : List ℕ → List ℕ → List ℕ
+xor_bytes [] ys = []
+xor_bytes (x ∷ xs) [] = []
+xor_bytes (x ∷ xs) (y ∷ ys) = bit_xor x y ∷ xor_bytes xs ys
+
+-- INT(1), the number 1 in four bytes, most significant first
+abbrev pub int_one : List ℕ
+int_one = 0 ∷ 0 ∷ 0 ∷ 1 ∷ []
+
+-- U k of Hi under a MAC: U 1 is the MAC of the salt and INT(1), and each later one that of the one
+-- before it. U 0 stands for what U 1 is the MAC of.
+unfoldable pub iterated : (List ℕ → List ℕ) → List ℕ → ℕ → List ℕ
+iterated mac salt zero = salt ++ int_one
+iterated mac salt (suc k) = mac (iterated mac salt k)
+
+-- U 1 xor U 2 xor .. xor U n, for n from 1
+unfoldable pub xor_of_iterated : (List ℕ → List ℕ) → List ℕ → ℕ → List ℕ
+xor_of_iterated mac salt zero = []
+xor_of_iterated mac salt (suc zero) = iterated mac salt 1
+xor_of_iterated mac salt (suc (suc n)) =
+    xor_bytes (xor_of_iterated mac salt (suc n)) (iterated mac salt (suc (suc n)))
+
+-- Hi(str, salt, i), which is PBKDF2 (RFC 8018) with HMAC and one block of output
+abbrev pub hi : (List ℕ → List ℕ) → ℕ → List ℕ → List ℕ → ℕ → List ℕ
+hi hash block str salt i = xor_of_iterated (hmac hash block str) salt i
+
+-- SaltedPassword = Hi(password, salt, i)
+abbrev pub salted_password : (List ℕ → List ℕ) → ℕ → List ℕ → List ℕ → ℕ → List ℕ
+salted_password hash block password salt i = hi hash block password salt i
+
+-- ClientKey = HMAC(SaltedPassword, "Client Key")
+abbrev pub client_key : (List ℕ → List ℕ) → ℕ → List ℕ → List ℕ
+client_key hash block salted = hmac hash block salted (codes "Client Key")
+
+-- StoredKey = H(ClientKey)
+abbrev pub stored_key : (List ℕ → List ℕ) → List ℕ → List ℕ
+stored_key hash client = hash client
+
+-- ServerKey = HMAC(SaltedPassword, "Server Key")
+abbrev pub server_key : (List ℕ → List ℕ) → ℕ → List ℕ → List ℕ
+server_key hash block salted = hmac hash block salted (codes "Server Key")

@@ -1,0 +1,4 @@
+pub mod Digest
+pub mod Hmac
+pub mod Keys
+pub mod Chosen

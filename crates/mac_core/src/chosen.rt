@@ -1,0 +1,164 @@
+//! The formulas of `keys` and `hmac` where the hash function is chosen at run time, by the name of a
+//! SCRAM mechanism.
+ghost use Rattle.std.specs.Prelude.{◌≡◌, ◌≢◌, ◌≤◌, ℕ, List, [], ◌++◌, length, IfSome, IfNone};
+ghost use Rattle.mac_core.specs.Chosen.{name_of, length_by, hmac_by, hi_by, client_key_by, stored_key_by, server_key_by, IsScramMac};
+
+use crate::digest::{HSha1, HSha256, Tag};
+use crate::hmac::Mac;
+use crate::keys;
+use crate::keys::ScramKeys;
+
+/// A SCRAM mechanism without channel binding.
+#[derive(Clone, Copy, Debug, PartialEq, Eq)]
+pub enum Mechanism {
+    /// SCRAM-SHA-1 (RFC 5802): values of 20 bytes.
+    ScramSha1,
+
+    /// SCRAM-SHA-256 (RFC 7677): values of 32 bytes.
+    ScramSha256,
+}
+
+impl Mechanism {
+    /// The mechanism of this name, or None where there is none. Letters count in upper case alone
+    /// (RFC 4422, section 3.1).
+    pub fn of_name(name: &[u8]) -> Option<Mechanism>
+        ensures some { IfSome result (λ mechanism. name.now ≡ name_of mechanism) }
+        ensures none { IfNone result ((mechanism : Mechanism) → name.now ≢ name_of mechanism) }
+    {
+        if name == Mechanism::ScramSha1.name().as_bytes() {
+            Some(Mechanism::ScramSha1)
+        } else if name == Mechanism::ScramSha256.name().as_bytes() {
+            Some(Mechanism::ScramSha256)
+        } else {
+            None
+        }
+    }
+
+    /// The mechanism's name, as on the wire.
+    pub fn name(&self) -> &'static str
+        ensures { result.now ≡ name_of self.now }
+    {
+        match self {
+            Mechanism::ScramSha1 => "SCRAM-SHA-1",
+            Mechanism::ScramSha256 => "SCRAM-SHA-256",
+        }
+    }
+
+    /// Hi(password, salt, count), as `hi`. `count` is at least 1.
+    pub fn hi(self, password: &[u8], salt: &[u8], count: u32) -> Tag
+        requires { 1 ≤ count }
+        ensures value { result.items ≡ hi_by self password.now salt.now count }
+        ensures len { length result.items ≡ length_by self }
+    {
+        match self {
+            Mechanism::ScramSha1 => keys::hi::<HSha1>(password, salt, count),
+            Mechanism::ScramSha256 => keys::hi::<HSha256>(password, salt, count),
+        }
+    }
+
+    /// ClientKey of a SaltedPassword, as `client_key`.
+    pub fn client_key(self, salted: &Tag) -> Tag
+        ensures value { result.items ≡ client_key_by self salted.now.items }
+        ensures len { length result.items ≡ length_by self }
+    {
+        match self {
+            Mechanism::ScramSha1 => keys::client_key::<HSha1>(salted),
+            Mechanism::ScramSha256 => keys::client_key::<HSha256>(salted),
+        }
+    }
+
+    /// StoredKey of a ClientKey, as `stored_key`.
+    pub fn stored_key(self, client_key: &Tag) -> Tag
+        ensures value { result.items ≡ stored_key_by self client_key.now.items }
+        ensures len { length result.items ≡ length_by self }
+    {
+        match self {
+            Mechanism::ScramSha1 => keys::stored_key::<HSha1>(client_key),
+            Mechanism::ScramSha256 => keys::stored_key::<HSha256>(client_key),
+        }
+    }
+
+    /// ServerKey of a SaltedPassword, as `server_key`.
+    pub fn server_key(self, salted: &Tag) -> Tag
+        ensures value { result.items ≡ server_key_by self salted.now.items }
+        ensures len { length result.items ≡ length_by self }
+    {
+        match self {
+            Mechanism::ScramSha1 => keys::server_key::<HSha1>(salted),
+            Mechanism::ScramSha256 => keys::server_key::<HSha256>(salted),
+        }
+    }
+
+    /// The keys of a password, as `scram_keys`. `count` is at least 1.
+    pub fn scram_keys(self, password: &[u8], salt: &[u8], count: u32) -> ScramKeys
+        requires { 1 ≤ count }
+        ensures stored { result.stored.items
+            ≡ stored_key_by self (client_key_by self (hi_by self password.now salt.now count)) }
+        ensures server { result.server.items ≡ server_key_by self (hi_by self password.now salt.now count) }
+        ensures stored_len { length result.stored.items ≡ length_by self }
+        ensures server_len { length result.server.items ≡ length_by self }
+    {
+        match self {
+            Mechanism::ScramSha1 => keys::scram_keys::<HSha1>(password, salt, count),
+            Mechanism::ScramSha256 => keys::scram_keys::<HSha256>(password, salt, count),
+        }
+    }
+}
+
+/// A running HMAC whose hash function is the mechanism's. It stands for a mechanism, a key and the
+/// text that it has taken in so far.
+#[derive(Drop)]
+pub enum ScramMac {
+    /// A MAC of SCRAM-SHA-1.
+    BySha1(Mac<HSha1>),
+
+    /// A MAC of SCRAM-SHA-256.
+    BySha256(Mac<HSha256>),
+}
+
+impl ScramMac {
+    /// A MAC of the empty text under `key`, which may have any length.
+    pub fn new(mechanism: Mechanism, key: &[u8]) -> ScramMac
+        ensures { IsScramMac mechanism result key.now [] }
+    {
+        match mechanism {
+            Mechanism::ScramSha1 => ScramMac::BySha1(Mac::new(key)),
+            Mechanism::ScramSha256 => ScramMac::BySha256(Mac::new(key)),
+        }
+    }
+
+    /// Adds `piece` to the end of the text.
+    pub fn add(&mut self, piece: &[u8])
+        ensures { (mechanism : Mechanism) (key text : List ℕ) → IsScramMac mechanism self.old key text
+            → IsScramMac mechanism self.new key (text ++ piece.now) }
+    {
+        match self {
+            ScramMac::BySha1(mac) => mac.add(piece),
+            ScramMac::BySha256(mac) => mac.add(piece),
+        }
+    }
+
+    /// A second MAC of the same mechanism, key and text.
+    pub fn copy(&self) -> ScramMac
+        ensures { (mechanism : Mechanism) (key text : List ℕ) → IsScramMac mechanism self.now key text
+            → IsScramMac mechanism result key text }
+    {
+        match self {
+            ScramMac::BySha1(mac) => ScramMac::BySha1(mac.copy()),
+            ScramMac::BySha256(mac) => ScramMac::BySha256(mac.copy()),
+        }
+    }
+
+    /// The HMAC of the key and the text: 20 bytes in SCRAM-SHA-1, 32 in SCRAM-SHA-256.
+    pub fn done(self) -> Tag
+        ensures value { (mechanism : Mechanism) (key text : List ℕ) → IsScramMac mechanism self key text
+            → result.items ≡ hmac_by mechanism key text }
+        ensures len { (mechanism : Mechanism) (key text : List ℕ) → IsScramMac mechanism self key text
+            → length result.items ≡ length_by mechanism }
+    {
+        match self {
+            ScramMac::BySha1(mac) => mac.done(),
+            ScramMac::BySha256(mac) => mac.done(),
+        }
+    }
+}

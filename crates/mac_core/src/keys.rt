@@ -1,0 +1,105 @@
+//! Hi and the keys of SCRAM (RFC 5802, sections 2.2 and 3).
+ghost use Rattle.std.specs.Prelude.{◌≡◌, ◌≤◌, ℕ, List, ◌++◌, length};
+ghost use Rattle.mac_core.specs.Hmac.{hmac, IsPreparedFor};
+ghost use Rattle.mac_core.specs.Keys.{xor_bytes, int_one, iterated, hi, salted_password, client_key, stored_key, server_key};
+
+use crate::digest::{HashFn, Tag, tag_of};
+use crate::hmac::Prepared;
+use crate::mac;
+
+/// `a` and `b` xor-ed byte by byte. They have one length, and so has the result.
+pub fn xor(a: &Tag, b: &Tag) -> Tag
+    requires { length a.now.items ≡ length b.now.items }
+    ensures value { result.items ≡ xor_bytes a.now.items b.now.items }
+    ensures len { length result.items ≡ length a.now.items }
+{
+    let (a, b) = (a.as_slice(), b.as_slice());
+    let mut bytes = Tag::new();
+    for (i, x) in a.iter().enumerate() {
+        bytes.push(x ^ b[i]);
+    }
+    bytes
+}
+
+// U(1) of Hi: the MAC of the salt and INT(1).
+fn first_round<H: HashFn>(key: &Prepared<H>, salt: &[u8]) -> Tag
+    ensures value { (str : List ℕ) → IsPreparedFor H.holds H.digest_of H.BLOCK key.now str
+        → result.items ≡ hmac H.digest_of H.BLOCK str (salt.now ++ int_one) }
+    ensures len { length result.items ≡ H.LEN }
+{
+    let mut mac = key.start();
+    mac.add(salt);
+    mac.add(&1u32.to_be_bytes());
+    mac.done()
+}
+
+/// Hi(password, salt, count) of RFC 5802, section 2.2, of `H::LEN` bytes: PBKDF2 with HMAC and one
+/// block of output. It takes time in proportion to `count`, which is at least 1.
+pub fn hi<H: HashFn>(password: &[u8], salt: &[u8], count: u32) -> Tag
+    requires { 1 ≤ count }
+    ensures value { result.items ≡ hi H.digest_of H.BLOCK password.now salt.now count }
+    ensures len { length result.items ≡ H.LEN }
+{
+    let key = Prepared::<H>::new(password);
+    let mut last = first_round(&key, salt);
+    let mut sum = tag_of(last.as_slice());
+    for round in 1..count {
+        last = key.mac(last.as_slice());
+        sum = xor(&sum, &last);
+    }
+    sum
+}
+
+/// ClientKey of a SaltedPassword: HMAC(SaltedPassword, "Client Key"), of `H::LEN` bytes.
+pub fn client_key<H: HashFn>(salted: &Tag) -> Tag
+    ensures value { result.items ≡ client_key H.digest_of H.BLOCK salted.now.items }
+    ensures len { length result.items ≡ H.LEN }
+{
+    mac::<H>(salted.as_slice(), b"Client Key")
+}
+
+/// StoredKey of a ClientKey: H(ClientKey), of `H::LEN` bytes.
+pub fn stored_key<H: HashFn>(client_key: &Tag) -> Tag
+    ensures value { result.items ≡ stored_key H.digest_of client_key.now.items }
+    ensures len { length result.items ≡ H.LEN }
+{
+    let mut hasher = H::start();
+    hasher.add(client_key.as_slice());
+    hasher.done()
+}
+
+/// ServerKey of a SaltedPassword: HMAC(SaltedPassword, "Server Key"), of `H::LEN` bytes.
+pub fn server_key<H: HashFn>(salted: &Tag) -> Tag
+    ensures value { result.items ≡ server_key H.digest_of H.BLOCK salted.now.items }
+    ensures len { length result.items ≡ H.LEN }
+{
+    mac::<H>(salted.as_slice(), b"Server Key")
+}
+
+/// What a server keeps of a password (RFC 5802, section 3). Neither key gives the password back, nor
+/// lets one log in.
+#[derive(Drop)]
+pub struct ScramKeys {
+    /// StoredKey, by which a client's proof is checked.
+    pub stored: Tag,
+
+    /// ServerKey, by which the server signs.
+    pub server: Tag,
+}
+
+/// The keys of `password` under `salt` and `count`, each of `H::LEN` bytes. `count` is at least 1.
+pub fn scram_keys<H: HashFn>(password: &[u8], salt: &[u8], count: u32) -> ScramKeys
+    requires { 1 ≤ count }
+    ensures stored { let salted = salted_password H.digest_of H.BLOCK password.now salt.now count in
+        result.stored.items ≡ stored_key H.digest_of (client_key H.digest_of H.BLOCK salted) }
+    ensures server { let salted = salted_password H.digest_of H.BLOCK password.now salt.now count in
+        result.server.items ≡ server_key H.digest_of H.BLOCK salted }
+    ensures stored_len { length result.stored.items ≡ H.LEN }
+    ensures server_len { length result.server.items ≡ H.LEN }
+{
+    let salted = hi::<H>(password, salt, count);
+    ScramKeys {
+        stored: stored_key::<H>(&client_key::<H>(&salted)),
+        server: server_key::<H>(&salted),
+    }
+}

@@ -1,0 +1,36 @@
+//! HMAC (RFC 2104), Hi and the SCRAM keys (RFC 5802), over SHA-1, SHA-256 and SHA-512.
+//!
+//! Each function's contract says that its result is the RFC's formula of its arguments. No call
+//! takes memory or fails.
+//!
+//! ```rust
+//! use mac_core::{HSha256, hi, scram_keys};
+//!
+//! let keys = scram_keys::<HSha256>(b"pencil", b"a salt", 4096);
+//! assert_eq!(rt; keys.stored.len(), 32);
+//! ```
+#![tactic(auto)]
+
+ghost use Rattle.std.specs.Prelude.{◌≡◌, length};
+ghost use Rattle.mac_core.specs.Hmac.{hmac};
+
+mod chosen;
+mod digest;
+pub mod hmac;
+mod keys;
+
+pub use chosen::{Mechanism, ScramMac};
+pub use digest::{HSha1, HSha256, HSha512, HashFn, Tag};
+pub use hmac::Prepared;
+pub use keys::{ScramKeys, client_key, hi, scram_keys, server_key, stored_key, xor};
+
+/// The HMAC of `key` and `text`, of `H::LEN` bytes. The key may have any length: one longer than a
+/// block counts as its digest (RFC 2104, section 2).
+pub fn mac<H: HashFn>(key: &[u8], text: &[u8]) -> Tag
+    ensures value { result.items ≡ hmac H.digest_of H.BLOCK key.now text.now }
+    ensures len { length result.items ≡ H.LEN }
+{
+    let mut mac = hmac::Mac::<H>::new(key);
+    mac.add(text);
+    mac.done()
+}
