@@ -18,6 +18,8 @@ mod chosen;
 mod digest;
 pub mod hmac;
 mod keys;
+#[cfg(test)]
+mod tests;
 
 pub use chosen::{Mechanism, ScramMac};
 pub use digest::{HSha1, HSha256, HSha512, HashFn, Tag};

@@ -1,0 +1,48 @@
+//! Why a command ends without its answer: the text for standard error, and the exit status.
+ghost use Rattle.std.specs.Prelude.{◌≡◌, ◌≤◌};
+
+use crate::value::Judged;
+use std::alloc::AllocError;
+use thiserror::Error;
+
+/// What ends a command other than by its answer.
+#[derive(Debug, Drop, Error)]
+pub enum Fault {
+    /// An option's value is not one of those that its help names.
+    #[error("bad value for --{0}")]
+    BadValue(Judged),
+
+    /// The first input line is no password: 1 to 1024 bytes from space to tilde (20 to 7E hex).
+    #[error("bad password")]
+    BadPassword,
+
+    /// Standard input failed, or has more bytes than a command reads.
+    #[error("cannot read input")]
+    CannotReadInput,
+
+    /// Standard output failed.
+    #[error("cannot write output")]
+    CannotWriteOutput,
+
+    /// Memory ran out.
+    #[error("no memory")]
+    NoMemory,
+}
+
+impl Fault {
+    /// The exit status: 2 for what the user can spell otherwise, 3 for streams and memory.
+    pub fn status(&self) -> u8
+        ensures { result ≤ 3 }
+    {
+        match self {
+            Fault::BadValue(_) | Fault::BadPassword => 2,
+            Fault::CannotReadInput | Fault::CannotWriteOutput | Fault::NoMemory => 3,
+        }
+    }
+}
+
+impl From<AllocError> for Fault {
+    fn from(_error: AllocError) -> Fault {
+        Fault::NoMemory
+    }
+}

@@ -1,0 +1,37 @@
+//! `scramotp`: the keys of SCRAM logins (RFC 5802, RFC 7677), on the command line.
+//!
+//! `main` hands the words, the streams and the runtime to `run`, which does all the work.
+#![tactic(auto)]
+
+mod fault;
+mod input;
+mod keys;
+mod run;
+#[cfg(test)]
+mod tests;
+mod value;
+mod words;
+
+use std::io::{BufReader, BufWriter, Lock};
+use std::process::ExitCode;
+use std::{env, io};
+
+fn main(rt: HostRuntime) -> ExitCode {
+    let alloc = rt.alloc();
+    let words: Vec<String> = match env::args(&rt).and_then(|words| Ok(words.collect(alloc)?)) {
+        Ok(words) => words,
+        Err(_) => {
+            let _ = eprintln!(rt; "error: the arguments are not UTF-8 text");
+            return ExitCode::from(run::USAGE);
+        }
+    };
+    let (Ok(mut input), Ok(mut output), Ok(mut faults)) = (
+        BufReader::new(alloc, rt.reader()),
+        BufWriter::new(alloc, io::writer(&rt)),
+        BufWriter::new(alloc, rt.stderr().lock()),
+    ) else {
+        return ExitCode::from(run::SYSTEM);
+    };
+    let status = run::run(&rt, words.as_slice(), &mut input, &mut output, &mut faults);
+    ExitCode::from(status)
+}

@@ -1,0 +1,79 @@
+//! One run of the program over words and streams.
+ghost use Rattle.std.specs.Prelude.{◌≤◌};
+
+use crate::fault::Fault;
+use crate::{keys, words};
+use clap::ArgMatches;
+use clap::error::ErrorKind;
+use std::convert::AsStr;
+use std::io::{BufRead, Write};
+
+/// The status of words that the program does not understand.
+pub const USAGE: u8 = 2;
+
+/// The status of streams that fail, and of want of memory.
+pub const SYSTEM: u8 = 3;
+
+/// Runs the command that `words` name, the program's own name first, and gives the exit status: 0
+/// done, 1 refused or faulty, 2 usage, 3 input, output or memory. The answer, help and version go to
+/// `output`, all else to `faults`; both are flushed.
+pub fn run<R, S, I, O, E>(rt: &R, words: &[S], input: &mut I, output: &mut O, faults: &mut E) -> u8
+where
+    R: AllocGlobal,
+    S: AsStr,
+    I: BufRead,
+    O: Write,
+    E: Write,
+    ensures { result ≤ 3 }
+{
+    let alloc = rt.alloc();
+    let Ok(commands) = words::scramotp(alloc) else {
+        return report(faults, Fault::NoMemory);
+    };
+    match commands.try_get_matches_from(words) {
+        Ok(matches) => match dispatch(rt, &matches, input, output) {
+            Ok(()) => 0,
+            Err(fault) => report(faults, fault),
+        },
+        Err(error) if error.kind() == ErrorKind::OutOfMemory => report(faults, Fault::NoMemory),
+        Err(error) if error.use_stderr() => {
+            let _ = write!(faults, "{error}");
+            let _ = faults.flush();
+            USAGE
+        }
+        Err(help) => {
+            if write!(output, "{help}").is_ok() && output.flush().is_ok() {
+                0
+            } else {
+                report(faults, Fault::CannotWriteOutput)
+            }
+        }
+    }
+}
+
+// Runs the one command among the matches, and flushes what it printed.
+fn dispatch<R, I, O>(
+    rt: &R,
+    matches: &ArgMatches<'_>,
+    input: &mut I,
+    output: &mut O,
+) -> Result<(), Fault>
+where
+    R: AllocGlobal,
+    I: BufRead,
+    O: Write,
+{
+    if let Some(("keys", words)) = matches.subcommand() {
+        keys::keys(rt.alloc(), words, input, output)?;
+    }
+    output.flush().map_err(|_| Fault::CannotWriteOutput)
+}
+
+// Prints a fault and gives its status.
+fn report<E: Write>(faults: &mut E, fault: Fault) -> u8
+    ensures { result ≤ 3 }
+{
+    let _ = writeln!(faults, "scramotp: {fault}");
+    let _ = faults.flush();
+    fault.status()
+}
