@@ -1,0 +1,34 @@
+#!/usr/bin/env python3
+"""Times the keys of a password beside OpenSSL's PBKDF2, which is the same work.
+
+Usage: keys.py PROGRAM
+
+Runs both in turn, several times, and prints for each mechanism the best time of each, in seconds, and
+their ratio. Start-up is in both: of a process here, and of python3 with hashlib there.
+"""
+import subprocess
+import sys
+import time
+
+COUNT = 1_000_000
+TURNS = 7
+SALT = "4125c247e43ab1e93c6dff76"
+
+
+def seconds(words, **options):
+    begun = time.perf_counter()
+    subprocess.run(words, check=True, stdout=subprocess.DEVNULL, **options)
+    return time.perf_counter() - begun
+
+
+def main():
+    program = sys.argv[1]
+    for mechanism, digest in (("SCRAM-SHA-1", "sha1"), ("SCRAM-SHA-256", "sha256")):
+        words = [program, "keys", "--mechanism", mechanism, "--salt", SALT, "--count", str(COUNT)]
+        line = f"import hashlib; hashlib.pbkdf2_hmac('{digest}', b'pencil', bytes.fromhex('{SALT}'), {COUNT})"
+        turns = [(seconds(words, input=b"pencil\n"), seconds([sys.executable, "-c", line])) for _ in range(TURNS)]
+        ours, openssl = (min(column) for column in zip(*turns))
+        print(f"keys {mechanism} at {COUNT}: {ours:.3f} s, OpenSSL {openssl:.3f} s, ratio {ours / openssl:.2f}")
+
+
+main()
