@@ -1,2 +1,4 @@
+pub mod Fault
 pub mod Keys
 pub mod Number
+pub mod Options

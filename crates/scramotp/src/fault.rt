@@ -1,5 +1,6 @@
 //! Why a command ends without its answer: the text for standard error, and the exit status.
-ghost use Rattle.std.specs.Prelude.{◌≡◌, ◌≤◌};
+ghost use Rattle.std.specs.Prelude.{◌≡◌};
+ghost use Rattle.scramotp.specs.Fault.{status_of};
 
 use crate::value::Judged;
 use std::alloc::AllocError;
@@ -32,7 +33,7 @@ pub enum Fault {
 impl Fault {
     /// The exit status: 2 for what the user can spell otherwise, 3 for streams and memory.
     pub fn status(&self) -> u8
-        ensures { result ≤ 3 }
+        ensures { result ≡ status_of self.now }
     {
         match self {
             Fault::BadValue(_) | Fault::BadPassword => 2,
@@ -42,6 +43,11 @@ impl Fault {
 }
 
 impl From<AllocError> for Fault {
+    ghost use Rattle.std.specs.Prelude.{◌≡◌};
+    ghost use Rattle.scramotp.specs.declared.fault.Fault.TheVariants.{NoMemory};
+
+    ghost from_gives = { λ _ fault. fault ≡ NoMemory };
+
     fn from(_error: AllocError) -> Fault {
         Fault::NoMemory
     }

@@ -1,5 +1,6 @@
 //! The command `keys`: the two keys that a server stores of a password.
-ghost use Rattle.std.specs.Prelude.{◌≡◌, ◌≤◌, ◌↔◌, IsTrue, IfOk, string_bytes};
+ghost use Rattle.std.specs.Prelude.{◌≡◌, ◌≤◌, ◌↔◌, ◌⊎◌, ◌++◌, IsTrue, IfErr, IfOk, IfSome, OnOk, Some, string_bytes};
+ghost use Rattle.std.specs.Io.BufRead.{first_piece};
 ghost use Rattle.scramotp.specs.Keys.{IsPassword, printed_keys};
 
 use crate::fault::Fault;
@@ -7,7 +8,7 @@ use crate::value::Judged;
 use crate::{input, value};
 use clap::ArgMatches;
 use mac_core::Mechanism;
-use std::alloc::{AllocError, Global};
+use std::alloc::Global;
 use std::io::{BufRead, Write};
 
 /// The longest password in bytes.
@@ -23,21 +24,27 @@ fn is_password(line: &[u8]) -> bool
         && line.iter().all(|b| (b' '..=b'~').contains(b))
 }
 
-// The two lines to print.
-fn printed(
+// The two lines to print for a password line, or BadPassword where it is none.
+fn answer(
     alloc: Global,
     mechanism: Mechanism,
-    password: &[u8],
     salt: &[u8],
     count: u32,
-) -> Result<String, AllocError>
+    line: &[u8],
+) -> Result<String, Fault>
     requires { 1 ≤ count }
-    ensures { IfOk result (λ text. string_bytes text ≡ printed_keys mechanism password.now salt.now count) }
+    ensures ok { IfOk result (λ text. IsPassword line.now
+        × (string_bytes text ≡ printed_keys mechanism line.now salt.now count)) }
+    ensures err { IfErr result (λ fault. (fault ≡ Fault.NoMemory)
+        ⊎ ((fault ≡ Fault.BadPassword) × (IsPassword line.now → ⊥))) }
 {
-    let keys = mechanism.scram_keys(password, salt, count);
+    if !is_password(line) {
+        return Err(Fault::BadPassword);
+    }
+    let keys = mechanism.scram_keys(line, salt, count);
     let stored = hex::encode(alloc, keys.stored.as_slice())?;
     let server = hex::encode(alloc, keys.server.as_slice())?;
-    format!(in alloc; "stored={stored}\nserver={server}\n")
+    Ok(format!(in alloc; "stored={stored}\nserver={server}\n")?)
 }
 
 // What the words give for a required option.
@@ -46,7 +53,31 @@ fn given<'a>(words: &ArgMatches<'a>, option: Judged) -> &'a str {
     words.get_str(name).unwrap_or("")
 }
 
-/// Judges the options in their order, reads the password, and prints its keys.
+// Reads the password line and prints its keys.
+fn print_keys<I: BufRead, O: Write>(
+    alloc: Global,
+    mechanism: Mechanism,
+    salt: &[u8],
+    count: u32,
+    input: &mut I,
+    output: &mut O,
+) -> Result<(), Fault>
+    requires { 1 ≤ count }
+
+    // Where the streams tell their bytes: the first line's keys stand behind what was written before.
+    ensures ok { OnOk result (IfSome (I.remaining input.old) (λ bytes. IsPassword (first_piece 10 bytes)
+        × IfSome (O.contents output.old) (λ before. O.contents output.new
+        ≡ Some (before ++ printed_keys mechanism (first_piece 10 bytes) salt.now count)))) }
+{
+    let line = input::first_line(alloc, input)?;
+    let text = answer(alloc, mechanism, salt, count, line.as_slice())?;
+    output
+        .write_all(text.as_bytes())
+        .map_err(|_| Fault::CannotWriteOutput)
+}
+
+/// Judges the options in their order, reads the password, and prints its keys. Faults: BadValue and
+/// BadPassword, in this order, CannotReadInput, CannotWriteOutput and NoMemory.
 pub fn keys<I: BufRead, O: Write>(
     alloc: Global,
     words: &ArgMatches<'_>,
@@ -56,18 +87,5 @@ pub fn keys<I: BufRead, O: Write>(
     let mechanism = value::mechanism(given(words, Judged::Mechanism))?;
     let salt = value::salt(alloc, given(words, Judged::Salt))?;
     let count = value::count(given(words, Judged::Count))?;
-    let password = input::first_line(alloc, input)?;
-    if !is_password(password.as_slice()) {
-        return Err(Fault::BadPassword);
-    }
-    let text = printed(
-        alloc,
-        mechanism,
-        password.as_slice(),
-        salt.as_slice(),
-        count,
-    )?;
-    output
-        .write_all(text.as_bytes())
-        .map_err(|_| Fault::CannotWriteOutput)
+    print_keys(alloc, mechanism, salt.as_slice(), count, input, output)
 }

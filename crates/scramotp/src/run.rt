@@ -1,5 +1,6 @@
 //! One run of the program over words and streams.
-ghost use Rattle.std.specs.Prelude.{◌≤◌};
+ghost use Rattle.std.specs.Prelude.{◌≡◌, ◌≤◌};
+ghost use Rattle.scramotp.specs.Fault.{status_of};
 
 use crate::fault::Fault;
 use crate::{keys, words};
@@ -71,7 +72,7 @@ where
 
 // Prints a fault and gives its status.
 fn report<E: Write>(faults: &mut E, fault: Fault) -> u8
-    ensures { result ≤ 3 }
+    ensures { result ≡ status_of fault }
 {
     let _ = writeln!(faults, "scramotp: {fault}");
     let _ = faults.flush();

@@ -4,6 +4,7 @@ ghost use Rattle.std.specs.Fmt.{decimal};
 ghost use Rattle.mac_core.specs.Chosen.{name_of};
 ghost use Rattle.scramotp.specs.Number.{IsBare};
 ghost use Rattle.scramotp.specs.Keys.{IsSaltText};
+ghost use Rattle.scramotp.specs.Options.{option_name};
 
 use crate::fault::Fault;
 use mac_core::Mechanism;
@@ -16,14 +17,21 @@ const MOST_SALT: usize = 64;
 /// An option whose value the program judges by itself.
 #[derive(Clone, Copy, Debug)]
 pub enum Judged {
+    /// `--mechanism`
     Mechanism,
+
+    /// `--salt`
     Salt,
+
+    /// `--count`
     Count,
 }
 
 impl Judged {
     /// The option's name, without its hyphens.
-    pub fn name(&self) -> &'static str {
+    pub fn name(&self) -> &'static str
+        ensures { result.now ≡ option_name self.now }
+    {
         match self {
             Judged::Mechanism => "mechanism",
             Judged::Salt => "salt",
