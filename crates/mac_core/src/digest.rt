@@ -67,7 +67,7 @@ pub trait HashFn: Drop {
     ghost most_block: { BLOCK ≤ 128 };
 }
 
-// These bytes as a tag.
+/// These bytes as a tag.
 pub(crate) fn tag_of(bytes: &[u8]) -> Tag
     requires { length bytes.now ≤ 64 }
     ensures { result.items ≡ bytes.now }
