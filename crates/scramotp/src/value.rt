@@ -95,14 +95,27 @@ pub fn salt(alloc: Global, text: &str) -> Result<Vec<u8>, Fault>
     }
 }
 
+/// The number from `least` to `most` that `text` spells in decimal. BadValue of the option for any
+/// other text.
+pub fn within(option: Judged, text: &str, least: u64, most: u64) -> Result<u64, Fault>
+    ensures ok { IfOk result (λ n. (text.now ≡ decimal n) × (least ≤ n) × (n ≤ most)) }
+    ensures err { IfErr result (λ fault. (fault ≡ Fault.BadValue option)
+        × ((n : ℕ) → least ≤ n → n ≤ most → text.now ≢ decimal n)) }
+{
+    match number(text) {
+        Some(n) if least <= n && n <= most => Ok(n),
+        _ => Err(Fault::BadValue(option)),
+    }
+}
+
 /// The number that `text` spells, an iteration count of 1 to 4294967295. BadValue for any other text.
 pub fn count(text: &str) -> Result<u32, Fault>
     ensures ok { IfOk result (λ n. (text.now ≡ decimal n) × (1 ≤ n)) }
     ensures err { IfErr result (λ fault. (fault ≡ Fault.BadValue Judged.Count)
         × ((n : ℕ) → 1 ≤ n → n < 2 ^ 32 → text.now ≢ decimal n)) }
 {
-    match number(text) {
-        Some(n) if 1 <= n && n <= u64::from(u32::MAX) => Ok(n as u32),
-        _ => Err(Fault::BadValue(Judged::Count)),
+    match within(Judged::Count, text, 1, u64::from(u32::MAX)) {
+        Ok(n) => Ok(n as u32),
+        Err(fault) => Err(fault),
     }
 }
