@@ -12,7 +12,8 @@ mod tests;
 mod value;
 mod words;
 
-use std::io::{BufReader, BufWriter, Lock};
+use crate::fault::Fault;
+use std::io::{BufReader, BufWriter, ErrorKind, Lock};
 use std::process::ExitCode;
 use std::{env, io};
 
@@ -20,6 +21,7 @@ fn main(rt: HostRuntime) -> ExitCode {
     let alloc = rt.alloc();
     let words: Vec<String> = match env::args(&rt).and_then(|words| Ok(words.collect(alloc)?)) {
         Ok(words) => words,
+        Err(error) if error.kind() == ErrorKind::OutOfMemory => return no_memory(&rt),
         Err(_) => {
             let _ = eprintln!(rt; "error: the arguments are not UTF-8 text");
             return ExitCode::from(run::USAGE);
@@ -30,8 +32,15 @@ fn main(rt: HostRuntime) -> ExitCode {
         BufWriter::new(alloc, io::writer(&rt)),
         BufWriter::new(alloc, rt.stderr().lock()),
     ) else {
-        return ExitCode::from(run::SYSTEM);
+        return no_memory(&rt);
     };
     let status = run::run(&rt, words.as_slice(), &mut input, &mut output, &mut faults);
     ExitCode::from(status)
+}
+
+// Ends a run for which there is not even memory for its words and streams.
+fn no_memory(rt: &impl Eprint) -> ExitCode {
+    let fault = Fault::NoMemory;
+    let _ = eprintln!(rt; "scramotp: {fault}");
+    ExitCode::from(fault.status())
 }

@@ -12,9 +12,6 @@ use std::io::{BufRead, Write};
 /// The status of words that the program does not understand.
 pub const USAGE: u8 = 2;
 
-/// The status of streams that fail, and of want of memory.
-pub const SYSTEM: u8 = 3;
-
 /// Runs the command that `words` name, the program's own name first, and gives the exit status: 0
 /// done, 1 refused or faulty, 2 usage, 3 input, output or memory. The answer, help and version go to
 /// `output`, all else to `faults`; both are flushed.

@@ -17,13 +17,13 @@ const BAD_PASSWORD: &str = "scramotp: bad password\n";
 // The most bytes that a command reads.
 const MOST_INPUT: usize = 16_777_216;
 
-// A reader whose every read fails.
+// A reader whose every read fails in this way.
 #[derive(Drop)]
-struct Broken;
+struct Broken(ErrorKind);
 
 impl Read for Broken {
     fn read(&mut self, _buf: &mut [u8]) -> io::Result<usize> {
-        Err(io::Error::from(ErrorKind::ConnectionReset))
+        Err(io::Error::from(self.0))
     }
 }
 
@@ -258,14 +258,27 @@ fn contains(text: &[u8], part: &[u8]) -> bool {
 fn failing_input(rt: HostRuntime) -> Result<(), Fail> {
     let alloc = rt.alloc();
     let words = keys("SCRAM-SHA-1", SALT, "1");
-    for front in ["", "pen"] {
+    let cases = [
+        (
+            "",
+            ErrorKind::ConnectionReset,
+            "scramotp: cannot read input\n",
+        ),
+        (
+            "pen",
+            ErrorKind::ConnectionReset,
+            "scramotp: cannot read input\n",
+        ),
+        ("pen", ErrorKind::OutOfMemory, "scramotp: no memory\n"),
+    ];
+    for (front, kind, want) in cases {
         let mut output = Vec::new(alloc);
         let mut faults = Vec::new(alloc);
-        let mut input = BufReader::new(alloc, front.as_bytes().chain(Broken))?;
+        let mut input = BufReader::new(alloc, front.as_bytes().chain(Broken(kind)))?;
         let status = run::run(&rt, &words, &mut input, &mut output, &mut faults);
-        assert_eq!(rt; status, 3);
-        assert!(rt; output.is_empty());
-        assert!(rt; faults.as_slice() == b"scramotp: cannot read input\n".as_slice());
+        assert_eq!(rt; status, 3, "{want}");
+        assert!(rt; output.is_empty(), "{want}");
+        assert!(rt; faults.as_slice() == want.as_bytes(), "{want}");
     }
     Ok(())
 }
@@ -276,7 +289,12 @@ fn input_behind_the_first_line(rt: HostRuntime) -> Result<(), Fail> {
     let alloc = rt.alloc();
     let mut output = Vec::new(alloc);
     let mut faults = Vec::new(alloc);
-    let mut input = BufReader::new(alloc, b"pencil\n".as_slice().chain(Broken))?;
+    let mut input = BufReader::new(
+        alloc,
+        b"pencil\n"
+            .as_slice()
+            .chain(Broken(ErrorKind::ConnectionReset)),
+    )?;
     let status = run::run(
         &rt,
         &keys("SCRAM-SHA-1", SALT, "4096"),
