@@ -1,0 +1,82 @@
+-- A spelling is read in one way, from the left, and is a saslname.
+use Rattle.std.proofs.Common.{◌≡◌, ◌≢◌, ◌⊎◌, inl, inr, ℕ, ◌≤◌, List, [], ◌∷◌, ◌++◌, length, refl, sym, ◌∙◌, ap, arith, append_assoc, append-nil, true, IsTrue}
+use Rattle.std.specs.Prelude.{codes, flat_map}
+use Rattle.std.proofs.lemmas.Bool.Decides.{eqb_tells}
+use Rattle.scram_text.specs.Name.{IsSaslName, LacksComma, escape, name_spelling, is_escaped}
+
+-- the three forms of a byte's spelling
+pub escape_cases : (c : ℕ) → ((c ≡ 44) × (escape c ≡ codes "=2C")) ⊎ (((c ≡ 61) × (escape c ≡ codes "=3D")) ⊎ ((c ≢ 44) × (c ≢ 61) × (escape c ≡ c ∷ [])))
+escape_cases c = elim (eqb_tells c 44) [
+  | inl comma ↦ inl (comma.1, rw comma.0 refl)
+  | inr other ↦ elim (eqb_tells c 61) [
+    | inl equals ↦ inr (inl (equals.1, rw (other.0, equals.0) refl))
+    | inr neither ↦ inr (inr (other.1, neither.1, rw (other.0, neither.0) refl))
+  ]
+]
+
+-- equal lists have equal heads and equal tails
+heads : (a b : ℕ) (x y : List ℕ) → a ∷ x ≡ b ∷ y → (a ≡ b) × (x ≡ y)
+heads a b x y e = (cc, cc)
+
+heads_3 : (a b c a' b' c' : ℕ) (x y : List ℕ) → a ∷ b ∷ c ∷ x ≡ a' ∷ b' ∷ c' ∷ y → (b ≡ b') × (x ≡ y)
+heads_3 a b c a' b' c' x y e = (cc, cc)
+
+-- the first byte of what is spelled
+pub escape_first : (b c : ℕ) (x y : List ℕ) → escape b ++ x ≡ escape c ++ y → (b ≡ c) × (x ≡ y)
+escape_first b c x y e = elim (escape_cases b) [
+  | inl p ↦ elim (escape_cases c) [
+    | inl q ↦ (p.0 ∙ sym q.0, (heads_3 61 50 67 61 50 67 x y (rw (p.1, q.1) at e)).1)
+    | inr r ↦ elim r [
+      | inl q ↦ let h = (heads_3 61 50 67 61 51 68 x y (rw (p.1, q.1) at e)).0 in absurd (omega arith)
+      | inr q ↦ let h = (heads 61 c (50 ∷ 67 ∷ x) y (rw (p.1, q.2) at e)).0 in absurd (q.1 (sym h))
+    ]
+  ]
+  | inr s ↦ elim s [
+    | inl p ↦ elim (escape_cases c) [
+      | inl q ↦ let h = (heads_3 61 51 68 61 50 67 x y (rw (p.1, q.1) at e)).0 in absurd (omega arith)
+      | inr r ↦ elim r [
+        | inl q ↦ (p.0 ∙ sym q.0, (heads_3 61 51 68 61 51 68 x y (rw (p.1, q.1) at e)).1)
+        | inr q ↦ let h = (heads 61 c (51 ∷ 68 ∷ x) y (rw (p.1, q.2) at e)).0 in absurd (q.1 (sym h))
+      ]
+    ]
+    | inr p ↦ elim (escape_cases c) [
+      | inl q ↦ let h = (heads b 61 x (50 ∷ 67 ∷ y) (rw (p.2, q.1) at e)).0 in absurd (p.1 h)
+      | inr r ↦ elim r [
+        | inl q ↦ let h = (heads b 61 x (51 ∷ 68 ∷ y) (rw (p.2, q.1) at e)).0 in absurd (p.1 h)
+        | inr q ↦ heads b c x y (rw (p.2, q.2) at e)
+      ]
+    ]
+  ]
+]
+
+-- the spelling of a byte is not empty
+pub escape_nonempty : (b : ℕ) (x : List ℕ) → escape b ++ x ≡ [] → ⊥
+escape_nonempty b x e = elim (escape_cases b) [
+  | inl p ↦ let h = rw p.1 at e in cc h
+  | inr s ↦ elim s [
+    | inl p ↦ let h = rw p.1 at e in cc h
+    | inr p ↦ let h = rw p.2 at e in cc h
+  ]
+]
+
+cons_both : (b c : ℕ) (x y : List ℕ) → b ≡ c → x ≡ y → c ∷ y ≡ b ∷ x
+cons_both b c x y first rest = cc
+
+-- where the spelling of a front was read, the rest spells the other bytes
+pub spelling_rest : (front rest name : List ℕ) → name_spelling front ++ rest ≡ name_spelling name
+    → (more : List ℕ) × (name ≡ front ++ more) × (rest ≡ name_spelling more)
+spelling_rest [] rest name e = (name, refl, e)
+spelling_rest (b ∷ front) rest [] e = absurd (escape_nonempty b (name_spelling front ++ rest) (rw append_assoc at e))
+spelling_rest (b ∷ front) rest (c ∷ name) e =
+    let first = escape_first b c (name_spelling front ++ rest) (name_spelling name) (rw append_assoc at e) in
+    let more = spelling_rest front rest name first.1 in
+    (more.0, cons_both b c (front ++ more.0) name first.0 (sym more.1), more.2)
+
+-- a saslname spells one name
+pub name_once : (one other : List ℕ) → name_spelling one ≡ name_spelling other → one ≡ other
+name_once one other e =
+    let found = spelling_rest one [] other (append-nil (name_spelling one) ∙ e) in
+    elim found.0 as (λ more. other ≡ one ++ more → [] ≡ name_spelling more → one ≡ other) [
+      | [] ↦ λ same _. sym (same ∙ append-nil one)
+      | c ∷ more ↦ λ _ none. absurd (escape_nonempty c (name_spelling more) (sym none))
+    ] found.1 found.2

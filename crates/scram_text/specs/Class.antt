@@ -1,0 +1,58 @@
+-- The character classes of SCRAM messages (RFC 5802, section 7), as tests of one byte, and the runs of
+-- them that have limits here.
+use Rattle.std.specs.Prelude.{ℕ, ◌≤◌, nat_le, ◌==◌, Bool, not, ◌&&◌, ◌||◌, IsTrue, List, length}
+use Rattle.std.specs.List.{list_all}
+use Rattle.std.specs.Str.{IsUtf8}
+
+-- the byte of a comma, which separates the parts of a message
+abbrev pub is_comma : ℕ → Bool
+is_comma c = c == 44
+
+-- printable = %x21-2B / %x2D-7E, as in nonces: "fyko+d2lbbFgONRv9qkxdawL"
+abbrev pub is_printable : ℕ → Bool
+is_printable c = nat_le 0x21 c && nat_le c 0x7E && not (is_comma c)
+
+-- a byte of a plain name or a password: %x20-7E, which SASLprep leaves as it is
+abbrev pub is_plain : ℕ → Bool
+is_plain c = nat_le 0x20 c && nat_le c 0x7E
+
+-- ALPHA = %x41-5A / %x61-7A
+abbrev pub is_letter : ℕ → Bool
+is_letter c = nat_le 0x41 c && nat_le c 0x5A || nat_le 0x61 c && nat_le c 0x7A
+
+-- a character of a channel binding's name: ALPHA / DIGIT / "." / "-"
+abbrev pub is_cb_char : ℕ → Bool
+is_cb_char c = is_letter c || nat_le 0x30 c && nat_le c 0x39 || c == 46 || c == 45
+
+-- 1 to `most` bytes that pass a test
+pub record IsRunOf (test : ℕ → Bool) (most : ℕ) (bytes : List ℕ) : Type 0 where
+  pub at_least : 1 ≤ length bytes
+  pub at_most : length bytes ≤ most
+  pub each : IsTrue (list_all test bytes)
+
+-- a name in plain bytes: 1 to 255 of %x20-7E
+abbrev pub IsPlainName : List ℕ → Type 0
+IsPlainName name = IsRunOf is_plain 255 name
+
+-- a password: 1 to 1024 bytes of %x20-7E
+abbrev pub IsPassword : List ℕ → Type 0
+IsPassword password = IsRunOf is_plain 1024 password
+
+-- a nonce of at most so many characters: 1*(printable)
+abbrev pub IsNonce : ℕ → List ℕ → Type 0
+IsNonce most nonce = IsRunOf is_printable most nonce
+
+-- what one end gives of its own to a nonce: 1 to 256 characters
+abbrev pub IsNoncePart : List ℕ → Type 0
+IsNoncePart nonce = IsNonce 256 nonce
+
+-- a salt: 1 to 64 bytes
+pub record IsSalt (salt : List ℕ) : Type 0 where
+  pub at_least : 1 ≤ length salt
+  pub at_most : length salt ≤ 64
+
+-- a text: UTF-8, with no NUL in it. The value-chars of a message are the characters of such a text
+-- that are not commas, and its value-safe-chars those that are no `=` either.
+pub record IsText (bytes : List ℕ) : Type 0 where
+  pub utf8 : IsUtf8 bytes
+  pub no_nul : IsTrue (list_all (λ c. not (c == 0)) bytes)

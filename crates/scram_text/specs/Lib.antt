@@ -1,0 +1,6 @@
+pub mod Class
+pub mod Name
+pub mod Base64Field
+pub mod Parts
+pub mod Messages
+pub mod Faults

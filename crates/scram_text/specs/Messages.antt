@@ -1,0 +1,151 @@
+-- The four messages (RFC 5802, section 7), as relations between a text and its parts: the text is the
+-- literals and the parts, joined, and each part is in its class. Fields are shown as bytes, names as
+-- they are spelled, and extensions as the list of their attr-vals.
+use Rattle.std.specs.Prelude.{ℕ, ◌≡◌, ◌≤◌, Bool, ◌||◌, IsTrue, List, [], ◌∷◌, ◌++◌, length, codes, decimal, IfSome, is_some}
+use Rattle.std.specs.declared.option.Option.{Option}
+use Rattle.scram_text.specs.Class.{IsNonce, IsText}
+use Rattle.scram_text.specs.Name.{IsSaslName}
+use Rattle.scram_text.specs.Base64Field.{base64, IsField}
+use Rattle.scram_text.specs.Parts.{joined, is_flag, authz_text, mext_parts, IsValue, IsCount, AreExtensions, have_mandatory}
+
+-- the most bytes of a message
+abbrev pub most_bytes : ℕ
+most_bytes = 2048
+
+-- the parts of client-first
+pub record ClientFirstParts : Type 0 where
+  pub flag : List ℕ
+  pub authz : Option (List ℕ)
+  pub mext : Option (List ℕ)
+  pub name : List ℕ
+  pub nonce : List ℕ
+  pub extensions : List (List ℕ)
+
+-- gs2-header = gs2-cbind-flag "," [ authzid ] ",", as "n,a=root,"
+unfoldable pub header_text : ClientFirstParts → List ℕ
+header_text p = p.flag ++ 44 ∷ (authz_text p.authz ++ 44 ∷ [])
+
+-- the parts of client-first-message-bare
+abbrev pub bare_parts : ClientFirstParts → List (List ℕ)
+bare_parts p = mext_parts p.mext ++ ((codes "n=" ++ p.name) ∷ (codes "r=" ++ p.nonce) ∷ p.extensions)
+
+-- client-first-message-bare = [reserved-mext ","] username "," nonce ["," extensions], as "n=user,r=abc"
+unfoldable pub bare_text : ClientFirstParts → List ℕ
+bare_text p = joined (bare_parts p)
+
+-- client-first-message = gs2-header client-first-message-bare, as "n,,n=user,r=abc"
+unfoldable pub client_first_text : ClientFirstParts → List ℕ
+client_first_text p = header_text p ++ bare_text p
+
+-- the message asks for an extension that must be known
+abbrev pub client_first_mandatory : ClientFirstParts → Bool
+client_first_mandatory p = is_some p.mext || have_mandatory p.extensions
+
+-- the text is a client-first message with these parts
+pub record IsClientFirst (text : List ℕ) (p : ClientFirstParts) : Type 0 where
+  pub spelled : text ≡ client_first_text p
+  pub flag : IsTrue (is_flag p.flag)
+  pub authz : IfSome p.authz IsSaslName
+  pub mext : IfSome p.mext IsValue
+  pub name : IsSaslName p.name
+  pub nonce : IsNonce 256 p.nonce
+  pub extensions : AreExtensions p.extensions
+  pub is_text : IsText text
+  pub short : length text ≤ most_bytes
+
+-- the parts of server-first
+pub record ServerFirstParts : Type 0 where
+  pub mext : Option (List ℕ)
+  pub nonce : List ℕ
+  pub salt : List ℕ
+  pub count : ℕ
+  pub extensions : List (List ℕ)
+
+-- server-first-message = [reserved-mext ","] nonce "," salt "," iteration-count ["," extensions], as
+-- "r=abcdef,s=QSXCR+Q6sek8bf92,i=4096"
+unfoldable pub server_first_text : ServerFirstParts → List ℕ
+server_first_text p =
+    joined (mext_parts p.mext ++ ((codes "r=" ++ p.nonce) ∷ (codes "s=" ++ base64 p.salt)
+    ∷ (codes "i=" ++ decimal p.count) ∷ p.extensions))
+
+-- the message asks for an extension that must be known
+abbrev pub server_first_mandatory : ServerFirstParts → Bool
+server_first_mandatory p = is_some p.mext || have_mandatory p.extensions
+
+-- the text is a server-first message with these parts
+pub record IsServerFirst (text : List ℕ) (p : ServerFirstParts) : Type 0 where
+  pub spelled : text ≡ server_first_text p
+  pub mext : IfSome p.mext IsValue
+  pub nonce : IsNonce 512 p.nonce
+  pub salt : IsField 64 p.salt
+  pub count : IsCount p.count
+  pub extensions : AreExtensions p.extensions
+  pub is_text : IsText text
+  pub short : length text ≤ most_bytes
+
+-- the parts of client-final
+pub record ClientFinalParts : Type 0 where
+  pub channel : List ℕ
+  pub nonce : List ℕ
+  pub extensions : List (List ℕ)
+  pub proof : List ℕ
+
+-- client-final-message-without-proof = channel-binding "," nonce ["," extensions], as "c=biws,r=abcdef"
+unfoldable pub final_front : ClientFinalParts → List ℕ
+final_front p = joined ((codes "c=" ++ base64 p.channel) ∷ (codes "r=" ++ p.nonce) ∷ p.extensions)
+
+-- client-final-message = client-final-message-without-proof "," proof, as
+-- "c=biws,r=abcdef,p=v0X8v3Bz2T0CJGbJQyF0X+HI4Ts="
+unfoldable pub client_final_text : ClientFinalParts → List ℕ
+client_final_text p = final_front p ++ 44 ∷ (codes "p=" ++ base64 p.proof)
+
+-- the message asks for an extension that must be known
+abbrev pub client_final_mandatory : ClientFinalParts → Bool
+client_final_mandatory p = have_mandatory p.extensions
+
+-- the text is a client-final message with these parts
+pub record IsClientFinal (text : List ℕ) (p : ClientFinalParts) : Type 0 where
+  pub spelled : text ≡ client_final_text p
+  pub channel : IsField 1536 p.channel
+  pub nonce : IsNonce 512 p.nonce
+  pub extensions : AreExtensions p.extensions
+  pub proof : IsField 64 p.proof
+  pub is_text : IsText text
+  pub short : length text ≤ most_bytes
+
+-- what server-final tells: the server's signature, or why the login failed
+pub data Outcome : Type 0 where
+  verified : (signature : List ℕ) → Outcome
+  failed : (value : List ℕ) → Outcome
+
+-- the parts of server-final
+pub record ServerFinalParts : Type 0 where
+  pub outcome : Outcome
+  pub extensions : List (List ℕ)
+
+-- verifier = "v=" base64, server-error = "e=" server-error-value
+abbrev pub outcome_text : Outcome → List ℕ
+outcome_text (verified signature) = codes "v=" ++ base64 signature
+outcome_text (failed value) = codes "e=" ++ value
+
+-- a signature of 1 to 64 bytes, or an error value of one or more value-chars
+abbrev pub IsOutcome : Outcome → Type 0
+IsOutcome (verified signature) = IsField 64 signature
+IsOutcome (failed value) = IsValue value
+
+-- server-final-message = (server-error / verifier) ["," extensions], as "v=rmF9pqV8S7suAoZWja4dJRkFsKQ="
+-- or "e=invalid-proof"
+unfoldable pub server_final_text : ServerFinalParts → List ℕ
+server_final_text p = joined (outcome_text p.outcome ∷ p.extensions)
+
+-- the message asks for an extension that must be known
+abbrev pub server_final_mandatory : ServerFinalParts → Bool
+server_final_mandatory p = have_mandatory p.extensions
+
+-- the text is a server-final message with these parts
+pub record IsServerFinal (text : List ℕ) (p : ServerFinalParts) : Type 0 where
+  pub spelled : text ≡ server_final_text p
+  pub outcome : IsOutcome p.outcome
+  pub extensions : AreExtensions p.extensions
+  pub is_text : IsText text
+  pub short : length text ≤ most_bytes

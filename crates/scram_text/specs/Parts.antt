@@ -1,0 +1,90 @@
+-- What commas cut a message into, and the classes of its parts (RFC 5802, section 7). No value holds a
+-- comma, so a message is cut in one way.
+use Rattle.std.specs.Prelude.{ℕ, ◌≡◌, ◌≤◌, ◌==◌, nat_le, Bool, true, false, ◌&&◌, ◌||◌, ⊤, IsTrue, List, [], ◌∷◌, ◌++◌, length, codes, decimal, IfSome}
+use Rattle.std.specs.List.{list_all, list_any, slice_split, join_with_byte, AllByRecursion}
+use Rattle.std.specs.declared.option.Option.{Option}
+use Rattle.std.specs.declared.option.Option.TheVariants.{None, Some}
+use Rattle.scram_text.specs.Class.{is_comma, is_letter, is_cb_char}
+use Rattle.scram_text.specs.Name.{LacksComma, IsSaslName}
+use Rattle.scram_text.specs.Base64Field.{base64, IsField}
+
+-- the parts of a text: one more than it has commas, so that "a,,b" has three and "" has one
+abbrev pub parts : List ℕ → List (List ℕ)
+parts text = slice_split is_comma text
+
+-- parts, joined by commas
+abbrev pub joined : List (List ℕ) → List ℕ
+joined pieces = join_with_byte 44 pieces
+
+-- the parts of the text where there is one, and none where there is not
+abbrev pub parts_of_some : Option (List ℕ) → List (List ℕ)
+parts_of_some None = []
+parts_of_some (Some text) = parts text
+
+-- the part is this letter, `=` and whatever follows
+abbrev pub is_headed : ℕ → List ℕ → Bool
+is_headed letter [] = false
+is_headed letter (a ∷ []) = false
+is_headed letter (a ∷ b ∷ value) = (a == letter) && (b == 61)
+
+-- the part is this letter, `=` and a value of the class
+abbrev pub IsHeaded : ℕ → (List ℕ → Type 0) → List ℕ → Type 0
+IsHeaded letter class part = (value : List ℕ) × (part ≡ letter ∷ 61 ∷ value) × class value
+
+-- value = 1*value-char, in a text
+pub record IsValue (value : List ℕ) : Type 0 where
+  pub at_least : 1 ≤ length value
+  pub no_comma : LacksComma value
+
+-- cb-name = 1*(ALPHA / DIGIT / "." / "-")
+abbrev pub is_cb_name : List ℕ → Bool
+is_cb_name name = nat_le 1 (length name) && list_all is_cb_char name
+
+-- gs2-cbind-flag = "n" / "y" / "p=" cb-name
+abbrev pub is_flag : List ℕ → Bool
+is_flag [] = false
+is_flag (c ∷ []) = (c == 110) || (c == 121)
+is_flag (a ∷ b ∷ name) = (a == 112) && (b == 61) && is_cb_name name
+
+-- the part of an authorisation name: "a=" and the saslname, or nothing
+abbrev pub authz_text : Option (List ℕ) → List ℕ
+authz_text None = []
+authz_text (Some spelled) = codes "a=" ++ spelled
+
+-- the part of a mandatory extension, "m=" and its value, where there is one
+abbrev pub mext_parts : Option (List ℕ) → List (List ℕ)
+mext_parts None = []
+mext_parts (Some value) = (codes "m=" ++ value) ∷ []
+
+-- an iteration count: %x31-39 *DIGIT, which is a number from 1, and at most 4294967295 here
+pub record IsCount (count : ℕ) : Type 0 where
+  pub at_least : 1 ≤ count
+  pub at_most : count ≤ 4294967295
+
+-- the value is the decimal text of a count
+abbrev pub SpellsCount : List ℕ → Type 0
+SpellsCount value = (count : ℕ) × (value ≡ decimal count) × IsCount count
+
+-- the value is the base64 of 1 to `most` bytes
+abbrev pub SpellsField : ℕ → List ℕ → Type 0
+SpellsField most value = (bytes : List ℕ) × (value ≡ base64 bytes) × IsField most bytes
+
+-- attr-val = ALPHA "=" value
+abbrev pub is_attribute : List ℕ → Bool
+is_attribute [] = false
+is_attribute (a ∷ []) = false
+is_attribute (a ∷ b ∷ []) = false
+is_attribute (a ∷ b ∷ c ∷ value) = is_letter a && (b == 61)
+
+-- an extension: an attr-val without a comma
+pub record IsExtension (part : List ℕ) : Type 0 where
+  pub attribute : IsTrue (is_attribute part)
+  pub no_comma : LacksComma part
+
+-- extensions = attr-val *("," attr-val), or none
+abbrev pub AreExtensions : List (List ℕ) → Type 0
+AreExtensions extensions = AllByRecursion IsExtension extensions
+
+-- an extension is named "m", so the message is mandatory
+abbrev pub have_mandatory : List (List ℕ) → Bool
+have_mandatory extensions = list_any (is_headed 109) extensions

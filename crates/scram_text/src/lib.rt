@@ -1,0 +1,12 @@
+//! The four messages of a SCRAM login (RFC 5802, section 7): read exactly where the grammar has
+//! them, with their only parts, and written in their one form.
+#![tactic(auto)]
+
+mod class;
+mod fault;
+mod name;
+mod secret;
+
+pub use fault::{TextFault, TextWhy, WriteFault};
+pub use name::{PlainName, SaslText};
+pub use secret::{NoncePart, Password, Salt};

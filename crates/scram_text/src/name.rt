@@ -1,0 +1,160 @@
+//! User names: in plain bytes, and as a message spells them (RFC 5802, section 5.1).
+ghost use Rattle.std.specs.Prelude.{◌≡◌, ◌≤◌, ℕ, List, [], ◌++◌, length, ◌↔◌, IsTrue, not, IfSome, IfNone, MatchOption};
+ghost use Rattle.std.specs.Option.{SomeIff};
+ghost use Rattle.std.specs.List.{list_all};
+ghost use Rattle.scram_text.specs.Class.{IsPlainName, is_comma};
+ghost use Rattle.scram_text.specs.Name.{IsSaslName, LacksComma, SpellsName, escape, name_spelling, is_escaped, ends_escape};
+
+use crate::class;
+use arrayvec::ArrayVec;
+use std::marker::Model;
+
+/// A name: 1 to 255 bytes of 20 to 7E hex, which SASLprep (RFC 4013) leaves as they are. Contracts
+/// see it as its bytes.
+#[derive(Drop)]
+pub struct PlainName {
+    bytes: ArrayVec<u8, 255>,
+}
+
+impl Model for PlainName {
+    ghost Value = { List ℕ };
+
+    ghost view = { λ n. n.bytes.items };
+
+    ghost invariant = { λ n. IsPlainName n.bytes.items };
+}
+
+impl PlainName {
+    /// The name of these bytes, or None where they are not 1 to 255 of 20 to 7E hex.
+    pub fn new(bytes: &[u8]) -> Option<PlainName>
+        ensures { SomeIff result (IsPlainName bytes.now) bytes.now }
+    {
+        if !class::is_plain_run(bytes, 255) {
+            return None;
+        }
+        let Ok(bytes) = ArrayVec::try_from(bytes) else {
+            unreachable!()
+        };
+        Some(PlainName { bytes })
+    }
+
+    /// Its bytes, 1 to 255.
+    pub fn bytes(&self) -> &[u8]
+        ensures value { result.now ≡ self.now }
+        ensures fits { IsPlainName self.now }
+    {
+        self.bytes.as_slice()
+    }
+}
+
+/// A saslname as a message spells it: at least one byte, with `=2C` for each comma and `=3D` for
+/// each equals sign of the name. Contracts see it as its bytes.
+#[derive(Drop)]
+pub struct SaslText<'a> {
+    spelled: &'a [u8],
+}
+
+impl<'a> Model for SaslText<'a> {
+    ghost Value = { List ℕ };
+
+    ghost view = { λ s. s.spelled.now };
+
+    ghost invariant = { λ s. IsSaslName s.spelled.now };
+}
+
+impl<'a> SaslText<'a> {
+    /// The saslname of these bytes, or None where they are none.
+    pub(crate) fn new(spelled: &'a [u8]) -> Option<SaslText<'a>>
+        ensures { SomeIff result (IsSaslName spelled.now) spelled.now }
+    {
+        if is_saslname(spelled) {
+            Some(SaslText { spelled })
+        } else {
+            None
+        }
+    }
+
+    /// Its bytes, as they stand in the message.
+    pub fn spelled(&self) -> &'a [u8]
+        ensures value { result.now ≡ self.now }
+        ensures fits { IsSaslName self.now }
+    {
+        self.spelled
+    }
+
+    /// The name that it spells, or None where that is not 1 to 255 bytes of 20 to 7E hex.
+    pub fn plain(&self) -> Option<PlainName>
+        ensures some { IfSome result (λ name. SpellsName name self.now) }
+        ensures none { IfNone result ((name : List ℕ) → IsPlainName name → SpellsName name self.now → ⊥) }
+    {
+        PlainName::new(unescaped(self.spelled)?.as_slice())
+    }
+}
+
+// The bytes of the name, or None where they are more than 255.
+fn unescaped(spelled: &[u8]) -> Option<ArrayVec<u8, 255>>
+    requires escaped { IsTrue (is_escaped spelled.now) }
+    requires no_comma { LacksComma spelled.now }
+    ensures some { IfSome result (λ name. SpellsName name.items spelled.now) }
+    ensures none { IfNone result ((name : List ℕ) → length name ≤ 255 → SpellsName name spelled.now → ⊥) }
+{
+    let mut name = ArrayVec::new();
+    let mut rest = spelled;
+    while let Some((byte, more)) = unescape(rest) {
+        if name.try_push(byte).is_err() {
+            return None;
+        }
+        rest = more;
+    }
+    Some(name)
+}
+
+// The first byte of the name and the spelling of the others, or None at the end.
+fn unescape(text: &[u8]) -> Option<(u8, &[u8])>
+    requires escaped { IsTrue (is_escaped text.now) }
+    requires no_comma { LacksComma text.now }
+    ensures first { MatchOption result (text.now ≡ []) (λ found. text.now ≡ escape found.0 ++ found.1.now) }
+    ensures escaped { IfSome result (λ found. IsTrue (is_escaped found.1.now)) }
+    ensures no_comma { IfSome result (λ found. LacksComma found.1.now) }
+{
+    match text {
+        [] => None,
+        [b'=', b'2', b'C', more @ ..] => Some((b',', more)),
+        [b'=', b'3', b'D', more @ ..] => Some((b'=', more)),
+        [byte, more @ ..] => Some((*byte, more)),
+    }
+}
+
+// 1*(value-safe-char / "=2C" / "=3D"), in a text.
+fn is_saslname(spelled: &[u8]) -> bool
+    ensures { IsTrue result ↔ IsSaslName spelled.now }
+{
+    lacks_comma(spelled) && is_escaped(spelled) && !spelled.is_empty()
+}
+
+fn lacks_comma(bytes: &[u8]) -> bool
+    ensures { result ≡ list_all (λ c. not (is_comma c)) bytes.now }
+{
+    bytes.iter().all(|byte| *byte != b',')
+}
+
+// Each `=` begins `=2C` or `=3D`.
+fn is_escaped(text: &[u8]) -> bool
+    ensures { result ≡ is_escaped text.now }
+{
+    let mut rest = text;
+    while let [first, more @ ..] = rest {
+        if *first == b'=' && !ends_escape(more) {
+            return false;
+        }
+        rest = more;
+    }
+    true
+}
+
+// `2C` or `3D` stands in front.
+fn ends_escape(text: &[u8]) -> bool
+    ensures { result ≡ ends_escape text.now }
+{
+    matches!(text, [b'2', b'C', ..] | [b'3', b'D', ..])
+}

@@ -1,0 +1,121 @@
+//! Passwords, nonces and salts within their limits.
+ghost use Rattle.std.specs.Prelude.{◌≡◌, ℕ, List};
+ghost use Rattle.std.specs.Option.{SomeIff};
+ghost use Rattle.scram_text.specs.Class.{IsPassword, IsNoncePart, IsSalt};
+
+use crate::class;
+use arrayvec::ArrayVec;
+use std::marker::Model;
+
+/// A password: 1 to 1024 bytes of 20 to 7E hex, which SASLprep (RFC 4013) leaves as they are.
+/// Contracts see it as its bytes.
+#[derive(Drop)]
+pub struct Password {
+    bytes: ArrayVec<u8, 1024>,
+}
+
+impl Model for Password {
+    ghost Value = { List ℕ };
+
+    ghost view = { λ p. p.bytes.items };
+
+    ghost invariant = { λ p. IsPassword p.bytes.items };
+}
+
+impl Password {
+    /// The password of these bytes, or None where they are not 1 to 1024 of 20 to 7E hex.
+    pub fn new(bytes: &[u8]) -> Option<Password>
+        ensures { SomeIff result (IsPassword bytes.now) bytes.now }
+    {
+        if !class::is_plain_run(bytes, 1024) {
+            return None;
+        }
+        let Ok(bytes) = ArrayVec::try_from(bytes) else {
+            unreachable!()
+        };
+        Some(Password { bytes })
+    }
+
+    /// Its bytes.
+    pub fn bytes(&self) -> &[u8]
+        ensures value { result.now ≡ self.now }
+        ensures fits { IsPassword self.now }
+    {
+        self.bytes.as_slice()
+    }
+}
+
+/// What one end gives of its own to the nonce: 1 to 256 printable characters (RFC 5802, section 7),
+/// which are the bytes 21 to 7E hex but for the comma. Contracts see it as its bytes.
+#[derive(Drop)]
+pub struct NoncePart {
+    bytes: ArrayVec<u8, 256>,
+}
+
+impl Model for NoncePart {
+    ghost Value = { List ℕ };
+
+    ghost view = { λ n. n.bytes.items };
+
+    ghost invariant = { λ n. IsNoncePart n.bytes.items };
+}
+
+impl NoncePart {
+    /// The nonce part of these bytes, or None where they are not 1 to 256 printable characters.
+    pub fn new(bytes: &[u8]) -> Option<NoncePart>
+        ensures { SomeIff result (IsNoncePart bytes.now) bytes.now }
+    {
+        if !class::is_nonce(bytes, 256) {
+            return None;
+        }
+        let Ok(bytes) = ArrayVec::try_from(bytes) else {
+            unreachable!()
+        };
+        Some(NoncePart { bytes })
+    }
+
+    /// Its bytes, 1 to 256.
+    pub fn bytes(&self) -> &[u8]
+        ensures value { result.now ≡ self.now }
+        ensures fits { IsNoncePart self.now }
+    {
+        self.bytes.as_slice()
+    }
+}
+
+/// A salt: 1 to 64 bytes. Contracts see it as its bytes.
+#[derive(Drop)]
+pub struct Salt {
+    bytes: ArrayVec<u8, 64>,
+}
+
+impl Model for Salt {
+    ghost Value = { List ℕ };
+
+    ghost view = { λ s. s.bytes.items };
+
+    ghost invariant = { λ s. IsSalt s.bytes.items };
+}
+
+impl Salt {
+    /// The salt of these bytes, or None where they are not 1 to 64.
+    pub fn new(bytes: &[u8]) -> Option<Salt>
+        ensures { SomeIff result (IsSalt bytes.now) bytes.now }
+    {
+        if bytes.is_empty() || 64 < bytes.len() {
+            return None;
+        }
+        let Ok(bytes) = ArrayVec::try_from(bytes) else {
+            unreachable!()
+        };
+        Some(Salt { bytes })
+    }
+
+    /// Its bytes, 1 to 64.
+    pub fn bytes(&self) -> &[u8]
+        ensures value { result.now ≡ self.now }
+        ensures fits { IsSalt self.now }
+    {
+        self.bytes.as_slice()
+    }
+}
