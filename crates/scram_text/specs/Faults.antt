@@ -1,5 +1,14 @@
--- The numbers of the faults.
-use Rattle.std.specs.Prelude.{ℕ}
+-- What is wrong with a text that is no message: the first fault that holds. It is a condition on the
+-- text as a whole or on its parts, and the four messages differ in the places of their parts alone.
+use Rattle.std.specs.Prelude.{ℕ, ◌≡◌, ◌<◌, ◌≤◌, ◌+◌, ◌-◌, ◌⊎◌, List, [], ◌∷◌, ◌++◌, length, replicate, codes, IfSome, if◌then◌else◌}
+use Rattle.std.specs.List.{slice_index_or}
+use Rattle.std.specs.declared.option.Option.{Option}
+use Rattle.scram_text.specs.Class.{IsNonce, IsText}
+use Rattle.scram_text.specs.Name.{IsSaslName}
+use Rattle.scram_text.specs.Parts.{parts, is_headed, is_flag, authz_text, IsHeaded, IsValue, IsExtension, SpellsCount, SpellsField}
+use Rattle.scram_text.specs.Messages.{most_bytes}
+use Rattle.std.specs.Prelude.{IsTrue}
+use Rattle.scram_text.specs.declared.fault.TextFault.{TextFault}
 use Rattle.scram_text.specs.declared.fault.TextWhy.{TextWhy}
 use Rattle.scram_text.specs.declared.fault.TextWhy.TheVariants.{TooLong, NotText, Missing, Flag, Authzid, Mandatory, Name, Nonce, Salt, Count, Channel, Extension, Proof, Verifier, ErrorValue}
 use Rattle.scram_text.specs.declared.fault.WriteFault.{WriteFault}
@@ -28,3 +37,99 @@ abbrev pub write_number : WriteFault → ℕ
 write_number Unwritable = 16
 write_number OverLimit = 17
 write_number NoMemory = 99
+
+-- a fault of this part, for this reason
+abbrev pub fault : ℕ → TextWhy → TextFault
+fault part why = record { part = part; why = why }
+
+-- the part is nothing, or "a=" and a saslname
+abbrev pub IsAuthz : List ℕ → Type 0
+IsAuthz part = (authz : Option (List ℕ)) × (part ≡ authz_text authz) × IfSome authz IsSaslName
+
+-- what a part has to be at the place that gives this fault, in a message whose nonce has at most `most`
+-- characters
+abbrev pub Fits : ℕ → TextWhy → List ℕ → Type 0
+Fits most TooLong part = Unit {0}
+Fits most NotText part = Unit {0}
+Fits most Missing part = Unit {0}
+Fits most Flag part = IsTrue (is_flag part)
+Fits most Authzid part = IsAuthz part
+Fits most Mandatory part = IsHeaded 109 IsValue part
+Fits most Name part = IsHeaded 110 IsSaslName part
+Fits most Nonce part = IsHeaded 114 (IsNonce most) part
+Fits most Salt part = IsHeaded 115 (SpellsField 64) part
+Fits most Count part = IsHeaded 105 SpellsCount part
+Fits most Channel part = IsHeaded 99 (SpellsField 1536) part
+Fits most Extension part = IsExtension part
+Fits most Proof part = IsHeaded 112 (SpellsField 64) part
+Fits most Verifier part = IsHeaded 118 (SpellsField 64) part
+Fits most ErrorValue part = IsHeaded 101 IsValue part
+
+-- from the left, with parts counted from k: the first part that does not fit its place
+unfoldable pub IsFirstMisfit : ℕ → List TextWhy → ℕ → List (List ℕ) → TextFault → Type 0
+IsFirstMisfit most [] k pieces f = ⊥
+IsFirstMisfit most (place ∷ places) k [] f = ⊥
+IsFirstMisfit most (place ∷ places) k (part ∷ pieces) f =
+    ((Fits most place part → ⊥) × (f ≡ fault k place))
+    ⊎ (Fits most place part × IsFirstMisfit most places (k + 1) pieces f)
+
+-- the same of extensions alone
+abbrev pub IsExtensionMisfit : ℕ → List (List ℕ) → TextFault → Type 0
+IsExtensionMisfit k pieces f =
+    (most : ℕ) → IsFirstMisfit most (replicate (length pieces) Extension) k pieces f
+
+-- the places of n parts: the fixed ones of the front and of the back, and extensions between them
+abbrev pub places : List TextWhy → List TextWhy → ℕ → List TextWhy
+places front back n = front ++ (replicate (n - (length front + length back)) Extension ++ back)
+
+-- a part is missing, or does not fit its place
+abbrev pub IsPartFault : ℕ → List TextWhy → List TextWhy → List (List ℕ) → TextFault → Type 0
+IsPartFault most front back pieces f =
+    ((length pieces < length front + length back) × (f ≡ fault (length pieces) Missing))
+    ⊎ ((length front + length back ≤ length pieces)
+    × IsFirstMisfit most (places front back (length pieces)) 0 pieces f)
+
+-- the text is over the limit, or is no text
+abbrev pub IsWholeFault : List ℕ → TextFault → Type 0
+IsWholeFault text f =
+    ((most_bytes < length text) × (f ≡ fault 0 TooLong))
+    ⊎ ((length text ≤ most_bytes) × (IsText text → ⊥) × (f ≡ fault 0 NotText))
+
+-- the first fault of a text that is no message with these fixed places
+abbrev pub IsFault : ℕ → List TextWhy → List TextWhy → List ℕ → TextFault → Type 0
+IsFault most front back text f =
+    IsWholeFault text f
+    ⊎ ((length text ≤ most_bytes) × IsText text × IsPartFault most front back (parts text) f)
+
+-- the places of client-first: a third part that begins with "m=" is a mandatory extension
+abbrev pub client_first_places : List (List ℕ) → List TextWhy
+client_first_places pieces =
+    Flag ∷ Authzid ∷ (if is_headed 109 (slice_index_or pieces 2 []) then Mandatory ∷ Name ∷ Nonce ∷ []
+    else Name ∷ Nonce ∷ [])
+
+-- the first fault of a text that is no client-first message
+abbrev pub IsClientFirstFault : List ℕ → TextFault → Type 0
+IsClientFirstFault text f = IsFault 256 (client_first_places (parts text)) [] text f
+
+-- the places of server-first: a first part that begins with "m=" is a mandatory extension
+abbrev pub server_first_places : List (List ℕ) → List TextWhy
+server_first_places pieces =
+    if is_headed 109 (slice_index_or pieces 0 []) then Mandatory ∷ Nonce ∷ Salt ∷ Count ∷ []
+    else Nonce ∷ Salt ∷ Count ∷ []
+
+-- the first fault of a text that is no server-first message
+abbrev pub IsServerFirstFault : List ℕ → TextFault → Type 0
+IsServerFirstFault text f = IsFault 512 (server_first_places (parts text)) [] text f
+
+-- the first fault of a text that is no client-final message
+abbrev pub IsClientFinalFault : List ℕ → TextFault → Type 0
+IsClientFinalFault text f = IsFault 512 (Channel ∷ Nonce ∷ []) (Proof ∷ []) text f
+
+-- the places of server-final: a first part that begins with "e=" is an error
+abbrev pub server_final_places : List (List ℕ) → List TextWhy
+server_final_places pieces =
+    if is_headed 101 (slice_index_or pieces 0 []) then ErrorValue ∷ [] else Verifier ∷ []
+
+-- the first fault of a text that is no server-final message
+abbrev pub IsServerFinalFault : List ℕ → TextFault → Type 0
+IsServerFinalFault text f = IsFault 512 (server_final_places (parts text)) [] text f

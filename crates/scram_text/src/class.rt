@@ -1,7 +1,8 @@
 //! The character classes of SCRAM messages (RFC 5802, section 7), as tests.
-ghost use Rattle.std.specs.Prelude.{◌≡◌, ◌↔◌, IsTrue};
+ghost use Rattle.std.specs.Prelude.{◌≡◌, ◌==◌, ◌↔◌, IsTrue, not};
 ghost use Rattle.std.specs.List.{list_all};
-ghost use Rattle.scram_text.specs.Class.{is_printable, is_plain, is_letter, is_cb_char, IsNonce, IsRunOf};
+ghost use Rattle.scram_text.specs.Class.{is_printable, is_plain, is_letter, is_cb_char, IsNonce, IsRunOf, IsText};
+ghost use Rattle.scram_text.specs.Parts.{is_cb_name};
 
 // printable = %x21-2B / %x2D-7E
 pub(crate) fn is_printable(byte: u8) -> bool
@@ -41,4 +42,43 @@ fn are_printable(bytes: &[u8]) -> bool
     ensures { result ≡ list_all is_printable bytes.now }
 {
     bytes.iter().all(|byte| is_printable(*byte))
+}
+
+// ALPHA
+pub(crate) fn is_letter(byte: u8) -> bool
+    ensures { result ≡ is_letter byte }
+{
+    byte.is_ascii_alphabetic()
+}
+
+// gs2-cbind-flag's name: 1*(ALPHA / DIGIT / "." / "-")
+pub(crate) fn is_cb_name(name: &[u8]) -> bool
+    ensures { result ≡ is_cb_name name.now }
+{
+    !name.is_empty() && are_cb_chars(name)
+}
+
+fn are_cb_chars(name: &[u8]) -> bool
+    ensures { result ≡ list_all is_cb_char name.now }
+{
+    name.iter().all(|byte| is_cb_char(*byte))
+}
+
+fn is_cb_char(byte: u8) -> bool
+    ensures { result ≡ is_cb_char byte }
+{
+    byte.is_ascii_alphanumeric() || byte == b'.' || byte == b'-'
+}
+
+// UTF-8 with no NUL.
+pub(crate) fn is_text(bytes: &[u8]) -> bool
+    ensures { IsTrue result ↔ IsText bytes.now }
+{
+    str::from_utf8(bytes).is_ok() && lacks_nul(bytes)
+}
+
+fn lacks_nul(bytes: &[u8]) -> bool
+    ensures { result ≡ list_all (λ c. not (c == 0)) bytes.now }
+{
+    bytes.iter().all(|byte| *byte != 0)
 }

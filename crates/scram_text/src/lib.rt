@@ -3,10 +3,14 @@
 #![tactic(auto)]
 
 mod class;
+mod client_final;
+mod cut;
 mod fault;
+mod field;
 mod name;
 mod secret;
 
+pub use client_final::{ClientFinal, read_client_final};
 pub use fault::{TextFault, TextWhy, WriteFault};
 pub use name::{PlainName, SaslText};
 pub use secret::{NoncePart, Password, Salt};

@@ -1,0 +1,133 @@
+-- Parts against their places, whichever the message.
+use Rattle.std.proofs.Common.{◌≡◌, ◌⊎◌, inl, inr, ℕ, zero, suc, ◌+◌, ◌-◌, ◌≤◌, ◌<◌, true, not, ◌&&◌, List, [], ◌∷◌, ◌++◌, length, replicate, refl, sym, ◌∙◌, ap, arith, length-append, subst}
+use Rattle.std.specs.List.{AllByRecursion, list_all}
+use Rattle.std.specs.Prelude.{nat_le, IsTrue}
+use Rattle.scram_text.specs.Class.{is_comma, is_printable, IsNonce, IsText}
+use Rattle.scram_text.specs.Name.{LacksComma}
+use Rattle.scram_text.specs.Base64Field.{base64, IsField}
+use Rattle.scram_text.specs.Parts.{parts, joined, IsExtension, AreExtensions, IsHeaded, SpellsField}
+use Rattle.scram_text.specs.Faults.{Fits, fault, IsFirstMisfit, IsExtensionMisfit, IsPartFault, IsFault, places}
+use Rattle.scram_text.specs.declared.fault.TextFault.{TextFault}
+use Rattle.scram_text.specs.declared.fault.TextWhy.{TextWhy}
+use Rattle.scram_text.specs.declared.fault.TextWhy.TheVariants.{Extension}
+use Rattle.scram_text.proofs.PartLemmas.{both, parts_whole, parts_front}
+
+-- each part fits its place, as far as there are both
+unfoldable pub AllFit : ℕ → List TextWhy → List (List ℕ) → Type 0
+AllFit most [] pieces = Unit {0}
+AllFit most (place ∷ later) [] = Unit {0}
+AllFit most (place ∷ later) (part ∷ pieces) = Fits most place part × AllFit most later pieces
+
+pub fits_cons : (most : ℕ) (place : TextWhy) (later : List TextWhy) (part : List ℕ) (pieces : List (List ℕ))
+    → Fits most place part → AllFit most later pieces → AllFit most (place ∷ later) (part ∷ pieces)
+unfolding AllFit
+fits_cons most place later part pieces fits fit = (fits, fit)
+
+pub fits_end : (most : ℕ) (pieces : List (List ℕ)) → AllFit most [] pieces
+unfolding AllFit
+fits_end most pieces = tt
+
+-- where each part fits, none is the first that does not
+pub no_misfit : (most : ℕ) (later : List TextWhy) (k : ℕ) (pieces : List (List ℕ)) (f : TextFault)
+    → AllFit most later pieces → IsFirstMisfit most later k pieces f → ⊥
+unfolding IsFirstMisfit AllFit
+no_misfit most [] k pieces f fit misfit = misfit
+no_misfit most (place ∷ later) k [] f fit misfit = misfit
+no_misfit most (place ∷ later) k (part ∷ pieces) f fit misfit = elim misfit [
+  | inl here ↦ here.0 fit.0
+  | inr behind ↦ no_misfit most later (k + 1) pieces f fit.1 behind.1
+]
+
+-- more places and parts behind
+pub misfit-append : (most : ℕ) (later more : List TextWhy) (k : ℕ) (pieces others : List (List ℕ)) (f : TextFault)
+    → IsFirstMisfit most later k pieces f → IsFirstMisfit most (later ++ more) k (pieces ++ others) f
+unfolding IsFirstMisfit
+misfit-append most [] more k pieces others f misfit = absurd misfit
+misfit-append most (place ∷ later) more k [] others f misfit = absurd misfit
+misfit-append most (place ∷ later) more k (part ∷ pieces) others f misfit = elim misfit [
+  | inl here ↦ inl here
+  | inr behind ↦ inr (behind.0, misfit-append most later more (k + 1) pieces others f behind.1)
+]
+
+-- extensions before
+pub misfit_behind : (most : ℕ) (later : List TextWhy) (k j : ℕ) (extensions pieces : List (List ℕ)) (f : TextFault)
+    → j ≡ k + length extensions → AreExtensions extensions → IsFirstMisfit most later j pieces f
+    → IsFirstMisfit most (replicate (length extensions) Extension ++ later) k (extensions ++ pieces) f
+unfolding IsFirstMisfit
+misfit_behind most later k j [] pieces f at are misfit =
+    let same : j ≡ k = omega (arith, at) in subst (λ (i : ℕ). IsFirstMisfit most later i pieces f) same misfit
+misfit_behind most later k j (part ∷ extensions) pieces f at are misfit =
+    inr (are.0, misfit_behind most later (k + 1) j extensions pieces f (omega (arith, at)) are.1 misfit)
+
+pub fit_behind : (most : ℕ) (later : List TextWhy) (extensions pieces : List (List ℕ))
+    → AreExtensions extensions → AllFit most later pieces
+    → AllFit most (replicate (length extensions) Extension ++ later) (extensions ++ pieces)
+unfolding AllFit
+fit_behind most later [] pieces are fit = fit
+fit_behind most later (part ∷ extensions) pieces are fit = (are.0, fit_behind most later extensions pieces are.1 fit)
+
+-- the places of parts with these extensions between
+pub places_of : (front back : List TextWhy) (n middle : ℕ) → n ≡ length front + length back + middle
+    → places front back n ≡ front ++ (replicate middle Extension ++ back)
+places_of front back n middle count =
+    let same : n - (length front + length back) ≡ middle = omega (arith, count) in rw same refl
+
+-- a fault of the parts is one of the text
+pub fault_of : (most : ℕ) (front back : List TextWhy) (text : List ℕ) (pieces : List (List ℕ)) (f : TextFault)
+    → length text ≤ 2048 → IsText text → parts text ≡ pieces → IsPartFault most front back pieces f → IsFault most front back text f
+fault_of most front back text pieces f short is_text cut misfit =
+    inr (short, is_text, subst (λ (ps : List (List ℕ)). IsPartFault most front back ps f) (sym cut) misfit)
+
+-- a text whose parts fit has no fault
+pub no_fault : (most : ℕ) (front back : List TextWhy) (text : List ℕ) (pieces : List (List ℕ)) (f : TextFault)
+    → length text ≤ 2048 → IsText text → parts text ≡ pieces → length front + length back ≤ length pieces
+    → AllFit most (places front back (length pieces)) pieces → IsFault most front back text f → ⊥
+no_fault most front back text pieces f short is_text cut enough fit faulty = elim faulty [
+  | inl whole ↦ elim whole [
+    | inl long ↦ omega (arith, short, long.0)
+    | inr no_text ↦ no_text.1 is_text
+  ]
+  | inr in_parts ↦
+      let misfit = rw cut at in_parts.2 in elim misfit [
+        | inl missing ↦ omega (arith, enough, missing.0)
+        | inr first ↦ no_misfit most (places front back (length pieces)) 0 pieces f fit first.1
+      ]
+]
+
+-- printable characters are no commas
+printable_lacks : (bytes : List ℕ) → list_all is_printable bytes ≡ true → LacksComma bytes
+printable_lacks [] h = refl
+printable_lacks (c ∷ bytes) h =
+    let each = both (is_printable c) (list_all is_printable bytes) h in
+    let printable = both (nat_le 0x21 c && nat_le c 0x7E) (not (is_comma c)) each.0 in
+    rw printable.1 (printable_lacks bytes each.1)
+
+pub nonce_lacks : (most : ℕ) (nonce : List ℕ) → IsNonce most nonce → LacksComma nonce
+nonce_lacks most nonce class = printable_lacks nonce class.each
+
+pub extensions_lack : (extensions : List (List ℕ)) → AreExtensions extensions → AllByRecursion LacksComma extensions
+extensions_lack [] are = tt
+extensions_lack (part ∷ extensions) are = (are.0.no_comma, extensions_lack extensions are.1)
+
+-- pieces without commas are cut as they were joined
+pub parts-joined : (piece : List ℕ) (pieces : List (List ℕ)) → AllByRecursion LacksComma (piece ∷ pieces)
+    → parts (joined (piece ∷ pieces)) ≡ piece ∷ pieces
+parts-joined piece [] lack = parts_whole piece lack.0
+parts-joined piece (next ∷ pieces) lack =
+    parts_front piece (joined (next ∷ pieces)) lack.0 ∙ ap (λ (ps : List (List ℕ)). piece ∷ ps) (parts-joined next pieces lack.1)
+
+-- a last element more
+pub last_once : (xs ys : List (List ℕ)) (x y : List ℕ) → xs ++ x ∷ [] ≡ ys ++ y ∷ [] → (xs ≡ ys) × (x ≡ y)
+last_once [] [] x y same = (refl, cc)
+last_once [] (b ∷ []) x y same = absurd (cc same)
+last_once [] (b ∷ c ∷ ys) x y same = absurd (cc same)
+last_once (a ∷ []) [] x y same = absurd (cc same)
+last_once (a ∷ c ∷ xs) [] x y same = absurd (cc same)
+last_once (a ∷ xs) (b ∷ ys) x y same =
+    let rest : xs ++ x ∷ [] ≡ ys ++ y ∷ [] = cc same in
+    let later = last_once xs ys x y rest in (cc (same, later.0), later.1)
+
+-- a part is a field by the text of its bytes
+pub field_fits : (letter most : ℕ) (part bytes : List ℕ) → part ≡ letter ∷ 61 ∷ base64 bytes → IsField most bytes
+    → IsHeaded letter (SpellsField most) part
+field_fits letter most part bytes spelled field = (base64 bytes, spelled, (bytes, refl, field))

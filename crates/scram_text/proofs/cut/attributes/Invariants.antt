@@ -1,0 +1,12 @@
+use Rattle.std.proofs.Common.{length}
+use Rattle.std.specs.Option.{option_copied}
+use Rattle.scram_text.specs.Parts.{parts, parts_of_some}
+use Rattle.scram_text.proofs.ExtensionLemmas.{Leads}
+use Rattle.scram_text.proofs.cut.attributes.Given as goal
+
+abbrev pub invariant-loop-left : goal.invariant-loop-left
+invariant-loop-left l =
+    Leads l.first (parts l.fn.text) l.index l.mandatory (parts_of_some (option_copied l.left))
+
+abbrev pub decreases-loop-left : goal.decreases-loop-left
+decreases-loop-left l = length (parts_of_some (option_copied l.left))

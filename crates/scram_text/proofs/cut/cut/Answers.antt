@@ -1,0 +1,15 @@
+use Rattle.std.proofs.Common.{sym, ◌∙◌}
+use Rattle.scram_text.proofs.PartLemmas.{cut_at, cut_none}
+use Rattle.scram_text.proofs.cut.cut.Goals as goal
+
+pub returns-in-None-clause-parts : goal.returns-in-None-clause-parts
+returns-in-None-clause-parts c = (cut_none c.args.text.now (sym c.in-None.ensures)).0
+
+pub returns-in-None-clause-no_comma : goal.returns-in-None-clause-no_comma
+returns-in-None-clause-no_comma c = (cut_none c.args.text.now (sym c.in-None.ensures)).1
+
+pub returns-in-Some-clause-parts : goal.returns-in-Some-clause-parts
+returns-in-Some-clause-parts c = (cut_at c.args.text.now c.in-Some.at (sym c.in-Some.ensures)).0
+
+pub returns-in-Some-clause-no_comma : goal.returns-in-Some-clause-no_comma
+returns-in-Some-clause-no_comma c = (cut_at c.args.text.now c.in-Some.at (sym c.in-Some.ensures)).1

@@ -1,0 +1,11 @@
+use Rattle.std.proofs.Common.{◌≡◌, ℕ, List, [], ◌∷◌, length, drop, ap, arith, subst}
+use Rattle.scram_text.specs.Name.{LacksComma}
+use Rattle.scram_text.proofs.PartLemmas.{parts_whole}
+use Rattle.scram_text.proofs.cut.cut_last.Goals as goal
+
+whole_lacks : (text : List ℕ) (at : ℕ) → at ≡ 0 → LacksComma (drop at text) → LacksComma text
+whole_lacks text at none lacks = rw none at lacks
+
+pub returns-clause-whole : goal.returns-clause-whole
+returns-clause-whole c =
+    ap length (parts_whole c.args.text.now (whole_lacks c.args.text.now c.loop-at.at (omega arith) c.loop-at.invariant.no_comma))

@@ -1,0 +1,161 @@
+//! A message is cut at its commas into parts, and a part into its letter and its value.
+ghost use Rattle.std.specs.Prelude.{◌≡◌, ◌≤◌, ◌<◌, ◌+◌, ℕ, [], ◌∷◌, ◌++◌, length, position, count_by, IfOk, IfSome, OnOk, IfErr, MatchOption, true, false};
+ghost use Rattle.std.specs.Option.{option_copied};
+ghost use Rattle.scram_text.specs.Class.{is_comma, IsText};
+ghost use Rattle.scram_text.specs.Name.{LacksComma};
+ghost use Rattle.scram_text.specs.Parts.{parts, parts_of_some, joined, is_headed, is_attribute, AreExtensions, have_mandatory};
+ghost use Rattle.scram_text.specs.Faults.{IsWholeFault, IsExtensionMisfit};
+
+use crate::class;
+use crate::fault::{TextFault, TextWhy};
+
+// The number of parts of a message, where it is a text within the limit.
+pub(crate) fn count_of(message: &[u8]) -> Result<usize, TextFault>
+    ensures short { IfOk result (λ _. length message.now ≤ 2048) }
+    ensures is_text { IfOk result (λ _. IsText message.now) }
+    ensures count { IfOk result (λ count. count ≡ length (parts message.now)) }
+    ensures few { OnOk result (length (parts message.now) ≤ 2049) }
+    ensures fault { IfErr result (λ f. IsWholeFault message.now f) }
+{
+    if message.len() > 2048 {
+        return Err(TextFault {
+            part: 0,
+            why: TextWhy::TooLong,
+        });
+    }
+    if !class::is_text(message) {
+        return Err(TextFault {
+            part: 0,
+            why: TextWhy::NotText,
+        });
+    }
+    Ok(part_count(message))
+}
+
+#[tactic(auto, using(crate::proofs::PartLemmas::parts_count))]
+fn part_count(text: &[u8]) -> usize
+    requires { length text.now ≤ 2048 }
+    ensures count { result ≡ length (parts text.now) }
+    ensures few { result ≤ length text.now + 1 }
+{
+    comma_count(text) + 1
+}
+
+fn comma_count(text: &[u8]) -> usize
+    ensures count { result ≡ count_by is_comma text.now }
+    ensures few { result ≤ length text.now }
+{
+    text.iter().filter(|byte| **byte == b',').count()
+}
+
+// The first part, and the text behind its comma where there is one.
+pub(crate) fn cut(text: &[u8]) -> (&[u8], Option<&[u8]>)
+    ensures parts { parts text.now ≡ result.0.now ∷ parts_of_some (option_copied result.1) }
+    ensures no_comma { LacksComma result.0.now }
+    ensures first_len { length result.0.now ≤ length text.now }
+{
+    match comma(text) {
+        None => (text, None),
+        Some(at) => (&text[..at], Some(&text[at + 1..])),
+    }
+}
+
+fn comma(text: &[u8]) -> Option<usize>
+    ensures { result ≡ position is_comma text.now }
+{
+    text.iter().position(|byte| *byte == b',')
+}
+
+// What stands before the last comma and behind it, or None where there is none.
+pub(crate) fn cut_last(text: &[u8]) -> Option<(&[u8], &[u8])>
+    ensures whole { MatchOption result (length (parts text.now) ≡ 1) (λ cut. text.now ≡ cut.0.now ++ 44 ∷ cut.1.now) }
+    ensures no_comma { IfSome result (λ cut. LacksComma cut.1.now) }
+    ensures front_len { IfSome result (λ cut. length cut.0.now ≤ length text.now) }
+    ensures back_len { IfSome result (λ cut. length cut.1.now ≤ length text.now) }
+{
+    let mut at = text.len();
+    while at > 0 {
+        at -= 1;
+        if text[at] == b',' {
+            return Some((&text[..at], &text[at + 1..]));
+        }
+    }
+    None
+}
+
+// The value of a part with this letter, or None where it is another part.
+pub(crate) fn headed(part: &[u8], letter: u8) -> Option<&[u8]>
+    ensures { MatchOption result (is_headed letter part.now ≡ false) (λ value. part.now ≡ letter ∷ 61 ∷ value.now) }
+{
+    match part {
+        [first, b'=', value @ ..] if *first == letter => Some(value),
+        _ => None,
+    }
+}
+
+// The part is named `m`.
+pub(crate) fn is_mandatory(part: &[u8]) -> bool
+    ensures { result ≡ is_headed 109 part.now }
+{
+    matches!(part, [b'm', b'=', ..])
+}
+
+// attr-val = ALPHA "=" value
+fn is_attribute(part: &[u8]) -> bool
+    ensures { result ≡ is_attribute part.now }
+{
+    match part {
+        [letter, b'=', _, ..] => class::is_letter(*letter),
+        _ => false,
+    }
+}
+
+// The extensions at the end of a message: their text, and whether one is named `m`.
+#[derive(Drop)]
+pub(crate) struct Extensions<'a> {
+    pub(crate) text: &'a [u8],
+    pub(crate) mandatory: bool,
+}
+
+// The extensions of a text where there is one. Its first part has this index in the message.
+pub(crate) fn extensions_of(text: Option<&[u8]>, first: usize) -> Result<Extensions<'_>, TextFault>
+    requires few { first + length (parts_of_some (option_copied text)) < 10000 }
+    ensures found { OnOk result (AreExtensions (parts_of_some (option_copied text.entry))) }
+    ensures text { IfOk result (λ e. e.text.now ≡ joined (parts_of_some (option_copied text.entry))) }
+    ensures mandatory { IfOk result (λ e. e.mandatory ≡ have_mandatory (parts_of_some (option_copied text.entry))) }
+    ensures fault { IfErr result (λ f. IsExtensionMisfit first (parts_of_some (option_copied text.entry)) f) }
+{
+    let Some(text) = text else {
+        return Ok(Extensions {
+            text: &[],
+            mandatory: false,
+        });
+    };
+    let mandatory = attributes(text, first)?;
+    Ok(Extensions { text, mandatory })
+}
+
+// Each part is an attr-val; answers whether one is named `m`.
+fn attributes(text: &[u8], first: usize) -> Result<bool, TextFault>
+    requires few { first + length (parts text.now) < 10000 }
+    ensures found { OnOk result (AreExtensions (parts text.now)) }
+    ensures mandatory { IfOk result (λ mandatory. mandatory ≡ have_mandatory (parts text.now)) }
+    ensures fault { IfErr result (λ f. IsExtensionMisfit first (parts text.now) f) }
+{
+    let mut left = Some(text);
+    let mut index = first;
+    let mut mandatory = false;
+    while let Some(rest) = left {
+        let (part, more) = cut(rest);
+        if !is_attribute(part) {
+            return Err(TextFault {
+                part: index,
+                why: TextWhy::Extension,
+            });
+        }
+        mandatory |= is_mandatory(part);
+        index += 1;
+        left = more;
+    }
+    Ok(mandatory)
+}

@@ -1,0 +1,161 @@
+//! The parts whose values are decoded or have a class of their own, each read by its letter.
+ghost use Rattle.std.specs.Prelude.{◌≡◌, ◌≤◌, ℕ, List, ◌∷◌, ◌++◌, length, take, decimal, codes, IfNone, IfSome, IsTrue, ◌↔◌};
+ghost use Rattle.scram_text.specs.Class.{IsNonce};
+ghost use Rattle.scram_text.specs.Name.{IsSaslName, LacksComma};
+ghost use Rattle.scram_text.specs.Base64Field.{base64, IsField};
+ghost use Rattle.scram_text.specs.Parts.{IsHeaded, IsValue, IsCount, SpellsCount, SpellsField};
+
+use crate::name::SaslText;
+use crate::secret::Salt;
+use crate::{class, cut};
+use arrayvec::ArrayVec;
+use base64::engine::general_purpose::STANDARD;
+use itoa::Buffer;
+use mac_core::Tag;
+
+// The nonce of `r=` and 1 to `most` printable characters.
+pub(crate) fn nonce_of(part: &[u8], most: usize) -> Option<&[u8]>
+    ensures none { IfNone result (IsHeaded 114 (IsNonce most) part.now → ⊥) }
+    ensures spelled { IfSome result (λ nonce. part.now ≡ codes "r=" ++ nonce.now) }
+    ensures class { IfSome result (λ nonce. IsNonce most nonce.now) }
+{
+    let nonce = cut::headed(part, b'r')?;
+    if class::is_nonce(nonce, most) {
+        Some(nonce)
+    } else {
+        None
+    }
+}
+
+// The name of `n=` or `a=` and a saslname.
+pub(crate) fn name_of(part: &[u8], letter: u8) -> Option<SaslText<'_>>
+    ensures none { IfNone result (IsHeaded letter IsSaslName part.now → ⊥) }
+    ensures spelled { IfSome result (λ name. part.now ≡ letter ∷ 61 ∷ name) }
+    ensures class { IfSome result (λ name. IsSaslName name) }
+{
+    let spelled = cut::headed(part, letter)?;
+    SaslText::new(spelled)
+}
+
+// The value of `m=` or `e=` and one or more value-chars, in a part of a text.
+pub(crate) fn value_of(part: &[u8], letter: u8) -> Option<&[u8]>
+    requires { LacksComma part.now }
+    ensures none { IfNone result (IsHeaded letter IsValue part.now → ⊥) }
+    ensures spelled { IfSome result (λ value. part.now ≡ letter ∷ 61 ∷ value.now) }
+    ensures class { IfSome result (λ value. IsValue value.now) }
+{
+    let value = cut::headed(part, letter)?;
+    if value.is_empty() { None } else { Some(value) }
+}
+
+// The count of `i=` and a number from 1 to 4294967295.
+pub(crate) fn count_of(part: &[u8]) -> Option<u32>
+    ensures none { IfNone result (IsHeaded 105 SpellsCount part.now → ⊥) }
+    ensures spelled { IfSome result (λ count. part.now ≡ codes "i=" ++ decimal count) }
+    ensures class { IfSome result (λ count. IsCount count) }
+{
+    let digits = cut::headed(part, b'i')?;
+    count(digits)
+}
+
+fn count(digits: &[u8]) -> Option<u32>
+    ensures none { IfNone result (SpellsCount digits.now → ⊥) }
+    ensures spelled { IfSome result (λ count. digits.now ≡ decimal count) }
+    ensures class { IfSome result (λ count. IsCount count) }
+{
+    let Ok(text) = str::from_utf8(digits) else {
+        return None;
+    };
+    let Ok(count) = text.parse::<u32>() else {
+        return None;
+    };
+    if count > 0 && is_decimal(digits, count) {
+        Some(count)
+    } else {
+        None
+    }
+}
+
+// The digits are those of the number, with no sign and no leading zero.
+fn is_decimal(digits: &[u8], number: u32) -> bool
+    ensures { IsTrue result ↔ (digits.now ≡ decimal number) }
+{
+    digits == Buffer::new().format(number).as_bytes()
+}
+
+// The bytes of `c=` and the base64 of 1 to 1536 bytes.
+pub(crate) fn channel_of(part: &[u8]) -> Option<ArrayVec<u8, 1536>>
+    requires { length part.now ≤ 2048 }
+    ensures none { IfNone result (IsHeaded 99 (SpellsField 1536) part.now → ⊥) }
+    ensures spelled { IfSome result (λ channel. part.now ≡ codes "c=" ++ base64 channel.items) }
+    ensures class { IfSome result (λ channel. IsField 1536 channel.items) }
+{
+    let text = cut::headed(part, b'c')?;
+    long_field(text)
+}
+
+// The bytes of a letter and the base64 of 1 to 64 bytes.
+pub(crate) fn tag_of(part: &[u8], letter: u8) -> Option<Tag>
+    requires { length part.now ≤ 2048 }
+    ensures none { IfNone result (IsHeaded letter (SpellsField 64) part.now → ⊥) }
+    ensures spelled { IfSome result (λ tag. part.now ≡ letter ∷ 61 ∷ base64 tag.items) }
+    ensures class { IfSome result (λ tag. IsField 64 tag.items) }
+{
+    let text = cut::headed(part, letter)?;
+    short_field(text)
+}
+
+// The salt of `s=` and the base64 of 1 to 64 bytes.
+pub(crate) fn salt_of(part: &[u8]) -> Option<Salt>
+    requires { length part.now ≤ 2048 }
+    ensures none { IfNone result (IsHeaded 115 (SpellsField 64) part.now → ⊥) }
+    ensures spelled { IfSome result (λ salt. part.now ≡ codes "s=" ++ base64 salt) }
+    ensures class { IfSome result (λ salt. IsField 64 salt) }
+{
+    let bytes = tag_of(part, b's')?;
+    Salt::new(bytes.as_slice())
+}
+
+fn long_field(text: &[u8]) -> Option<ArrayVec<u8, 1536>>
+    requires { length text.now ≤ 2048 }
+    ensures none { IfNone result (SpellsField 1536 text.now → ⊥) }
+    ensures spelled { IfSome result (λ field. text.now ≡ base64 field.items) }
+    ensures class { IfSome result (λ field. IsField 1536 field.items) }
+{
+    let mut buffer = [0; 1536];
+    let size = decode(text, &mut buffer)?;
+    let Ok(field) = ArrayVec::try_from(&buffer[..size]) else {
+        unreachable!()
+    };
+    Some(field)
+}
+
+fn short_field(text: &[u8]) -> Option<Tag>
+    requires { length text.now ≤ 2048 }
+    ensures none { IfNone result (SpellsField 64 text.now → ⊥) }
+    ensures spelled { IfSome result (λ field. text.now ≡ base64 field.items) }
+    ensures class { IfSome result (λ field. IsField 64 field.items) }
+{
+    let mut buffer = [0; 1536];
+    let size = decode(text, &mut buffer)?;
+    let Ok(field) = Tag::try_from(&buffer[..size]) else {
+        return None;
+    };
+    Some(field)
+}
+
+// The number of bytes that the base64 text stands for, which are then at the front of `buffer`. It is
+// None where the text is not the base64 of 1 to 1536 bytes.
+fn decode(text: &[u8], buffer: &mut [u8; 1536]) -> Option<usize>
+    requires { length text.now ≤ 2048 }
+    ensures none { IfNone result (SpellsField 1536 text.now → ⊥) }
+    ensures field { IfSome result (λ size. IsField 1536 (take size buffer.new)) }
+    ensures text { IfSome result (λ size. text.now ≡ base64 (take size buffer.new)) }
+    ensures size { IfSome result (λ size. size ≤ 1536) }
+{
+    match STANDARD.decode_slice_unchecked(text, buffer) {
+        Ok(0) => None,
+        Ok(size) => Some(size),
+        Err(_) => None,
+    }
+}
