@@ -17,7 +17,7 @@ use Rattle.scram_text.specs.declared.fault.TextFault.{TextFault}
 use Rattle.scram_text.specs.declared.fault.TextWhy.{TextWhy}
 use Rattle.scram_text.specs.declared.fault.TextWhy.TheVariants.{Channel, Nonce, Extension, Proof}
 use Rattle.scram_text.proofs.PartLemmas.{parts-append, parts_whole, misfit_here, misfit_later}
-use Rattle.scram_text.proofs.PlaceLemmas.{AllFit, fits_cons, fits_end, places_of, misfit-append, misfit_behind, fit_behind, no_fault, nonce_lacks, extensions_lack, parts-joined, last_once, field_fits}
+use Rattle.scram_text.proofs.PlaceLemmas.{AllFit, fits_cons, fits_end, places_of, misfit-append, misfit_behind, fit_behind, no_fault, nonce_lacks, extensions_lack, parts-joined, last_once, field_fits, field_once}
 
 -- the parts of the text of these parts
 abbrev pub final_parts : ClientFinalParts → List (List ℕ)
@@ -41,10 +41,6 @@ parts_final text p is =
       front_parts p is.channel is.nonce is.extensions,
       parts_whole (codes "p=" ++ base64 p.proof) is.proof.field.no_comma,
     ) refl)
-
-field_once : (most : ℕ) (one other : List ℕ) → IsField most one → IsField most other → base64 one ≡ base64 other → one ≡ other
-field_once most one other is also same =
-    let read = rw same at is.field.back in let read_also = also.field.back in cc (read, read_also)
 
 parts_once : (p q : ClientFinalParts) → p.channel ≡ q.channel → p.nonce ≡ q.nonce → p.extensions ≡ q.extensions → p.proof ≡ q.proof → p ≡ q
 parts_once p q channel nonce extensions proof =

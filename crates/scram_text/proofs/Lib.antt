@@ -4,3 +4,8 @@ pub mod Base64Lemmas
 pub mod ExtensionLemmas
 pub mod PlaceLemmas
 pub mod ClientFinalLemmas
+pub mod MarkedLemmas
+pub mod ServerFinalLemmas
+pub mod CountLemmas
+pub mod ServerFirstLemmas
+pub mod ClientFirstLemmas

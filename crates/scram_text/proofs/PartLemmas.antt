@@ -85,6 +85,9 @@ cut_at text at found =
     let cuts = rw found at (position_cuts text) in
     (rw (behind text (at + 1)) (ap parts cuts.0 ∙ parts_front (take at text) (drop (at + 1) text) cuts.1), cuts.1)
 
+pub cut_text : (text : List ℕ) (at : ℕ) → position is_comma text ≡ Some at → text ≡ take at text ++ 44 ∷ drop (at + 1) text
+cut_text text at found = let cuts = rw found at (position_cuts text) in cuts.0
+
 pub cut_none : (text : List ℕ) → position is_comma text ≡ None → (parts text ≡ text ∷ []) × LacksComma text
 cut_none text none = let lacks = rw none at (position_cuts text) in (parts_whole text lacks, lacks)
 

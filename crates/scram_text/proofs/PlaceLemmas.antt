@@ -1,7 +1,7 @@
 -- Parts against their places, whichever the message.
-use Rattle.std.proofs.Common.{◌≡◌, ◌⊎◌, inl, inr, ℕ, zero, suc, ◌+◌, ◌-◌, ◌≤◌, ◌<◌, true, not, ◌&&◌, List, [], ◌∷◌, ◌++◌, length, replicate, refl, sym, ◌∙◌, ap, arith, length-append, subst}
+use Rattle.std.proofs.Common.{◌≡◌, ◌⊎◌, inl, inr, ℕ, ◌+◌, ◌-◌, ◌≤◌, Bool, true, false, List, [], ◌∷◌, ◌++◌, length, replicate, refl, sym, ◌∙◌, ap, arith, length-append, subst}
 use Rattle.std.specs.List.{AllByRecursion, list_all}
-use Rattle.std.specs.Prelude.{nat_le, IsTrue}
+use Rattle.std.proofs.lemmas.Bool.{cases_Bool, eqb-true, both_ways}
 use Rattle.scram_text.specs.Class.{is_comma, is_printable, IsNonce, IsText}
 use Rattle.scram_text.specs.Name.{LacksComma}
 use Rattle.scram_text.specs.Base64Field.{base64, IsField}
@@ -78,6 +78,13 @@ pub fault_of : (most : ℕ) (front back : List TextWhy) (text : List ℕ) (piece
 fault_of most front back text pieces f short is_text cut misfit =
     inr (short, is_text, subst (λ (ps : List (List ℕ)). IsPartFault most front back ps f) (sym cut) misfit)
 
+-- the same, where the parts settle the places
+pub fault_at : (most : ℕ) (front : List (List ℕ) → List TextWhy) (text : List ℕ) (pieces : List (List ℕ)) (f : TextFault)
+    → length text ≤ 2048 → IsText text → parts text ≡ pieces → IsPartFault most (front pieces) [] pieces f
+    → IsFault most (front (parts text)) [] text f
+fault_at most front text pieces f short is_text cut misfit =
+    inr (short, is_text, subst (λ (ps : List (List ℕ)). IsPartFault most (front ps) [] ps f) (sym cut) misfit)
+
 -- a text whose parts fit has no fault
 pub no_fault : (most : ℕ) (front back : List TextWhy) (text : List ℕ) (pieces : List (List ℕ)) (f : TextFault)
     → length text ≤ 2048 → IsText text → parts text ≡ pieces → length front + length back ≤ length pieces
@@ -94,16 +101,26 @@ no_fault most front back text pieces f short is_text cut enough fit faulty = eli
       ]
 ]
 
--- printable characters are no commas
-printable_lacks : (bytes : List ℕ) → list_all is_printable bytes ≡ true → LacksComma bytes
-printable_lacks [] h = refl
-printable_lacks (c ∷ bytes) h =
-    let each = both (is_printable c) (list_all is_printable bytes) h in
-    let printable = both (nat_le 0x21 c && nat_le c 0x7E) (not (is_comma c)) each.0 in
-    rw printable.1 (printable_lacks bytes each.1)
+-- the same, where the parts settle the places
+pub no_fault_at : (most : ℕ) (front : List (List ℕ) → List TextWhy) (text : List ℕ) (pieces : List (List ℕ)) (f : TextFault)
+    → length text ≤ 2048 → IsText text → parts text ≡ pieces → length (front pieces) ≤ length pieces
+    → AllFit most (places (front pieces) [] (length pieces)) pieces → IsFault most (front (parts text)) [] text f → ⊥
+no_fault_at most front text pieces f short is_text cut enough fit faulty =
+    no_fault most (front pieces) [] text pieces f short is_text cut (omega (arith, enough)) fit
+    (subst (λ (ps : List (List ℕ)). IsFault most (front ps) [] text f) cut faulty)
+
+-- bytes of a class that has no comma
+pub class_lacks : (test : ℕ → Bool) (bytes : List ℕ) → test 44 ≡ false → list_all test bytes ≡ true → LacksComma bytes
+class_lacks test [] no_comma h = refl
+class_lacks test (c ∷ bytes) no_comma h =
+    let each = both (test c) (list_all test bytes) h in
+    elim (cases_Bool (is_comma c)) [
+      | inl hit ↦ absurd (both_ways (test 44) no_comma (rw (eqb-true c 44 hit) at each.0))
+      | inr miss ↦ rw miss (class_lacks test bytes no_comma each.1)
+    ]
 
 pub nonce_lacks : (most : ℕ) (nonce : List ℕ) → IsNonce most nonce → LacksComma nonce
-nonce_lacks most nonce class = printable_lacks nonce class.each
+nonce_lacks most nonce class = class_lacks is_printable nonce refl class.each
 
 pub extensions_lack : (extensions : List (List ℕ)) → AreExtensions extensions → AllByRecursion LacksComma extensions
 extensions_lack [] are = tt
@@ -115,6 +132,15 @@ pub parts-joined : (piece : List ℕ) (pieces : List (List ℕ)) → AllByRecurs
 parts-joined piece [] lack = parts_whole piece lack.0
 parts-joined piece (next ∷ pieces) lack =
     parts_front piece (joined (next ∷ pieces)) lack.0 ∙ ap (λ (ps : List (List ℕ)). piece ∷ ps) (parts-joined next pieces lack.1)
+
+pub parts-joined_list : (pieces : List (List ℕ)) → 1 ≤ length pieces → AllByRecursion LacksComma pieces → parts (joined pieces) ≡ pieces
+parts-joined_list [] some lack = absurd (omega (arith, some))
+parts-joined_list (piece ∷ pieces) some lack = parts-joined piece pieces lack
+
+-- the same misfit at an index that is written in another way
+pub misfit_at : (most j k : ℕ) (later : List TextWhy) (pieces : List (List ℕ)) (f : TextFault) → j ≡ k
+    → IsFirstMisfit most later j pieces f → IsFirstMisfit most later k pieces f
+misfit_at most j k later pieces f same misfit = subst (λ (i : ℕ). IsFirstMisfit most later i pieces f) same misfit
 
 -- a last element more
 pub last_once : (xs ys : List (List ℕ)) (x y : List ℕ) → xs ++ x ∷ [] ≡ ys ++ y ∷ [] → (xs ≡ ys) × (x ≡ y)
@@ -131,3 +157,12 @@ last_once (a ∷ xs) (b ∷ ys) x y same =
 pub field_fits : (letter most : ℕ) (part bytes : List ℕ) → part ≡ letter ∷ 61 ∷ base64 bytes → IsField most bytes
     → IsHeaded letter (SpellsField most) part
 field_fits letter most part bytes spelled field = (base64 bytes, spelled, (bytes, refl, field))
+
+-- a text is the base64 of one list of bytes
+pub field_once : (most : ℕ) (one other : List ℕ) → IsField most one → IsField most other → base64 one ≡ base64 other → one ≡ other
+field_once most one other is also same =
+    let read = rw same at is.field.back in let read_also = also.field.back in cc (read, read_also)
+
+-- lists with different heads are different
+pub heads_differ : (a b : ℕ) (x y : List ℕ) → a ∷ x ≡ b ∷ y → (a ≡ b → ⊥) → ⊥
+heads_differ a b x y same differ = differ (cc same)

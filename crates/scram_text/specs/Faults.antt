@@ -1,13 +1,11 @@
 -- What is wrong with a text that is no message: the first fault that holds. It is a condition on the
 -- text as a whole or on its parts, and the four messages differ in the places of their parts alone.
-use Rattle.std.specs.Prelude.{ℕ, ◌≡◌, ◌<◌, ◌≤◌, ◌+◌, ◌-◌, ◌⊎◌, List, [], ◌∷◌, ◌++◌, length, replicate, codes, IfSome, if◌then◌else◌}
-use Rattle.std.specs.List.{slice_index_or}
+use Rattle.std.specs.Prelude.{ℕ, ◌≡◌, ◌<◌, ◌≤◌, ◌+◌, ◌-◌, ◌⊎◌, List, [], ◌∷◌, ◌++◌, length, drop, replicate, IfSome, if◌then◌else◌, IsTrue}
 use Rattle.std.specs.declared.option.Option.{Option}
 use Rattle.scram_text.specs.Class.{IsNonce, IsText}
 use Rattle.scram_text.specs.Name.{IsSaslName}
 use Rattle.scram_text.specs.Parts.{parts, is_headed, is_flag, authz_text, IsHeaded, IsValue, IsExtension, SpellsCount, SpellsField}
 use Rattle.scram_text.specs.Messages.{most_bytes}
-use Rattle.std.specs.Prelude.{IsTrue}
 use Rattle.scram_text.specs.declared.fault.TextFault.{TextFault}
 use Rattle.scram_text.specs.declared.fault.TextWhy.{TextWhy}
 use Rattle.scram_text.specs.declared.fault.TextWhy.TheVariants.{TooLong, NotText, Missing, Flag, Authzid, Mandatory, Name, Nonce, Salt, Count, Channel, Extension, Proof, Verifier, ErrorValue}
@@ -101,21 +99,26 @@ IsFault most front back text f =
     IsWholeFault text f
     ⊎ ((length text ≤ most_bytes) × IsText text × IsPartFault most front back (parts text) f)
 
--- the places of client-first: a third part that begins with "m=" is a mandatory extension
+-- the first part, or nothing
+abbrev pub first_of : List (List ℕ) → List ℕ
+first_of [] = []
+first_of (part ∷ pieces) = part
+
+-- the places behind a mandatory extension, which is there where the first part begins with "m="
+abbrev pub marked_places : List (List ℕ) → List TextWhy → List TextWhy
+marked_places pieces later = if is_headed 109 (first_of pieces) then Mandatory ∷ later else later
+
+-- the places of client-first: its bare message is what follows the second part
 abbrev pub client_first_places : List (List ℕ) → List TextWhy
-client_first_places pieces =
-    Flag ∷ Authzid ∷ (if is_headed 109 (slice_index_or pieces 2 []) then Mandatory ∷ Name ∷ Nonce ∷ []
-    else Name ∷ Nonce ∷ [])
+client_first_places pieces = Flag ∷ Authzid ∷ marked_places (drop 2 pieces) (Name ∷ Nonce ∷ [])
 
 -- the first fault of a text that is no client-first message
 abbrev pub IsClientFirstFault : List ℕ → TextFault → Type 0
 IsClientFirstFault text f = IsFault 256 (client_first_places (parts text)) [] text f
 
--- the places of server-first: a first part that begins with "m=" is a mandatory extension
+-- the places of server-first
 abbrev pub server_first_places : List (List ℕ) → List TextWhy
-server_first_places pieces =
-    if is_headed 109 (slice_index_or pieces 0 []) then Mandatory ∷ Nonce ∷ Salt ∷ Count ∷ []
-    else Nonce ∷ Salt ∷ Count ∷ []
+server_first_places pieces = marked_places pieces (Nonce ∷ Salt ∷ Count ∷ [])
 
 -- the first fault of a text that is no server-first message
 abbrev pub IsServerFirstFault : List ℕ → TextFault → Type 0
@@ -125,10 +128,13 @@ IsServerFirstFault text f = IsFault 512 (server_first_places (parts text)) [] te
 abbrev pub IsClientFinalFault : List ℕ → TextFault → Type 0
 IsClientFinalFault text f = IsFault 512 (Channel ∷ Nonce ∷ []) (Proof ∷ []) text f
 
--- the places of server-final: a first part that begins with "e=" is an error
+-- the place of a first part of server-final: one that begins with "e=" is an error
+abbrev pub result_place : List ℕ → TextWhy
+result_place part = if is_headed 101 part then ErrorValue else Verifier
+
+-- the places of server-final
 abbrev pub server_final_places : List (List ℕ) → List TextWhy
-server_final_places pieces =
-    if is_headed 101 (slice_index_or pieces 0 []) then ErrorValue ∷ [] else Verifier ∷ []
+server_final_places pieces = result_place (first_of pieces) ∷ []
 
 -- the first fault of a text that is no server-final message
 abbrev pub IsServerFinalFault : List ℕ → TextFault → Type 0

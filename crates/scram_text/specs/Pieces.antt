@@ -1,9 +1,20 @@
 -- What the readers cut a message into before they read its parts.
-use Rattle.std.specs.Prelude.{◌≡◌, ◌≤◌, [], ◌∷◌, ◌++◌, List, ℕ, length}
+use Rattle.std.specs.Prelude.{◌≡◌, ◌≤◌, ◌+◌, [], ◌∷◌, ◌++◌, List, ℕ, length, IfSome, is_some}
 use Rattle.std.specs.Option.{option_copied}
-use Rattle.scram_text.specs.Class.{IsText}
-use Rattle.scram_text.specs.Parts.{parts, parts_of_some}
+use Rattle.scram_text.specs.Class.{IsText, IsNonce}
+use Rattle.scram_text.specs.Name.{IsSaslName}
+use Rattle.scram_text.specs.Messages.{ClientFirstParts, bare_parts, client_first_mandatory}
+use Rattle.std.specs.declared.option.Option.{Option}
+use Rattle.scram_text.specs.Parts.{parts, parts_of_some, mext_parts, joined, IsValue, is_headed, AreExtensions}
+use Rattle.scram_text.specs.Faults.{IsFirstMisfit, places, first_of, marked_places}
 use Rattle.scram_text.specs.declared.client_final.Pieces.{Pieces}
+use Rattle.scram_text.specs.declared.server_first.Pieces.{Pieces as ServerPieces}
+use Rattle.scram_text.specs.declared.client_first.Pieces.{Pieces as FirstPieces}
+use Rattle.scram_text.specs.declared.client_first.BarePieces.{BarePieces}
+use Rattle.scram_text.specs.declared.client_first.Bare.{Bare}
+use Rattle.scram_text.specs.declared.fault.TextFault.{TextFault}
+use Rattle.scram_text.specs.declared.fault.TextWhy.{TextWhy}
+use Rattle.scram_text.specs.declared.fault.TextWhy.TheVariants.{Name, Nonce}
 
 -- the parts of a text that may be client-final
 pub record IsCutFinal (message : List ℕ) (pieces : Pieces) : Type 0 where
@@ -16,3 +27,63 @@ pub record IsCutFinal (message : List ℕ) (pieces : Pieces) : Type 0 where
   pub few : length (parts message) ≤ 2049
   pub channel_len : length pieces.channel.now ≤ 2048
   pub proof_len : length pieces.proof.now ≤ 2048
+
+-- parts are a mandatory extension, where they begin with one, and the others
+pub record IsMarked (pieces rest : List (List ℕ)) (mext : Option (List ℕ)) : Type 0 where
+  pub cut : pieces ≡ mext_parts mext ++ rest
+  pub value : IfSome mext IsValue
+  pub headed : is_headed 109 (first_of pieces) ≡ is_some mext
+
+-- the first part begins with "m=" and is no mandatory extension
+abbrev pub IsMextMisfit : ℕ → List (List ℕ) → TextFault → Type 0
+IsMextMisfit k pieces f =
+    (most : ℕ) (later : List TextWhy) → IsFirstMisfit most (places (marked_places pieces later) [] (length pieces)) k pieces f
+
+-- the parts of a text that may be server-first
+pub record IsCutServer (message : List ℕ) (pieces : ServerPieces) : Type 0 where
+  pub short : length message ≤ 2048
+  pub is_text : IsText message
+  pub mext : Option (List ℕ)
+  pub marked : IsMarked (parts message) (pieces.nonce.now ∷ pieces.salt.now ∷ pieces.count.now ∷ parts_of_some (option_copied pieces.rest)) mext
+  pub is_marked : pieces.marked ≡ is_some mext
+  pub index : pieces.index ≡ length (mext_parts mext)
+  pub few : length (parts message) ≤ 2049
+  pub salt_len : length pieces.salt.now ≤ 2048
+
+-- the parts of a text that may be client-first
+pub record IsCutFirst (message : List ℕ) (pieces : FirstPieces) : Type 0 where
+  pub short : length message ≤ 2048
+  pub is_text : IsText message
+  pub header : message ≡ pieces.header.now ++ pieces.bare.now
+  pub header_parts : pieces.header.now ≡ pieces.flag.now ++ 44 ∷ (pieces.authzid.now ++ 44 ∷ [])
+  pub cut : parts message ≡ pieces.flag.now ∷ pieces.authzid.now ∷ parts pieces.bare.now
+  pub enough : length (marked_places (parts pieces.bare.now) []) + 2 ≤ length (parts pieces.bare.now)
+  pub few : length (parts message) ≤ 2049
+
+-- the parts of a text that may be client-first-bare, with parts counted from 2
+pub record IsCutBare (bare : List ℕ) (pieces : BarePieces) : Type 0 where
+  pub mext : Option (List ℕ)
+  pub marked : IsMarked (parts bare) (pieces.name.now ∷ pieces.nonce.now ∷ parts_of_some (option_copied pieces.rest)) mext
+  pub is_marked : pieces.marked ≡ is_some mext
+  pub index : pieces.index ≡ 2 + length (mext_parts mext)
+
+-- the parts of client-first-bare
+pub record IsBare (pieces : List (List ℕ)) (p : ClientFirstParts) : Type 0 where
+  pub cut : pieces ≡ bare_parts p
+  pub headed : is_headed 109 (first_of pieces) ≡ is_some p.mext
+  pub mext : IfSome p.mext IsValue
+  pub name : IsSaslName p.name
+  pub nonce : IsNonce 256 p.nonce
+  pub extensions : AreExtensions p.extensions
+
+-- what was read of client-first-bare shows these parts
+pub record ShowsBare (m : Bare) (p : ClientFirstParts) : Type 0 where
+  pub mandatory : m.mandatory ≡ client_first_mandatory p
+  pub name : m.name ≡ p.name
+  pub nonce : m.nonce.now ≡ p.nonce
+  pub extensions : m.extensions.now ≡ joined p.extensions
+
+-- the first part of client-first-bare that does not fit, with parts counted from 2
+abbrev pub IsBareMisfit : List (List ℕ) → TextFault → Type 0
+IsBareMisfit pieces f =
+    IsFirstMisfit 256 (places (marked_places pieces (Name ∷ Nonce ∷ [])) [] (length pieces)) 2 pieces f

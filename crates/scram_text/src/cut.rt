@@ -1,13 +1,16 @@
 //! A message is cut at its commas into parts, and a part into its letter and its value.
-ghost use Rattle.std.specs.Prelude.{◌≡◌, ◌≤◌, ◌<◌, ◌+◌, ℕ, [], ◌∷◌, ◌++◌, length, position, count_by, IfOk, IfSome, OnOk, IfErr, MatchOption, true, false};
+ghost use Rattle.std.specs.Prelude.{◌≡◌, ◌≤◌, ◌<◌, ◌+◌, ℕ, [], ◌∷◌, ◌++◌, length, position, count_by, List, IfOk, IfSome, is_some, OnOk, IfErr, MatchOption, true, false};
 ghost use Rattle.std.specs.Option.{option_copied};
+ghost use Rattle.std.specs.declared.option.Option.{Option};
 ghost use Rattle.scram_text.specs.Class.{is_comma, IsText};
 ghost use Rattle.scram_text.specs.Name.{LacksComma};
 ghost use Rattle.scram_text.specs.Parts.{parts, parts_of_some, joined, is_headed, is_attribute, AreExtensions, have_mandatory};
-ghost use Rattle.scram_text.specs.Faults.{IsWholeFault, IsExtensionMisfit};
+ghost use Rattle.scram_text.specs.Parts.{mext_parts};
+ghost use Rattle.scram_text.specs.Faults.{IsWholeFault, IsExtensionMisfit, first_of, marked_places};
+ghost use Rattle.scram_text.specs.Pieces.{IsMarked, IsMextMisfit};
 
-use crate::class;
 use crate::fault::{TextFault, TextWhy};
+use crate::{class, field};
 
 // The number of parts of a message, where it is a text within the limit.
 pub(crate) fn count_of(message: &[u8]) -> Result<usize, TextFault>
@@ -53,6 +56,8 @@ pub(crate) fn cut(text: &[u8]) -> (&[u8], Option<&[u8]>)
     ensures parts { parts text.now ≡ result.0.now ∷ parts_of_some (option_copied result.1) }
     ensures no_comma { LacksComma result.0.now }
     ensures first_len { length result.0.now ≤ length text.now }
+    ensures rest_len { IfSome result.1 (λ rest. length rest.now ≤ length text.now) }
+    ensures whole { IfSome result.1 (λ rest. text.now ≡ result.0.now ++ 44 ∷ rest.now) }
 {
     match comma(text) {
         None => (text, None),
@@ -158,4 +163,73 @@ fn attributes(text: &[u8], first: usize) -> Result<bool, TextFault>
         left = more;
     }
     Ok(mandatory)
+}
+
+// The first two parts, and the text behind them where there is one.
+pub(crate) fn two_of(text: &[u8]) -> (&[u8], &[u8], Option<&[u8]>)
+    requires { 2 ≤ length (parts text.now) }
+    ensures parts { parts text.now ≡ result.0.now ∷ result.1.now ∷ parts_of_some (option_copied result.2) }
+    ensures first_len { length result.0.now ≤ length text.now }
+    ensures second_len { length result.1.now ≤ length text.now }
+    ensures whole { IfSome result.2 (λ rest. text.now ≡ result.0.now ++ 44 ∷ (result.1.now ++ 44 ∷ rest.now)) }
+    ensures no_comma { LacksComma result.0.now }
+{
+    let (first, rest) = cut(text);
+    let Some(rest) = rest else { unreachable!() };
+    let (second, rest) = cut(rest);
+    (first, second, rest)
+}
+
+// The message begins with `m=`, so its first part does.
+pub(crate) fn is_marked(text: &[u8]) -> bool
+    ensures { result ≡ is_headed 109 (first_of (parts text.now)) }
+{
+    is_mandatory(text)
+}
+
+// The least number of parts of a message: one more than the fixed ones where it begins with `m=`.
+pub(crate) fn least_of(text: &[u8], fixed: usize) -> usize
+    requires { fixed < 10 }
+    ensures { result ≡ length (marked_places (parts text.now) []) + fixed }
+{
+    if is_marked(text) { fixed + 1 } else { fixed }
+}
+
+// What follows a mandatory extension at the front of a text, or the whole text where there is none.
+#[derive(Drop)]
+pub(crate) struct Marked<'a> {
+    pub(crate) marked: bool,
+    pub(crate) rest: &'a [u8],
+    pub(crate) index: usize,
+}
+
+// Reads reserved-mext, "m=" and a value, where it is there. The text's first part has this index.
+pub(crate) fn mext_of(text: &[u8], index: usize) -> Result<Marked<'_>, TextFault>
+    requires few { index < 10 }
+    requires enough { is_headed 109 (first_of (parts text.now)) ≡ true → 2 ≤ length (parts text.now) }
+    ensures found { IfOk result (λ m. (mext : Option (List ℕ)) × IsMarked (parts text.now) (parts m.rest.now) mext
+        × (m.marked ≡ is_some mext) × (m.index ≡ index + length (mext_parts mext))) }
+    ensures rest_len { IfOk result (λ m. length m.rest.now ≤ length text.now) }
+    ensures fault { IfErr result (λ f. IsMextMisfit index (parts text.now) f) }
+{
+    if !is_marked(text) {
+        return Ok(Marked {
+            marked: false,
+            rest: text,
+            index,
+        });
+    }
+    let (mext, rest) = cut(text);
+    let Some(rest) = rest else { unreachable!() };
+    let Some(_) = field::value_of(mext, b'm') else {
+        return Err(TextFault {
+            part: index,
+            why: TextWhy::Mandatory,
+        });
+    };
+    Ok(Marked {
+        marked: true,
+        rest,
+        index: index + 1,
+    })
 }

@@ -4,13 +4,19 @@
 
 mod class;
 mod client_final;
+mod client_first;
 mod cut;
 mod fault;
 mod field;
 mod name;
 mod secret;
+mod server_final;
+mod server_first;
 
 pub use client_final::{ClientFinal, read_client_final};
+pub use client_first::{ClientFirst, Flag, read_client_first};
 pub use fault::{TextFault, TextWhy, WriteFault};
 pub use name::{PlainName, SaslText};
 pub use secret::{NoncePart, Password, Salt};
+pub use server_final::{FinalResult, ServerFinal, read_server_final};
+pub use server_first::{ServerFirst, read_server_first};

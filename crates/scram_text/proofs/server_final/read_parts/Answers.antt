@@ -1,0 +1,42 @@
+use Rattle.std.proofs.Common.{◌≡◌, refl}
+use Rattle.std.specs.Option.{option_copied}
+use Rattle.std.proofs.lemmas.Result.{err_from_is_err_and}
+use Rattle.scram_text.specs.Parts.{parts_of_some}
+use Rattle.scram_text.specs.Messages.{ServerFinalParts}
+use Rattle.scram_text.specs.Shown.{outcome_of}
+use Rattle.scram_text.proofs.ServerFinalLemmas.{result_fault, extension_fault, result_fits, server_final_spelled}
+use Rattle.scram_text.proofs.server_final.read_parts.Goals as goal
+
+pub returns-in_err-result-clause-fault : goal.returns-in_err-result-clause-fault
+returns-in_err-result-clause-fault c =
+    let p = err_from_is_err_and c.from_residual-in_err-result.result c.from_residual-in_err-result.ensures.1 in
+    rw (p.1, p.2) (result_fault c.args.message.now c.cut.result.0.now _ _ c.in_ok-count_of.ensures.short c.in_ok-count_of.ensures.is_text
+    c.cut.ensures.parts c.in_err-result.ensures.fault)
+
+pub returns-in_err-extensions-clause-fault : goal.returns-in_err-extensions-clause-fault
+returns-in_err-extensions-clause-fault c =
+    let p = err_from_is_err_and c.from_residual-in_err-extensions.result c.from_residual-in_err-extensions.ensures.1 in
+    rw (p.1, p.2) (extension_fault c.args.message.now c.cut.result.0.now _ _ c.in_ok-count_of.ensures.short c.in_ok-count_of.ensures.is_text
+    c.cut.ensures.parts (result_fits c.cut.result.0.now (outcome_of c.in_ok-result.result) c.in_ok-result.ensures.spelled c.in_ok-result.ensures.class)
+    c.in_err-extensions.ensures.fault)
+
+pub returns-clause-found : goal.returns-clause-found
+returns-clause-found c =
+    let p : ServerFinalParts = record {
+      outcome = outcome_of c.in_ok-result.result;
+      extensions = parts_of_some (option_copied c.cut.result.1);
+    } in (
+      p,
+      record {
+        spelled = server_final_spelled c.args.message.now c.cut.result.0.now p c.cut.ensures.parts c.in_ok-result.ensures.spelled;
+        outcome = c.in_ok-result.ensures.class;
+        extensions = c.in_ok-extensions.ensures.found;
+        is_text = c.in_ok-count_of.ensures.is_text;
+        short = c.in_ok-count_of.ensures.short;
+      },
+      record {
+        mandatory = c.in_ok-extensions.ensures.mandatory;
+        outcome = refl;
+        extensions = c.in_ok-extensions.ensures.text;
+      },
+    )

@@ -1,0 +1,67 @@
+use Rattle.std.proofs.Common.{◌≡◌, ◌||◌, refl, sym, ◌∙◌}
+use Rattle.std.specs.Prelude.{is_some}
+use Rattle.std.specs.Option.{option_copied}
+use Rattle.std.proofs.lemmas.Result.{err_from_is_err_and}
+use Rattle.scram_text.specs.Parts.{parts_of_some}
+use Rattle.scram_text.specs.Messages.{ServerFirstParts}
+use Rattle.scram_text.proofs.PlaceLemmas.{field_fits}
+use Rattle.scram_text.proofs.ServerFirstLemmas.{nonce_fault, salt_fault, count_fault, extension_fault, server_first_spelled}
+use Rattle.scram_text.proofs.server_first.read_parts.Goals as goal
+
+pub returns-in_default-clause-fault : goal.returns-in_default-clause-fault
+returns-in_default-clause-fault c =
+    let cut = c.in_ok-pieces.ensures.cut in
+    nonce_fault c.args.message.now _ _ _ _ cut.mext _ cut.short cut.is_text cut.marked cut.index c.in_default.ensures.none
+
+pub returns-in_default-salt_of-clause-fault : goal.returns-in_default-salt_of-clause-fault
+returns-in_default-salt_of-clause-fault c =
+    let cut = c.in_ok-pieces.ensures.cut in
+    salt_fault c.args.message.now _ _ _ _ cut.mext _ cut.short cut.is_text cut.marked cut.index
+    (c.in-Some.nonce.now, c.in-Some.ensures.spelled, c.in-Some.ensures.class) c.in_default-salt_of.ensures.none
+
+pub returns-in_default-count_of-clause-fault : goal.returns-in_default-count_of-clause-fault
+returns-in_default-count_of-clause-fault c =
+    let cut = c.in_ok-pieces.ensures.cut in
+    count_fault c.args.message.now _ _ _ _ cut.mext _ cut.short cut.is_text cut.marked cut.index
+    (c.in-Some.nonce.now, c.in-Some.ensures.spelled, c.in-Some.ensures.class)
+    (field_fits 115 64 _ _ c.in-Some-salt_of.ensures.spelled c.in-Some-salt_of.ensures.class) c.in_default-count_of.ensures.none
+
+pub returns-in_err-extensions-clause-fault : goal.returns-in_err-extensions-clause-fault
+returns-in_err-extensions-clause-fault c =
+    let cut = c.in_ok-pieces.ensures.cut in
+    let p = err_from_is_err_and c.from_residual-in_err-extensions.result c.from_residual-in_err-extensions.ensures.1 in
+    rw (p.1, p.2) (extension_fault c.args.message.now _ _ _ _ cut.mext _ _ cut.short cut.is_text cut.marked cut.index
+    (c.in-Some.nonce.now, c.in-Some.ensures.spelled, c.in-Some.ensures.class)
+    (field_fits 115 64 _ _ c.in-Some-salt_of.ensures.spelled c.in-Some-salt_of.ensures.class)
+    (_, c.in-Some-count_of.ensures.spelled, (c.in-Some-count_of.count, refl, c.in-Some-count_of.ensures.class))
+    c.in_err-extensions.ensures.fault)
+
+pub returns-clause-found : goal.returns-clause-found
+returns-clause-found c =
+    let cut = c.in_ok-pieces.ensures.cut in
+    let p : ServerFirstParts = record {
+      mext = cut.mext;
+      nonce = c.in-Some.nonce.now;
+      salt = c.in-Some-salt_of.salt;
+      count = c.in-Some-count_of.count;
+      extensions = parts_of_some (option_copied c.in_ok-pieces.pieces.rest);
+    } in (
+      p,
+      record {
+        spelled = server_first_spelled c.args.message.now _ _ _ p cut.marked c.in-Some.ensures.spelled c.in-Some-salt_of.ensures.spelled c.in-Some-count_of.ensures.spelled;
+        mext = cut.marked.value;
+        nonce = c.in-Some.ensures.class;
+        salt = c.in-Some-salt_of.ensures.class;
+        count = c.in-Some-count_of.ensures.class;
+        extensions = c.in_ok-extensions.ensures.found;
+        is_text = cut.is_text;
+        short = cut.short;
+      },
+      record {
+        mandatory = rw (cut.is_marked, c.in_ok-extensions.ensures.mandatory) refl;
+        nonce = refl;
+        salt = refl;
+        count = refl;
+        extensions = c.in_ok-extensions.ensures.text;
+      },
+    )

@@ -1,0 +1,230 @@
+//! The client's first message (RFC 5802, section 7):
+//!
+//! ```text
+//! gs2-header = gs2-cbind-flag "," [ authzid ] ","
+//! client-first-message-bare = [reserved-mext ","] username "," nonce ["," extensions]
+//! client-first-message = gs2-header client-first-message-bare
+//! ```
+//!
+//! as `n,,n=user,r=abc`.
+ghost use Rattle.std.specs.Prelude.{◌≡◌, ◌≤◌, ◌+◌, [], length, IfOk, IfErr, IfSome, IsTrue, IsOkAnd, false, MatchOption};
+ghost use Rattle.scram_text.specs.Name.{IsSaslName};
+ghost use Rattle.scram_text.specs.Parts.{parts, is_flag, authz_text};
+ghost use Rattle.scram_text.specs.Messages.{ClientFirstParts, IsClientFirst};
+ghost use Rattle.scram_text.specs.Faults.{IsClientFirstFault, IsAuthz, fault, marked_places};
+ghost use Rattle.scram_text.specs.Shown.{ShowsClientFirst, flag_text};
+ghost use Rattle.scram_text.specs.Pieces.{IsCutFirst, IsCutBare, IsBare, ShowsBare, IsBareMisfit};
+
+use crate::fault::{TextFault, TextWhy};
+use crate::name::SaslText;
+use crate::{class, cut, field};
+
+/// The flag of a gs2-header: whether the client binds a channel.
+#[derive(Drop)]
+pub enum Flag<'a> {
+    /// `n`: the client has no channel binding.
+    NoBinding,
+
+    /// `y`: the client has it, and thinks that the server has not.
+    NotOffered,
+
+    /// `p=` and the name of the binding that the client asks for, at least one letter, digit, `.` or
+    /// `-`.
+    Binding(&'a [u8]),
+}
+
+/// A client-first message that was read. Slices are slices of the message.
+#[derive(Drop)]
+pub struct ClientFirst<'a> {
+    /// The gs2-header with its last comma.
+    pub header: &'a [u8],
+
+    /// All that follows the header: client-first-message-bare.
+    pub bare: &'a [u8],
+
+    /// The flag.
+    pub flag: Flag<'a>,
+
+    /// The authorisation name of `a=`, where there is one.
+    pub authzid: Option<SaslText<'a>>,
+
+    /// The bare message begins with `m=` or an extension is named `m`, so the receiver has to fail.
+    pub mandatory: bool,
+
+    /// The name of `n=`.
+    pub name: SaslText<'a>,
+
+    /// The nonce, 1 to 256 printable characters.
+    pub nonce: &'a [u8],
+
+    /// The attr-vals with the commas between them, or empty.
+    pub extensions: &'a [u8],
+}
+
+/// Reads a client-first message, or answers the first fault of the text: 1 TooLong, 2 NotText or
+/// 3 Missing for the whole, else from the left 4 Flag, 5 Authzid, 6 Mandatory, 7 Name, 8 Nonce or
+/// 12 Extension.
+pub fn read_client_first(message: &[u8]) -> Result<ClientFirst<'_>, TextFault>
+    // The text is a message with the parts that are returned.
+    ensures found { IfOk result (λ m. (p : ClientFirstParts) × IsClientFirst message.now p × ShowsClientFirst m p) }
+    // If it is a message with any parts, these are returned.
+    ensures only { (p : ClientFirstParts) → IsClientFirst message.now p → IsOkAnd result (λ m. ShowsClientFirst m p) }
+    ensures fault { IfErr result (λ f. IsClientFirstFault message.now f) }
+{
+    read_parts(message)
+}
+
+fn read_parts(message: &[u8]) -> Result<ClientFirst<'_>, TextFault>
+    ensures found { IfOk result (λ m. (p : ClientFirstParts) × IsClientFirst message.now p × ShowsClientFirst m p) }
+    ensures fault { IfErr result (λ f. IsClientFirstFault message.now f) }
+{
+    let pieces = pieces_of(message)?;
+    let Some(flag) = flag_of(pieces.flag) else {
+        return Err(TextFault {
+            part: 0,
+            why: TextWhy::Flag,
+        });
+    };
+    let authzid = authzid_of(pieces.authzid)?;
+    let bare = read_bare(pieces.bare)?;
+    Ok(ClientFirst {
+        header: pieces.header,
+        bare: pieces.bare,
+        flag,
+        authzid,
+        mandatory: bare.mandatory,
+        name: bare.name,
+        nonce: bare.nonce,
+        extensions: bare.extensions,
+    })
+}
+
+// The parts of a text with at least four, or five where the bare message begins with `m=`.
+#[derive(Drop)]
+struct Pieces<'a> {
+    header: &'a [u8],
+    flag: &'a [u8],
+    authzid: &'a [u8],
+    bare: &'a [u8],
+}
+
+fn pieces_of(message: &[u8]) -> Result<Pieces<'_>, TextFault>
+    ensures cut { IfOk result (λ pieces. IsCutFirst message.now pieces) }
+    ensures fault { IfErr result (λ f. IsClientFirstFault message.now f) }
+{
+    let count = cut::count_of(message)?;
+    if count < 3 {
+        return Err(TextFault {
+            part: count,
+            why: TextWhy::Missing,
+        });
+    }
+    let (flag, authzid, rest) = cut::two_of(message);
+    let Some(bare) = rest else { unreachable!() };
+    if count < cut::least_of(bare, 4) {
+        return Err(TextFault {
+            part: count,
+            why: TextWhy::Missing,
+        });
+    }
+    Ok(Pieces {
+        header: &message[..flag.len() + authzid.len() + 2],
+        flag,
+        authzid,
+        bare,
+    })
+}
+
+// gs2-cbind-flag
+fn flag_of(part: &[u8]) -> Option<Flag<'_>>
+    ensures spelled { IfSome result (λ flag. flag_text flag ≡ part.now) }
+    ensures class { MatchOption result (is_flag part.now ≡ false) (λ _. IsTrue (is_flag part.now)) }
+{
+    match part {
+        b"n" => Some(Flag::NoBinding),
+        b"y" => Some(Flag::NotOffered),
+        [b'p', b'=', name @ ..] if class::is_cb_name(name) => Some(Flag::Binding(name)),
+        _ => None,
+    }
+}
+
+// [ authzid ]: nothing, or `a=` and a saslname.
+fn authzid_of(part: &[u8]) -> Result<Option<SaslText<'_>>, TextFault>
+    ensures spelled { IfOk result (λ authzid. part.now ≡ authz_text authzid) }
+    ensures class { IfOk result (λ authzid. IfSome authzid IsSaslName) }
+    ensures fault { IfErr result (λ f. (IsAuthz part.now → ⊥) × (f ≡ fault 1 TextWhy.Authzid)) }
+{
+    if part.is_empty() {
+        return Ok(None);
+    }
+    match field::name_of(part, b'a') {
+        Some(name) => Ok(Some(name)),
+        None => Err(TextFault {
+            part: 1,
+            why: TextWhy::Authzid,
+        }),
+    }
+}
+
+// What is read of client-first-message-bare.
+#[derive(Drop)]
+struct Bare<'a> {
+    mandatory: bool,
+    name: SaslText<'a>,
+    nonce: &'a [u8],
+    extensions: &'a [u8],
+}
+
+fn read_bare(bare: &[u8]) -> Result<Bare<'_>, TextFault>
+    requires enough { length (marked_places (parts bare.now) []) + 2 ≤ length (parts bare.now) }
+    requires few { length (parts bare.now) ≤ 2049 }
+    ensures found { IfOk result (λ m. (p : ClientFirstParts) × IsBare (parts bare.now) p × ShowsBare m p) }
+    ensures fault { IfErr result (λ f. IsBareMisfit (parts bare.now) f) }
+{
+    let pieces = bare_pieces_of(bare)?;
+    let Some(name) = field::name_of(pieces.name, b'n') else {
+        return Err(TextFault {
+            part: pieces.index,
+            why: TextWhy::Name,
+        });
+    };
+    let Some(nonce) = field::nonce_of(pieces.nonce, 256) else {
+        return Err(TextFault {
+            part: pieces.index + 1,
+            why: TextWhy::Nonce,
+        });
+    };
+    let extensions = cut::extensions_of(pieces.rest, pieces.index + 2)?;
+    Ok(Bare {
+        mandatory: pieces.marked | extensions.mandatory,
+        name,
+        nonce,
+        extensions: extensions.text,
+    })
+}
+
+// The parts behind a mandatory extension: the first of them has this index in the message.
+#[derive(Drop)]
+struct BarePieces<'a> {
+    marked: bool,
+    index: usize,
+    name: &'a [u8],
+    nonce: &'a [u8],
+    rest: Option<&'a [u8]>,
+}
+
+fn bare_pieces_of(bare: &[u8]) -> Result<BarePieces<'_>, TextFault>
+    requires { length (marked_places (parts bare.now) []) + 2 ≤ length (parts bare.now) }
+    ensures cut { IfOk result (λ pieces. IsCutBare bare.now pieces) }
+    ensures fault { IfErr result (λ f. IsBareMisfit (parts bare.now) f) }
+{
+    let marked = cut::mext_of(bare, 2)?;
+    let (name, nonce, rest) = cut::two_of(marked.rest);
+    Ok(BarePieces {
+        marked: marked.marked,
+        index: marked.index,
+        name,
+        nonce,
+        rest,
+    })
+}

@@ -1,0 +1,117 @@
+//! The server's first message (RFC 5802, section 7):
+//!
+//! ```text
+//! server-first-message = [reserved-mext ","] nonce "," salt "," iteration-count ["," extensions]
+//! ```
+//!
+//! as `r=abcdef,s=QSXCR+Q6sek8bf92,i=4096`.
+ghost use Rattle.std.specs.Prelude.{◌≡◌, IfOk, IfErr, IsOkAnd};
+ghost use Rattle.scram_text.specs.Messages.{ServerFirstParts, IsServerFirst};
+ghost use Rattle.scram_text.specs.Faults.{IsServerFirstFault};
+ghost use Rattle.scram_text.specs.Shown.{ShowsServerFirst};
+ghost use Rattle.scram_text.specs.Pieces.{IsCutServer};
+
+use crate::fault::{TextFault, TextWhy};
+use crate::secret::Salt;
+use crate::{cut, field};
+
+/// A server-first message that was read. Slices are slices of the message.
+#[derive(Drop)]
+pub struct ServerFirst<'a> {
+    /// The message begins with `m=` or an extension is named `m`, so the receiver has to fail.
+    pub mandatory: bool,
+
+    /// The nonce, 1 to 512 printable characters.
+    pub nonce: &'a [u8],
+
+    /// The salt.
+    pub salt: Salt,
+
+    /// The iteration count, at least 1.
+    pub count: u32,
+
+    /// The attr-vals with the commas between them, or empty.
+    pub extensions: &'a [u8],
+}
+
+/// Reads a server-first message, or answers the first fault of the text: 1 TooLong, 2 NotText or
+/// 3 Missing for the whole, else from the left 6 Mandatory, 8 Nonce, 9 Salt, 10 Count or
+/// 12 Extension.
+pub fn read_server_first(message: &[u8]) -> Result<ServerFirst<'_>, TextFault>
+    // The text is a message with the parts that are returned.
+    ensures found { IfOk result (λ m. (p : ServerFirstParts) × IsServerFirst message.now p × ShowsServerFirst m p) }
+    // If it is a message with any parts, these are returned.
+    ensures only { (p : ServerFirstParts) → IsServerFirst message.now p → IsOkAnd result (λ m. ShowsServerFirst m p) }
+    ensures fault { IfErr result (λ f. IsServerFirstFault message.now f) }
+{
+    read_parts(message)
+}
+
+fn read_parts(message: &[u8]) -> Result<ServerFirst<'_>, TextFault>
+    ensures found { IfOk result (λ m. (p : ServerFirstParts) × IsServerFirst message.now p × ShowsServerFirst m p) }
+    ensures fault { IfErr result (λ f. IsServerFirstFault message.now f) }
+{
+    let pieces = pieces_of(message)?;
+    let Some(nonce) = field::nonce_of(pieces.nonce, 512) else {
+        return Err(TextFault {
+            part: pieces.index,
+            why: TextWhy::Nonce,
+        });
+    };
+    let Some(salt) = field::salt_of(pieces.salt) else {
+        return Err(TextFault {
+            part: pieces.index + 1,
+            why: TextWhy::Salt,
+        });
+    };
+    let Some(count) = field::count_of(pieces.count) else {
+        return Err(TextFault {
+            part: pieces.index + 2,
+            why: TextWhy::Count,
+        });
+    };
+    let extensions = cut::extensions_of(pieces.rest, pieces.index + 3)?;
+    Ok(ServerFirst {
+        mandatory: pieces.marked | extensions.mandatory,
+        nonce,
+        salt,
+        count,
+        extensions: extensions.text,
+    })
+}
+
+// The parts behind a mandatory extension: the first of them has this index.
+#[derive(Drop)]
+struct Pieces<'a> {
+    marked: bool,
+    index: usize,
+    nonce: &'a [u8],
+    salt: &'a [u8],
+    count: &'a [u8],
+    rest: Option<&'a [u8]>,
+}
+
+fn pieces_of(message: &[u8]) -> Result<Pieces<'_>, TextFault>
+    ensures cut { IfOk result (λ pieces. IsCutServer message.now pieces) }
+    ensures fault { IfErr result (λ f. IsServerFirstFault message.now f) }
+{
+    let count = cut::count_of(message)?;
+    if count < cut::least_of(message, 3) {
+        return Err(TextFault {
+            part: count,
+            why: TextWhy::Missing,
+        });
+    }
+    let marked = cut::mext_of(message, 0)?;
+    let (nonce, salt, rest) = cut::two_of(marked.rest);
+    let Some(rest) = rest else { unreachable!() };
+    let (count, rest) = cut::cut(rest);
+    Ok(Pieces {
+        marked: marked.marked,
+        index: marked.index,
+        nonce,
+        salt,
+        count,
+        rest,
+    })
+}
