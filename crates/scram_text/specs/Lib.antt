@@ -6,3 +6,4 @@ pub mod Messages
 pub mod Faults
 pub mod Shown
 pub mod Pieces
+pub mod Draft

@@ -6,6 +6,7 @@ mod class;
 mod client_final;
 mod client_first;
 mod cut;
+mod draft;
 mod fault;
 mod field;
 mod name;
