@@ -9,3 +9,4 @@ pub mod ServerFinalLemmas
 pub mod CountLemmas
 pub mod ServerFirstLemmas
 pub mod ClientFirstLemmas
+pub mod TextLemmas

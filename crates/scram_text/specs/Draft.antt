@@ -1,8 +1,13 @@
 -- A message that is composed piece by piece.
-use Rattle.std.specs.Prelude.{ℕ, ◌≡◌, ◌<◌, Bool, true, false, List, length}
+use Rattle.std.specs.Prelude.{ℕ, ◌≡◌, ◌<◌, Bool, true, false, List, [], ◌∷◌, length}
 use Rattle.scram_text.specs.declared.draft.Draft.{Draft}
 
 -- the draft stands for this text: it holds it, or the text has more than 2048 bytes
 pub record IsDraftOf (draft : Draft) (text : List ℕ) : Type 0 where
   pub held : draft.over ≡ false → draft.text.items ≡ text
   pub over : draft.over ≡ true → 2048 < length text
+
+-- a text that is not empty, with a comma before it
+abbrev pub behind_comma : List ℕ → List ℕ
+behind_comma [] = []
+behind_comma (c ∷ text) = 44 ∷ c ∷ text

@@ -7,3 +7,4 @@ pub mod Faults
 pub mod Shown
 pub mod Pieces
 pub mod Draft
+pub mod Written

@@ -1,0 +1,85 @@
+-- What the writers write: the parts that their arguments make, and when the arguments are in their
+-- classes.
+use Rattle.std.specs.Prelude.{ℕ, ◌≡◌, List, [], ◌∷◌, IsTrue, option_map}
+use Rattle.std.specs.declared.option.Option.{Option}
+use Rattle.std.specs.declared.option.Option.TheVariants.{None}
+use Rattle.scram_text.specs.Class.{IsNonce, IsText}
+use Rattle.scram_text.specs.Name.{name_spelling}
+use Rattle.scram_text.specs.Base64Field.{IsField}
+use Rattle.scram_text.specs.Parts.{parts, is_flag, IsValue, IsCount, AreExtensions}
+use Rattle.scram_text.specs.Messages.{ClientFirstParts, ServerFirstParts, ClientFinalParts, Outcome, verified, failed, ServerFinalParts}
+use Rattle.scram_text.specs.Shown.{flag_text}
+use Rattle.scram_text.specs.declared.client_first.Flag.{Flag}
+
+-- the attr-vals of a text of extensions: none of the empty text
+abbrev pub extension_parts : List ℕ → List (List ℕ)
+extension_parts [] = []
+extension_parts (c ∷ text) = parts (c ∷ text)
+
+-- the text is empty, or attr-vals with commas between them
+pub record IsExtensionText (extensions : List ℕ) : Type 0 where
+  pub is_text : IsText extensions
+  pub each : AreExtensions (extension_parts extensions)
+
+-- the parts of the client-first message that is written: names are given in plain bytes
+abbrev pub client_first_of : Flag → Option (List ℕ) → List ℕ → List ℕ → List ℕ → ClientFirstParts
+client_first_of flag authzid name nonce extensions = record {
+  flag = flag_text flag;
+  authz = option_map name_spelling authzid;
+  mext = None;
+  name = name_spelling name;
+  nonce = nonce;
+  extensions = extension_parts extensions;
+}
+
+-- the arguments for client-first that a type does not keep in their classes
+pub record CanBeClientFirst (flag : Flag) (extensions : List ℕ) : Type 0 where
+  pub flag_class : IsTrue (is_flag (flag_text flag))
+  pub extensions_class : IsExtensionText extensions
+
+-- the parts of the server-first message that is written
+abbrev pub server_first_of : List ℕ → List ℕ → ℕ → List ℕ → ServerFirstParts
+server_first_of nonce salt count extensions = record {
+  mext = None;
+  nonce = nonce;
+  salt = salt;
+  count = count;
+  extensions = extension_parts extensions;
+}
+
+-- the arguments for server-first are in their classes
+pub record CanBeServerFirst (nonce salt : List ℕ) (count : ℕ) (extensions : List ℕ) : Type 0 where
+  pub nonce_class : IsNonce 512 nonce
+  pub salt_class : IsField 64 salt
+  pub count_class : IsCount count
+  pub extensions_class : IsExtensionText extensions
+
+-- the parts of the client-final message that is written
+abbrev pub client_final_of : List ℕ → List ℕ → List ℕ → List ℕ → ClientFinalParts
+client_final_of channel nonce extensions proof = record {
+  channel = channel;
+  nonce = nonce;
+  extensions = extension_parts extensions;
+  proof = proof;
+}
+
+-- the arguments for client-final are in their classes
+pub record CanBeClientFinal (channel nonce extensions proof : List ℕ) : Type 0 where
+  pub channel_class : IsField 1536 channel
+  pub nonce_class : IsNonce 512 nonce
+  pub extensions_class : IsExtensionText extensions
+  pub proof_class : IsField 64 proof
+
+-- the parts of the server-final message that is written
+abbrev pub server_final_of : Outcome → List ℕ → ServerFinalParts
+server_final_of outcome extensions = record { outcome = outcome; extensions = extension_parts extensions }
+
+-- what is told is in its class: an error value is a text as well
+abbrev pub CanBeTold : Outcome → Type 0
+CanBeTold (verified signature) = IsField 64 signature
+CanBeTold (failed value) = IsValue value × IsText value
+
+-- the arguments for server-final are in their classes
+pub record CanBeServerFinal (outcome : Outcome) (extensions : List ℕ) : Type 0 where
+  pub outcome_class : CanBeTold outcome
+  pub extensions_class : IsExtensionText extensions
