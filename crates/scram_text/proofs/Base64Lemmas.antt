@@ -109,3 +109,11 @@ unfolding reading
 field_error most text e read (spelt, spelled, field) =
     let also = subst (λ (t : List ℕ). reading t ≡ Ok spelt) (sym spelled) field.field.back in
     cc (also, read)
+
+-- bytes of a length within the limits may stand in a field
+pub field_of_bytes : (most : ℕ) (bytes : List ℕ) → IsBytes bytes → 1 ≤ length bytes → length bytes ≤ most → IsField most bytes
+field_of_bytes most bytes fits least within = record {
+  at_least = least;
+  at_most = within;
+  field = record { spelled = refl; back = base64_back bytes fits; no_comma = base64_lacks bytes };
+}

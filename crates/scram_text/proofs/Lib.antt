@@ -10,3 +10,4 @@ pub mod CountLemmas
 pub mod ServerFirstLemmas
 pub mod ClientFirstLemmas
 pub mod TextLemmas
+pub mod ComposeLemmas

@@ -1,8 +1,18 @@
 -- A spelling is read in one way, from the left, and is a saslname.
-use Rattle.std.proofs.Common.{◌≡◌, ◌≢◌, ◌⊎◌, inl, inr, ℕ, ◌≤◌, List, [], ◌∷◌, ◌++◌, length, refl, sym, ◌∙◌, ap, arith, append_assoc, append-nil, true, IsTrue}
+use Rattle.std.proofs.Common.{◌≡◌, ◌≢◌, ◌⊎◌, inl, inr, ℕ, ◌≤◌, List, [], ◌∷◌, ◌++◌, length, refl, sym, ◌∙◌, ap, arith, append_assoc, append-nil, Bool, true, false, not, eqb, IsTrue}
 use Rattle.std.specs.Prelude.{codes, flat_map}
+use Rattle.std.specs.List.{list_all}
 use Rattle.std.proofs.lemmas.Bool.Decides.{eqb_tells}
+use Rattle.std.proofs.lemmas.List.Folds.{list_all-append}
+use Rattle.scram_text.specs.Class.{is_comma}
 use Rattle.scram_text.specs.Name.{IsSaslName, LacksComma, escape, name_spelling, is_escaped}
+
+-- different numbers are not equal by the test
+pub other_than : (a b : ℕ) → a ≢ b → eqb a b ≡ false
+other_than a b differ = elim (eqb_tells a b) [
+  | inl same ↦ absurd (differ same.1)
+  | inr other ↦ other.0
+]
 
 -- the three forms of a byte's spelling
 pub escape_cases : (c : ℕ) → ((c ≡ 44) × (escape c ≡ codes "=2C")) ⊎ (((c ≡ 61) × (escape c ≡ codes "=3D")) ⊎ ((c ≢ 44) × (c ≢ 61) × (escape c ≡ c ∷ [])))
@@ -80,3 +90,48 @@ name_once one other e =
       | [] ↦ λ same _. sym (same ∙ append-nil one)
       | c ∷ more ↦ λ _ none. absurd (escape_nonempty c (name_spelling more) (sym none))
     ] found.1 found.2
+
+escape_lacks : (c : ℕ) → LacksComma (escape c)
+escape_lacks c = elim (escape_cases c) [
+  | inl p ↦ rw p.1 refl
+  | inr s ↦ elim s [
+    | inl p ↦ rw p.1 refl
+    | inr p ↦ rw (p.2, other_than c 44 p.0) refl
+  ]
+]
+
+spelling_lacks : (name : List ℕ) → LacksComma (name_spelling name)
+spelling_lacks [] = refl
+spelling_lacks (c ∷ name) =
+    rw (list_all-append (λ b. not (is_comma b)) (escape c) (name_spelling name), escape_lacks c, spelling_lacks name) refl
+
+escaped_before : (c : ℕ) (rest : List ℕ) → is_escaped rest ≡ true → is_escaped (escape c ++ rest) ≡ true
+escaped_before c rest is = elim (escape_cases c) [
+  | inl p ↦ rw p.1 is
+  | inr s ↦ elim s [
+    | inl p ↦ rw p.1 is
+    | inr p ↦ rw (p.2, other_than c 61 p.1) is
+  ]
+]
+
+spelling_escaped : (name : List ℕ) → is_escaped (name_spelling name) ≡ true
+spelling_escaped [] = refl
+spelling_escaped (c ∷ name) = escaped_before c (name_spelling name) (spelling_escaped name)
+
+spelling_some : (name : List ℕ) → 1 ≤ length name → 1 ≤ length (name_spelling name)
+spelling_some [] some = absurd (omega (arith, some))
+spelling_some (c ∷ name) some = elim (escape_cases c) [
+  | inl p ↦ rw p.1 (omega arith)
+  | inr s ↦ elim s [
+    | inl p ↦ rw p.1 (omega arith)
+    | inr p ↦ rw p.2 (omega arith)
+  ]
+]
+
+-- the spelling of a name is a saslname
+pub spelling_saslname : (name : List ℕ) → 1 ≤ length name → IsSaslName (name_spelling name)
+spelling_saslname name some = record {
+  at_least = spelling_some name some;
+  no_comma = spelling_lacks name;
+  escaped = spelling_escaped name;
+}

@@ -4,7 +4,7 @@ use Rattle.std.specs.Prelude.{slice_index, decimal, nat_le, ◌==◌}
 use Rattle.std.specs.List.{list_all}
 use Rattle.std.specs.Str.{IsAscii, IsUtf8}
 use Rattle.std.specs.Str.Parse.{AllDigits}
-use Rattle.std.proofs.lemmas.Bool.{cases_Bool, eqb-true, leb-true, both_ways}
+use Rattle.std.proofs.lemmas.Bool.{cases_Bool, cases_lt, eqb-true, leb-true, le-leb, lt-leb, both_ways}
 use Rattle.std.proofs.lemmas.Fmt.{IsAscii-decimal, decimal_is_IsNumeral}
 use Rattle.std.proofs.lemmas.List.Folds.{list_all-append}
 use Rattle.std.proofs.lemmas.Str.{IsUtf8-nil, IsUtf8-from_ascii, IsUtf8-append}
@@ -12,13 +12,13 @@ use Rattle.base64.specs.Engines.{standard}
 use Rattle.base64.specs.GeneralPurpose.{IsBytes}
 use Rattle.base64.specs.Rfc4648.{encode_symbols, padding_len}
 use Rattle.base64.proofs.EngineFacts.{IsAscii-encode_of}
-use Rattle.scram_text.specs.Class.{is_comma, is_printable, is_plain, IsNonce, IsText}
+use Rattle.scram_text.specs.Class.{is_comma, is_cb_char, is_printable, is_plain, IsNonce, IsText}
 use Rattle.scram_text.specs.Name.{escape, name_spelling}
 use Rattle.scram_text.specs.Base64Field.{base64}
-use Rattle.scram_text.specs.Parts.{IsCount}
+use Rattle.scram_text.specs.Parts.{IsCount, is_cb_name}
 use Rattle.scram_text.proofs.PartLemmas.{both}
 use Rattle.scram_text.proofs.CountLemmas.{below_64}
-use Rattle.scram_text.proofs.NameLemmas.{escape_cases}
+use Rattle.scram_text.proofs.NameLemmas.{escape_cases, other_than}
 
 -- the test of each byte of a text
 abbrev is_no_nul : ℕ → Bool
@@ -149,3 +149,22 @@ base64_text bytes fits = record {
     padding_no_nul (padding_len (length bytes)),
   ) refl;
 }
+
+letter_below : (c : ℕ) → is_cb_char c ≡ true → c < 128
+letter_below c is = elim (cases_lt c 128) [
+  | inl below ↦ below
+  | inr above ↦ absurd (both_ways (is_cb_char c) (rw (
+    le-leb 0x41 c (omega (arith, above)),
+    lt-leb c 0x5A (omega (arith, above)),
+    le-leb 0x61 c (omega (arith, above)),
+    lt-leb c 0x7A (omega (arith, above)),
+    le-leb 0x30 c (omega (arith, above)),
+    lt-leb c 0x39 (omega (arith, above)),
+    other_than c 46 (λ e. omega (arith, above, e)),
+    other_than c 45 (λ e. omega (arith, above, e)),
+  ) refl) is)
+]
+
+-- the name of a channel binding is a text
+pub cb_name_text : (name : List ℕ) → is_cb_name name ≡ true → IsText name
+cb_name_text name is = class_text is_cb_char name letter_below refl (both (nat_le 1 (length name)) (list_all is_cb_char name) is).1

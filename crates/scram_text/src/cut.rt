@@ -1,5 +1,5 @@
 //! A message is cut at its commas into parts, and a part into its letter and its value.
-ghost use Rattle.std.specs.Prelude.{◌≡◌, ◌≤◌, ◌<◌, ◌+◌, ℕ, [], ◌∷◌, ◌++◌, length, position, count_by, List, IfOk, IfSome, is_some, OnOk, IfErr, MatchOption, true, false};
+ghost use Rattle.std.specs.Prelude.{◌≡◌, ◌≤◌, ◌<◌, ◌+◌, ℕ, [], ◌∷◌, ◌++◌, length, position, count_by, List, ◌↔◌, IsTrue, IfOk, IfSome, is_some, OnOk, IfErr, MatchOption, true, false};
 ghost use Rattle.std.specs.Option.{option_copied};
 ghost use Rattle.std.specs.declared.option.Option.{Option};
 ghost use Rattle.scram_text.specs.Class.{is_comma, IsText};
@@ -7,6 +7,7 @@ ghost use Rattle.scram_text.specs.Name.{LacksComma};
 ghost use Rattle.scram_text.specs.Parts.{parts, parts_of_some, joined, is_headed, is_attribute, AreExtensions, have_mandatory};
 ghost use Rattle.scram_text.specs.Parts.{mext_parts};
 ghost use Rattle.scram_text.specs.Faults.{IsWholeFault, IsExtensionMisfit, first_of, marked_places};
+ghost use Rattle.scram_text.specs.Written.{IsExtensionText};
 ghost use Rattle.scram_text.specs.Pieces.{IsMarked, IsMextMisfit};
 
 use crate::fault::{TextFault, TextWhy};
@@ -232,4 +233,25 @@ pub(crate) fn mext_of(text: &[u8], index: usize) -> Result<Marked<'_>, TextFault
         rest,
         index: index + 1,
     })
+}
+
+// The text is empty, or attr-vals with commas between them, in UTF-8 with no NUL.
+pub(crate) fn are_extensions(text: &[u8]) -> bool
+    ensures { IsTrue result ↔ IsExtensionText text.now }
+{
+    text.is_empty() || (class::is_text(text) && are_attributes(text))
+}
+
+fn are_attributes(text: &[u8]) -> bool
+    ensures { IsTrue result ↔ AreExtensions (parts text.now) }
+{
+    let mut left = Some(text);
+    while let Some(rest) = left {
+        let (part, more) = cut(rest);
+        if !is_attribute(part) {
+            return false;
+        }
+        left = more;
+    }
+    true
 }

@@ -144,6 +144,13 @@ fn short_field(text: &[u8]) -> Option<Tag>
     Some(field)
 }
 
+// 1 to `most` bytes, which a base64 field may hold.
+pub(crate) fn is_field(bytes: &[u8], most: usize) -> bool
+    ensures { IsTrue result ↔ IsField most bytes.now }
+{
+    !bytes.is_empty() && bytes.len() <= most
+}
+
 // The number of bytes that the base64 text stands for, which are then at the front of `buffer`. It is
 // None where the text is not the base64 of 1 to 1536 bytes.
 fn decode(text: &[u8], buffer: &mut [u8; 1536]) -> Option<usize>
