@@ -110,20 +110,21 @@ pub server_final_composed : (outcome : Outcome) (extensions : List ℕ)
 unfolding server_final_text
 server_final_composed outcome extensions = sym (joined_behind (outcome_text outcome) extensions)
 
-told_text : (outcome : Outcome) → CanBeTold outcome → ((signature : List ℕ) → outcome ≡ verified signature → IsBytes signature) → IsText (outcome_text outcome)
-told_text (verified signature) can bytes =
-    text-append (codes "v=") (base64 signature) (plain_text (codes "v=") refl) (base64_text signature (bytes signature refl))
-told_text (failed value) can bytes = text-append (codes "e=") value (plain_text (codes "e=") refl) can.1
+pub signature_text : (signature : List ℕ) → IsBytes signature → IsText (codes "v=" ++ base64 signature)
+signature_text signature bytes = text-append (codes "v=") (base64 signature) (plain_text (codes "v=") refl) (base64_text signature bytes)
+
+pub error_text : (value : List ℕ) → IsText value → IsText (codes "e=" ++ value)
+error_text value is = text-append (codes "e=") value (plain_text (codes "e=") refl) is
 
 told_class : (outcome : Outcome) → CanBeTold outcome → IsOutcome outcome
 told_class (verified signature) can = can
 told_class (failed value) can = can.0
 
-pub server_final_related : (outcome : Outcome) (extensions : List ℕ) → ((signature : List ℕ) → outcome ≡ verified signature → IsBytes signature)
+pub server_final_related : (outcome : Outcome) (extensions : List ℕ) → IsText (outcome_text outcome)
     → CanBeServerFinal outcome extensions → length (server_final_text (server_final_of outcome extensions)) ≤ 2048
     → IsServerFinal (server_final_text (server_final_of outcome extensions)) (server_final_of outcome extensions)
-server_final_related outcome extensions bytes can short =
-    let whole = text-append _ (behind_comma extensions) (told_text outcome can.outcome_class bytes) (behind_text extensions can.extensions_class.is_text) in record {
+server_final_related outcome extensions told can short =
+    let whole = text-append _ (behind_comma extensions) told (behind_text extensions can.extensions_class.is_text) in record {
       spelled = refl;
       outcome = told_class outcome can.outcome_class;
       extensions = can.extensions_class.each;

@@ -1,5 +1,5 @@
 -- A spelling is read in one way, from the left, and is a saslname.
-use Rattle.std.proofs.Common.{◌≡◌, ◌≢◌, ◌⊎◌, inl, inr, ℕ, ◌≤◌, List, [], ◌∷◌, ◌++◌, length, refl, sym, ◌∙◌, ap, arith, append_assoc, append-nil, Bool, true, false, not, eqb, IsTrue}
+use Rattle.std.proofs.Common.{◌≡◌, ◌≢◌, ◌⊎◌, inl, inr, ℕ, ◌*◌, ◌≤◌, List, [], ◌∷◌, ◌++◌, length, refl, sym, ◌∙◌, ap, arith, append_assoc, append-nil, Bool, true, false, not, eqb, IsTrue}
 use Rattle.std.specs.Prelude.{codes, flat_map}
 use Rattle.std.specs.List.{list_all}
 use Rattle.std.proofs.lemmas.Bool.Decides.{eqb_tells}
@@ -135,3 +135,14 @@ spelling_saslname name some = record {
   no_comma = spelling_lacks name;
   escaped = spelling_escaped name;
 }
+
+-- a spelling is at most three times as long as its name
+pub length-spelling : (name : List ℕ) → length (name_spelling name) ≤ 3 * length name
+length-spelling [] = omega arith
+length-spelling (c ∷ name) = elim (escape_cases c) [
+  | inl p ↦ rw p.1 (omega (arith, length-spelling name))
+  | inr s ↦ elim s [
+    | inl p ↦ rw p.1 (omega (arith, length-spelling name))
+    | inr p ↦ rw p.2 (omega (arith, length-spelling name))
+  ]
+]

@@ -7,16 +7,22 @@
 //!
 //! as `c=biws,r=abcdef,p=v0X8v3Bz2T0CJGbJQyF0X+HI4Ts=`. The last part is the proof, also where an
 //! extension is named `p`.
-ghost use Rattle.std.specs.Prelude.{◌≡◌, IfOk, IfErr, IsOkAnd};
-ghost use Rattle.scram_text.specs.Messages.{ClientFinalParts, IsClientFinal};
+ghost use Rattle.std.specs.Prelude.{◌≡◌, ◌≤◌, ◌<◌, ◌+◌, ◌↔◌, [], ◌++◌, length, codes, vec_len, vec_capacity, IsTrue, IfOk, IfErr, OnOk, OnErr, IsOkAnd, IsErrOf};
+ghost use Rattle.scram_text.specs.Class.{IsNonce};
+ghost use Rattle.scram_text.specs.Base64Field.{base64, IsField};
+ghost use Rattle.scram_text.specs.Messages.{ClientFinalParts, final_front, client_final_text, IsClientFinal};
+ghost use Rattle.scram_text.specs.Draft.{IsDraftOf};
+ghost use Rattle.scram_text.specs.Written.{client_final_of, CanBeClientFinal};
 ghost use Rattle.scram_text.specs.Faults.{IsClientFinalFault};
 ghost use Rattle.scram_text.specs.Shown.{ShowsClientFinal};
 ghost use Rattle.scram_text.specs.Pieces.{IsCutFinal};
 
-use crate::fault::{TextFault, TextWhy};
-use crate::{cut, field};
+use crate::draft::Draft;
+use crate::fault::{TextFault, TextWhy, WriteFault};
+use crate::{class, cut, field};
 use arrayvec::ArrayVec;
 use mac_core::Tag;
+use std::alloc::Allocator;
 
 /// A client-final message that was read. Slices are slices of the message.
 #[derive(Drop)]
@@ -122,4 +128,89 @@ fn pieces_of(message: &[u8]) -> Result<Pieces<'_>, TextFault>
         rest,
         proof,
     })
+}
+
+/// Appends a client-final message to `out`: the channel field of 1 to 1536 bytes, the nonce of 1 to
+/// 512 printable characters, the extensions as attr-vals with commas between them or empty, and the
+/// proof of 1 to 64 bytes. Answers 16 Unwritable where an argument is outside its class, else
+/// 17 OverLimit where the message would have more than 2048 bytes, else 99 NoMemory, which does not
+/// come where `out` has reserved room for the message; `out` is then unchanged.
+pub fn write_client_final<A: Allocator>(
+    channel: &[u8],
+    nonce: &[u8],
+    extensions: &[u8],
+    proof: &Tag,
+    out: &mut Vec<u8, A>,
+) -> Result<(), WriteFault>
+    ensures ok { OnOk result (out.new.items ≡ out.old.items
+        ++ client_final_text (client_final_of channel.now nonce.now extensions.now proof.now.items)) }
+    ensures related { let p = client_final_of channel.now nonce.now extensions.now proof.now.items in
+        OnOk result (IsClientFinal (client_final_text p) p) }
+    ensures err { OnErr result (out.new.items ≡ out.old.items) }
+
+    ensures unwritable { IsErrOf result WriteFault.Unwritable
+        → CanBeClientFinal channel.now nonce.now extensions.now proof.now.items → ⊥ }
+    ensures over_limit { IsErrOf result WriteFault.OverLimit
+        → CanBeClientFinal channel.now nonce.now extensions.now proof.now.items
+        × (2048 < length (client_final_text (client_final_of channel.now nonce.now extensions.now proof.now.items))) }
+    ensures no_memory { let p = client_final_of channel.now nonce.now extensions.now proof.now.items in
+        IsErrOf result WriteFault.NoMemory → IsClientFinal (client_final_text p) p
+        × (vec_capacity out.old < vec_len out.old + length (client_final_text p)) }
+{
+    let proof = proof.as_slice();
+    if !is_writable(channel, nonce, extensions, proof) {
+        return Err(WriteFault::Unwritable);
+    }
+    draft_of(channel, nonce, extensions, proof).append_to(out)
+}
+
+fn is_writable(channel: &[u8], nonce: &[u8], extensions: &[u8], proof: &[u8]) -> bool
+    ensures { IsTrue result ↔ CanBeClientFinal channel.now nonce.now extensions.now proof.now }
+{
+    field::is_field(channel, 1536)
+        && class::is_nonce(nonce, 512)
+        && cut::are_extensions(extensions)
+        && field::is_field(proof, 64)
+}
+
+fn draft_of(channel: &[u8], nonce: &[u8], extensions: &[u8], proof: &[u8]) -> Draft
+    requires { CanBeClientFinal channel.now nonce.now extensions.now proof.now }
+    ensures draft { IsDraftOf result (client_final_text (client_final_of channel.now nonce.now extensions.now proof.now)) }
+    ensures related { let p = client_final_of channel.now nonce.now extensions.now proof.now in
+        length (client_final_text p) ≤ 2048 → IsClientFinal (client_final_text p) p }
+{
+    let mut draft = front_of(channel, nonce);
+    draft.add_extensions(extensions);
+    draft.add(b",p=");
+    draft.add_base64(proof);
+    draft
+}
+
+fn front_of(channel: &[u8], nonce: &[u8]) -> Draft
+    requires { length channel.now ≤ 1536 }
+    ensures { IsDraftOf result (((codes "c=" ++ base64 channel.now) ++ codes ",r=") ++ nonce.now) }
+{
+    let mut draft = Draft::new();
+    draft.add(b"c=");
+    draft.add_base64(channel);
+    draft.add(b",r=");
+    draft.add(nonce);
+    draft
+}
+
+/// The client-final message without its proof and with no extensions, for the client to sign: the
+/// channel field and the nonce are those of `write_client_final`. Answers 16 Unwritable where one is
+/// outside its class, else 17 OverLimit where the text would have more than 2048 bytes.
+pub fn compose_front(channel: &[u8], nonce: &[u8]) -> Result<ArrayVec<u8, 2048>, WriteFault>
+    ensures ok { IfOk result (λ front. front.items ≡ final_front (client_final_of channel.now nonce.now [] [])) }
+    ensures class { OnOk result (IsField 1536 channel.now × IsNonce 512 nonce.now) }
+    ensures unwritable { IsErrOf result WriteFault.Unwritable → IsField 1536 channel.now × IsNonce 512 nonce.now → ⊥ }
+    ensures over_limit { IsErrOf result WriteFault.OverLimit → IsField 1536 channel.now × IsNonce 512 nonce.now
+        × (2048 < length (final_front (client_final_of channel.now nonce.now [] []))) }
+    ensures no_memory { IsErrOf result WriteFault.NoMemory → ⊥ }
+{
+    if !field::is_field(channel, 1536) || !class::is_nonce(nonce, 512) {
+        return Err(WriteFault::Unwritable);
+    }
+    front_of(channel, nonce).finish()
 }

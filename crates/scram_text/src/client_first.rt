@@ -7,17 +7,23 @@
 //! ```
 //!
 //! as `n,,n=user,r=abc`.
-ghost use Rattle.std.specs.Prelude.{◌≡◌, ◌≤◌, ◌+◌, [], length, IfOk, IfErr, IfSome, IsTrue, IsOkAnd, false, MatchOption};
+ghost use Rattle.std.specs.Prelude.{◌≡◌, ◌≤◌, ◌<◌, ◌+◌, [], ◌++◌, length, vec_len, vec_capacity, IfOk, IfErr, IfSome, OnOk, OnErr, IsTrue, IsOkAnd, IsErrOf, false, MatchOption};
+ghost use Rattle.std.specs.Option.{option_copied};
 ghost use Rattle.scram_text.specs.Name.{IsSaslName};
 ghost use Rattle.scram_text.specs.Parts.{parts, is_flag, authz_text};
-ghost use Rattle.scram_text.specs.Messages.{ClientFirstParts, IsClientFirst};
+ghost use Rattle.scram_text.specs.Messages.{ClientFirstParts, client_first_text, IsClientFirst};
 ghost use Rattle.scram_text.specs.Faults.{IsClientFirstFault, IsAuthz, fault, marked_places};
 ghost use Rattle.scram_text.specs.Shown.{ShowsClientFirst, flag_text};
+ghost use Rattle.scram_text.specs.Draft.{IsDraftOf};
+ghost use Rattle.scram_text.specs.Written.{client_first_of, CanBeClientFirst};
 ghost use Rattle.scram_text.specs.Pieces.{IsCutFirst, IsCutBare, IsBare, ShowsBare, IsBareMisfit};
 
-use crate::fault::{TextFault, TextWhy};
-use crate::name::SaslText;
+use crate::draft::Draft;
+use crate::fault::{TextFault, TextWhy, WriteFault};
+use crate::name::{PlainName, SaslText};
+use crate::secret::NoncePart;
 use crate::{class, cut, field};
+use std::alloc::Allocator;
 
 /// The flag of a gs2-header: whether the client binds a channel.
 #[derive(Drop)]
@@ -227,4 +233,85 @@ fn bare_pieces_of(bare: &[u8]) -> Result<BarePieces<'_>, TextFault>
         nonce,
         rest,
     })
+}
+
+/// Appends a client-first message to `out`: the flag, the authorisation name and the name in plain
+/// bytes, which are spelled, the nonce, and the extensions as attr-vals with commas between them or
+/// empty. Answers 16 Unwritable where the flag's name or the extensions are outside their class, else
+/// 17 OverLimit where the message would have more than 2048 bytes, else 99 NoMemory, which does not
+/// come where `out` has reserved room for the message; `out` is then unchanged.
+pub fn write_client_first<A: Allocator>(
+    flag: Flag<'_>,
+    authzid: Option<&PlainName>,
+    name: &PlainName,
+    nonce: &NoncePart,
+    extensions: &[u8],
+    out: &mut Vec<u8, A>,
+) -> Result<(), WriteFault>
+    ensures ok { OnOk result (out.new.items ≡ out.old.items ++ client_first_text
+        (client_first_of flag.entry (option_copied authzid.entry) name.now nonce.now extensions.now)) }
+    ensures related { let p = client_first_of flag.entry (option_copied authzid.entry) name.now nonce.now extensions.now in
+        OnOk result (IsClientFirst (client_first_text p) p) }
+    ensures err { OnErr result (out.new.items ≡ out.old.items) }
+
+    ensures unwritable { IsErrOf result WriteFault.Unwritable → CanBeClientFirst flag.entry extensions.now → ⊥ }
+    ensures over_limit { IsErrOf result WriteFault.OverLimit → CanBeClientFirst flag.entry extensions.now
+        × (2048 < length (client_first_text
+        (client_first_of flag.entry (option_copied authzid.entry) name.now nonce.now extensions.now))) }
+    ensures no_memory { let p = client_first_of flag.entry (option_copied authzid.entry) name.now nonce.now extensions.now in
+        IsErrOf result WriteFault.NoMemory → IsClientFirst (client_first_text p) p
+        × (vec_capacity out.old < vec_len out.old + length (client_first_text p)) }
+{
+    if !is_flag(&flag) || !cut::are_extensions(extensions) {
+        return Err(WriteFault::Unwritable);
+    }
+    draft_of(&flag, authzid, name, nonce, extensions).append_to(out)
+}
+
+fn is_flag(flag: &Flag<'_>) -> bool
+    ensures { result ≡ is_flag (flag_text flag.now) }
+{
+    match flag {
+        Flag::NoBinding | Flag::NotOffered => true,
+        Flag::Binding(name) => class::is_cb_name(name),
+    }
+}
+
+fn draft_of(
+    flag: &Flag<'_>,
+    authzid: Option<&PlainName>,
+    name: &PlainName,
+    nonce: &NoncePart,
+    extensions: &[u8],
+) -> Draft
+    requires { CanBeClientFirst flag.now extensions.now }
+    ensures draft { IsDraftOf result (client_first_text
+        (client_first_of flag.now (option_copied authzid.entry) name.now nonce.now extensions.now)) }
+    ensures related { let p = client_first_of flag.now (option_copied authzid.entry) name.now nonce.now extensions.now in
+        length (client_first_text p) ≤ 2048 → IsClientFirst (client_first_text p) p }
+{
+    let mut draft = flagged(flag);
+    draft.add(b",");
+    draft.add_authzid(authzid);
+    draft.add(b",n=");
+    draft.add_name(name);
+    draft.add(b",r=");
+    draft.add(nonce.bytes());
+    draft.add_extensions(extensions);
+    draft
+}
+
+fn flagged(flag: &Flag<'_>) -> Draft
+    ensures { IsDraftOf result (flag_text flag.now) }
+{
+    let mut draft = Draft::new();
+    match flag {
+        Flag::NoBinding => draft.add(b"n"),
+        Flag::NotOffered => draft.add(b"y"),
+        Flag::Binding(name) => {
+            draft.add(b"p=");
+            draft.add(name);
+        }
+    }
+    draft
 }

@@ -7,7 +7,7 @@ ghost use Rattle.scram_text.specs.Parts.{IsHeaded, IsValue, IsCount, SpellsCount
 
 use crate::name::SaslText;
 use crate::secret::Salt;
-use crate::{class, cut};
+use crate::{class, cut, name};
 use arrayvec::ArrayVec;
 use base64::engine::general_purpose::STANDARD;
 use itoa::Buffer;
@@ -46,6 +46,19 @@ pub(crate) fn value_of(part: &[u8], letter: u8) -> Option<&[u8]>
 {
     let value = cut::headed(part, letter)?;
     if value.is_empty() { None } else { Some(value) }
+}
+
+// One or more value-chars, in a text.
+pub(crate) fn is_value(value: &[u8]) -> bool
+    ensures { IsTrue result ↔ IsValue value.now }
+{
+    name::lacks_comma(value) && !value.is_empty()
+}
+
+pub(crate) fn is_count(count: u32) -> bool
+    ensures { IsTrue result ↔ IsCount count }
+{
+    count > 0
 }
 
 // The count of `i=` and a number from 1 to 4294967295.

@@ -14,10 +14,10 @@ mod secret;
 mod server_final;
 mod server_first;
 
-pub use client_final::{ClientFinal, read_client_final};
-pub use client_first::{ClientFirst, Flag, read_client_first};
+pub use client_final::{ClientFinal, compose_front, read_client_final, write_client_final};
+pub use client_first::{ClientFirst, Flag, read_client_first, write_client_first};
 pub use fault::{TextFault, TextWhy, WriteFault};
-pub use name::{PlainName, SaslText};
+pub use name::{PlainName, SaslText, write_name};
 pub use secret::{NoncePart, Password, Salt};
-pub use server_final::{FinalResult, ServerFinal, read_server_final};
-pub use server_first::{ServerFirst, read_server_first};
+pub use server_final::{FinalResult, ServerFinal, read_server_final, write_server_final};
+pub use server_first::{ServerFirst, read_server_first, write_server_first};

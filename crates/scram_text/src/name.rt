@@ -1,12 +1,15 @@
 //! User names: in plain bytes, and as a message spells them (RFC 5802, section 5.1).
-ghost use Rattle.std.specs.Prelude.{◌≡◌, ◌≤◌, ℕ, List, [], ◌++◌, length, ◌↔◌, IsTrue, not, IfSome, IfNone, MatchOption};
+ghost use Rattle.std.specs.Prelude.{◌≡◌, ◌≤◌, ℕ, List, [], ◌++◌, length, ◌↔◌, IsTrue, not, vec_len, vec_capacity, ◌<◌, ◌+◌, IfSome, IfNone, IfErr, OnOk, OnErr, MatchOption};
 ghost use Rattle.std.specs.Option.{SomeIff};
 ghost use Rattle.std.specs.List.{list_all};
 ghost use Rattle.scram_text.specs.Class.{IsPlainName, is_comma};
 ghost use Rattle.scram_text.specs.Name.{IsSaslName, LacksComma, SpellsName, escape, name_spelling, is_escaped, ends_escape};
 
 use crate::class;
+use crate::draft::Draft;
+use crate::fault::WriteFault;
 use arrayvec::ArrayVec;
+use std::alloc::Allocator;
 use std::marker::Model;
 
 /// A name: 1 to 255 bytes of 20 to 7E hex, which SASLprep (RFC 4013) leaves as they are. Contracts
@@ -132,7 +135,7 @@ fn is_saslname(spelled: &[u8]) -> bool
     lacks_comma(spelled) && is_escaped(spelled) && !spelled.is_empty()
 }
 
-fn lacks_comma(bytes: &[u8]) -> bool
+pub(crate) fn lacks_comma(bytes: &[u8]) -> bool
     ensures { result ≡ list_all (λ c. not (is_comma c)) bytes.now }
 {
     bytes.iter().all(|byte| *byte != b',')
@@ -157,4 +160,19 @@ fn ends_escape(text: &[u8]) -> bool
     ensures { result ≡ ends_escape text.now }
 {
     matches!(text, [b'2', b'C', ..] | [b'3', b'D', ..])
+}
+
+/// Appends the spelling of a name to `out`, with `=2C` for each comma and `=3D` for each equals sign
+/// (RFC 5802, section 5.1). Answers 99 NoMemory alone, which does not come where `out` has reserved
+/// room for the spelling; `out` is then unchanged.
+pub fn write_name<A: Allocator>(name: &PlainName, out: &mut Vec<u8, A>) -> Result<(), WriteFault>
+    ensures ok { OnOk result (out.new.items ≡ out.old.items ++ name_spelling name.now) }
+    ensures related { IsSaslName (name_spelling name.now) }
+    ensures err { OnErr result (out.new.items ≡ out.old.items) }
+    ensures no_memory { IfErr result (λ f. (f ≡ WriteFault.NoMemory)
+        × (vec_capacity out.old < vec_len out.old + length (name_spelling name.now))) }
+{
+    let mut draft = Draft::new();
+    draft.add_name(name);
+    draft.append_to(out)
 }

@@ -5,16 +5,22 @@
 //! ```
 //!
 //! as `v=rmF9pqV8S7suAoZWja4dJRkFsKQ=` or `e=invalid-proof`.
-ghost use Rattle.std.specs.Prelude.{◌≡◌, ◌≤◌, length, IfOk, IfErr, IsOkAnd};
+ghost use Rattle.std.specs.Prelude.{◌≡◌, ◌≤◌, ◌<◌, ◌+◌, ◌↔◌, ◌++◌, length, codes, vec_len, vec_capacity, IsTrue, IfOk, IfErr, OnOk, OnErr, IsOkAnd, IsErrOf};
+ghost use Rattle.scram_text.specs.Class.{IsText};
 ghost use Rattle.scram_text.specs.Name.{LacksComma};
+ghost use Rattle.scram_text.specs.Base64Field.{base64};
 ghost use Rattle.scram_text.specs.Parts.{is_headed};
-ghost use Rattle.scram_text.specs.Messages.{ServerFinalParts, IsServerFinal, IsOutcome, outcome_text};
+ghost use Rattle.scram_text.specs.Messages.{ServerFinalParts, IsServerFinal, IsOutcome, outcome_text, server_final_text};
 ghost use Rattle.scram_text.specs.Faults.{IsServerFinalFault, Fits, fault, result_place};
 ghost use Rattle.scram_text.specs.Shown.{ShowsServerFinal, outcome_of};
+ghost use Rattle.scram_text.specs.Draft.{IsDraftOf};
+ghost use Rattle.scram_text.specs.Written.{server_final_of, CanBeTold, CanBeServerFinal};
 
-use crate::fault::{TextFault, TextWhy};
-use crate::{cut, field};
+use crate::draft::Draft;
+use crate::fault::{TextFault, TextWhy, WriteFault};
+use crate::{class, cut, field};
 use mac_core::Tag;
+use std::alloc::Allocator;
 
 /// What the server's final message tells.
 #[derive(Drop)]
@@ -98,4 +104,88 @@ fn is_error(part: &[u8]) -> bool
     ensures { result ≡ is_headed 101 part.now }
 {
     matches!(part, [b'e', b'=', ..])
+}
+
+/// Appends a server-final message to `out`: the verifier of 1 to 64 bytes or the error value of one
+/// or more value-chars, and the extensions as attr-vals with commas between them or empty. Answers
+/// 16 Unwritable where an argument is outside its class, else 17 OverLimit where the message would
+/// have more than 2048 bytes, else 99 NoMemory, which does not come where `out` has reserved room for
+/// the message; `out` is then unchanged.
+pub fn write_server_final<A: Allocator>(
+    outcome: FinalResult<'_>,
+    extensions: &[u8],
+    out: &mut Vec<u8, A>,
+) -> Result<(), WriteFault>
+    ensures ok { OnOk result (out.new.items ≡ out.old.items
+        ++ server_final_text (server_final_of (outcome_of outcome.entry) extensions.now)) }
+    ensures related { let p = server_final_of (outcome_of outcome.entry) extensions.now in
+        OnOk result (IsServerFinal (server_final_text p) p) }
+    ensures err { OnErr result (out.new.items ≡ out.old.items) }
+
+    ensures unwritable { IsErrOf result WriteFault.Unwritable → CanBeServerFinal (outcome_of outcome.entry) extensions.now → ⊥ }
+    ensures over_limit { IsErrOf result WriteFault.OverLimit → CanBeServerFinal (outcome_of outcome.entry) extensions.now
+        × (2048 < length (server_final_text (server_final_of (outcome_of outcome.entry) extensions.now))) }
+    ensures no_memory { let p = server_final_of (outcome_of outcome.entry) extensions.now in
+        IsErrOf result WriteFault.NoMemory → IsServerFinal (server_final_text p) p
+        × (vec_capacity out.old < vec_len out.old + length (server_final_text p)) }
+{
+    if !is_tellable(&outcome) || !cut::are_extensions(extensions) {
+        return Err(WriteFault::Unwritable);
+    }
+    draft_of(&outcome, extensions).append_to(out)
+}
+
+fn is_tellable(outcome: &FinalResult<'_>) -> bool
+    ensures { IsTrue result ↔ CanBeTold (outcome_of outcome.now) }
+{
+    match outcome {
+        FinalResult::Verifier(signature) => field::is_field(signature.as_slice(), 64),
+        FinalResult::ErrorValue(value) => field::is_value(value) && class::is_text(value),
+    }
+}
+
+fn draft_of(outcome: &FinalResult<'_>, extensions: &[u8]) -> Draft
+    requires { CanBeServerFinal (outcome_of outcome.now) extensions.now }
+    ensures draft { IsDraftOf result (server_final_text (server_final_of (outcome_of outcome.now) extensions.now)) }
+    ensures related { let p = server_final_of (outcome_of outcome.now) extensions.now in
+        length (server_final_text p) ≤ 2048 → IsServerFinal (server_final_text p) p }
+{
+    let mut draft = told(outcome);
+    draft.add_extensions(extensions);
+    draft
+}
+
+fn told(outcome: &FinalResult<'_>) -> Draft
+    requires { CanBeTold (outcome_of outcome.now) }
+    ensures draft { IsDraftOf result (outcome_text (outcome_of outcome.now)) }
+    ensures is_text { IsText (outcome_text (outcome_of outcome.now)) }
+{
+    match outcome {
+        FinalResult::Verifier(signature) => verifier(signature.as_slice()),
+        FinalResult::ErrorValue(value) => error(value),
+    }
+}
+
+// "v=" base64
+fn verifier(signature: &[u8]) -> Draft
+    requires { length signature.now ≤ 64 }
+    ensures draft { IsDraftOf result (codes "v=" ++ base64 signature.now) }
+    ensures is_text { IsText (codes "v=" ++ base64 signature.now) }
+{
+    let mut draft = Draft::new();
+    draft.add(b"v=");
+    draft.add_base64(signature);
+    draft
+}
+
+// "e=" server-error-value
+fn error(value: &[u8]) -> Draft
+    requires { IsText value.now }
+    ensures draft { IsDraftOf result (codes "e=" ++ value.now) }
+    ensures is_text { IsText (codes "e=" ++ value.now) }
+{
+    let mut draft = Draft::new();
+    draft.add(b"e=");
+    draft.add(value);
+    draft
 }

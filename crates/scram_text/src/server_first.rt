@@ -5,15 +5,19 @@
 //! ```
 //!
 //! as `r=abcdef,s=QSXCR+Q6sek8bf92,i=4096`.
-ghost use Rattle.std.specs.Prelude.{◌≡◌, IfOk, IfErr, IsOkAnd};
-ghost use Rattle.scram_text.specs.Messages.{ServerFirstParts, IsServerFirst};
+ghost use Rattle.std.specs.Prelude.{◌≡◌, ◌≤◌, ◌<◌, ◌+◌, ◌↔◌, ◌++◌, length, vec_len, vec_capacity, IsTrue, IfOk, IfErr, OnOk, OnErr, IsOkAnd, IsErrOf};
+ghost use Rattle.scram_text.specs.Messages.{ServerFirstParts, server_first_text, IsServerFirst};
+ghost use Rattle.scram_text.specs.Draft.{IsDraftOf};
+ghost use Rattle.scram_text.specs.Written.{server_first_of, CanBeServerFirst};
 ghost use Rattle.scram_text.specs.Faults.{IsServerFirstFault};
 ghost use Rattle.scram_text.specs.Shown.{ShowsServerFirst};
 ghost use Rattle.scram_text.specs.Pieces.{IsCutServer};
 
-use crate::fault::{TextFault, TextWhy};
+use crate::draft::Draft;
+use crate::fault::{TextFault, TextWhy, WriteFault};
 use crate::secret::Salt;
-use crate::{cut, field};
+use crate::{class, cut, field};
+use std::alloc::Allocator;
 
 /// A server-first message that was read. Slices are slices of the message.
 #[derive(Drop)]
@@ -114,4 +118,62 @@ fn pieces_of(message: &[u8]) -> Result<Pieces<'_>, TextFault>
         count,
         rest,
     })
+}
+
+/// Appends a server-first message to `out`: the nonce of 1 to 512 printable characters, the salt, the
+/// count, which is at least 1, and the extensions as attr-vals with commas between them or empty.
+/// Answers 16 Unwritable where an argument is outside its class, else 17 OverLimit where the message
+/// would have more than 2048 bytes, else 99 NoMemory, which does not come where `out` has reserved
+/// room for the message; `out` is then unchanged.
+pub fn write_server_first<A: Allocator>(
+    nonce: &[u8],
+    salt: &Salt,
+    count: u32,
+    extensions: &[u8],
+    out: &mut Vec<u8, A>,
+) -> Result<(), WriteFault>
+    ensures ok { OnOk result (out.new.items ≡ out.old.items
+        ++ server_first_text (server_first_of nonce.now salt.now count extensions.now)) }
+    ensures related { let p = server_first_of nonce.now salt.now count extensions.now in
+        OnOk result (IsServerFirst (server_first_text p) p) }
+    ensures err { OnErr result (out.new.items ≡ out.old.items) }
+
+    ensures unwritable { IsErrOf result WriteFault.Unwritable → CanBeServerFirst nonce.now salt.now count extensions.now → ⊥ }
+    ensures over_limit { IsErrOf result WriteFault.OverLimit → CanBeServerFirst nonce.now salt.now count extensions.now
+        × (2048 < length (server_first_text (server_first_of nonce.now salt.now count extensions.now))) }
+    ensures no_memory { let p = server_first_of nonce.now salt.now count extensions.now in
+        IsErrOf result WriteFault.NoMemory → IsServerFirst (server_first_text p) p
+        × (vec_capacity out.old < vec_len out.old + length (server_first_text p)) }
+{
+    let salt = salt.bytes();
+    if !is_writable(nonce, salt, count, extensions) {
+        return Err(WriteFault::Unwritable);
+    }
+    draft_of(nonce, salt, count, extensions).append_to(out)
+}
+
+fn is_writable(nonce: &[u8], salt: &[u8], count: u32, extensions: &[u8]) -> bool
+    ensures { IsTrue result ↔ CanBeServerFirst nonce.now salt.now count extensions.now }
+{
+    class::is_nonce(nonce, 512)
+        && field::is_field(salt, 64)
+        && field::is_count(count)
+        && cut::are_extensions(extensions)
+}
+
+fn draft_of(nonce: &[u8], salt: &[u8], count: u32, extensions: &[u8]) -> Draft
+    requires { CanBeServerFirst nonce.now salt.now count extensions.now }
+    ensures draft { IsDraftOf result (server_first_text (server_first_of nonce.now salt.now count extensions.now)) }
+    ensures related { let p = server_first_of nonce.now salt.now count extensions.now in
+        length (server_first_text p) ≤ 2048 → IsServerFirst (server_first_text p) p }
+{
+    let mut draft = Draft::new();
+    draft.add(b"r=");
+    draft.add(nonce);
+    draft.add(b",s=");
+    draft.add_base64(salt);
+    draft.add(b",i=");
+    draft.add_decimal(count);
+    draft.add_extensions(extensions);
+    draft
 }

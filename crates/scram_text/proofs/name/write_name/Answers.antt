@@ -1,0 +1,26 @@
+use Rattle.std.proofs.Common.{◌≡◌, ◌<◌, ℕ, length, arith, refl}
+use Rattle.std.specs.Prelude.{IfErr}
+use Rattle.std.specs.declared.result.Result.{Result}
+use Rattle.std.specs.declared.result.Result.TheVariants.{Ok, Err}
+use Rattle.scram_text.specs.declared.fault.WriteFault.{WriteFault}
+use Rattle.scram_text.specs.declared.fault.WriteFault.TheVariants.{Unwritable, OverLimit, NoMemory}
+use Rattle.scram_text.proofs.NameLemmas.{length-spelling, spelling_saslname}
+use Rattle.scram_text.proofs.name.write_name.Goals as goal
+
+pub returns-clause-related : goal.returns-clause-related
+returns-clause-related g c = spelling_saslname c.args.name.now c.add_name.ensures.plain.at_least
+
+-- a fault is the one that is left
+memory_alone : {T : Type 0} (r : Result T WriteFault) (Room : Type 0) → (r ≡ Err Unwritable → ⊥) → (r ≡ Err OverLimit → ⊥)
+    → (r ≡ Err NoMemory → Room) → IfErr r (λ f. (f ≡ NoMemory) × Room)
+memory_alone (Ok done) Room unwritable over_limit room = tt
+memory_alone (Err Unwritable) Room unwritable over_limit room = absurd (unwritable refl)
+memory_alone (Err OverLimit) Room unwritable over_limit room = absurd (over_limit refl)
+memory_alone (Err NoMemory) Room unwritable over_limit room = (refl, room refl)
+
+pub returns-clause-no_memory : goal.returns-clause-no_memory
+returns-clause-no_memory g c =
+    let is = c.add_name.ensures.draft _ c.new-draft.ensures in
+    memory_alone c.append_to.result _ c.append_to.ensures.unwritable
+    (λ e. let long = c.append_to.ensures.over_limit e _ is in omega (arith, long, length-spelling c.args.name.now, c.add_name.ensures.plain.at_most))
+    (λ e. (c.append_to.ensures.no_memory e _ is).1)

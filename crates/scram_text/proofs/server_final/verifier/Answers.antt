@@ -1,0 +1,9 @@
+use Rattle.std.proofs.Common.{arith}
+use Rattle.base64.specs.GeneralPurpose.{IsBytes}
+use Rattle.scram_text.proofs.ComposeLemmas.{signature_text}
+use Rattle.scram_text.proofs.server_final.verifier.Goals as goal
+
+pub returns-clause-is_text : goal.returns-clause-is_text
+returns-clause-is_text c =
+    let fits : IsBytes c.args.signature.now = λ i. omega (arith, c.type_inv.signature i) in
+    signature_text c.args.signature.now fits

@@ -1,0 +1,17 @@
+use Rattle.std.proofs.Common.{ℕ, List, subst, arith}
+use Rattle.base64.specs.GeneralPurpose.{IsBytes}
+use Rattle.scram_text.specs.Draft.{IsDraftOf}
+use Rattle.scram_text.proofs.ComposeLemmas.{server_first_composed, server_first_related}
+use Rattle.scram_text.proofs.server_first.draft_of.Goals as goal
+
+pub returns-clause-draft : goal.returns-clause-draft
+returns-clause-draft c =
+    let salted = c.add_base64.ensures _ (c.add-3.ensures _ (c.add-2.ensures _ (c.add.ensures _ c.new-draft.ensures))) in
+    subst (λ (text : List ℕ). IsDraftOf c.add_extensions.new.self text)
+    (server_first_composed c.args.nonce.now c.args.salt.now c.args.count c.args.extensions.now)
+    (c.add_extensions.ensures _ (c.add_decimal.ensures _ (c.add-4.ensures _ salted)))
+
+pub returns-clause-related : goal.returns-clause-related
+returns-clause-related c = λ short.
+    let salt : IsBytes c.args.salt.now = λ i. omega (arith, c.type_inv.salt i) in
+    server_first_related c.args.nonce.now c.args.salt.now c.args.count c.args.extensions.now salt c.requires short
