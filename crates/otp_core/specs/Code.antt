@@ -1,0 +1,60 @@
+-- HOTP values as text (RFC 4226, section 5.3) and the steps of TOTP (RFC 6238, section 4.2).
+use Rattle.std.specs.Prelude.{ℕ, zero, suc, ◌+◌, ◌-◌, ◌/◌, ◌%◌, ◌^◌, List, [], ◌∷◌, ◌++◌, length, All, slice_index}
+use Rattle.std.specs.Int.{w32, w64, from_be_bytes, to_be_bytes}
+use Rattle.std.specs.Char.{IsAsciiDigit}
+use Rattle.sha1.specs.Sha1.{sha1}
+use Rattle.sha2.specs.Sha256.{sha256}
+use Rattle.sha2.specs.Sha512.{sha512}
+use Rattle.mac_core.specs.Hmac.{hmac}
+use Rattle.otp_core.specs.Secret.{IsDigitCount}
+use Rattle.otp_core.specs.declared.hash.OtpHash.{OtpHash}
+use Rattle.otp_core.specs.declared.hash.OtpHash.TheVariants.{Sha1, Sha256, Sha512}
+
+-- the offset: the low four bits of the last byte
+abbrev pub offset : List ℕ → ℕ
+offset tag = slice_index tag (length tag - 1) % 16
+
+-- the dynamic truncation: the four bytes from the offset on as a number, most significant first, without
+-- its top bit
+abbrev pub truncated : List ℕ → ℕ
+truncated tag =
+    let at = offset tag in
+    from_be_bytes w32 (slice_index tag at ∷ slice_index tag (at + 1) ∷ slice_index tag (at + 2) ∷ slice_index tag (at + 3) ∷ []) % 2 ^ 31
+
+-- the last `count` decimal digits of a number as ASCII, leading zeros included
+unfoldable pub last_digits : ℕ → ℕ → List ℕ
+last_digits zero number = []
+last_digits (suc count) number = last_digits count (number / 10) ++ (48 + number % 10) ∷ []
+
+-- Truncate of a tag: its truncation modulo 10 ^ digits, in that many digits
+abbrev pub code_of : ℕ → List ℕ → List ℕ
+code_of digits tag = last_digits digits (truncated tag % 10 ^ digits)
+
+-- HOTP(K, C) = Truncate(HMAC(K, C)), the counter in 8 bytes, most significant first
+abbrev pub hotp_text : (List ℕ → List ℕ) → ℕ → ℕ → List ℕ → ℕ → List ℕ
+hotp_text hash block digits key counter = code_of digits (hmac hash block key (to_be_bytes w64 counter))
+
+-- a code's text: 6 to 8 ASCII digits
+pub record IsCodeText (text : List ℕ) : Type 0 where
+  pub count : IsDigitCount (length text)
+  pub digits : All IsAsciiDigit text
+
+-- the digest of a hash function
+abbrev pub hash_by : OtpHash → List ℕ → List ℕ
+hash_by Sha1 = sha1
+hash_by Sha256 = sha256
+hash_by Sha512 = sha512
+
+-- the length of its blocks in bytes
+abbrev pub block_by : OtpHash → ℕ
+block_by Sha1 = 64
+block_by Sha256 = 64
+block_by Sha512 = 128
+
+-- HOTP over that hash function, as RFC 6238, section 1.2, allows for TOTP
+abbrev pub hotp_text_by : OtpHash → ℕ → List ℕ → ℕ → List ℕ
+hotp_text_by hash = hotp_text (hash_by hash) (block_by hash)
+
+-- T, the number of whole steps of x seconds from t0 to a moment
+abbrev pub steps_from : ℕ → ℕ → ℕ → ℕ
+steps_from t0 x moment = (moment - t0) / x

@@ -1,0 +1,101 @@
+//! HOTP values (RFC 4226, section 5) and the steps of TOTP (RFC 6238, section 4.2).
+ghost use Rattle.std.specs.Prelude.{◌≡◌, ◌≤◌, ◌<◌, ◌%◌, ◌^◌, ℕ, List, length, MatchOption};
+ghost use Rattle.std.specs.Int.{w64, to_be_bytes};
+ghost use Rattle.mac_core.specs.Hmac.{hmac, IsPreparedFor};
+ghost use Rattle.otp_core.specs.Code.{truncated, last_digits, code_of, hotp_text, IsCodeText, steps_from};
+
+use crate::secret::{Digits, Moment, Secret};
+use arrayvec::ArrayVec;
+use mac_core::{HashFn, Prepared, Tag};
+use std::marker::Model;
+
+/// A one-time code: 6 to 8 ASCII digits. Contracts see it as the list of their bytes.
+#[derive(Drop)]
+pub struct Code {
+    digits: ArrayVec<u8, 8>,
+}
+
+impl Model for Code {
+    ghost Value = { List ℕ };
+
+    ghost view = { λ c. c.digits.items };
+
+    ghost invariant = { λ c. IsCodeText c.digits.items };
+}
+
+impl Code {
+    /// The code's digits.
+    pub fn text(&self) -> &str
+        ensures value { result.now ≡ self.now }
+        ensures form { IsCodeText self.now }
+    {
+        let Ok(text) = str::from_utf8(self.digits.as_slice()) else {
+            unreachable!()
+        };
+        text
+    }
+}
+
+// The truncation of a tag: the four bytes from its offset on, without the top bit.
+fn number_of(tag: &[u8]) -> u32
+    requires { 20 ≤ length tag.now }
+    ensures { result ≡ truncated tag.now }
+{
+    let at = usize::from(tag[tag.len() - 1] & 15);
+    u32::from_be_bytes([tag[at], tag[at + 1], tag[at + 2], tag[at + 3]]) & 0x7fff_ffff
+}
+
+// The last `count` decimal digits of a number.
+fn digits_of(mut number: u32, count: usize) -> ArrayVec<u8, 8>
+    requires { count ≤ 8 }
+    ensures { result.items ≡ last_digits count number }
+{
+    let mut digits = ArrayVec::new();
+    for place in 0..count {
+        digits.insert(0, b'0' + (number % 10) as u8);
+        number /= 10;
+    }
+    digits
+}
+
+/// The code of a tag (RFC 4226, section 5.3): its dynamic truncation modulo 10 to the number of
+/// digits, with leading zeros. The tag has at least 20 bytes; the offset is in its last byte.
+pub fn truncate(tag: &Tag, digits: Digits) -> Code
+    requires { 20 ≤ length tag.now.items }
+    ensures { result ≡ code_of digits tag.now.items }
+{
+    let count = digits.count();
+    let number = number_of(tag.as_slice()) % 10u32.pow(u32::from(count));
+    Code {
+        digits: digits_of(number, usize::from(count)),
+    }
+}
+
+/// The HOTP value of `counter` under a key that is prepared once (RFC 4226, section 5.3). With a
+/// counter of `step` it is TOTP's (RFC 6238, section 4.2), and `H` is then the token's hash
+/// function.
+pub fn hotp_with<H: HashFn>(prepared: &Prepared<H>, counter: u64, digits: Digits) -> Code
+    ensures { (key : List ℕ) → IsPreparedFor H.holds H.digest_of H.BLOCK prepared.now key
+        → result ≡ hotp_text H.digest_of H.BLOCK digits key counter }
+{
+    truncate(&prepared.mac(&counter.to_be_bytes()), digits)
+}
+
+/// The HOTP value of `counter` under `secret`, as `hotp_with`.
+pub fn hotp<H: HashFn>(secret: &Secret, counter: u64, digits: Digits) -> Code
+    ensures { result ≡ hotp_text H.digest_of H.BLOCK digits secret.now counter }
+{
+    hotp_with(&Prepared::<H>::new(secret.bytes()), counter, digits)
+}
+
+/// The TOTP counter of a moment (RFC 6238, section 4.2): the whole steps of `x` seconds from `t0`
+/// on, or None exactly where the moment is before `t0`. `x` is at least 1.
+pub fn step(moment: Moment, t0: Moment, x: u64) -> Option<u64>
+    requires { 1 ≤ x }
+    ensures { MatchOption result
+        (moment < t0)
+        (λ counter. (t0 ≤ moment) × (counter ≡ steps_from t0 x moment)) }
+{
+    let since = moment.seconds().checked_sub(t0.seconds())?;
+    Some(since / x)
+}

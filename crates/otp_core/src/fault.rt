@@ -1,0 +1,96 @@
+//! Refusals of this crate, each with its number.
+ghost use Rattle.std.specs.Prelude.{◌≡◌};
+ghost use Rattle.otp_core.specs.Fault.{fault_number, setting_name};
+
+use std::fmt;
+use thiserror::Error;
+
+/// A secret, a number of digits or a token's setting that is refused.
+#[derive(Clone, Copy, Debug, PartialEq, Eq, Error)]
+pub enum OtpFault {
+    /// A secret has other than 10 to 64 bytes.
+    #[error("a secret has 10 to 64 bytes")]
+    SecretLength,
+
+    /// A code has other than 6 to 8 digits.
+    #[error("a code has 6 to 8 digits")]
+    DigitCount,
+
+    /// This setting of a token is out of its range.
+    #[error("{0} is out of range")]
+    Setting(Setting),
+}
+
+impl OtpFault {
+    /// The number of the refusal: 40 for a secret's length, 41 for a number of digits, 42 for a
+    /// token's setting.
+    pub fn number(&self) -> u16
+        ensures { result ≡ fault_number self.now }
+    {
+        match self {
+            OtpFault::SecretLength => 40,
+            OtpFault::DigitCount => 41,
+            OtpFault::Setting(_) => 42,
+        }
+    }
+}
+
+/// A setting of a token that has a range of its own.
+#[derive(Clone, Copy, Debug, PartialEq, Eq)]
+pub enum Setting {
+    /// HOTP's next counter.
+    Next,
+
+    /// How many counters behind the next one HOTP looks at.
+    LookAhead,
+
+    /// The seconds of a TOTP step.
+    Step,
+
+    /// How many steps TOTP looks back.
+    Back,
+
+    /// How many steps TOTP looks ahead.
+    Ahead,
+
+    /// The most steps that a TOTP code may lie beside the present one.
+    MaxDrift,
+
+    /// TOTP's last accepted step.
+    Last,
+
+    /// By how many steps TOTP's last accepted code lay beside its present one.
+    Drift,
+
+    /// How many failures lock the token.
+    Limit,
+
+    /// The failures so far.
+    Failures,
+}
+
+impl Setting {
+    /// The setting's name, that of its field.
+    pub fn name(&self) -> &'static str
+        ensures { result.now ≡ setting_name self.now }
+    {
+        match self {
+            Setting::Next => "next",
+            Setting::LookAhead => "look_ahead",
+            Setting::Step => "step",
+            Setting::Back => "back",
+            Setting::Ahead => "ahead",
+            Setting::MaxDrift => "max_drift",
+            Setting::Last => "last",
+            Setting::Drift => "drift",
+            Setting::Limit => "limit",
+            Setting::Failures => "failures",
+        }
+    }
+}
+
+impl fmt::Display for Setting {
+    fn fmt<W: fmt::Write>(&self, f: &mut fmt::Formatter<W>) -> fmt::Result {
+        f.write_str(self.name())
+    }
+}

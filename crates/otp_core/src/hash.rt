@@ -1,0 +1,33 @@
+//! The hash function of a token, chosen at run time.
+ghost use Rattle.std.specs.Prelude.{◌≡◌};
+ghost use Rattle.otp_core.specs.Code.{hotp_text_by};
+
+use crate::code::{Code, hotp};
+use crate::secret::{Digits, Secret};
+use mac_core::{HSha1, HSha256, HSha512};
+
+/// A hash function of TOTP (RFC 6238, section 1.2). HOTP has SHA-1 alone.
+#[derive(Clone, Copy, Debug, PartialEq, Eq)]
+pub enum OtpHash {
+    /// SHA-1, of RFC 4226.
+    Sha1,
+
+    /// SHA-256.
+    Sha256,
+
+    /// SHA-512.
+    Sha512,
+}
+
+impl OtpHash {
+    /// `hotp` with this hash function.
+    pub fn hotp(self, secret: &Secret, counter: u64, digits: Digits) -> Code
+        ensures { result ≡ hotp_text_by self digits secret.now counter }
+    {
+        match self {
+            OtpHash::Sha1 => hotp::<HSha1>(secret, counter, digits),
+            OtpHash::Sha256 => hotp::<HSha256>(secret, counter, digits),
+            OtpHash::Sha512 => hotp::<HSha512>(secret, counter, digits),
+        }
+    }
+}

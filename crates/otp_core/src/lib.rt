@@ -1,0 +1,26 @@
+//! HOTP (RFC 4226) and TOTP (RFC 6238) codes.
+//!
+//! Each function's contract says that its result is the RFC's formula of its arguments. No call
+//! takes memory.
+//!
+//! ```rust
+//! use mac_core::HSha1;
+//! use otp_core::{Digits, Secret, hotp};
+//!
+//! let secret = Secret::new(b"12345678901234567890")?;
+//! let code = hotp::<HSha1>(&secret, 0, Digits::new(6)?);
+//! assert_eq!(rt; code.text(), "755224");
+//! ```
+#![tactic(auto)]
+
+mod code;
+mod fault;
+mod hash;
+mod secret;
+#[cfg(test)]
+mod tests;
+
+pub use code::{Code, hotp, hotp_with, step, truncate};
+pub use fault::{OtpFault, Setting};
+pub use hash::OtpHash;
+pub use secret::{Digits, Moment, Secret};

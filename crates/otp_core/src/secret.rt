@@ -1,0 +1,138 @@
+//! A token's secret, the number of digits of its codes, and moments: each within its range.
+ghost use Rattle.std.specs.Prelude.{◌≡◌, ◌≤◌, List, ℕ, length, MatchResult, MatchOption};
+ghost use Rattle.otp_core.specs.Secret.{IsSecretLength, IsDigitCount, IsMoment};
+ghost use Rattle.otp_core.specs.declared.fault.OtpFault.TheVariants.{SecretLength, DigitCount};
+
+use crate::fault::OtpFault;
+use arrayvec::ArrayVec;
+use std::marker::Model;
+
+/// The key of a token's HMAC: 10 to 64 bytes. Contracts see it as the list of its bytes.
+#[derive(Drop)]
+pub struct Secret {
+    bytes: ArrayVec<u8, 64>,
+}
+
+impl Model for Secret {
+    ghost Value = { List ℕ };
+
+    ghost view = { λ s. s.bytes.items };
+
+    ghost invariant = { λ s. IsSecretLength (length s.bytes.items) };
+}
+
+impl Secret {
+    /// The secret of these bytes. `SecretLength` (40) exactly where they are fewer than 10 or more
+    /// than 64.
+    pub fn new(bytes: &[u8]) -> Result<Secret, OtpFault>
+        ensures { MatchResult result
+            (λ secret. (secret ≡ bytes.now) × IsSecretLength (length bytes.now))
+            (λ fault. (fault ≡ SecretLength) × ¬ (IsSecretLength (length bytes.now))) }
+    {
+        if bytes.len() < 10 {
+            return Err(OtpFault::SecretLength);
+        }
+        match ArrayVec::try_from(bytes) {
+            Ok(bytes) => Ok(Secret { bytes }),
+            Err(_) => Err(OtpFault::SecretLength),
+        }
+    }
+
+    /// The secret's bytes.
+    pub fn bytes(&self) -> &[u8]
+        ensures value { result.now ≡ self.now }
+        ensures length { IsSecretLength (length self.now) }
+    {
+        self.bytes.as_slice()
+    }
+
+    /// A second value of the same bytes.
+    pub fn copy(&self) -> Secret
+        ensures { result ≡ self.now }
+    {
+        let Ok(bytes) = ArrayVec::try_from(self.bytes.as_slice()) else {
+            unreachable!()
+        };
+        Secret { bytes }
+    }
+}
+
+/// How many digits a code has: 6 to 8 (RFC 4226, section 5.3). Contracts see it as that number.
+#[derive(Clone, Copy, Debug, PartialEq, Eq)]
+pub struct Digits {
+    count: u8,
+}
+
+impl Model for Digits {
+    ghost Value = { ℕ };
+
+    ghost view = { λ d. d.count };
+
+    ghost invariant = { λ d. IsDigitCount d.count };
+
+    ghost inverse = { λ count. record { count = count } };
+}
+
+impl Digits {
+    /// Codes of `count` digits. `DigitCount` (41) exactly where `count` is below 6 or above 8.
+    pub fn new(count: u8) -> Result<Digits, OtpFault>
+        ensures { MatchResult result
+            (λ digits. (digits ≡ count) × IsDigitCount count)
+            (λ fault. (fault ≡ DigitCount) × ¬ (IsDigitCount count)) }
+    {
+        if 6 <= count && count <= 8 {
+            Ok(Digits { count })
+        } else {
+            Err(OtpFault::DigitCount)
+        }
+    }
+
+    /// How many digits.
+    pub fn count(self) -> u8
+        ensures value { result ≡ self }
+        ensures range { IsDigitCount self }
+    {
+        self.count
+    }
+}
+
+/// A moment: whole seconds since 1970-01-01 00:00 UTC, at most 253402300799, the last second of
+/// the year 9999. Contracts see it as that number.
+#[derive(Clone, Copy, Debug, PartialEq, Eq)]
+pub struct Moment {
+    seconds: u64,
+}
+
+impl Model for Moment {
+    ghost Value = { ℕ };
+
+    ghost view = { λ m. m.seconds };
+
+    ghost invariant = { λ m. IsMoment m.seconds };
+
+    ghost inverse = { λ seconds. record { seconds = seconds } };
+}
+
+impl Moment {
+    /// The moment so many seconds after the start of 1970, or None exactly where they are more than
+    /// 253402300799.
+    pub fn new(seconds: u64) -> Option<Moment>
+        ensures { MatchOption result
+            (¬ (IsMoment seconds))
+            (λ moment. (moment ≡ seconds) × IsMoment seconds) }
+    {
+        if seconds <= 253_402_300_799 {
+            Some(Moment { seconds })
+        } else {
+            None
+        }
+    }
+
+    /// The seconds since the start of 1970.
+    pub fn seconds(self) -> u64
+        ensures value { result ≡ self }
+        ensures range { IsMoment self }
+    {
+        self.seconds
+    }
+}

@@ -1,0 +1,179 @@
+//! Values from outside: RFC 4226, appendix D, RFC 6238, appendix B, and a tag with a large offset.
+use crate::{
+    Code, Digits, Moment, OtpFault, OtpHash, Secret, Setting, hotp, hotp_with, step, truncate,
+};
+use mac_core::{HSha1, HSha256, HSha512, HashFn, Prepared, Tag};
+use std::process::Abort;
+use std::test::Fail;
+
+// The secret of RFC 6238, appendix B; its front of 20 bytes is also that of RFC 4226, appendix D.
+const SECRET: &[u8; 64] = b"1234567890123456789012345678901234567890123456789012345678901234";
+
+fn moment(rt: &impl Abort, seconds: u64) -> Moment {
+    Moment::new(seconds).expect(rt, "a moment")
+}
+
+// One code in each way: over the secret and over a prepared key.
+fn check_code<H: HashFn>(
+    rt: &impl Abort,
+    hash: OtpHash,
+    key: &[u8],
+    counter: u64,
+    count: u8,
+    want: &str,
+) -> Result<(), OtpFault> {
+    let secret = Secret::new(key)?;
+    let digits = Digits::new(count)?;
+    let prepared = Prepared::<H>::new(key);
+    for code in [
+        hotp::<H>(&secret, counter, digits),
+        hotp_with(&prepared, counter, digits),
+        hash.hotp(&secret, counter, digits),
+    ] {
+        assert_eq!(rt; code.text(), want, "counter {counter}");
+    }
+    Ok(())
+}
+
+// RFC 4226, appendix D.
+#[test]
+fn hotp_values(rt: HostRuntime) -> Result<(), Fail> {
+    let codes = [
+        "755224", "287082", "359152", "969429", "338314", "254676", "287922", "162583", "399871",
+        "520489",
+    ];
+    for (counter, want) in codes.iter().enumerate() {
+        check_code::<HSha1>(&rt, OtpHash::Sha1, &SECRET[..20], counter as u64, 6, want)?;
+    }
+    Ok(())
+}
+
+// RFC 6238, appendix B.
+#[test]
+fn totp_values(rt: HostRuntime) -> Result<(), Fail> {
+    let rows = [
+        (59, 1, "94287082", "46119246", "90693936"),
+        (1111111109, 37037036, "07081804", "68084774", "25091201"),
+        (1111111111, 37037037, "14050471", "67062674", "99943326"),
+        (1234567890, 41152263, "89005924", "91819424", "93441116"),
+        (2000000000, 66666666, "69279037", "90698825", "38618901"),
+        (20000000000, 666666666, "65353130", "77737706", "47863826"),
+    ];
+    let t0 = moment(&rt, 0);
+    for (seconds, counter, sha1, sha256, sha512) in rows {
+        assert_eq!(rt;
+            step(moment(&rt, seconds), t0, 30),
+            Some(counter),
+            "at {seconds}"
+        );
+        check_code::<HSha1>(&rt, OtpHash::Sha1, &SECRET[..20], counter, 8, sha1)?;
+        check_code::<HSha256>(&rt, OtpHash::Sha256, &SECRET[..32], counter, 8, sha256)?;
+        check_code::<HSha512>(&rt, OtpHash::Sha512, SECRET, counter, 8, sha512)?;
+    }
+    Ok(())
+}
+
+// The tag of these bytes, cut to this many digits.
+fn code_of_bytes(rt: &impl Abort, bytes: &[u8], count: u8) -> Code {
+    let tag = Tag::try_from(bytes).ok().expect(rt, "at most 64 bytes");
+    assert!(rt; tag.len() >= 20, "at least 20 bytes");
+    truncate(&tag, Digits::new(count).ok().expect(rt, "6 to 8 digits"))
+}
+
+// RFC 4226, section 5.4.
+#[test]
+fn truncation_of_rfc(rt: HostRuntime) {
+    let tag = [
+        0x1f, 0x86, 0x98, 0x69, 0x0e, 0x02, 0xca, 0x16, 0x61, 0x85, 0x50, 0xef, 0x7f, 0x19, 0xda,
+        0x8e, 0x94, 0x5b, 0x55, 0x5a,
+    ];
+    for (count, want) in [(6, "872921"), (7, "7872921"), (8, "57872921")] {
+        assert_eq!(rt;
+            code_of_bytes(&rt, &tag, count).text(),
+            want,
+            "{count} digits"
+        );
+    }
+}
+
+// The offset is in the last of 32 bytes and not in the twentieth; the top bit drops out.
+#[test]
+fn truncation_of_long_tag(rt: HostRuntime) {
+    let mut tag = [0; 32];
+    tag[3] = 7;
+    tag[12] = 0xff;
+    tag[19] = 5;
+    for (last, want) in [(0x00, "00000007"), (0x0c, "30706432")] {
+        tag[31] = last;
+        assert_eq!(rt;
+            code_of_bytes(&rt, &tag, 8).text(),
+            want,
+            "last byte {last}"
+        );
+    }
+}
+
+#[test]
+fn ranges(rt: HostRuntime) -> Result<(), Fail> {
+    for (len, number) in [
+        (0, Some(40)),
+        (9, Some(40)),
+        (10, None),
+        (64, None),
+        (65, Some(40)),
+    ] {
+        let bytes = [0x5a; 65];
+        let fault = Secret::new(&bytes[..len]).err().map(|fault| fault.number());
+        assert_eq!(rt; fault, number, "{len} bytes");
+    }
+    for (count, number) in [
+        (0, Some(41)),
+        (5, Some(41)),
+        (6, None),
+        (8, None),
+        (9, Some(41)),
+    ] {
+        let fault = Digits::new(count).err().map(|fault| fault.number());
+        assert_eq!(rt; fault, number, "{count} digits");
+    }
+    for (seconds, there) in [(0, true), (253402300799, true), (253402300800, false)] {
+        assert_eq!(rt; Moment::new(seconds).is_some(), there, "{seconds} seconds");
+    }
+    Ok(())
+}
+
+#[test]
+fn steps(rt: HostRuntime) {
+    let rows = [
+        (9, 10, 30, None),
+        (10, 10, 30, Some(0)),
+        (39, 10, 30, Some(0)),
+        (40, 10, 30, Some(1)),
+        (253402300799, 0, 1, Some(253402300799)),
+    ];
+    for (seconds, t0, x, want) in rows {
+        assert_eq!(rt;
+            step(moment(&rt, seconds), moment(&rt, t0), x),
+            want,
+            "{seconds} from {t0}"
+        );
+    }
+}
+
+#[test]
+fn fault_texts(rt: HostRuntime) -> Result<(), Fail> {
+    let rows = [
+        (OtpFault::SecretLength, 40, "a secret has 10 to 64 bytes"),
+        (OtpFault::DigitCount, 41, "a code has 6 to 8 digits"),
+        (
+            OtpFault::Setting(Setting::MaxDrift),
+            42,
+            "max_drift is out of range",
+        ),
+    ];
+    for (fault, number, want) in rows {
+        assert_eq!(rt; fault.number(), number);
+        assert_eq!(rt; format!(in rt.alloc(); "{fault}")?.as_str(), want);
+    }
+    Ok(())
+}
