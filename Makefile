@@ -17,6 +17,7 @@ test: kit
 	rt ci
 	$(MAKE) build
 	python3 tests/keys.py $(PROGRAM)
+	python3 tests/codes.py $(PROGRAM)
 	sh tests/process.sh $(PROGRAM)
 
 build: kit $(PROGRAM)

@@ -1,12 +1,14 @@
 -- How a command ends without its answer.
 use Rattle.std.specs.Prelude.{ℕ}
 use Rattle.scramotp.specs.declared.fault.Fault.{Fault}
-use Rattle.scramotp.specs.declared.fault.Fault.TheVariants.{BadValue, BadPassword, CannotReadInput, CannotWriteOutput, NoMemory}
+use Rattle.scramotp.specs.declared.fault.Fault.TheVariants.{BadValue, BadPassword, NoCounterOrMoment, BeforeFirstStep, CannotReadInput, CannotWriteOutput, NoMemory}
 
--- the exit status: 2 for what the user can spell otherwise, 3 for streams and memory
+-- the exit status: 1 for what is refused, 2 for what the user can spell otherwise, 3 for streams and memory
 abbrev pub status_of : Fault → ℕ
 status_of (BadValue option) = 2
 status_of BadPassword = 2
+status_of NoCounterOrMoment = 2
+status_of BeforeFirstStep = 1
 status_of CannotReadInput = 3
 status_of CannotWriteOutput = 3
 status_of NoMemory = 3

@@ -17,6 +17,14 @@ pub enum Fault {
     #[error("bad password")]
     BadPassword,
 
+    /// `code` was given neither a counter nor a moment.
+    #[error("needs --counter or --moment")]
+    NoCounterOrMoment,
+
+    /// The moment of a code is before its first step.
+    #[error("before the first step")]
+    BeforeFirstStep,
+
     /// Standard input failed, or has more bytes than a command reads.
     #[error("cannot read input")]
     CannotReadInput,
@@ -31,12 +39,13 @@ pub enum Fault {
 }
 
 impl Fault {
-    /// The exit status: 2 for what the user can spell otherwise, 3 for streams and memory.
+    /// The exit status: 1 for what is refused, 2 for what the user can spell otherwise, 3 for streams and memory.
     pub fn status(&self) -> u8
         ensures { result ≡ status_of self.now }
     {
         match self {
-            Fault::BadValue(_) | Fault::BadPassword => 2,
+            Fault::BeforeFirstStep => 1,
+            Fault::BadValue(_) | Fault::BadPassword | Fault::NoCounterOrMoment => 2,
             Fault::CannotReadInput | Fault::CannotWriteOutput | Fault::NoMemory => 3,
         }
     }

@@ -1,34 +1,23 @@
 //! The command `keys`: the two keys that a server stores of a password.
 ghost use Rattle.std.specs.Prelude.{◌≡◌, ◌≤◌, ◌↔◌, ◌⊎◌, ◌++◌, IsTrue, IfErr, IfOk, IfSome, OnOk, Some, string_bytes};
 ghost use Rattle.std.specs.Io.BufRead.{first_piece};
-ghost use Rattle.scramotp.specs.Keys.{IsPassword, printed_keys};
+ghost use Rattle.scram_text.specs.Class.{IsPassword};
+ghost use Rattle.scramotp.specs.Keys.{printed_keys};
 
 use crate::fault::Fault;
 use crate::value::Judged;
 use crate::{input, value};
 use clap::ArgMatches;
 use mac_core::Mechanism;
+use scram_text::{Password, Salt};
 use std::alloc::Global;
 use std::io::{BufRead, Write};
-
-/// The longest password in bytes.
-const MOST_PASSWORD: usize = 1024;
-
-// Whether the line is a password: 1 to 1024 bytes from space to tilde, which SASLprep (RFC 4013)
-// leaves as they are.
-fn is_password(line: &[u8]) -> bool
-    ensures { IsTrue result ↔ IsPassword line.now }
-{
-    !line.is_empty()
-        && line.len() <= MOST_PASSWORD
-        && line.iter().all(|b| (b' '..=b'~').contains(b))
-}
 
 // The two lines to print for a password line, or BadPassword where it is none.
 fn answer(
     alloc: Global,
     mechanism: Mechanism,
-    salt: &[u8],
+    salt: &Salt,
     count: u32,
     line: &[u8],
 ) -> Result<String, Fault>
@@ -38,26 +27,20 @@ fn answer(
     ensures err { IfErr result (λ fault. (fault ≡ Fault.NoMemory)
         ⊎ ((fault ≡ Fault.BadPassword) × (IsPassword line.now → ⊥))) }
 {
-    if !is_password(line) {
+    let Some(password) = Password::new(line) else {
         return Err(Fault::BadPassword);
-    }
-    let keys = mechanism.scram_keys(line, salt, count);
+    };
+    let keys = mechanism.scram_keys(password.bytes(), salt.bytes(), count);
     let stored = hex::encode(alloc, keys.stored.as_slice())?;
     let server = hex::encode(alloc, keys.server.as_slice())?;
     Ok(format!(in alloc; "stored={stored}\nserver={server}\n")?)
-}
-
-// What the words give for a required option.
-fn given<'a>(words: &ArgMatches<'a>, option: Judged) -> &'a str {
-    let name = option.name();
-    words.get_str(name).unwrap_or("")
 }
 
 // Reads the password line and prints its keys.
 fn print_keys<I: BufRead, O: Write>(
     alloc: Global,
     mechanism: Mechanism,
-    salt: &[u8],
+    salt: &Salt,
     count: u32,
     input: &mut I,
     output: &mut O,
@@ -84,8 +67,8 @@ pub fn keys<I: BufRead, O: Write>(
     input: &mut I,
     output: &mut O,
 ) -> Result<(), Fault> {
-    let mechanism = value::mechanism(given(words, Judged::Mechanism))?;
-    let salt = value::salt(alloc, given(words, Judged::Salt))?;
-    let count = value::count(given(words, Judged::Count))?;
-    print_keys(alloc, mechanism, salt.as_slice(), count, input, output)
+    let mechanism = value::mechanism(value::given(words, Judged::Mechanism))?;
+    let salt = value::salt(alloc, value::given(words, Judged::Salt))?;
+    let count = value::count(value::given(words, Judged::Count))?;
+    print_keys(alloc, mechanism, &salt, count, input, output)
 }

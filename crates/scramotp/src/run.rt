@@ -3,7 +3,7 @@ ghost use Rattle.std.specs.Prelude.{◌≡◌, ◌≤◌};
 ghost use Rattle.scramotp.specs.Fault.{status_of};
 
 use crate::fault::Fault;
-use crate::{keys, words};
+use crate::{code, keys, words};
 use clap::ArgMatches;
 use clap::error::ErrorKind;
 use std::convert::AsStr;
@@ -61,8 +61,10 @@ where
     I: BufRead,
     O: Write,
 {
-    if let Some(("keys", words)) = matches.subcommand() {
-        keys::keys(rt.alloc(), words, input, output)?;
+    match matches.subcommand() {
+        Some(("keys", words)) => keys::keys(rt.alloc(), words, input, output)?,
+        Some(("code", words)) => code::code(rt.alloc(), words, output)?,
+        _ => {}
     }
     output.flush().map_err(|_| Fault::CannotWriteOutput)
 }

@@ -172,6 +172,137 @@ fn values_at_their_limits(rt: HostRuntime) {
     }
 }
 
+// RFC 4226, appendix D, and RFC 6238, appendix B.
+#[test]
+fn codes(rt: HostRuntime) {
+    let secret = "3132333435363738393031323334353637383930";
+    let longer = "3132333435363738393031323334353637383930313233343536373839303132";
+    let cases: [(&[&str], &str); 6] = [
+        (&["--counter", "0"], "755224\n"),
+        (
+            &["--counter", "9", "--hash", "sha512", "--moment", "59"],
+            "520489\n",
+        ),
+        (&["--digits", "8", "--moment", "59"], "94287082\n"),
+        (&["--digits", "8", "--moment", "20000000000"], "65353130\n"),
+        (
+            &["--digits", "8", "--moment", "69", "--t0", "10"],
+            "94287082\n",
+        ),
+        (
+            &["--digits", "8", "--moment", "119", "--step", "60"],
+            "94287082\n",
+        ),
+    ];
+    for (words, want) in cases {
+        check_code(&rt, secret, words, (0, want, ""));
+    }
+    let words = [
+        "--digits",
+        "8",
+        "--moment",
+        "1111111109",
+        "--hash",
+        "sha256",
+    ];
+    check_code(&rt, longer, &words, (0, "68084774\n", ""));
+}
+
+// Options are judged in the order secret, digits, counter, moment, hash, t0, step, and then looked at.
+#[test]
+fn bad_codes(rt: HostRuntime) {
+    let secret = "3132333435363738393031323334353637383930";
+    let cases: [(&[&str], u8, &str); 14] = [
+        (&[], 2, "needs --counter or --moment"),
+        (&["--moment", "5", "--t0", "10"], 1, "before the first step"),
+        (
+            &["--digits", "9", "--counter", "x"],
+            2,
+            "bad value for --digits",
+        ),
+        (&["--digits", "5"], 2, "bad value for --digits"),
+        (&["--digits", "06"], 2, "bad value for --digits"),
+        (
+            &["--counter", "9223372036854775807", "--moment", "x"],
+            2,
+            "bad value for --counter",
+        ),
+        (&["--counter", "-1"], 2, "unexpected argument '-1' found"),
+        (&["--counter=-1"], 2, "bad value for --counter"),
+        (
+            &["--moment", "253402300800", "--hash", "md5"],
+            2,
+            "bad value for --moment",
+        ),
+        (&["--hash", "SHA1", "--t0", "x"], 2, "bad value for --hash"),
+        (
+            &["--t0", "253402300800", "--step", "0"],
+            2,
+            "bad value for --t0",
+        ),
+        (&["--step", "0"], 2, "bad value for --step"),
+        (&["--step", "3601"], 2, "bad value for --step"),
+        (
+            &["--counter", "1", "--step", "0"],
+            2,
+            "bad value for --step",
+        ),
+    ];
+    for (words, status, fault) in cases {
+        let mut faults = Vec::new(rt.alloc());
+        let mut output = Vec::new(rt.alloc());
+        let got = run_code(&rt, secret, words, &mut output, &mut faults);
+        assert_eq!(rt; got, status, "{fault}");
+        assert!(rt; output.is_empty(), "{fault}");
+        assert!(rt; contains(faults.as_slice(), fault.as_bytes()), "{fault}");
+    }
+    let nine = "313233343536373839";
+    check_code(
+        &rt,
+        nine,
+        &["--digits", "9"],
+        (2, "", "scramotp: bad value for --secret\n"),
+    );
+}
+
+// Runs `code` with a secret and more words.
+fn run_code<'a, R: AllocGlobal, O: Write, E: Write>(
+    rt: &R,
+    secret: &'a str,
+    words: &[&'a str],
+    output: &mut O,
+    faults: &mut E,
+) -> u8 {
+    let mut all: Vec<&'a str> = Vec::new(rt.alloc());
+    let front: [&'a str; 4] = ["scramotp", "code", "--secret", secret];
+    if all.extend_from_slice(&front).is_err() || all.extend_from_slice(words).is_err() {
+        return 3;
+    }
+    run::run(rt, all.as_slice(), &mut b"".as_slice(), output, faults)
+}
+
+// Runs `code`, and compares status, output and faults.
+fn check_code<'a>(
+    rt: &(impl Abort + AllocGlobal),
+    secret: &'a str,
+    words: &[&'a str],
+    want: (u8, &str, &str),
+) {
+    let mut output = Vec::new(rt.alloc());
+    let mut faults = Vec::new(rt.alloc());
+    let status = run_code(rt, secret, words, &mut output, &mut faults);
+    let (want_status, want_output, want_faults) = want;
+    assert_eq!(rt; status, want_status, "status of {words:?}");
+    assert!(rt;
+        output.as_slice() == want_output.as_bytes(),
+        "output of {words:?}"
+    );
+    assert!(rt;
+        faults.as_slice() == want_faults.as_bytes(),
+        "faults of {words:?}"
+    );
+}
+
 #[test]
 fn usage(rt: HostRuntime) {
     let cases: [(&[&str], &str); 6] = [
@@ -225,6 +356,7 @@ fn help_and_version(rt: HostRuntime) {
             &[
                 "Usage: scramotp <COMMAND>",
                 "  keys  Prints ",
+                "  code  Prints ",
                 "Exit status:",
             ],
         ),

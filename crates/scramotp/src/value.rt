@@ -1,18 +1,23 @@
 //! The values of options, judged.
-ghost use Rattle.std.specs.Prelude.{◌≡◌, ◌≢◌, ◌≤◌, ◌<◌, ◌^◌, ◌↔◌, ◌⊎◌, ℕ, List, IsTrue, IfSome, IfNone, IfOk, IfErr};
+ghost use Rattle.std.specs.Prelude.{◌≡◌, ◌≢◌, ◌≤◌, ◌<◌, ◌^◌, ◌↔◌, ◌⊎◌, ℕ, List, Ok, length, IsTrue, IfSome, IfNone, IfOk, IfErr};
 ghost use Rattle.std.specs.Fmt.{decimal};
+ghost use Rattle.hex.specs.Hex.{decode_of};
 ghost use Rattle.mac_core.specs.Chosen.{name_of};
+ghost use Rattle.scram_text.specs.Class.{IsSalt};
+ghost use Rattle.otp_core.specs.Secret.{IsSecretLength, IsMoment};
 ghost use Rattle.scramotp.specs.Number.{IsBare};
-ghost use Rattle.scramotp.specs.Keys.{IsSaltText};
-ghost use Rattle.scramotp.specs.Options.{option_name};
+ghost use Rattle.scramotp.specs.Options.{option_name, hash_name};
 
 use crate::fault::Fault;
+use clap::ArgMatches;
 use mac_core::Mechanism;
+use otp_core::{Digits, Moment, OtpHash, Secret};
+use scram_text::Salt;
 use std::alloc::Global;
 use std::fmt;
 
-/// The longest salt in bytes.
-const MOST_SALT: usize = 64;
+/// The last second that a moment may be, in the year 9999.
+const LAST_MOMENT: u64 = 253_402_300_799;
 
 /// An option whose value the program judges by itself.
 #[derive(Clone, Copy, Debug)]
@@ -25,6 +30,27 @@ pub enum Judged {
 
     /// `--count`
     Count,
+
+    /// `--secret`
+    Secret,
+
+    /// `--digits`
+    Digits,
+
+    /// `--counter`
+    Counter,
+
+    /// `--moment`
+    Moment,
+
+    /// `--hash`
+    Hash,
+
+    /// `--t0`
+    T0,
+
+    /// `--step`
+    Step,
 }
 
 impl Judged {
@@ -36,6 +62,13 @@ impl Judged {
             Judged::Mechanism => "mechanism",
             Judged::Salt => "salt",
             Judged::Count => "count",
+            Judged::Secret => "secret",
+            Judged::Digits => "digits",
+            Judged::Counter => "counter",
+            Judged::Moment => "moment",
+            Judged::Hash => "hash",
+            Judged::T0 => "t0",
+            Judged::Step => "step",
         }
     }
 }
@@ -44,6 +77,17 @@ impl fmt::Display for Judged {
     fn fmt<W: fmt::Write>(&self, f: &mut fmt::Formatter<W>) -> fmt::Result {
         f.write_str(self.name())
     }
+}
+
+/// What the words give for an option, its default included, or None where it is not there.
+pub fn optional<'a>(words: &ArgMatches<'a>, option: Judged) -> Option<&'a str> {
+    let name = option.name();
+    words.get_str(name)
+}
+
+/// What the words give for an option that is required or has a default.
+pub fn given<'a>(words: &ArgMatches<'a>, option: Judged) -> &'a str {
+    optional(words, option).unwrap_or("")
 }
 
 // Whether neither a plus nor a needless zero stands in front of the digits.
@@ -69,32 +113,6 @@ pub fn number(text: &str) -> Option<u64>
     }
 }
 
-/// The SCRAM mechanism of this name. BadValue where there is none.
-pub fn mechanism(name: &str) -> Result<Mechanism, Fault>
-    ensures ok { IfOk result (λ mechanism. name.now ≡ name_of mechanism) }
-    ensures err { IfErr result (λ fault. (fault ≡ Fault.BadValue Judged.Mechanism)
-        × ((mechanism : Mechanism) → name.now ≢ name_of mechanism)) }
-{
-    match Mechanism::of_name(name.as_bytes()) {
-        Some(mechanism) => Ok(mechanism),
-        None => Err(Fault::BadValue(Judged::Mechanism)),
-    }
-}
-
-/// The bytes that `text` spells in hexadecimal, in either case: a salt of 1 to 64 bytes. BadValue for
-/// any other text, NoMemory where memory runs out.
-pub fn salt(alloc: Global, text: &str) -> Result<Vec<u8>, Fault>
-    ensures ok { IfOk result (λ salt. IsSaltText text.now salt.items) }
-    ensures err { IfErr result (λ fault. (fault ≡ Fault.NoMemory)
-        ⊎ ((fault ≡ Fault.BadValue Judged.Salt) × ((salt : List ℕ) → IsSaltText text.now salt → ⊥))) }
-{
-    match hex::decode(alloc, text) {
-        Ok(salt) if !salt.is_empty() && salt.len() <= MOST_SALT => Ok(salt),
-        Err(hex::FromHexError::OutOfMemory) => Err(Fault::NoMemory),
-        _ => Err(Fault::BadValue(Judged::Salt)),
-    }
-}
-
 /// The number from `least` to `most` that `text` spells in decimal. BadValue of the option for any
 /// other text.
 pub fn within(option: Judged, text: &str, least: u64, most: u64) -> Result<u64, Fault>
@@ -117,5 +135,110 @@ pub fn count(text: &str) -> Result<u32, Fault>
     match within(Judged::Count, text, 1, u64::from(u32::MAX)) {
         Ok(n) => Ok(n as u32),
         Err(fault) => Err(fault),
+    }
+}
+
+/// The number of digits of a code that `text` spells, 6 to 8. BadValue for any other text.
+pub fn digits(text: &str) -> Result<Digits, Fault>
+    ensures ok { IfOk result (λ digits. text.now ≡ decimal digits) }
+    ensures err { IfErr result (λ fault. (fault ≡ Fault.BadValue Judged.Digits)
+        × ((n : ℕ) → 6 ≤ n → n ≤ 8 → text.now ≢ decimal n)) }
+{
+    match within(Judged::Digits, text, 6, 8) {
+        Ok(n) => {
+            let Ok(digits) = Digits::new(n as u8) else {
+                unreachable!()
+            };
+            Ok(digits)
+        }
+        Err(fault) => Err(fault),
+    }
+}
+
+/// The moment that `text` spells in seconds since 1970. BadValue of the option for any other text.
+pub fn moment(option: Judged, text: &str) -> Result<Moment, Fault>
+    ensures ok { IfOk result (λ moment. text.now ≡ decimal moment) }
+    ensures err { IfErr result (λ fault. (fault ≡ Fault.BadValue option)
+        × ((n : ℕ) → IsMoment n → text.now ≢ decimal n)) }
+{
+    match within(option, text, 0, LAST_MOMENT) {
+        Ok(seconds) => {
+            let Some(moment) = Moment::new(seconds) else {
+                unreachable!()
+            };
+            Ok(moment)
+        }
+        Err(fault) => Err(fault),
+    }
+}
+
+/// The SCRAM mechanism of this name. BadValue where there is none.
+pub fn mechanism(name: &str) -> Result<Mechanism, Fault>
+    ensures ok { IfOk result (λ mechanism. name.now ≡ name_of mechanism) }
+    ensures err { IfErr result (λ fault. (fault ≡ Fault.BadValue Judged.Mechanism)
+        × ((mechanism : Mechanism) → name.now ≢ name_of mechanism)) }
+{
+    match Mechanism::of_name(name.as_bytes()) {
+        Some(mechanism) => Ok(mechanism),
+        None => Err(Fault::BadValue(Judged::Mechanism)),
+    }
+}
+
+/// The hash function of this name: `sha1`, `sha256` or `sha512`. BadValue for any other text.
+pub fn hash(name: &str) -> Result<OtpHash, Fault>
+    ensures ok { IfOk result (λ hash. name.now ≡ hash_name hash) }
+    ensures err { IfErr result (λ fault. (fault ≡ Fault.BadValue Judged.Hash)
+        × ((hash : OtpHash) → name.now ≢ hash_name hash)) }
+{
+    if name == "sha1" {
+        Ok(OtpHash::Sha1)
+    } else if name == "sha256" {
+        Ok(OtpHash::Sha256)
+    } else if name == "sha512" {
+        Ok(OtpHash::Sha512)
+    } else {
+        Err(Fault::BadValue(Judged::Hash))
+    }
+}
+
+// The bytes that `text` spells in hexadecimal, in either case. BadValue of the option for any other
+// text, NoMemory where memory runs out.
+fn bytes(alloc: Global, option: Judged, text: &str) -> Result<Vec<u8>, Fault>
+    ensures ok { IfOk result (λ bytes. decode_of text.now ≡ Ok bytes.items) }
+    ensures err { IfErr result (λ fault. (fault ≡ Fault.NoMemory)
+        ⊎ ((fault ≡ Fault.BadValue option) × ((bytes : List ℕ) → decode_of text.now ≢ Ok bytes))) }
+{
+    match hex::decode(alloc, text) {
+        Ok(bytes) => Ok(bytes),
+        Err(hex::FromHexError::OutOfMemory) => Err(Fault::NoMemory),
+        Err(_) => Err(Fault::BadValue(option)),
+    }
+}
+
+/// The salt that `text` spells in hexadecimal, 1 to 64 bytes. BadValue for any other text, NoMemory
+/// where memory runs out.
+pub fn salt(alloc: Global, text: &str) -> Result<Salt, Fault>
+    ensures ok { IfOk result (λ salt. decode_of text.now ≡ Ok salt) }
+    ensures err { IfErr result (λ fault. (fault ≡ Fault.NoMemory) ⊎ ((fault ≡ Fault.BadValue Judged.Salt)
+        × ((salt : List ℕ) → decode_of text.now ≡ Ok salt → IsSalt salt → ⊥))) }
+{
+    let bytes = bytes(alloc, Judged::Salt, text)?;
+    match Salt::new(bytes.as_slice()) {
+        Some(salt) => Ok(salt),
+        None => Err(Fault::BadValue(Judged::Salt)),
+    }
+}
+
+/// The secret that `text` spells in hexadecimal, 10 to 64 bytes. BadValue for any other text,
+/// NoMemory where memory runs out.
+pub fn secret(alloc: Global, text: &str) -> Result<Secret, Fault>
+    ensures ok { IfOk result (λ secret. decode_of text.now ≡ Ok secret) }
+    ensures err { IfErr result (λ fault. (fault ≡ Fault.NoMemory) ⊎ ((fault ≡ Fault.BadValue Judged.Secret)
+        × ((secret : List ℕ) → decode_of text.now ≡ Ok secret → IsSecretLength (length secret) → ⊥))) }
+{
+    let bytes = bytes(alloc, Judged::Secret, text)?;
+    match Secret::new(bytes.as_slice()) {
+        Ok(secret) => Ok(secret),
+        Err(_) => Err(Fault::BadValue(Judged::Secret)),
     }
 }

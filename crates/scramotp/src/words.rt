@@ -12,6 +12,13 @@ Example:
   echo pencil | scramotp keys --mechanism SCRAM-SHA-1 \\
       --salt 4125c247e43ab1e93c6dff76 --count 4096";
 
+const CODE_EXAMPLES: &str =
+    "With --counter the code is HOTP's, with SHA-1. Else --moment is needed, and it is TOTP's.
+
+Examples:
+  scramotp code --secret 3132333435363738393031323334353637383930 --counter 0
+  scramotp code --secret 3132333435363738393031323334353637383930 --digits 8 --moment 59";
+
 // An option that takes one value.
 fn option<'a>(alloc: Global, name: &'a str, value: &'a str, help: &'a str) -> Arg<'a> {
     Arg::new(alloc, name)
@@ -40,14 +47,57 @@ fn keys<'a>(alloc: Global) -> Result<Command<'a>, AllocError> {
         .arg(required(alloc, "count", "N", "The iteration count, 1 to 4294967295"))
 }
 
+fn code<'a>(alloc: Global) -> Result<Command<'a>, AllocError> {
+    let digits = option(alloc, "digits", "N", "The digits of the code, 6 to 8");
+    let hash = option(
+        alloc,
+        "hash",
+        "NAME",
+        "TOTP's hash function: sha1, sha256 or sha512",
+    );
+    let t0 = option(
+        alloc,
+        "t0",
+        "SECONDS",
+        "The moment at which TOTP's step 0 begins",
+    );
+    let step = option(alloc, "step", "SECONDS", "The length of a step, 1 to 3600");
+    Command::new(alloc, "code")
+        .about("Prints a one-time code")
+        .after_help(CODE_EXAMPLES)
+        .arg(required(
+            alloc,
+            "secret",
+            "HEX",
+            "The secret, 10 to 64 bytes in hexadecimal",
+        ))?
+        .arg(digits.default_value("6"))?
+        .arg(option(
+            alloc,
+            "counter",
+            "N",
+            "HOTP's counter, 0 to 9223372036854775806",
+        ))?
+        .arg(option(
+            alloc,
+            "moment",
+            "SECONDS",
+            "TOTP's moment, in seconds since 1970",
+        ))?
+        .arg(hash.default_value("sha1"))?
+        .arg(t0.default_value("0"))?
+        .arg(step.default_value("30"))
+}
+
 /// The program's commands and their options.
 pub fn scramotp<'a>(alloc: Global) -> Result<Command<'a>, AllocError> {
     Command::new(alloc, "scramotp")
         .bin_name("scramotp")?
         .version("0.1.0")
-        .about("SCRAM keys of passwords")
+        .about("SCRAM keys and one-time codes")
         .after_help(STATUSES)
         .subcommand_required(true)
         .disable_help_subcommand(true)
-        .subcommand(keys(alloc)?)
+        .subcommand(keys(alloc)?)?
+        .subcommand(code(alloc)?)
 }
