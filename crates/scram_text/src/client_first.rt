@@ -26,7 +26,7 @@ use crate::{class, cut, field};
 use std::alloc::Allocator;
 
 /// The flag of a gs2-header: whether the client binds a channel.
-#[derive(Drop)]
+#[derive(Clone, Copy, Debug, PartialEq, Eq)]
 pub enum Flag<'a> {
     /// `n`: the client has no channel binding.
     NoBinding,

@@ -1,0 +1,488 @@
+//! What no contract shows: that the definitions are those of RFC 5802, by its messages and those of
+//! other software, and that each call has an answer other than want of memory.
+use crate::{
+    FinalResult, Flag, NoncePart, Password, PlainName, Salt, TextFault, TextWhy, WriteFault,
+    compose_front, read_client_final, read_client_first, read_server_final, read_server_first,
+    write_client_final, write_client_first, write_name, write_server_final, write_server_first,
+};
+use mac_core::Tag;
+use std::alloc::Global;
+use std::process::Abort;
+use std::test::Fail;
+
+mod exchanges;
+
+// RFC 5802, section 5, and RFC 7677, section 3.
+const PUBLISHED: [[&str; 5]; 2] = [
+    [
+        "user",
+        "n,,n=user,r=fyko+d2lbbFgONRv9qkxdawL",
+        "r=fyko+d2lbbFgONRv9qkxdawL3rfcNHYJY1ZVvWVs7j,s=QSXCR+Q6sek8bf92,i=4096",
+        "c=biws,r=fyko+d2lbbFgONRv9qkxdawL3rfcNHYJY1ZVvWVs7j,p=v0X8v3Bz2T0CJGbJQyF0X+HI4Ts=",
+        "v=rmF9pqV8S7suAoZWja4dJRkFsKQ=",
+    ],
+    [
+        "user",
+        "n,,n=user,r=rOprNGfwEbeRWgbNEkqO",
+        "r=rOprNGfwEbeRWgbNEkqO%hvYDpWUa2RaTCAfuxFIlj)hNlF$k0,s=W22ZaJ0SNY7soEsUEjb6gQ==,i=4096",
+        "c=biws,r=rOprNGfwEbeRWgbNEkqO%hvYDpWUa2RaTCAfuxFIlj)hNlF$k0,p=dHzbZapWIk4jUhN+Ute9ytag9zjfMHgsqmmiz7AndVQ=",
+        "v=6rriTRBi23WpRR/wtup+mMhUZUn/dB5nLTJRsjl95G4=",
+    ],
+];
+
+// Reads the message and writes what was read.
+fn client_first_again(text: &[u8], name: &[u8], out: &mut Vec<u8>) -> bool {
+    let Ok(message) = read_client_first(text) else {
+        return false;
+    };
+    let Some(plain) = message.name.plain() else {
+        return false;
+    };
+    let authzid = match &message.authzid {
+        Some(spelled) => spelled.plain(),
+        None => None,
+    };
+    let Some(nonce) = NoncePart::new(message.nonce) else {
+        return false;
+    };
+    let written = write_client_first(
+        message.flag,
+        authzid.as_ref(),
+        &plain,
+        &nonce,
+        message.extensions,
+        out,
+    );
+    written.is_ok() && plain.bytes() == name
+}
+
+fn server_first_again(text: &[u8], out: &mut Vec<u8>) -> bool {
+    let Ok(message) = read_server_first(text) else {
+        return false;
+    };
+    write_server_first(
+        message.nonce,
+        &message.salt,
+        message.count,
+        message.extensions,
+        out,
+    )
+    .is_ok()
+}
+
+fn client_final_again(text: &[u8], out: &mut Vec<u8>) -> bool {
+    let Ok(message) = read_client_final(text) else {
+        return false;
+    };
+    let channel = message.channel.as_slice();
+    let Ok(front) = compose_front(channel, message.nonce) else {
+        return false;
+    };
+    let written = write_client_final(
+        channel,
+        message.nonce,
+        message.extensions,
+        &message.proof,
+        out,
+    );
+    written.is_ok() && front.as_slice() == message.without_proof
+}
+
+fn server_final_again(text: &[u8], out: &mut Vec<u8>) -> bool {
+    let Ok(message) = read_server_final(text) else {
+        return false;
+    };
+    let extensions = message.extensions;
+    match message.result {
+        FinalResult::Verifier(signature) => {
+            write_server_final(FinalResult::Verifier(signature), extensions, out).is_ok()
+        }
+        FinalResult::ErrorValue(value) => {
+            write_server_final(FinalResult::ErrorValue(value), extensions, out).is_ok()
+        }
+    }
+}
+
+fn reads_and_writes_again(rt: &impl Abort, alloc: Global, exchange: &[&str; 5]) {
+    let [name, first, challenge, last, outcome] = *exchange;
+    let mut out = Vec::new(alloc);
+    assert!(rt;
+        client_first_again(first.as_bytes(), name.as_bytes(), &mut out),
+        "{first}"
+    );
+    assert_eq!(rt; out.as_slice(), first.as_bytes());
+    out.clear();
+    assert!(rt;
+        server_first_again(challenge.as_bytes(), &mut out),
+        "{challenge}"
+    );
+    assert_eq!(rt; out.as_slice(), challenge.as_bytes());
+    out.clear();
+    assert!(rt; client_final_again(last.as_bytes(), &mut out), "{last}");
+    assert_eq!(rt; out.as_slice(), last.as_bytes());
+    out.clear();
+    if !outcome.is_empty() {
+        assert!(rt;
+            server_final_again(outcome.as_bytes(), &mut out),
+            "{outcome}"
+        );
+        assert_eq!(rt; out.as_slice(), outcome.as_bytes());
+    }
+}
+
+#[test]
+fn published_messages(rt: HostRuntime) {
+    for exchange in &PUBLISHED {
+        reads_and_writes_again(&rt, rt.alloc(), exchange);
+    }
+}
+
+#[test]
+fn messages_of_other_software(rt: HostRuntime) {
+    for exchange in &exchanges::EXCHANGES {
+        reads_and_writes_again(&rt, rt.alloc(), exchange);
+    }
+}
+
+#[test]
+fn faults_of_client_first(rt: HostRuntime) {
+    for (text, part, why) in [
+        ("N,,n=u,r=x", 0, TextWhy::Flag),
+        ("p=,,n=u,r=x", 0, TextWhy::Flag),
+        ("p=a_b,,n=u,r=x", 0, TextWhy::Flag),
+        ("n,a=,n=u,r=x", 1, TextWhy::Authzid),
+        ("n,A=u,n=u,r=x", 1, TextWhy::Authzid),
+        ("n,,n=user", 3, TextWhy::Missing),
+        ("", 1, TextWhy::Missing),
+        ("n,,m=,n=u", 4, TextWhy::Missing),
+        ("n,,m=,n=u,r=x", 2, TextWhy::Mandatory),
+        ("n,,N=u,r=x", 2, TextWhy::Name),
+        ("n,,n=a=2cb,r=x", 2, TextWhy::Name),
+        ("n,,n=a=3d,r=x", 2, TextWhy::Name),
+        ("n,,n=a=,r=x", 2, TextWhy::Name),
+        ("n,,n=a=2,r=x", 2, TextWhy::Name),
+        ("n,,n=,r=x", 2, TextWhy::Name),
+        ("n,,m=1,n=,r=x", 3, TextWhy::Name),
+        ("n,,n=u,m=1,r=x", 3, TextWhy::Nonce),
+        ("n,,n=u,r=", 3, TextWhy::Nonce),
+        ("n,,n=u,r=a b", 3, TextWhy::Nonce),
+        ("n,,m=1,n=u,r=", 4, TextWhy::Nonce),
+        ("n,,n=u,r=x,1=a", 4, TextWhy::Extension),
+        ("n,,n=u,r=x,x=", 4, TextWhy::Extension),
+        ("n,,n=u,r=x,", 4, TextWhy::Extension),
+        ("n,,m=1,n=u,r=x,a=1,bb", 6, TextWhy::Extension),
+    ] {
+        assert_eq!(rt;
+            read_client_first(text.as_bytes()).err(),
+            Some(TextFault { part, why }),
+            "{text}"
+        );
+    }
+}
+
+#[test]
+fn faults_of_server_first(rt: HostRuntime) {
+    for (text, part, why) in [
+        ("r=ab,s=QQ==", 2, TextWhy::Missing),
+        ("m=1,r=ab,s=QQ==", 3, TextWhy::Missing),
+        ("m=,r=ab,s=QQ==,i=1", 0, TextWhy::Mandatory),
+        ("R=ab,s=QQ==,i=1", 0, TextWhy::Nonce),
+        ("m=1,r=,s=QQ==,i=1", 1, TextWhy::Nonce),
+        ("r=ab,s=,i=1", 1, TextWhy::Salt),
+        ("r=ab,s=QQ,i=1", 1, TextWhy::Salt),
+        ("r=ab,s=QR==,i=1", 1, TextWhy::Salt),
+        ("r=ab,s=QQ== ,i=1", 1, TextWhy::Salt),
+        ("r=ab,s=QQ==,i=0", 2, TextWhy::Count),
+        ("r=ab,s=QQ==,i=04096", 2, TextWhy::Count),
+        ("r=ab,s=QQ==,i=+1", 2, TextWhy::Count),
+        ("r=ab,s=QQ==,i=", 2, TextWhy::Count),
+        ("r=ab,s=QQ==,i=4294967296", 2, TextWhy::Count),
+        ("m=1,r=ab,s=QQ==,i=0", 3, TextWhy::Count),
+        ("r=ab,s=QQ==,i=1,x", 3, TextWhy::Extension),
+    ] {
+        assert_eq!(rt;
+            read_server_first(text.as_bytes()).err(),
+            Some(TextFault { part, why }),
+            "{text}"
+        );
+    }
+    assert_eq!(rt;
+        read_server_first(b"r=ab,s=QQ==,i=4294967295")
+            .ok()
+            .map(|m| m.count),
+        Some(4294967295)
+    );
+}
+
+#[test]
+fn faults_of_client_final(rt: HostRuntime) {
+    for (text, part, why) in [
+        ("c=biws,r=a", 2, TextWhy::Missing),
+        ("m=1,c=biws,r=a,p=AA==", 0, TextWhy::Channel),
+        ("C=biws,r=a,p=AA==", 0, TextWhy::Channel),
+        ("c=biwt,r=a,p=", 2, TextWhy::Proof),
+        ("c=biw,r=a,p=AA==", 0, TextWhy::Channel),
+        ("c=biws,r=,p=AA==", 1, TextWhy::Nonce),
+        ("c=biws,r=a,1=b,p=AA==", 2, TextWhy::Extension),
+        ("c=biws,r=a,p=", 2, TextWhy::Proof),
+        ("c=biws,r=a,P=AA==", 2, TextWhy::Proof),
+        (
+            "c=biws,r=a,p=v0X8v3Bz2T0CJGbJQyF0X+HI4Tt=",
+            2,
+            TextWhy::Proof,
+        ),
+        ("c=biws,r=a,p=AA==,", 3, TextWhy::Proof),
+        ("c=biws,r=a,x=1,y=2,p=A", 4, TextWhy::Proof),
+    ] {
+        assert_eq!(rt;
+            read_client_final(text.as_bytes()).err(),
+            Some(TextFault { part, why }),
+            "{text}"
+        );
+    }
+    let Ok(message) = read_client_final(b"c=biws,r=abc,p=AA==,p=AA==") else {
+        panic!(rt; "a proof behind an extension that is named p");
+    };
+    assert_eq!(rt; message.extensions, b"p=AA==".as_slice());
+    assert_eq!(rt; message.proof.as_slice(), [0].as_slice());
+}
+
+#[test]
+fn faults_of_server_final(rt: HostRuntime) {
+    for (text, part, why) in [
+        ("", 0, TextWhy::Verifier),
+        ("x=1", 0, TextWhy::Verifier),
+        ("m=1,v=AA==", 0, TextWhy::Verifier),
+        ("v=", 0, TextWhy::Verifier),
+        ("V=AA==", 0, TextWhy::Verifier),
+        ("e=", 0, TextWhy::ErrorValue),
+        ("E=other-error", 0, TextWhy::Verifier),
+        ("v=AA==,", 1, TextWhy::Extension),
+        ("e=other-error,a=1,b", 2, TextWhy::Extension),
+    ] {
+        assert_eq!(rt;
+            read_server_final(text.as_bytes()).err(),
+            Some(TextFault { part, why }),
+            "{text}"
+        );
+    }
+}
+
+#[test]
+fn mandatory_and_flags(rt: HostRuntime) {
+    for (text, mandatory) in [
+        ("n,,m=x,n=user,r=x", true),
+        ("n,,n=user,r=x,m=x", true),
+        ("n,,n=user,r=x,M=x", false),
+        ("p=tls-unique,,n=user,r=x", false),
+    ] {
+        assert_eq!(rt;
+            read_client_first(text.as_bytes()).ok().map(|m| m.mandatory),
+            Some(mandatory),
+            "{text}"
+        );
+    }
+    let Ok(message) = read_client_first(b"p=tls-unique,a=root,n=a=2Cb=3Dc,r=x,y=1,z=2") else {
+        panic!(rt; "a message with every part");
+    };
+    let Flag::Binding(binding) = message.flag else {
+        panic!(rt; "a flag with a binding");
+    };
+    assert_eq!(rt; binding, b"tls-unique".as_slice());
+    assert_eq!(rt; message.header, b"p=tls-unique,a=root,".as_slice());
+    assert_eq!(rt; message.bare, b"n=a=2Cb=3Dc,r=x,y=1,z=2".as_slice());
+    assert_eq!(rt; message.extensions, b"y=1,z=2".as_slice());
+}
+
+#[test]
+fn utf8(rt: HostRuntime) {
+    for value in [
+        "\u{80}",
+        "\u{7FF}",
+        "\u{800}",
+        "\u{FFFD}",
+        "\u{10000}",
+        "\u{10FFFF}",
+        "\u{1}\u{7F}",
+    ] {
+        let mut message = Vec::new(rt.alloc());
+        let made = message.extend_from_slice(b"e=").is_ok()
+            && message.extend_from_slice(value.as_bytes()).is_ok();
+        assert!(rt; made);
+        assert!(rt; read_server_final(message.as_slice()).is_ok(), "{value:?}");
+    }
+    for message in [
+        b"e=a\x00".as_slice(),
+        b"e=\x80".as_slice(),
+        b"e=\xC1\xBF".as_slice(),
+        b"e=\xE0\x9F\xBF".as_slice(),
+        b"e=\xED\xA0\x80".as_slice(),
+        b"e=\xF0\x8F\xBF\xBF".as_slice(),
+        b"e=\xF4\x90\x80\x80".as_slice(),
+        b"e=\xC3,x".as_slice(),
+    ] {
+        assert_eq!(rt;
+            read_server_final(message).err(),
+            Some(TextFault {
+                part: 0,
+                why: TextWhy::NotText
+            }),
+            "{message:?}"
+        );
+    }
+}
+
+#[test]
+fn names(rt: HostRuntime) -> Result<(), Fail> {
+    let name = PlainName::new(b"a,b=c").ok_or("a plain name")?;
+    let mut out = Vec::new(rt.alloc());
+    write_name(&name, &mut out)?;
+    assert_eq!(rt; out.as_slice(), b"a=2Cb=3Dc".as_slice());
+
+    let message = read_client_first(b"n,,n=a\x7F,r=x")?;
+    assert!(rt; message.name.plain().is_none());
+    let message = read_client_first(b"n,,n==3D2C,r=x")?;
+    let name = message.name.plain().ok_or("a plain name")?;
+    assert_eq!(rt; name.bytes(), b"=2C".as_slice());
+    Ok(())
+}
+
+#[test]
+fn limits(rt: HostRuntime) -> Result<(), Fail> {
+    for (length, plain, password, nonce, salt) in [
+        (0, false, false, false, false),
+        (1, true, true, true, true),
+        (64, true, true, true, true),
+        (65, true, true, true, false),
+        (255, true, true, true, false),
+        (256, false, true, true, false),
+        (257, false, true, false, false),
+        (1024, false, true, false, false),
+        (1025, false, false, false, false),
+    ] {
+        let bytes = vec![in rt.alloc(); b'a'; length]?;
+        let bytes = bytes.as_slice();
+        assert_eq!(rt;
+            PlainName::new(bytes).is_some(),
+            plain,
+            "a name of {length}"
+        );
+        assert_eq!(rt;
+            Password::new(bytes).is_some(),
+            password,
+            "a password of {length}"
+        );
+        assert_eq!(rt;
+            NoncePart::new(bytes).is_some(),
+            nonce,
+            "a nonce part of {length}"
+        );
+        assert_eq!(rt; Salt::new(bytes).is_some(), salt, "a salt of {length}");
+    }
+    assert!(rt;
+        PlainName::new(b"\x1F").is_none()
+            && PlainName::new(b" ~").is_some()
+            && PlainName::new(b"\x7F").is_none()
+    );
+    assert!(rt;
+        Password::new(b"\x1F").is_none()
+            && Password::new(b" ~").is_some()
+            && Password::new(b"\x7F").is_none()
+    );
+    assert!(rt;
+        NoncePart::new(b" ").is_none()
+            && NoncePart::new(b"!+-~").is_some()
+            && NoncePart::new(b",").is_none()
+    );
+    Ok(())
+}
+
+// A message of `front`, so many letters, and `back`.
+fn long(alloc: Global, front: &[u8], letters: usize, back: &[u8]) -> Result<Vec<u8>, Fail> {
+    let mut message = Vec::from_slice(alloc, front)?;
+    message.extend_from_slice(vec![in alloc; b'A'; letters]?.as_slice())?;
+    message.extend_from_slice(back)?;
+    Ok(message)
+}
+
+#[test]
+fn limits_of_messages(rt: HostRuntime) -> Result<(), Fail> {
+    let alloc = rt.alloc();
+    let too_long = Some(TextFault {
+        part: 0,
+        why: TextWhy::TooLong,
+    });
+    assert!(rt; read_client_first(long(alloc, b"n,,n=user,r=x,x=", 2032, b"")?.as_slice()).is_ok());
+    assert_eq!(rt;
+        read_client_first(long(alloc, b"n,,n=user,r=x,x=", 2033, b"")?.as_slice()).err(),
+        too_long
+    );
+    assert!(rt; read_client_first(long(alloc, b"n,,n=u,r=", 256, b"")?.as_slice()).is_ok());
+    assert!(rt; read_client_first(long(alloc, b"n,,n=u,r=", 257, b"")?.as_slice()).is_err());
+    assert!(rt; read_server_first(long(alloc, b"r=", 512, b",s=QQ==,i=1")?.as_slice()).is_ok());
+    assert!(rt; read_server_first(long(alloc, b"r=", 513, b",s=QQ==,i=1")?.as_slice()).is_err());
+    // 64 and 65 bytes of 0.
+    assert!(rt; read_server_first(long(alloc, b"r=a,s=", 86, b"==,i=1")?.as_slice()).is_ok());
+    assert!(rt; read_server_first(long(alloc, b"r=a,s=", 87, b"=,i=1")?.as_slice()).is_err());
+    assert!(rt; read_client_final(long(alloc, b"c=biws,r=a,p=", 86, b"==")?.as_slice()).is_ok());
+    assert!(rt; read_client_final(long(alloc, b"c=biws,r=a,p=", 87, b"=")?.as_slice()).is_err());
+    // 1500 bytes of 0; 1536 would leave no room for the other parts.
+    assert!(rt; read_client_final(long(alloc, b"c=", 2000, b",r=a,p=AA==")?.as_slice()).is_ok());
+    Ok(())
+}
+
+#[test]
+fn refused_writes(rt: HostRuntime) -> Result<(), Fail> {
+    let alloc = rt.alloc();
+    let salt = Salt::new(b"A").ok_or("a salt")?;
+    let name = PlainName::new(b"u").ok_or("a name")?;
+    let nonce = NoncePart::new(b"x").ok_or("a nonce")?;
+    let tag = Tag::try_from(b"A".as_slice())?;
+    let unwritable = Err(WriteFault::Unwritable);
+    let mut out = Vec::from_slice(alloc, b"before")?;
+    assert_eq!(rt;
+        write_server_first(b"", &salt, 1, b"", &mut out),
+        unwritable
+    );
+    assert_eq!(rt;
+        write_server_first(b"a", &salt, 0, b"", &mut out),
+        unwritable
+    );
+    assert_eq!(rt;
+        write_server_first(b"a", &salt, 1, b"x", &mut out),
+        unwritable
+    );
+    assert_eq!(rt;
+        write_client_first(Flag::Binding(b""), None, &name, &nonce, b"", &mut out),
+        unwritable
+    );
+    assert_eq!(rt;
+        write_client_first(Flag::NotOffered, None, &name, &nonce, b"x=\xFF", &mut out),
+        unwritable
+    );
+    assert_eq!(rt;
+        write_client_final(b"", b"a", b"", &tag, &mut out),
+        unwritable
+    );
+    assert_eq!(rt;
+        write_client_final(b"n,,", b"a", b"", &Tag::new(), &mut out),
+        unwritable
+    );
+    assert_eq!(rt;
+        write_server_final(FinalResult::ErrorValue(b"a,b"), b"", &mut out),
+        unwritable
+    );
+    let extensions = long(alloc, b"x=", 2032, b"")?;
+    assert_eq!(rt;
+        write_server_first(b"a", &salt, 1, extensions.as_slice(), &mut out),
+        Err(WriteFault::OverLimit)
+    );
+    assert_eq!(rt; out.as_slice(), b"before".as_slice());
+    let extensions = long(alloc, b"x=", 2031, b"")?;
+    assert_eq!(rt;
+        write_server_first(b"a", &salt, 1, extensions.as_slice(), &mut out),
+        Ok(())
+    );
+    assert_eq!(rt; out.len(), 6 + 2048);
+    Ok(())
+}
