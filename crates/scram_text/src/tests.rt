@@ -206,12 +206,10 @@ fn faults_of_server_first(rt: HostRuntime) {
             "{text}"
         );
     }
-    assert_eq!(rt;
-        read_server_first(b"r=ab,s=QQ==,i=4294967295")
-            .ok()
-            .map(|m| m.count),
-        Some(4294967295)
-    );
+    let Ok(message) = read_server_first(b"r=ab,s=QQ==,i=4294967295") else {
+        panic!(rt; "the greatest count");
+    };
+    assert_eq!(rt; message.count, 4294967295);
 }
 
 #[test]
@@ -276,11 +274,10 @@ fn mandatory_and_flags(rt: HostRuntime) {
         ("n,,n=user,r=x,M=x", false),
         ("p=tls-unique,,n=user,r=x", false),
     ] {
-        assert_eq!(rt;
-            read_client_first(text.as_bytes()).ok().map(|m| m.mandatory),
-            Some(mandatory),
-            "{text}"
-        );
+        let Ok(message) = read_client_first(text.as_bytes()) else {
+            panic!(rt; "{text}");
+        };
+        assert_eq!(rt; message.mandatory, mandatory, "{text}");
     }
     let Ok(message) = read_client_first(b"p=tls-unique,a=root,n=a=2Cb=3Dc,r=x,y=1,z=2") else {
         panic!(rt; "a message with every part");
