@@ -19,8 +19,10 @@ mod hash;
 mod secret;
 #[cfg(test)]
 mod tests;
+mod token;
 
 pub use code::{Code, hotp, hotp_with, step, truncate};
 pub use fault::{OtpFault, Setting};
 pub use hash::OtpHash;
 pub use secret::{Digits, Moment, Secret};
+pub use token::{Fields, HotpFields, Token, TotpFields};

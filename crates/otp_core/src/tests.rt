@@ -1,6 +1,7 @@
 //! Values from outside: RFC 4226, appendix D, RFC 6238, appendix B, and a tag with a large offset.
 use crate::{
-    Code, Digits, Moment, OtpFault, OtpHash, Secret, Setting, hotp, hotp_with, step, truncate,
+    Code, Digits, Fields, HotpFields, Moment, OtpFault, OtpHash, Secret, Setting, Token,
+    TotpFields, hotp, hotp_with, step, truncate,
 };
 use mac_core::{HSha1, HSha256, HSha512, HashFn, Prepared, Tag};
 use std::process::Abort;
@@ -176,4 +177,107 @@ fn fault_texts(rt: HostRuntime) -> Result<(), Fail> {
         assert_eq!(rt; format!(in rt.alloc(); "{fault}")?.as_str(), want);
     }
     Ok(())
+}
+
+// A HOTP token's fields: next, look_ahead, limit and failures.
+fn hotp_fields(rt: &impl Abort, state: (u64, u64, u64, u64)) -> HotpFields {
+    let (next, look_ahead, limit, failures) = state;
+    HotpFields {
+        secret: Secret::new(&SECRET[..20]).ok().expect(rt, "a secret"),
+        digits: Digits::new(6).ok().expect(rt, "six digits"),
+        next,
+        look_ahead,
+        limit,
+        failures,
+    }
+}
+
+#[test]
+fn hotp_ranges(rt: HostRuntime) {
+    let top = 0x7fff_ffff_ffff_ffff;
+    let rows = [
+        ((0, 0, 1, 0), None),
+        ((top, 100, 100, 100), None),
+        ((top + 1, 101, 0, 1), Some(Setting::Next)),
+        ((0, 101, 0, 1), Some(Setting::LookAhead)),
+        ((0, 0, 0, 1), Some(Setting::Limit)),
+        ((0, 0, 101, 102), Some(Setting::Limit)),
+        ((0, 0, 3, 4), Some(Setting::Failures)),
+    ];
+    for (state, want) in rows {
+        let fault = Token::hotp(hotp_fields(&rt, state)).err();
+        assert_eq!(rt; fault, want.map(OtpFault::Setting), "want {want:?}");
+    }
+}
+
+// A TOTP token's fields: step, back, ahead and max_drift; last, drift, limit and failures.
+fn totp_fields(
+    rt: &impl Abort,
+    window: (u64, u64, u64, u64),
+    state: (Option<u64>, i64, u64, u64),
+) -> TotpFields {
+    let (step, back, ahead, max_drift) = window;
+    let (last, drift, limit, failures) = state;
+    TotpFields {
+        hash: OtpHash::Sha1,
+        secret: Secret::new(&SECRET[..20]).ok().expect(rt, "a secret"),
+        digits: Digits::new(8).ok().expect(rt, "eight digits"),
+        t0: moment(rt, 0),
+        step,
+        back,
+        ahead,
+        max_drift,
+        last,
+        drift,
+        limit,
+        failures,
+    }
+}
+
+#[test]
+fn totp_ranges(rt: HostRuntime) {
+    let top = 0x7fff_ffff_ffff_fffe;
+    let rows = [
+        ((1, 0, 0, 0), (None, 0, 1, 0), None),
+        ((3600, 10, 10, 100), (Some(top), 100, 100, 100), None),
+        ((30, 0, 1, 1), (Some(0), -1, 3, 3), None),
+        ((0, 11, 0, 0), (None, 0, 1, 0), Some(Setting::Step)),
+        ((3601, 0, 0, 0), (None, 0, 1, 0), Some(Setting::Step)),
+        ((30, 11, 11, 0), (None, 0, 1, 0), Some(Setting::Back)),
+        ((30, 0, 11, 101), (None, 0, 1, 0), Some(Setting::Ahead)),
+        (
+            (30, 0, 1, 101),
+            (Some(top + 1), 0, 1, 0),
+            Some(Setting::MaxDrift),
+        ),
+        ((30, 0, 1, 1), (Some(top + 1), 2, 1, 0), Some(Setting::Last)),
+        ((30, 0, 1, 1), (None, 2, 0, 0), Some(Setting::Drift)),
+        ((30, 0, 1, 1), (None, -2, 0, 0), Some(Setting::Drift)),
+        ((30, 0, 1, 1), (None, 0, 0, 1), Some(Setting::Limit)),
+        ((30, 0, 1, 1), (None, 0, 101, 102), Some(Setting::Limit)),
+        ((30, 0, 1, 1), (None, 0, 3, 4), Some(Setting::Failures)),
+    ];
+    for (window, state, want) in rows {
+        let fault = Token::totp(totp_fields(&rt, window, state)).err();
+        assert_eq!(rt; fault, want.map(OtpFault::Setting), "want {want:?}");
+    }
+}
+
+#[test]
+fn unlock_sets_failures_alone(rt: HostRuntime) {
+    let token = Token::hotp(hotp_fields(&rt, (5, 3, 3, 2)));
+    let mut token = token.ok().expect(&rt, "a token");
+    token.unlock();
+    match token.copy().fields() {
+        Fields::Hotp(fields) => {
+            let state = (
+                fields.next,
+                fields.look_ahead,
+                fields.limit,
+                fields.failures,
+            );
+            assert_eq!(rt; state, (5, 3, 3, 0));
+        }
+        Fields::Totp(_) => panic!(rt; "a token of the other kind"),
+    }
 }

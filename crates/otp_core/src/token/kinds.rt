@@ -1,0 +1,177 @@
+//! The two kinds of tokens: their settings and state.
+ghost use Rattle.std.specs.Prelude.{◌≡◌, IfNone};
+ghost use Rattle.otp_core.specs.Settings.{IsHotpInRange, IsTotpInRange, first_outside, hotp_settings, totp_settings, is_last_step};
+
+use crate::fault::Setting;
+use crate::hash::OtpHash;
+use crate::secret::{Digits, Moment, Secret};
+
+// The most failures that lock a token.
+const MOST_LIMIT: u64 = 100;
+
+// The greatest counter that can pass.
+const MOST_COUNTER: u64 = 0x7fff_ffff_ffff_fffe;
+
+/// The settings and the state of a HOTP token (RFC 4226, section 7).
+#[derive(Drop)]
+pub struct HotpFields {
+    /// The key of its codes.
+    pub secret: Secret,
+
+    /// How many digits its codes have.
+    pub digits: Digits,
+
+    /// The least counter that can pass, at most 2^63-1, at which none can.
+    pub next: u64,
+
+    /// How many counters behind `next` can pass too, at most 100 (RFC 4226, section 7.4).
+    pub look_ahead: u64,
+
+    /// The number of failures that locks it, 1 to 100 (RFC 4226, section 7.3).
+    pub limit: u64,
+
+    /// The failures since it last passed, at most `limit`.
+    pub failures: u64,
+}
+
+impl HotpFields {
+    // The first field that is not in its range.
+    pub(crate) fn first_outside(&self) -> Option<Setting>
+        ensures value { result ≡ first_outside (hotp_settings self.now) }
+        ensures none { IfNone result (IsHotpInRange self.now) }
+    {
+        if self.next > MOST_COUNTER + 1 {
+            Some(Setting::Next)
+        } else if self.look_ahead > 100 {
+            Some(Setting::LookAhead)
+        } else if self.limit < 1 || self.limit > MOST_LIMIT {
+            Some(Setting::Limit)
+        } else if self.failures > self.limit {
+            Some(Setting::Failures)
+        } else {
+            None
+        }
+    }
+
+    // A second value of the same fields.
+    pub(crate) fn copy(&self) -> HotpFields
+        ensures { result ≡ self.now }
+    {
+        HotpFields {
+            secret: self.secret.copy(),
+            digits: self.digits,
+            next: self.next,
+            look_ahead: self.look_ahead,
+            limit: self.limit,
+            failures: self.failures,
+        }
+    }
+}
+
+/// The settings and the state of a TOTP token (RFC 6238, sections 4 to 6).
+#[derive(Drop)]
+pub struct TotpFields {
+    /// The hash function of its codes.
+    pub hash: OtpHash,
+
+    /// The key of its codes.
+    pub secret: Secret,
+
+    /// How many digits its codes have.
+    pub digits: Digits,
+
+    /// The moment at which its steps begin.
+    pub t0: Moment,
+
+    /// The length of a step in seconds, 1 to 3600.
+    pub step: u64,
+
+    /// How many steps before the one that is due can pass, at most 10.
+    pub back: u64,
+
+    /// How many steps behind the one that is due can pass, at most 10.
+    pub ahead: u64,
+
+    /// How far a step that passes may lie from the present one, at most 100 steps.
+    pub max_drift: u64,
+
+    /// The greatest step that has passed, at most 2^63-2, or None where none has.
+    pub last: Option<u64>,
+
+    /// By how many steps the token's clock is ahead, as the last pass showed: from -`max_drift` to
+    /// `max_drift` (RFC 6238, section 6).
+    pub drift: i64,
+
+    /// The number of failures that locks it, 1 to 100.
+    pub limit: u64,
+
+    /// The failures since it last passed, at most `limit`.
+    pub failures: u64,
+}
+
+impl TotpFields {
+    // The first field that is not in its range.
+    pub(crate) fn first_outside(&self) -> Option<Setting>
+        ensures value { result ≡ first_outside (totp_settings self.now) }
+        ensures none { IfNone result (IsTotpInRange self.now) }
+    {
+        if self.step < 1 || self.step > 3600 {
+            Some(Setting::Step)
+        } else if self.back > 10 {
+            Some(Setting::Back)
+        } else if self.ahead > 10 {
+            Some(Setting::Ahead)
+        } else if self.max_drift > 100 {
+            Some(Setting::MaxDrift)
+        } else if !self.is_last_in_range() {
+            Some(Setting::Last)
+        } else if self.drift.unsigned_abs() > self.max_drift {
+            Some(Setting::Drift)
+        } else if self.limit < 1 || self.limit > MOST_LIMIT {
+            Some(Setting::Limit)
+        } else if self.failures > self.limit {
+            Some(Setting::Failures)
+        } else {
+            None
+        }
+    }
+
+    fn is_last_in_range(&self) -> bool
+        ensures { result ≡ is_last_step self.now.last }
+    {
+        match self.last {
+            Some(last) => last <= MOST_COUNTER,
+            None => true,
+        }
+    }
+
+    // A second value of the same fields.
+    pub(crate) fn copy(&self) -> TotpFields
+        ensures { result ≡ self.now }
+    {
+        TotpFields {
+            hash: self.hash,
+            secret: self.secret.copy(),
+            digits: self.digits,
+            t0: self.t0,
+            step: self.step,
+            back: self.back,
+            ahead: self.ahead,
+            max_drift: self.max_drift,
+            last: self.last,
+            drift: self.drift,
+            limit: self.limit,
+            failures: self.failures,
+        }
+    }
+}
+
+/// The settings and the state of a token of either kind.
+#[derive(Drop)]
+pub enum Fields {
+    /// Those of a HOTP token.
+    Hotp(HotpFields),
+
+    /// Those of a TOTP token.
+    Totp(TotpFields),
+}
