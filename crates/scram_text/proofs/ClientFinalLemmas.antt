@@ -75,13 +75,18 @@ final_fit channel nonce proof extensions is_channel is_nonce are is_proof =
     (fits_cons 512 Channel _ channel _ is_channel (fits_cons 512 Nonce _ nonce _ is_nonce
     (fit_behind 512 (Proof ∷ []) extensions (proof ∷ []) are (fits_cons 512 Proof [] proof [] is_proof (fits_end 512 [])))))
 
+-- the parts of a message fit their places
+pub client_final_fit : (p : ClientFinalParts) → IsField 1536 p.channel → IsNonce 512 p.nonce → AreExtensions p.extensions → IsField 64 p.proof
+    → AllFit 512 (places (Channel ∷ Nonce ∷ []) (Proof ∷ []) (length (final_parts p))) (final_parts p)
+client_final_fit p channel nonce extensions proof =
+    final_fit _ _ _ p.extensions (field_fits 99 1536 _ p.channel refl channel) (p.nonce, refl, nonce) extensions (field_fits 112 64 _ p.proof refl proof)
+
 -- a message has no fault
 pub client_final_no_fault : (text : List ℕ) (p : ClientFinalParts) (f : TextFault) → IsClientFinal text p → IsClientFinalFault text f → ⊥
 client_final_no_fault text p f is =
     no_fault 512 (Channel ∷ Nonce ∷ []) (Proof ∷ []) text (final_parts p) f is.short is.is_text (parts_final text p is)
     (omega (arith, length-append p.extensions ((codes "p=" ++ base64 p.proof) ∷ [])))
-    (final_fit _ _ _ p.extensions (field_fits 99 1536 _ p.channel refl is.channel) (p.nonce, refl, is.nonce)
-    is.extensions (field_fits 112 64 _ p.proof refl is.proof))
+    (client_final_fit p is.channel is.nonce is.extensions is.proof)
 
 -- the texts that the pieces make
 pub client_final_spelled : (text front last channel_part nonce_part : List ℕ) (p : ClientFinalParts)

@@ -51,7 +51,7 @@ parts_bare p mext name nonce extensions =
     (marked_lack p.mext (later_parts p) mext (name.no_comma, (nonce_lacks 256 p.nonce nonce, extensions_lack p.extensions extensions)))
 
 -- a header and what follows it
-regroup : (flag authz rest : List ℕ) → (flag ++ 44 ∷ (authz ++ 44 ∷ [])) ++ rest ≡ flag ++ 44 ∷ (authz ++ 44 ∷ rest)
+pub regroup : (flag authz rest : List ℕ) → (flag ++ 44 ∷ (authz ++ 44 ∷ [])) ++ rest ≡ flag ++ 44 ∷ (authz ++ 44 ∷ rest)
 regroup flag authz rest =
     append_assoc flag (44 ∷ (authz ++ 44 ∷ [])) rest
     ∙ ap (λ (t : List ℕ). flag ++ 44 ∷ t) (append_assoc authz (44 ∷ []) rest)
@@ -92,7 +92,7 @@ client_first_once text p q is also =
     let extensions : p.extensions ≡ q.extensions = cc later in
     parts_once p q flags (authz_once p.authz q.authz authzs) rest.0 names nonces extensions
 
-later_places : (name nonce : List ℕ) (extensions : List (List ℕ))
+pub later_places : (name nonce : List ℕ) (extensions : List (List ℕ))
     → places (Name ∷ Nonce ∷ []) [] (length (name ∷ nonce ∷ extensions)) ≡ Name ∷ Nonce ∷ replicate (length extensions) Extension
 later_places name nonce extensions =
     places_front (Name ∷ Nonce ∷ []) (length (name ∷ nonce ∷ extensions)) (length extensions) (omega arith)
@@ -106,7 +106,7 @@ later_fit name nonce extensions is_name is_nonce are =
     (rw (append-nil (replicate (length extensions) Extension), append-nil extensions) at behind)))
 
 -- the places with those of the header in front
-header_places : (later : List TextWhy) (n : ℕ) → places (Flag ∷ Authzid ∷ later) [] (suc (suc n)) ≡ Flag ∷ Authzid ∷ places later [] n
+pub header_places : (later : List TextWhy) (n : ℕ) → places (Flag ∷ Authzid ∷ later) [] (suc (suc n)) ≡ Flag ∷ Authzid ∷ places later [] n
 header_places later n =
     places-cons Flag (Authzid ∷ later) [] (suc n) ∙ ap (λ (ps : List TextWhy). Flag ∷ ps) (places-cons Authzid later [] n)
 

@@ -19,7 +19,7 @@ use Rattle.scram_text.proofs.PartLemmas.{parts_count}
 use Rattle.scram_text.proofs.NameLemmas.{spelling_saslname}
 use Rattle.scram_text.proofs.TextLemmas.{text_nil, cb_name_text, text-append, plain_text, nonce_text, spelling_text, count_text, base64_text}
 
-joined_cons : (piece : List ℕ) (pieces : List (List ℕ)) → 1 ≤ length pieces → joined (piece ∷ pieces) ≡ piece ++ 44 ∷ joined pieces
+pub joined_cons : (piece : List ℕ) (pieces : List (List ℕ)) → 1 ≤ length pieces → joined (piece ∷ pieces) ≡ piece ++ 44 ∷ joined pieces
 joined_cons piece [] some = absurd (omega (arith, some))
 joined_cons piece (next ∷ pieces) some = refl
 

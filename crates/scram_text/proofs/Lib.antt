@@ -11,3 +11,6 @@ pub mod ServerFirstLemmas
 pub mod ClientFirstLemmas
 pub mod TextLemmas
 pub mod ComposeLemmas
+pub mod DecisionLemmas
+pub mod GrammarLemmas
+pub mod LawLemmas

@@ -46,17 +46,17 @@ server_final_once text p q is also =
     let outcome = outcome_once p.outcome q.outcome is.outcome also.outcome outcomes in
     λ i. record { outcome = outcome i; extensions = extensions i }
 
-result_places : (first : List ℕ) (extensions : List (List ℕ))
+pub result_places : (first : List ℕ) (extensions : List (List ℕ))
     → places (result_place first ∷ []) [] (length (first ∷ extensions)) ≡ result_place first ∷ replicate (length extensions) Extension
 result_places first extensions = places_front (result_place first ∷ []) (length (first ∷ extensions)) (length extensions) (omega arith)
 
-outcome_fits : (outcome : Outcome) → IsOutcome outcome → Fits 512 (result_place (outcome_text outcome)) (outcome_text outcome)
+pub outcome_fits : (outcome : Outcome) → IsOutcome outcome → Fits 512 (result_place (outcome_text outcome)) (outcome_text outcome)
 outcome_fits (verified signature) is = field_fits 118 64 _ signature refl is
 outcome_fits (failed value) is = (value, refl, is)
 
-final_fit : (first : List ℕ) (extensions : List (List ℕ)) → Fits 512 (result_place first) first → AreExtensions extensions
+pub server_final_fit : (first : List ℕ) (extensions : List (List ℕ)) → Fits 512 (result_place first) first → AreExtensions extensions
     → AllFit 512 (places (result_place first ∷ []) [] (length (first ∷ extensions))) (first ∷ extensions)
-final_fit first extensions fits are =
+server_final_fit first extensions fits are =
     let behind = fit_behind 512 [] extensions [] are (fits_end 512 []) in
     rw (result_places first extensions)
     (fits_cons 512 (result_place first) _ first extensions fits (rw (append-nil (replicate (length extensions) Extension), append-nil extensions) at behind))
@@ -65,7 +65,7 @@ final_fit first extensions fits are =
 pub server_final_no_fault : (text : List ℕ) (p : ServerFinalParts) (f : TextFault) → IsServerFinal text p → IsServerFinalFault text f → ⊥
 server_final_no_fault text p f is =
     no_fault_at 512 server_final_places text (outcome_text p.outcome ∷ p.extensions) f is.short is.is_text (parts_server_final text p is)
-    (omega arith) (final_fit (outcome_text p.outcome) p.extensions (outcome_fits p.outcome is.outcome) is.extensions)
+    (omega arith) (server_final_fit (outcome_text p.outcome) p.extensions (outcome_fits p.outcome is.outcome) is.extensions)
 
 -- what is found is all that can be
 pub server_final_only : (text : List ℕ) (r : Result ServerFinal TextFault)

@@ -64,7 +64,7 @@ server_first_once text p q is also =
     parts_once p q same.0 nonces (field_once 64 p.salt q.salt is.salt also.salt salts)
     (decimal_injective p.count q.count (below_64 p.count is.count) (below_64 q.count also.count) counts) extensions
 
-later_places : (nonce salt count : List ℕ) (extensions : List (List ℕ))
+pub later_places : (nonce salt count : List ℕ) (extensions : List (List ℕ))
     → places (Nonce ∷ Salt ∷ Count ∷ []) [] (length (nonce ∷ salt ∷ count ∷ extensions))
     ≡ Nonce ∷ Salt ∷ Count ∷ replicate (length extensions) Extension
 later_places nonce salt count extensions =
@@ -79,15 +79,20 @@ later_fit nonce salt count extensions is_nonce is_salt is_count are =
     (fits_cons 512 Nonce _ nonce _ is_nonce (fits_cons 512 Salt _ salt _ is_salt (fits_cons 512 Count _ count _ is_count
     (rw (append-nil (replicate (length extensions) Extension), append-nil extensions) at behind))))
 
+-- the parts of a message fit their places
+pub server_first_fit : (text : List ℕ) (p : ServerFirstParts) → IsServerFirst text p
+    → AllFit 512 (places (server_first_places (parts text)) [] (length (parts text))) (parts text)
+server_first_fit text p is =
+    marked_fit 512 (Nonce ∷ Salt ∷ Count ∷ []) (parts text) (later_parts p) p.mext (is_marked text p is)
+    (later_fit _ _ _ p.extensions (p.nonce, refl, is.nonce) (field_fits 115 64 _ p.salt refl is.salt)
+    (decimal p.count, refl, (p.count, refl, is.count)) is.extensions)
+
 -- a message has no fault
 pub server_first_no_fault : (text : List ℕ) (p : ServerFirstParts) (f : TextFault) → IsServerFirst text p → IsServerFirstFault text f → ⊥
 server_first_no_fault text p f is =
-    let marked = is_marked text p is in
-    let lengths = marked_length (Nonce ∷ Salt ∷ Count ∷ []) (parts text) (later_parts p) p.mext marked in
+    let lengths = marked_length (Nonce ∷ Salt ∷ Count ∷ []) (parts text) (later_parts p) p.mext (is_marked text p is) in
     no_fault_at 512 server_first_places text (parts text) f is.short is.is_text refl (omega (arith, lengths.0, lengths.1))
-    (marked_fit 512 (Nonce ∷ Salt ∷ Count ∷ []) (parts text) (later_parts p) p.mext marked
-    (later_fit _ _ _ p.extensions (p.nonce, refl, is.nonce) (field_fits 115 64 _ p.salt refl is.salt)
-    (decimal p.count, refl, (p.count, refl, is.count)) is.extensions))
+    (server_first_fit text p is)
 
 -- what is found is all that can be
 pub server_first_only : (text : List ℕ) (r : Result ServerFirst TextFault)

@@ -8,3 +8,4 @@ pub mod Shown
 pub mod Pieces
 pub mod Draft
 pub mod Written
+pub mod Laws

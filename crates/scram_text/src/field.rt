@@ -13,7 +13,7 @@ use base64::engine::general_purpose::STANDARD;
 use itoa::Buffer;
 use mac_core::Tag;
 
-// The nonce of `r=` and 1 to `most` printable characters.
+/// The nonce of `r=` and 1 to `most` printable characters.
 pub(crate) fn nonce_of(part: &[u8], most: usize) -> Option<&[u8]>
     ensures none { IfNone result (IsHeaded 114 (IsNonce most) part.now → ⊥) }
     ensures spelled { IfSome result (λ nonce. part.now ≡ codes "r=" ++ nonce.now) }
@@ -27,7 +27,7 @@ pub(crate) fn nonce_of(part: &[u8], most: usize) -> Option<&[u8]>
     }
 }
 
-// The name of `n=` or `a=` and a saslname.
+/// The name of `n=` or `a=` and a saslname.
 pub(crate) fn name_of(part: &[u8], letter: u8) -> Option<SaslText<'_>>
     ensures none { IfNone result (IsHeaded letter IsSaslName part.now → ⊥) }
     ensures spelled { IfSome result (λ name. part.now ≡ letter ∷ 61 ∷ name) }
@@ -37,7 +37,7 @@ pub(crate) fn name_of(part: &[u8], letter: u8) -> Option<SaslText<'_>>
     SaslText::new(spelled)
 }
 
-// The value of `m=` or `e=` and one or more value-chars, in a part of a text.
+/// The value of `m=` or `e=` and one or more value-chars, in a part of a text.
 pub(crate) fn value_of(part: &[u8], letter: u8) -> Option<&[u8]>
     requires { LacksComma part.now }
     ensures none { IfNone result (IsHeaded letter IsValue part.now → ⊥) }
@@ -48,20 +48,21 @@ pub(crate) fn value_of(part: &[u8], letter: u8) -> Option<&[u8]>
     if value.is_empty() { None } else { Some(value) }
 }
 
-// One or more value-chars, in a text.
+/// One or more value-chars, in a text.
 pub(crate) fn is_value(value: &[u8]) -> bool
     ensures { IsTrue result ↔ IsValue value.now }
 {
     name::lacks_comma(value) && !value.is_empty()
 }
 
+/// A number from 1 to 4294967295.
 pub(crate) fn is_count(count: u32) -> bool
     ensures { IsTrue result ↔ IsCount count }
 {
     count > 0
 }
 
-// The count of `i=` and a number from 1 to 4294967295.
+/// The count of `i=` and a number from 1 to 4294967295.
 pub(crate) fn count_of(part: &[u8]) -> Option<u32>
     ensures none { IfNone result (IsHeaded 105 SpellsCount part.now → ⊥) }
     ensures spelled { IfSome result (λ count. part.now ≡ codes "i=" ++ decimal count) }
@@ -96,7 +97,7 @@ fn is_decimal(digits: &[u8], number: u32) -> bool
     digits == Buffer::new().format(number).as_bytes()
 }
 
-// The bytes of `c=` and the base64 of 1 to 1536 bytes.
+/// The bytes of `c=` and the base64 of 1 to 1536 bytes.
 pub(crate) fn channel_of(part: &[u8]) -> Option<ArrayVec<u8, 1536>>
     requires { length part.now ≤ 2048 }
     ensures none { IfNone result (IsHeaded 99 (SpellsField 1536) part.now → ⊥) }
@@ -107,7 +108,7 @@ pub(crate) fn channel_of(part: &[u8]) -> Option<ArrayVec<u8, 1536>>
     long_field(text)
 }
 
-// The bytes of a letter and the base64 of 1 to 64 bytes.
+/// The bytes of a letter and the base64 of 1 to 64 bytes.
 pub(crate) fn tag_of(part: &[u8], letter: u8) -> Option<Tag>
     requires { length part.now ≤ 2048 }
     ensures none { IfNone result (IsHeaded letter (SpellsField 64) part.now → ⊥) }
@@ -118,7 +119,7 @@ pub(crate) fn tag_of(part: &[u8], letter: u8) -> Option<Tag>
     short_field(text)
 }
 
-// The salt of `s=` and the base64 of 1 to 64 bytes.
+/// The salt of `s=` and the base64 of 1 to 64 bytes.
 pub(crate) fn salt_of(part: &[u8]) -> Option<Salt>
     requires { length part.now ≤ 2048 }
     ensures none { IfNone result (IsHeaded 115 (SpellsField 64) part.now → ⊥) }
@@ -157,7 +158,7 @@ fn short_field(text: &[u8]) -> Option<Tag>
     Some(field)
 }
 
-// 1 to `most` bytes, which a base64 field may hold.
+/// 1 to `most` bytes, which a base64 field may hold.
 pub(crate) fn is_field(bytes: &[u8], most: usize) -> bool
     ensures { IsTrue result ↔ IsField most bytes.now }
 {

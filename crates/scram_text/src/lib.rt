@@ -9,6 +9,7 @@ mod cut;
 mod draft;
 mod fault;
 mod field;
+pub mod laws;
 mod name;
 mod secret;
 mod server_final;

@@ -135,6 +135,7 @@ fn is_saslname(spelled: &[u8]) -> bool
     lacks_comma(spelled) && is_escaped(spelled) && !spelled.is_empty()
 }
 
+/// No byte is a comma.
 pub(crate) fn lacks_comma(bytes: &[u8]) -> bool
     ensures { result ≡ list_all (λ c. not (is_comma c)) bytes.now }
 {

@@ -376,6 +376,11 @@ fn limits(rt: HostRuntime) -> Result<(), Fail> {
         );
         assert_eq!(rt; Salt::new(bytes).is_some(), salt, "a salt of {length}");
     }
+    Ok(())
+}
+
+#[test]
+fn classes(rt: HostRuntime) {
     assert!(rt;
         PlainName::new(b"\x1F").is_none()
             && PlainName::new(b" ~").is_some()
@@ -391,7 +396,6 @@ fn limits(rt: HostRuntime) -> Result<(), Fail> {
             && NoncePart::new(b"!+-~").is_some()
             && NoncePart::new(b",").is_none()
     );
-    Ok(())
 }
 
 // A message of `front`, so many letters, and `back`.
@@ -437,38 +441,31 @@ fn refused_writes(rt: HostRuntime) -> Result<(), Fail> {
     let tag = Tag::try_from(b"A".as_slice())?;
     let unwritable = Err(WriteFault::Unwritable);
     let mut out = Vec::from_slice(alloc, b"before")?;
-    assert_eq!(rt;
-        write_server_first(b"", &salt, 1, b"", &mut out),
-        unwritable
-    );
-    assert_eq!(rt;
-        write_server_first(b"a", &salt, 0, b"", &mut out),
-        unwritable
-    );
-    assert_eq!(rt;
-        write_server_first(b"a", &salt, 1, b"x", &mut out),
-        unwritable
-    );
-    assert_eq!(rt;
-        write_client_first(Flag::Binding(b""), None, &name, &nonce, b"", &mut out),
-        unwritable
-    );
-    assert_eq!(rt;
-        write_client_first(Flag::NotOffered, None, &name, &nonce, b"x=\xFF", &mut out),
-        unwritable
-    );
-    assert_eq!(rt;
-        write_client_final(b"", b"a", b"", &tag, &mut out),
-        unwritable
-    );
-    assert_eq!(rt;
-        write_client_final(b"n,,", b"a", b"", &Tag::new(), &mut out),
-        unwritable
-    );
-    assert_eq!(rt;
-        write_server_final(FinalResult::ErrorValue(b"a,b"), b"", &mut out),
-        unwritable
-    );
+    let refused = write_server_first(b"", &salt, 1, b"", &mut out);
+    assert_eq!(rt; refused, unwritable);
+    let refused = write_server_first(b"a", &salt, 0, b"", &mut out);
+    assert_eq!(rt; refused, unwritable);
+    let refused = write_server_first(b"a", &salt, 1, b"x", &mut out);
+    assert_eq!(rt; refused, unwritable);
+    let refused = write_client_first(Flag::Binding(b""), None, &name, &nonce, b"", &mut out);
+    assert_eq!(rt; refused, unwritable);
+    let refused = write_client_first(Flag::NotOffered, None, &name, &nonce, b"x=\xFF", &mut out);
+    assert_eq!(rt; refused, unwritable);
+    let refused = write_client_final(b"", b"a", b"", &tag, &mut out);
+    assert_eq!(rt; refused, unwritable);
+    let refused = write_client_final(b"n,,", b"a", b"", &Tag::new(), &mut out);
+    assert_eq!(rt; refused, unwritable);
+    let refused = write_server_final(FinalResult::ErrorValue(b"a,b"), b"", &mut out);
+    assert_eq!(rt; refused, unwritable);
+    assert_eq!(rt; out.as_slice(), b"before".as_slice());
+    Ok(())
+}
+
+#[test]
+fn longest_write(rt: HostRuntime) -> Result<(), Fail> {
+    let alloc = rt.alloc();
+    let salt = Salt::new(b"A").ok_or("a salt")?;
+    let mut out = Vec::from_slice(alloc, b"before")?;
     let extensions = long(alloc, b"x=", 2032, b"")?;
     assert_eq!(rt;
         write_server_first(b"a", &salt, 1, extensions.as_slice(), &mut out),

@@ -1,0 +1,5 @@
+use Rattle.scram_text.proofs.LawLemmas.{name_decided}
+use Rattle.scram_text.proofs.laws.name_is_decided.Goals as goal
+
+pub returns : goal.returns
+returns c = name_decided
