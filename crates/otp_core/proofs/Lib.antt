@@ -1,1 +1,3 @@
 pub mod DigitsLemmas
+pub mod Steps
+pub mod WindowLemmas

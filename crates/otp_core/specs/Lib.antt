@@ -1,4 +1,10 @@
+pub mod Attempt
 pub mod Code
 pub mod Fault
+pub mod History
+pub mod Laws
+pub mod Reply
 pub mod Secret
 pub mod Settings
+pub mod State
+pub mod Window

@@ -16,6 +16,7 @@
 mod code;
 mod fault;
 mod hash;
+pub mod laws;
 mod secret;
 #[cfg(test)]
 mod tests;
@@ -25,4 +26,4 @@ pub use code::{Code, hotp, hotp_with, step, truncate};
 pub use fault::{OtpFault, Setting};
 pub use hash::OtpHash;
 pub use secret::{Digits, Moment, Secret};
-pub use token::{Fields, HotpFields, Token, TotpFields};
+pub use token::{Fields, HotpFields, Reply, Token, TotpFields};

@@ -1,11 +1,21 @@
 //! Tokens of either kind, each setting within its range.
-ghost use Rattle.std.specs.Prelude.{◌≡◌, None, MatchResult};
+ghost use Rattle.std.specs.Prelude.{◌≡◌, ◌∷◌, List, None, MatchResult};
 ghost use Rattle.otp_core.specs.Settings.{IsInRange, IsRefusalOf, first_outside, hotp_settings, totp_settings, unlocked};
+ghost use Rattle.otp_core.specs.Attempt.{Attempt, attempt_of};
+ghost use Rattle.otp_core.specs.Attempt.Said.{OneText};
+ghost use Rattle.otp_core.specs.Reply.{IsDue};
+ghost use Rattle.otp_core.specs.History.{IsAfter};
+ghost use Rattle.otp_core.specs.declared.token.kinds.Fields.{Fields as TheFields};
 ghost use Rattle.otp_core.specs.declared.token.kinds.Fields.TheVariants.{Hotp, Totp};
 
+mod answer;
 mod kinds;
+mod window;
 
 use crate::fault::OtpFault;
+use crate::secret::Moment;
+pub use answer::Reply;
+use answer::answer;
 pub use kinds::{Fields, HotpFields, TotpFields};
 use std::marker::Model;
 
@@ -76,6 +86,21 @@ impl Token {
             Fields::Totp(fields) => Fields::Totp(fields.copy()),
         };
         Token { fields }
+    }
+
+    /// Judges `text` as a code at `moment`. `Locked` where the failures have reached the limit; else
+    /// `Pass` with the least counter that can pass and whose code is the text; else `Fail`. So no
+    /// counter passes twice. For every start and history that lead to this token, the reply is the
+    /// one due after them, and they lead, with this attempt added, to the token as it is then.
+    pub fn attempt(&mut self, moment: Moment, text: &[u8]) -> Reply
+        ensures due { (start : TheFields) (history : List Attempt)
+            → IsAfter start history self.old → IsDue start history moment (OneText text.now) result }
+        ensures after { (start : TheFields) (history : List Attempt)
+            → IsAfter start history self.old
+            → IsAfter start (attempt_of moment (OneText text.now) result ∷ history) self.new }
+    {
+        prove!(moment.seconds() <= 253_402_300_799);
+        answer(&mut self.fields, moment, text)
     }
 
     /// Sets the failures to 0, and changes nothing else.

@@ -10,7 +10,7 @@ use crate::secret::{Digits, Moment, Secret};
 const MOST_LIMIT: u64 = 100;
 
 // The greatest counter that can pass.
-const MOST_COUNTER: u64 = 0x7fff_ffff_ffff_fffe;
+pub(crate) const MOST_COUNTER: u64 = 0x7fff_ffff_ffff_fffe;
 
 /// The settings and the state of a HOTP token (RFC 4226, section 7).
 #[derive(Drop)]

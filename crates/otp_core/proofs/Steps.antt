@@ -1,0 +1,162 @@
+-- One attempt more: from a token and its past to any start and history that are alike.
+use Rattle.std.proofs.Common.{◌≡◌, ◌≤◌, ◌<◌, ◌+◌, ◌↔◌, ℕ, pos, ◌-ℤ◌, List, [], ◌∷◌, Option, Some, None, max, refl, sym, ap, subst, arith, ◌∙◌}
+use Rattle.std.specs.Option.{option_map_or}
+use Rattle.otp_core.specs.Secret.{IsMoment}
+use Rattle.otp_core.specs.Attempt.{Attempt, Said, attempt_of, passed}
+use Rattle.otp_core.specs.Attempt.Said.{OneText}
+use Rattle.otp_core.specs.Window.{IsCandidate, IsCounterDue, IsStepNear, IsAbove, first_due, greatest, step_at}
+use Rattle.otp_core.specs.Reply.{IsDue, IsFitting, code_text, limit_of, failures_of, failures_after, failures_by}
+use Rattle.otp_core.specs.History.{IsAfter, AreAlike, settings_of}
+use Rattle.otp_core.specs.State.{advanced, after_pass, after_fail}
+use Rattle.otp_core.specs.declared.token.answer.Reply.{Reply}
+use Rattle.otp_core.specs.declared.token.answer.Reply.TheVariants.{Pass, Fail, Locked}
+use Rattle.otp_core.specs.declared.token.kinds.Fields.{Fields}
+use Rattle.otp_core.specs.declared.token.kinds.Fields.TheVariants.{Hotp, Totp}
+
+-- the limit is a setting
+limit_settled : (s : Fields) → limit_of (settings_of s) ≡ limit_of s
+limit_settled (Hotp s) = refl
+limit_settled (Totp s) = refl
+
+-- the codes depend on the settings alone
+code_settled : (s : Fields) (c : ℕ) → code_text (settings_of s) c ≡ code_text s c
+code_settled (Hotp s) c = refl
+code_settled (Totp s) c = refl
+
+limit_alike : (s t : Fields) → settings_of s ≡ settings_of t → limit_of s ≡ limit_of t
+limit_alike s t e = sym (limit_settled s) ∙ (ap limit_of e ∙ limit_settled t)
+
+code_alike : (s t : Fields) (c : ℕ) → settings_of s ≡ settings_of t → code_text s c ≡ code_text t c
+code_alike s t c e = sym (code_settled s c) ∙ (ap (λ f. code_text f c) e ∙ code_settled t c)
+
+-- what fits one of two alike pasts fits the other
+fits_to : (s t : Fields) (h k : List Attempt) (m : ℕ) (said : Said) (c : ℕ) → AreAlike s h t k → IsMoment m
+    → IsFitting s h m said c → IsFitting t k m said c
+fits_to s t h k m (OneText text) c alike is fits =
+    ((alike.candidates m c is).0 fits.0, sym (code_alike s t c alike.settings) ∙ fits.1)
+
+fits_from : (s t : Fields) (h k : List Attempt) (m : ℕ) (said : Said) (c : ℕ) → AreAlike s h t k → IsMoment m
+    → IsFitting t k m said c → IsFitting s h m said c
+fits_from s t h k m (OneText text) c alike is fits =
+    ((alike.candidates m c is).1 fits.0, code_alike s t c alike.settings ∙ fits.1)
+
+-- what is due after one of two alike pasts is due after the other
+pub due_alike : (s t : Fields) (h k : List Attempt) (m : ℕ) (said : Said) (reply : Reply) → AreAlike s h t k → IsMoment m
+    → IsDue t k m said reply → IsDue s h m said reply
+due_alike s t h k m said Locked alike is due =
+    let limit = limit_alike s t alike.settings in
+    let failures = alike.failures in omega arith
+due_alike s t h k m said Fail alike is due =
+    let limit = limit_alike s t alike.settings in
+    let failures = alike.failures in
+    let below_limit : failures_after t k < limit_of t = due.0 in
+    (omega arith, λ c fits. due.1 c (fits_to s t h k m said c alike is fits))
+due_alike s t h k m said (Pass p) alike is due =
+    let limit = limit_alike s t alike.settings in
+    let failures = alike.failures in
+    let below_limit : failures_after t k < limit_of t = due.0 in (
+      (omega arith),
+      fits_from s t h k m said p alike is due.1,
+      λ c fits. due.2 c (fits_to s t h k m said c alike is fits),
+    )
+
+-- no reply moves a setting
+settings_advanced : (t : Fields) (m : ℕ) (reply : Reply) → settings_of (advanced t m reply) ≡ settings_of t
+settings_advanced (Hotp t) m (Pass p) = refl
+settings_advanced (Hotp t) m Fail = refl
+settings_advanced (Hotp t) m Locked = refl
+settings_advanced (Totp t) m (Pass p) = refl
+settings_advanced (Totp t) m Fail = refl
+settings_advanced (Totp t) m Locked = refl
+
+-- the failures move as replies move them
+failures_advanced : (t : Fields) (m : ℕ) (reply : Reply) → failures_of (advanced t m reply) ≡ failures_by reply (failures_of t)
+failures_advanced (Hotp t) m (Pass p) = refl
+failures_advanced (Hotp t) m Fail = refl
+failures_advanced (Hotp t) m Locked = refl
+failures_advanced (Totp t) m (Pass p) = refl
+failures_advanced (Totp t) m Fail = refl
+failures_advanced (Totp t) m Locked = refl
+
+-- behind a counter that is due, HOTP's first counter is one more
+first_of : (o : Option ℕ) (next p : ℕ) → option_map_or (λ m. m + 1) o next ≤ p
+    → option_map_or (λ m. m + 1) (Some (option_map_or (λ most. max p most) o p)) next ≡ p + 1
+first_of None next p h = refl
+first_of (Some m) next p h = omega arith
+
+-- above what is above all of them
+above_more : (counters : List ℕ) (p c : ℕ) → IsAbove counters p → p < c → IsAbove counters c
+above_more [] p c h more = h
+above_more (x ∷ counters) p c h more =
+    let below : x < p = h.0 in (omega arith, above_more counters p c h.1 more)
+
+-- the part of a window that depends on the settings, after a pass of p at m
+window_by : Fields → ℕ → ℕ → ℕ → ℕ → Type 0
+window_by (Hotp t) m p later c = IsCounterDue (p + 1) t.look_ahead c
+window_by (Totp t) m p later c =
+    (t.t0 ≤ later) × IsStepNear (step_at t later) (pos p -ℤ pos (step_at t m)) t.back t.ahead t.max_drift c
+
+-- candidates after a pass
+pass_alike : (s t : Fields) (h : List Attempt) (m : ℕ) (said : Said) (p later c : ℕ)
+    → settings_of s ≡ settings_of t → IsCandidate s h m p
+    → IsCandidate s (attempt_of m said (Pass p) ∷ h) later c ↔ IsCandidate (after_pass t m p) [] later c
+unfolding window_by
+pass_alike (Hotp s) (Hotp t) h m said p later c e due =
+    let first : first_due s.next (p ∷ passed h) ≡ p + 1 = first_of (greatest (passed h)) s.next p due.not_before in (
+      (λ w. subst (λ f. window_by f m p later c) e (subst (λ n. IsCounterDue n s.look_ahead c) first w)),
+      (λ w. subst (λ n. IsCounterDue n s.look_ahead c) (sym first) (subst (λ f. window_by f m p later c) (sym e) w)),
+    )
+pass_alike (Totp s) (Totp t) h m said p later c e due = (
+  (λ w. let near = subst (λ f. window_by f m p later c) e (w.0, w.1) in
+      let above : p < c = w.3.0 in
+      (near.0, near.1, (λ l is. let same : p ≡ l = cc in omega arith), tt)),
+  (λ w. let near = subst (λ f. window_by f m p later c) (sym e) (w.0, w.1) in
+      let above : p < c = w.2 p refl in
+      (near.0, near.1, (λ l is. let below : l < p = due.2 l is in omega arith), (above, above_more (passed h) p c due.3 above))),
+)
+pass_alike (Hotp s) (Totp t) h m said p later c e due = absurd (cc)
+pass_alike (Totp s) (Hotp t) h m said p later c e due = absurd (cc)
+
+-- candidates after a failure
+fail_alike : (s t : Fields) (h : List Attempt) (m : ℕ) (said : Said) (later c : ℕ)
+    → (IsCandidate s h later c ↔ IsCandidate t [] later c)
+    → IsCandidate s (attempt_of m said Fail ∷ h) later c ↔ IsCandidate (after_fail t) [] later c
+fail_alike (Hotp s) (Hotp t) h m said later c same = same
+fail_alike (Hotp s) (Totp t) h m said later c same = same
+fail_alike (Totp s) (Hotp t) h m said later c same = same
+fail_alike (Totp s) (Totp t) h m said later c same = same
+
+-- candidates where the token is locked
+locked_alike : (s t : Fields) (h : List Attempt) (m : ℕ) (said : Said) (later c : ℕ)
+    → (IsCandidate s h later c ↔ IsCandidate t [] later c)
+    → IsCandidate s (attempt_of m said Locked ∷ h) later c ↔ IsCandidate t [] later c
+locked_alike (Hotp s) t h m said later c same = same
+locked_alike (Totp s) t h m said later c same = same
+
+-- the counter that fits can pass
+candidate_of : (s : Fields) (h : List Attempt) (m : ℕ) (said : Said) (c : ℕ) → IsFitting s h m said c → IsCandidate s h m c
+candidate_of s h m (OneText text) c fits = fits.0
+
+-- candidates after a due reply
+candidates_advanced : (s t : Fields) (h : List Attempt) (m : ℕ) (said : Said) (reply : Reply) → AreAlike s h t [] → IsMoment m
+    → IsDue t [] m said reply → (later c : ℕ) → IsMoment later
+    → IsCandidate s (attempt_of m said reply ∷ h) later c ↔ IsCandidate (advanced t m reply) [] later c
+candidates_advanced s t h m said (Pass p) alike is due later c when =
+    pass_alike s t h m said p later c alike.settings
+    (candidate_of s h m said p (fits_from s t h [] m said p alike is due.1))
+candidates_advanced s t h m said Fail alike is due later c when =
+    fail_alike s t h m said later c (alike.candidates later c when)
+candidates_advanced s t h m said Locked alike is due later c when =
+    locked_alike s t h m said later c (alike.candidates later c when)
+
+-- a due reply leads from a past to that past with the attempt added
+pub after_attempt : (s t : Fields) (h : List Attempt) (m : ℕ) (said : Said) (reply : Reply) → IsMoment m
+    → IsAfter s h t → IsDue t [] m said reply → IsAfter s (attempt_of m said reply ∷ h) (advanced t m reply)
+after_attempt s t h m said reply is after due = record {
+  legal = (is, due_alike s t h [] m said reply after.alike is due, after.legal);
+  alike = record {
+    settings = after.alike.settings ∙ sym (settings_advanced t m reply);
+    failures = ap (failures_by reply) after.alike.failures ∙ sym (failures_advanced t m reply);
+    candidates = candidates_advanced s t h m said reply after.alike is due;
+  };
+}

@@ -1,0 +1,27 @@
+-- A window cut by the last step that passed.
+use Rattle.std.proofs.Common.{◌≡◌, ◌≤◌, ◌<◌, ◌+◌, ◌↔◌, ℕ, Option, Some, None, max, arith}
+use Rattle.std.specs.Option.{ForSome}
+
+-- two values of one option
+same_value : (o : Option ℕ) (x y : ℕ) → o ≡ Some x → o ≡ Some y → x ≡ y
+same_value o x y p q = cc
+
+-- with a last step the window begins above it
+pub cut_by_last : {N : Type 0} (o : Option ℕ) (last first cut end w : ℕ) → o ≡ Some last → cut ≡ max first (last + 1)
+    → (N ↔ ((first ≤ w) × (w < end))) → ((N × ForSome o (λ l. l < w)) ↔ ((cut ≤ w) × (w < end)))
+cut_by_last o last first cut end w is value near = (
+  (λ h. let above : last < w = h.1 last is in let within = near.0 h.0 in let low : first ≤ w = within.0 in ((omega arith), within.1)),
+  (λ h. let low : cut ≤ w = h.0 in let begins : first ≤ w = omega arith in let above : last < w = omega arith in
+      (near.1 (begins, h.1), λ x at. let same : x ≡ last = same_value o x last at is in omega arith)),
+)
+
+-- with no last step it stays
+pub cut_by_none : {N : Type 0} (o : Option ℕ) (first end w : ℕ) → o ≡ None
+    → (N ↔ ((first ≤ w) × (w < end))) → ((N × ForSome o (λ l. l < w)) ↔ ((first ≤ w) × (w < end)))
+cut_by_none o first end w is near = (
+  (λ h. near.0 h.0),
+  (λ h. (near.1 h, λ x at. absurd (no_value o x is at))),
+)
+  where
+    no_value : (o : Option ℕ) (x : ℕ) → o ≡ None → o ≡ Some x → ⊥
+    no_value o x p q = cc

@@ -1,0 +1,23 @@
+use Rattle.std.proofs.Common.{◌≡◌, ◌≤◌, ◌<◌, ◌+◌, ℕ, List, true, false, nat_eq, ◌∙◌}
+use lib.Pointwise.{pointwise}
+use Rattle.std.proofs.lemmas.Cmp.{nat_list_eq_equiv}
+use borrow.Author.Count.{below_more}
+use Rattle.otp_core.specs.Code.{hotp_text}
+use Rattle.otp_core.proofs.token.answer.find_with.Goals as goal
+
+-- no counter up to i has the text, where none before it has, and it has not
+none_up_to : (text_of : ℕ → List ℕ) (text : List ℕ) (first i : ℕ)
+    → ((k : ℕ) → first ≤ k → k < i → text_of k ≡ text → ⊥) → (text_of i ≡ text → ⊥)
+    → (k : ℕ) → first ≤ k → k < i + 1 → text_of k ≡ text → ⊥
+none_up_to text_of text first i before here k from up same =
+    below_more (λ n. first ≤ n → text_of n ≡ text → ⊥) i (λ n below reach. before n reach below) (λ reach. here) k up from same
+
+pub loop-counter-preserved : goal.loop-counter-preserved
+loop-counter-preserved g c =
+    let text_of = λ (k : ℕ). hotp_text g.H.HashFn.digest_of g.H.HashFn.BLOCK c.args.digits c.args.secret.now k in
+    let code = rw (c.bytes.ensures.value) at (c.hotp_with.ensures _ c.new-prepared.ensures) in
+    none_up_to text_of _ _ _ c.loop-counter.invariant (λ same.
+    let text : c.as_bytes.result.now ≡ c.args.text.now = c.as_bytes.ensures.value ∙ (c.text.ensures.value ∙ (code ∙ same)) in
+    let equal : pointwise nat_eq c.as_bytes.result.now c.args.text.now ≡ true = rw text (nat_list_eq_equiv.refl c.args.text.now) in
+    let differs : c.eq.result ≡ false = c.if-eq.false in
+    cc (c.eq.ensures, differs, equal))

@@ -1,0 +1,52 @@
+-- The reply due to an attempt, given the start of a token and the history since.
+use Rattle.std.specs.Prelude.{ℕ, ◌+◌, ◌≤◌, ◌<◌, ◌≡◌, List, [], ◌∷◌}
+use Rattle.otp_core.specs.Code.{hotp_text_by}
+use Rattle.otp_core.specs.Attempt.{Attempt, Said}
+use Rattle.otp_core.specs.Window.{IsCandidate}
+use Rattle.otp_core.specs.declared.hash.OtpHash.TheVariants.{Sha1}
+use Rattle.otp_core.specs.declared.token.answer.Reply.{Reply}
+use Rattle.otp_core.specs.declared.token.answer.Reply.TheVariants.{Pass, Fail, Locked}
+use Rattle.otp_core.specs.declared.token.kinds.Fields.{Fields}
+use Rattle.otp_core.specs.declared.token.kinds.Fields.TheVariants.{Hotp, Totp}
+
+-- the text of a token's code at a counter
+abbrev pub code_text : Fields → ℕ → List ℕ
+code_text (Hotp t) c = hotp_text_by Sha1 t.digits t.secret c
+code_text (Totp t) c = hotp_text_by t.hash t.digits t.secret c
+
+-- how many failures lock the token
+abbrev pub limit_of : Fields → ℕ
+limit_of (Hotp t) = t.limit
+limit_of (Totp t) = t.limit
+
+-- the failures that a token starts with
+abbrev pub failures_of : Fields → ℕ
+failures_of (Hotp t) = t.failures
+failures_of (Totp t) = t.failures
+
+-- the failures after a reply
+abbrev pub failures_by : Reply → ℕ → ℕ
+failures_by (Pass c) before = 0
+failures_by Fail before = before + 1
+failures_by Locked before = before
+
+-- the failures after a history: those since the last pass, and the start's where there is none
+abbrev pub failures_after : Fields → List Attempt → ℕ
+failures_after start [] = failures_of start
+failures_after start (a ∷ before) = failures_by a.reply (failures_after start before)
+
+-- what was said fits a counter that can pass: it is its code
+abbrev pub IsFitting : Fields → List Attempt → ℕ → Said → ℕ → Type 0
+IsFitting start history moment (Said.OneText text) c = IsCandidate start history moment c × (code_text start c ≡ text)
+
+-- the reply that is due: Locked where the failures have reached the limit, else Pass of the least
+-- counter that fits, else Fail
+abbrev pub IsDue : Fields → List Attempt → ℕ → Said → Reply → Type 0
+IsDue start history moment said Locked = limit_of start ≤ failures_after start history
+IsDue start history moment said (Pass c) =
+    (failures_after start history < limit_of start)
+    × IsFitting start history moment said c
+    × ((k : ℕ) → IsFitting start history moment said k → c ≤ k)
+IsDue start history moment said Fail =
+    (failures_after start history < limit_of start)
+    × ((k : ℕ) → IsFitting start history moment said k → ⊥)

@@ -1,0 +1,23 @@
+-- How a token's state moves by a reply.
+use Rattle.std.specs.Prelude.{ℕ, ◌+◌, pos, ◌-ℤ◌, Some}
+use Rattle.otp_core.specs.Window.{step_at}
+use Rattle.otp_core.specs.declared.token.answer.Reply.{Reply}
+use Rattle.otp_core.specs.declared.token.answer.Reply.TheVariants.{Pass, Fail, Locked}
+use Rattle.otp_core.specs.declared.token.kinds.Fields.{Fields}
+use Rattle.otp_core.specs.declared.token.kinds.Fields.TheVariants.{Hotp, Totp}
+
+-- the token after a pass of a counter at a moment
+abbrev pub after_pass : Fields → ℕ → ℕ → Fields
+after_pass (Hotp t) moment c = Hotp (record t { next = c + 1; failures = 0 })
+after_pass (Totp t) moment w = Totp (record t { last = Some w; drift = pos w -ℤ pos (step_at t moment); failures = 0 })
+
+-- the token after a failure
+abbrev pub after_fail : Fields → Fields
+after_fail (Hotp t) = Hotp (record t { failures = t.failures + 1 })
+after_fail (Totp t) = Totp (record t { failures = t.failures + 1 })
+
+-- the token after a reply at a moment
+abbrev pub advanced : Fields → ℕ → Reply → Fields
+advanced t moment (Pass c) = after_pass t moment c
+advanced t moment Fail = after_fail t
+advanced t moment Locked = t

@@ -1,0 +1,63 @@
+-- The counters that can pass, given the start of a token and the history since.
+use Rattle.std.specs.Prelude.{ℕ, ◌+◌, ◌-◌, ◌^◌, ◌≤◌, ◌<◌, max, ℤ, pos, ◌+ℤ◌, ◌-ℤ◌, ◌≤ℤ◌, List, [], ◌∷◌, Option, Some, None}
+use Rattle.std.specs.Option.{ForSome, option_map_or}
+use Rattle.otp_core.specs.Code.{steps_from}
+use Rattle.otp_core.specs.Attempt.{Attempt, passed}
+use Rattle.otp_core.specs.declared.token.answer.Reply.{Reply}
+use Rattle.otp_core.specs.declared.token.answer.Reply.TheVariants.{Pass, Fail, Locked}
+use Rattle.otp_core.specs.declared.token.kinds.TotpFields.{TotpFields}
+use Rattle.otp_core.specs.declared.token.kinds.Fields.{Fields}
+use Rattle.otp_core.specs.declared.token.kinds.Fields.TheVariants.{Hotp, Totp}
+
+-- the greatest of some counters
+abbrev pub greatest : List ℕ → Option ℕ
+greatest [] = None
+greatest (c ∷ counters) = Some (option_map_or (λ most. max c most) (greatest counters) c)
+
+-- HOTP's first counter: one more than the greatest that passed, or the start's next where none did
+abbrev pub first_due : ℕ → List ℕ → ℕ
+first_due next counters = option_map_or (λ most. most + 1) (greatest counters) next
+
+-- a counter of HOTP's window (RFC 4226, section 7.4); the greatest that can pass is 2^63 - 2
+pub record IsCounterDue (first look_ahead c : ℕ) : Type 0 where
+  pub not_before : first ≤ c
+  pub within : c ≤ first + look_ahead
+  pub most : c ≤ 2 ^ 63 - 2
+
+-- T, TOTP's present step (RFC 6238, section 4.2)
+abbrev pub step_at : TotpFields → ℕ → ℕ
+step_at t moment = steps_from t.t0 t.step moment
+
+-- the drift after a reply: by how many steps the code that passed lay beside the present one
+abbrev pub drift_by : Reply → ℤ → ℤ → ℤ
+drift_by (Pass w) now before = pos w -ℤ now
+drift_by Fail now before = before
+drift_by Locked now before = before
+
+-- the drift after a history: that of the last pass, or the start's where there is none
+abbrev pub drift_after : TotpFields → List Attempt → ℤ
+drift_after t [] = t.drift
+drift_after t (a ∷ before) = drift_by a.reply (pos (step_at t a.moment)) (drift_after t before)
+
+-- a step of TOTP's window (RFC 6238, sections 5.2 and 6): from `back` before to `ahead` behind the
+-- present step moved by the drift, and no more than max_drift from the present step
+pub record IsStepNear (now : ℕ) (drift : ℤ) (back ahead max_drift w : ℕ) : Type 0 where
+  pub not_before : ((pos now +ℤ drift) -ℤ pos back) ≤ℤ pos w
+  pub not_behind : pos w ≤ℤ ((pos now +ℤ drift) +ℤ pos ahead)
+  pub not_early : now ≤ w + max_drift
+  pub not_late : w ≤ now + max_drift
+
+-- a counter above each of these
+abbrev pub IsAbove : List ℕ → ℕ → Type 0
+IsAbove [] w = Unit {0}
+IsAbove (p ∷ counters) w = (p < w) × IsAbove counters w
+
+-- the counter can pass at a moment, after a history from a start. A step of TOTP passes once, and
+-- after it none before it (RFC 6238, section 5.2).
+abbrev pub IsCandidate : Fields → List Attempt → ℕ → ℕ → Type 0
+IsCandidate (Hotp t) history moment c = IsCounterDue (first_due t.next (passed history)) t.look_ahead c
+IsCandidate (Totp t) history moment w =
+    (t.t0 ≤ moment)
+    × IsStepNear (step_at t moment) (drift_after t history) t.back t.ahead t.max_drift w
+    × ForSome t.last (λ l. l < w)
+    × IsAbove (passed history) w

@@ -1,0 +1,91 @@
+//! The counters that can pass now, as one range.
+ghost use Rattle.std.specs.Prelude.{◌≡◌, ◌≤◌, ◌<◌, ◌↔◌, ℕ, pos, ◌-ℤ◌, [], nat_abs, Option};
+ghost use Rattle.std.specs.Option.{ForSome};
+ghost use Rattle.otp_core.specs.Settings.{IsHotpInRange, IsTotpInRange, IsInRange};
+ghost use Rattle.otp_core.specs.Window.{IsCounterDue, IsStepNear, IsCandidate, step_at};
+ghost use Rattle.otp_core.specs.Secret.{IsMoment};
+
+use crate::code::step;
+use crate::secret::Moment;
+use crate::token::kinds::{Fields, HotpFields, MOST_COUNTER, TotpFields};
+
+// The counters from `first` on and before `end`.
+#[derive(Clone, Copy)]
+pub(crate) struct Counters {
+    pub(crate) first: u64,
+    pub(crate) end: u64,
+}
+
+// The counters that can pass at a moment.
+pub(crate) fn window(token: &Fields, moment: Moment) -> Counters
+    requires range { IsInRange token.now }
+    requires moment { IsMoment moment }
+    ensures { (c : ℕ) → IsCandidate token.now [] moment c ↔ ((result.first ≤ c) × (c < result.end)) }
+{
+    match token {
+        Fields::Hotp(token) => counters_due(token),
+        Fields::Totp(token) => match step(moment, token.t0, token.step) {
+            Some(now) => steps_due(token, now),
+            None => Counters { first: 0, end: 0 },
+        },
+    }
+}
+
+fn counters_due(token: &HotpFields) -> Counters
+    requires { IsHotpInRange token.now }
+    ensures { (c : ℕ) → IsCounterDue token.now.next token.now.look_ahead c ↔ ((result.first ≤ c) × (c < result.end)) }
+{
+    Counters {
+        first: token.next,
+        end: (token.next + token.look_ahead).min(MOST_COUNTER) + 1,
+    }
+}
+
+// By how many steps a clock is fast, and by how many slow; one of them is 0.
+fn fast_and_slow(drift: i64) -> (u64, u64)
+    requires { nat_abs drift ≤ 100 }
+    ensures value { drift ≡ pos result.0 -ℤ pos result.1 }
+    ensures fast { result.0 ≤ 100 }
+    ensures slow { result.1 ≤ 100 }
+{
+    if drift < 0 {
+        (0, drift.unsigned_abs())
+    } else {
+        (drift.unsigned_abs(), 0)
+    }
+}
+
+fn steps_near(now: u64, drift: i64, back: u64, ahead: u64, max_drift: u64) -> Counters
+    requires now { now ≤ 253402300799 }
+    requires drift { nat_abs drift ≤ 100 }
+    requires back { back ≤ 10 }
+    requires ahead { ahead ≤ 10 }
+    requires max_drift { max_drift ≤ 100 }
+    ensures { (w : ℕ) → IsStepNear now drift back ahead max_drift w ↔ ((result.first ≤ w) × (w < result.end)) }
+{
+    let (fast, slow) = fast_and_slow(drift);
+    let first = (now + fast).saturating_sub(slow + back);
+    let end = (now + fast + ahead + 1).saturating_sub(slow);
+    Counters {
+        first: first.max(now.saturating_sub(max_drift)),
+        end: end.min(now + max_drift + 1),
+    }
+}
+
+// The steps near the present one, above the last that passed.
+fn steps_due(token: &TotpFields, now: u64) -> Counters
+    requires range { IsTotpInRange token.now }
+    requires now { now ≤ 253402300799 }
+    ensures { (w : ℕ) → (IsStepNear now token.now.drift token.now.back token.now.ahead token.now.max_drift w
+        × ForSome token.now.last (λ l. l < w)) ↔ ((result.first ≤ w) × (w < result.end)) }
+{
+    let near = steps_near(now, token.drift, token.back, token.ahead, token.max_drift);
+    let first = match token.last {
+        Some(last) => near.first.max(last + 1),
+        None => near.first,
+    };
+    Counters {
+        first,
+        end: near.end,
+    }
+}
