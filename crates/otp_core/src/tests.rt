@@ -1,6 +1,7 @@
 //! Values from outside: RFC 4226, appendix D, RFC 6238, appendix B, and a tag with a large offset.
+use crate::laws::begins_with_itself;
 use crate::{
-    Code, Digits, Fields, HotpFields, Moment, OtpFault, OtpHash, Secret, Setting, Token,
+    Code, Digits, Fields, HotpFields, Moment, OtpFault, OtpHash, Reply, Secret, Setting, Token,
     TotpFields, hotp, hotp_with, step, truncate,
 };
 use mac_core::{HSha1, HSha256, HSha512, HashFn, Prepared, Tag};
@@ -280,4 +281,201 @@ fn unlock_sets_failures_alone(rt: HostRuntime) {
         }
         Fields::Totp(_) => panic!(rt; "a token of the other kind"),
     }
+}
+
+// Attempts one after the other: a moment, a text and the reply.
+fn check_attempts(
+    rt: &impl Abort,
+    token: Result<Token, OtpFault>,
+    attempts: &[(u64, &str, Reply)],
+) {
+    let mut token = token.ok().expect(rt, "a token");
+    for (seconds, text, want) in attempts {
+        let reply = token.attempt(moment(rt, *seconds), text.as_bytes());
+        assert_eq!(rt; reply, *want, "{text} at {seconds}");
+    }
+}
+
+// The codes are those of RFC 4226, appendix D.
+#[test]
+fn hotp_attempts(rt: HostRuntime) {
+    let attempts = [
+        (5, "755224", Reply::Pass(0)),
+        (5, "755224", Reply::Fail),
+        (5, "338314", Reply::Pass(4)),
+        (5, "359152", Reply::Fail),
+        (5, "162583", Reply::Pass(7)),
+        (5, "755224x", Reply::Fail),
+    ];
+    check_attempts(&rt, Token::hotp(hotp_fields(&rt, (0, 3, 3, 0))), &attempts);
+    let attempts = [
+        (1, "000000", Reply::Fail),
+        (2, "111111", Reply::Fail),
+        (3, "755224", Reply::Locked),
+        (4, "755224", Reply::Locked),
+    ];
+    check_attempts(&rt, Token::hotp(hotp_fields(&rt, (0, 0, 2, 0))), &attempts);
+}
+
+// Other spellings of the code 755224 of counter 0.
+#[test]
+fn texts_that_fail(rt: HostRuntime) {
+    for text in [
+        "", "75522", "0755224", " 755224", "755224 ", "+755224", "75522A", "755224\n",
+    ] {
+        let attempts = [(0, text, Reply::Fail), (0, "755224", Reply::Pass(0))];
+        check_attempts(&rt, Token::hotp(hotp_fields(&rt, (0, 0, 3, 0))), &attempts);
+    }
+}
+
+// The codes of the last counters and of two counters that share one are from Python's hmac.
+#[test]
+fn hotp_edges(rt: HostRuntime) {
+    let top = 0x7fff_ffff_ffff_ffff;
+    let attempts = [
+        (0, "181742", Reply::Fail),
+        (0, "891618", Reply::Pass(top - 1)),
+        (0, "891618", Reply::Fail),
+        (0, "181742", Reply::Fail),
+    ];
+    check_attempts(
+        &rt,
+        Token::hotp(hotp_fields(&rt, (top - 1, 100, 9, 0))),
+        &attempts,
+    );
+    let attempts = [
+        (0, "709847", Reply::Pass(2386)),
+        (0, "709847", Reply::Pass(2394)),
+        (0, "709847", Reply::Fail),
+    ];
+    check_attempts(
+        &rt,
+        Token::hotp(hotp_fields(&rt, (2380, 20, 3, 0))),
+        &attempts,
+    );
+}
+
+// The codes are those of RFC 6238, appendix B, and of RFC 4226, appendix D, in eight digits.
+#[test]
+fn totp_attempts(rt: HostRuntime) {
+    let window = (30, 0, 1, 1);
+    let fresh = (None, 0, 3, 0);
+    let runs = [
+        // The code of the next step passes, and then the present one does not.
+        [
+            (1111111109, "14050471", Reply::Pass(37037037)),
+            (1111111109, "07081804", Reply::Fail),
+        ],
+        [
+            (59, "94287082", Reply::Pass(1)),
+            (59, "94287082", Reply::Fail),
+        ],
+        // A moment that goes back behind a pass.
+        [
+            (1111111111, "14050471", Reply::Pass(37037037)),
+            (59, "94287082", Reply::Fail),
+        ],
+        // The clock is one step fast: after a pass the window moves with it.
+        [
+            (29, "94287082", Reply::Pass(1)),
+            (59, "37359152", Reply::Pass(2)),
+        ],
+    ];
+    for attempts in runs {
+        check_attempts(&rt, Token::totp(totp_fields(&rt, window, fresh)), &attempts);
+    }
+}
+
+#[test]
+fn totp_edges(rt: HostRuntime) {
+    let rows = [
+        // Step 0 passes where there is no last step, and not after step 0.
+        (
+            (30, 0, 0, 0),
+            (None, 0, 3, 0),
+            29,
+            "84755224",
+            Reply::Pass(0),
+        ),
+        (
+            (30, 0, 0, 0),
+            (Some(0), 0, 3, 0),
+            29,
+            "84755224",
+            Reply::Fail,
+        ),
+        // The window ahead is cut by max_drift.
+        (
+            (30, 0, 1, 1),
+            (None, 0, 3, 0),
+            29,
+            "94287082",
+            Reply::Pass(1),
+        ),
+        ((30, 0, 1, 0), (None, 0, 3, 0), 29, "94287082", Reply::Fail),
+        // So is the window back.
+        (
+            (30, 1, 0, 1),
+            (None, 0, 3, 0),
+            59,
+            "84755224",
+            Reply::Pass(0),
+        ),
+        ((30, 1, 0, 0), (None, 0, 3, 0), 59, "84755224", Reply::Fail),
+        // A slow clock looks before step 0, where there is nothing.
+        ((30, 0, 0, 1), (None, -1, 3, 0), 29, "84755224", Reply::Fail),
+        (
+            (30, 0, 0, 1),
+            (None, -1, 3, 0),
+            59,
+            "84755224",
+            Reply::Pass(0),
+        ),
+        // A fast clock.
+        (
+            (30, 0, 0, 2),
+            (None, 2, 3, 0),
+            29,
+            "37359152",
+            Reply::Pass(2),
+        ),
+        // Locked comes first.
+        (
+            (30, 0, 0, 0),
+            (None, 0, 3, 3),
+            29,
+            "84755224",
+            Reply::Locked,
+        ),
+    ];
+    for (window, state, seconds, text, want) in rows {
+        let token = Token::totp(totp_fields(&rt, window, state));
+        check_attempts(&rt, token, &[(seconds, text, want)]);
+    }
+}
+
+#[test]
+fn nothing_passes_before_t0(rt: HostRuntime) {
+    let mut fields = totp_fields(&rt, (30, 10, 10, 100), (None, 0, 2, 0));
+    fields.t0 = moment(&rt, 30);
+    let attempts = [
+        (29, "84755224", Reply::Fail),
+        (30, "84755224", Reply::Pass(0)),
+        (29, "94287082", Reply::Fail),
+        (29, "94287082", Reply::Fail),
+        (29, "94287082", Reply::Locked),
+    ];
+    check_attempts(&rt, Token::totp(fields), &attempts);
+}
+
+#[test]
+fn unlock_opens_again(rt: HostRuntime) {
+    let token = Token::hotp(hotp_fields(&rt, (0, 0, 1, 0)));
+    let mut token = token.ok().expect(&rt, "a token");
+    let now = moment(&rt, 0);
+    assert_eq!(rt; token.attempt(now, b"000000"), Reply::Fail);
+    assert_eq!(rt; token.attempt(now, b"755224"), Reply::Locked);
+    token.unlock();
+    assert_eq!(rt; token.attempt(now, b"755224"), Reply::Pass(0));
+    begins_with_itself();
 }
