@@ -2,7 +2,7 @@
 # make test     the gate: every proof, every test, every run from nothing, then tests of the built program
 # make build    leaves the program at $(PROGRAM)
 # make install  copies it to $(DESTDIR)$(PREFIX)/bin
-# make bench    compares its speed with OpenSSL's (python3's hashlib)
+# make bench    compares speeds with OpenSSL, with Python's re and base64, and with oathtool
 PREFIX ?= /usr/local
 DESTDIR ?=
 PROGRAM = crates/scramotp/out/scramotp
@@ -31,7 +31,9 @@ install: build
 	install -D -m 755 $(PROGRAM) $(DESTDIR)$(PREFIX)/bin/scramotp
 
 bench: build
+	cd crates/bench && rt run -- hotp 1 12345678901234567890
 	python3 bench/keys.py $(PROGRAM)
+	python3 bench/messages.py crates/bench/out/bench
 
 clean:
 	rm -rf crates/*/out

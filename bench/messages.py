@@ -1,0 +1,69 @@
+#!/usr/bin/env python3
+"""Times the readers of the four messages beside the same by Python's re and base64, and codes beside oathtool.
+
+Usage: messages.py PROGRAM
+
+PROGRAM is the built crate bench. Each line has the best of several turns, without the time of a start.
+oathtool (Debian's package) is left out where it is not installed.
+"""
+import base64
+import re
+import shutil
+import subprocess
+import sys
+import time
+
+COUNT = 300_000
+PYTHON_COUNT = 30_000
+CODES = 99_999
+TURNS = 5
+NONCE = "fyko+d2lbbFgONRv9qkxdawL3rfcNHYJY1ZVvWVs7j"
+MESSAGES = {
+    "client-first": "n,,n=user,r=fyko+d2lbbFgONRv9qkxdawL",
+    "server-first": f"r={NONCE},s=QSXCR+Q6sek8bf92,i=4096",
+    "client-final": f"c=biws,r={NONCE},p=v0X8v3Bz2T0CJGbJQyF0X+HI4Ts=",
+    "server-final": "v=rmF9pqV8S7suAoZWja4dJRkFsKQ=",
+}
+EXTENSIONS = r"((?:,[A-Za-z]=[^,\0]+)*)"
+NONCE_CLASS = r"[\x21-\x2b\x2d-\x7e]"
+PATTERNS = {
+    "client-first": rf"(n|y|p=[A-Za-z0-9.-]+),(?:a=((?:=2C|=3D|[^,=\0])+))?,(?:m=([^,\0]+),)?n=((?:=2C|=3D|[^,=\0])+),r=({NONCE_CLASS}{{1,256}})" + EXTENSIONS,
+    "server-first": rf"(?:m=([^,\0]+),)?r=({NONCE_CLASS}{{1,512}}),s=([^,]+),i=([1-9][0-9]*)" + EXTENSIONS,
+    "client-final": rf"c=([^,]+),r=({NONCE_CLASS}{{1,512}})" + EXTENSIONS + r",p=([^,]+)",
+    "server-final": r"(?:v=([^,]+)|e=([^,\0]+))" + EXTENSIONS,
+}
+FIELDS = {"client-first": (), "server-first": (3,), "client-final": (1, 4), "server-final": (1,)}
+
+
+def by_python(kind, text):
+    pattern, fields = re.compile(PATTERNS[kind]), FIELDS[kind]
+    begun = time.perf_counter()
+    for _ in range(PYTHON_COUNT):
+        found = pattern.fullmatch(text.decode())
+        for field in fields:
+            base64.b64decode(found[field], validate=True)
+    return PYTHON_COUNT / (time.perf_counter() - begun)
+
+
+def seconds(words):
+    begun = time.perf_counter()
+    subprocess.run(words, check=True, stdout=subprocess.DEVNULL)
+    return time.perf_counter() - begun
+
+
+def main():
+    program = sys.argv[1]
+    start = min(seconds([program, "client-first", "1", "x"]) for _ in range(TURNS))
+    for kind, text in MESSAGES.items():
+        ours = min(seconds([program, kind, str(COUNT), text]) for _ in range(TURNS)) - start
+        python = max(by_python(kind, text.encode()) for _ in range(TURNS))
+        print(f"read {kind}: {COUNT / ours:,.0f} a second, Python's re and base64 {python:,.0f}")
+    codes = min(seconds([program, "hotp", str(CODES), "12345678901234567890"]) for _ in range(TURNS)) - start
+    line = f"HOTP codes: {CODES / codes:,.0f} a second"
+    if shutil.which("oathtool"):
+        words = ["oathtool", "--hotp", "--window", str(CODES - 1), "3132333435363738393031323334353637383930"]
+        line += f", oathtool {CODES / min(seconds(words) for _ in range(TURNS)):,.0f}"
+    print(line)
+
+
+main()

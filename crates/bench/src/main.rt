@@ -1,0 +1,66 @@
+//! Does one thing of the libraries many times over, for a script to time.
+//!
+//! `bench KIND COUNT TEXT` reads the message TEXT of that kind COUNT times, and prints how often it was
+//! read; `bench hotp COUNT SECRET` makes the codes of the counters below COUNT, and prints the last.
+#![tactic(auto)]
+
+use mac_core::{HSha1, Prepared};
+use otp_core::{Digits, Secret, hotp_with};
+use scram_text::{read_client_final, read_client_first, read_server_final, read_server_first};
+use std::io::ErrorKind;
+use std::process::ExitCode;
+use std::{env, io};
+
+// Whether the text is a message of this kind.
+fn is_read(kind: &str, text: &[u8]) -> bool {
+    match kind {
+        "client-first" => read_client_first(text).is_ok(),
+        "server-first" => read_server_first(text).is_ok(),
+        "client-final" => read_client_final(text).is_ok(),
+        "server-final" => read_server_final(text).is_ok(),
+        _ => false,
+    }
+}
+
+// How often the text was read, of so many times.
+fn readings(kind: &str, text: &[u8], count: u32) -> u32 {
+    let mut read = 0u32;
+    for _ in 0..count {
+        if is_read(kind, text) {
+            read = read.saturating_add(1);
+        }
+    }
+    read
+}
+
+// Makes the codes of six digits of the counters below `count`, and prints the last.
+fn print_codes(rt: &(impl Print + Alloc), secret: &[u8], count: u32) -> io::Result<()> {
+    let (Ok(secret), Ok(digits)) = (Secret::new(secret), Digits::new(6)) else {
+        return Err(io::Error::from(ErrorKind::InvalidInput));
+    };
+    let key = Prepared::<HSha1>::new(secret.bytes());
+    let mut last = hotp_with(&key, 0, digits);
+    for counter in 1..count {
+        last = hotp_with(&key, u64::from(counter), digits);
+    }
+    println!(rt; "{}", last.text())
+}
+
+fn main(rt: HostRuntime) -> io::Result<ExitCode> {
+    let words: Vec<String> = env::args(&rt)?.collect(rt.alloc())?;
+    let [_, kind, count, text] = words.as_slice() else {
+        return Ok(ExitCode::from(2));
+    };
+    let Ok(count) = count.parse::<u32>() else {
+        return Ok(ExitCode::from(2));
+    };
+    if kind.as_str() == "hotp" {
+        print_codes(&rt, text.as_bytes(), count)?;
+    } else {
+        println!(rt;
+            "{kind} {}",
+            readings(kind.as_str(), text.as_bytes(), count)
+        )?;
+    }
+    Ok(ExitCode::SUCCESS)
+}
