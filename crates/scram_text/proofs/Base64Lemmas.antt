@@ -1,6 +1,6 @@
 -- The STANDARD engine's texts have their usual form: no comma, four bytes for each three begun, and they
 -- are decoded to what they are the texts of, as nothing else is.
-use Rattle.std.proofs.Common.{◌≡◌, ℕ, zero, suc, ◌+◌, ◌-◌, ◌*◌, ◌/◌, ◌%◌, ◌≤◌, Bool, true, not, ◌&&◌, List, [], ◌∷◌, ◌++◌, length, replicate, refl, sym, ◌∙◌, ap, arith, length-append, subst}
+use Rattle.std.proofs.Common.{◌≡◌, ℕ, zero, suc, ◌+◌, ◌*◌, ◌/◌, ◌%◌, ◌≤◌, true, not, List, [], ◌∷◌, length, replicate, refl, sym, ◌∙◌, arith, length-append, subst}
 use Rattle.std.specs.Prelude.{slice_index}
 use Rattle.std.specs.List.{list_all}
 use Rattle.std.specs.declared.result.Result.TheVariants.{Ok, Err}
@@ -14,7 +14,7 @@ use Rattle.base64.proofs.EngineFacts.{decode_of-encode_of, decode_of_strict}
 use Rattle.base64.proofs.RoundTrip.{length-encode_symbols}
 use Rattle.scram_text.specs.Class.{is_comma}
 use Rattle.scram_text.specs.Name.{LacksComma}
-use Rattle.scram_text.specs.Base64Field.{base64, reading, IsBase64Of, IsField, HasUsualBase64}
+use Rattle.scram_text.specs.Base64Field.{base64, reading, IsField, HasUsualBase64}
 use Rattle.scram_text.specs.Parts.{SpellsField}
 use Rattle.scram_text.proofs.PartLemmas.{both}
 

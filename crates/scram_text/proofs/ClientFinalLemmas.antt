@@ -1,20 +1,17 @@
 -- The parts of client-final: they are read in one way, and a text that has them has no fault.
-use Rattle.std.proofs.Common.{◌≡◌, inl, inr, ℕ, ◌+◌, ◌≤◌, ◌<◌, List, [], ◌∷◌, ◌++◌, length, replicate, refl, sym, ◌∙◌, ap, arith, length-append, subst, append_assoc}
+use Rattle.std.proofs.Common.{◌≡◌, inr, ℕ, ◌+◌, List, [], ◌∷◌, ◌++◌, length, replicate, refl, sym, ◌∙◌, ap, arith, length-append, subst}
 use Rattle.std.specs.Prelude.{codes, IfOk, IfErr, IsOkAnd}
-use Rattle.std.specs.List.{AllByRecursion}
 use Rattle.std.specs.declared.result.Result.{Result}
 use Rattle.std.specs.declared.result.Result.TheVariants.{Ok, Err}
 use Rattle.std.proofs.lemmas.List.Splits.{join_with_byte-slice_split}
-use Rattle.scram_text.specs.Class.{IsNonce, IsText}
-use Rattle.scram_text.specs.Name.{LacksComma}
+use Rattle.scram_text.specs.Class.{IsNonce}
 use Rattle.scram_text.specs.Base64Field.{base64, IsField}
-use Rattle.scram_text.specs.Parts.{parts, joined, AreExtensions, IsHeaded, SpellsField}
+use Rattle.scram_text.specs.Parts.{parts, joined, AreExtensions}
 use Rattle.scram_text.specs.Messages.{ClientFinalParts, final_front, client_final_text, IsClientFinal}
-use Rattle.scram_text.specs.Faults.{Fits, fault, places, IsFirstMisfit, IsExtensionMisfit, IsPartFault, IsClientFinalFault}
+use Rattle.scram_text.specs.Faults.{Fits, fault, places, IsExtensionMisfit, IsPartFault, IsClientFinalFault}
 use Rattle.scram_text.specs.Shown.{ShowsClientFinal}
 use Rattle.scram_text.specs.declared.client_final.ClientFinal.{ClientFinal}
 use Rattle.scram_text.specs.declared.fault.TextFault.{TextFault}
-use Rattle.scram_text.specs.declared.fault.TextWhy.{TextWhy}
 use Rattle.scram_text.specs.declared.fault.TextWhy.TheVariants.{Channel, Nonce, Extension, Proof}
 use Rattle.scram_text.proofs.PartLemmas.{parts-append, parts_whole, misfit_here, misfit_later}
 use Rattle.scram_text.proofs.PlaceLemmas.{AllFit, fits_cons, fits_end, places_of, misfit-append, misfit_behind, fit_behind, no_fault, nonce_lacks, extensions_lack, parts-joined, last_once, field_fits, field_once}

@@ -1,20 +1,20 @@
 -- The parts of client-first: they are read in one way, and a text that has them has no fault.
-use Rattle.std.proofs.Common.{◌≡◌, inl, inr, ℕ, suc, ◌+◌, ◌≤◌, Bool, true, false, ◌&&◌, ◌||◌, not, List, [], ◌∷◌, ◌++◌, length, replicate, refl, sym, ◌∙◌, ap, arith, subst, append-nil, append_assoc}
-use Rattle.std.specs.Prelude.{codes, IfOk, IfErr, IfSome, IsOkAnd, ◌==◌, nat_le, is_some}
-use Rattle.std.specs.List.{AllByRecursion, list_all}
+use Rattle.std.proofs.Common.{◌≡◌, inl, inr, ℕ, suc, ◌+◌, ◌≤◌, true, false, ◌&&◌, ◌||◌, List, [], ◌∷◌, ◌++◌, length, replicate, refl, sym, ◌∙◌, ap, arith, subst, append-nil, append_assoc}
+use Rattle.std.specs.Prelude.{codes, IfOk, IfErr, IfSome, IsOkAnd, ◌==◌, nat_le}
+use Rattle.std.specs.List.{list_all}
 use Rattle.std.specs.declared.option.Option.{Option}
 use Rattle.std.specs.declared.option.Option.TheVariants.{None, Some}
 use Rattle.std.specs.declared.result.Result.{Result}
 use Rattle.std.specs.declared.result.Result.TheVariants.{Ok, Err}
 use Rattle.std.proofs.lemmas.Bool.{cases_Bool, eqb-true, both_ways}
 use Rattle.std.proofs.lemmas.List.Splits.{join_with_byte-slice_split}
-use Rattle.scram_text.specs.Class.{is_comma, is_cb_char, IsNonce, IsText}
+use Rattle.scram_text.specs.Class.{is_cb_char, IsNonce, IsText}
 use Rattle.scram_text.specs.Name.{LacksComma, IsSaslName}
 use Rattle.scram_text.specs.Parts.{parts, joined, is_flag, is_cb_name, authz_text, mext_parts, is_headed, IsValue, AreExtensions}
 use Rattle.scram_text.specs.Messages.{ClientFirstParts, header_text, bare_parts, bare_text, client_first_text, IsClientFirst}
-use Rattle.scram_text.specs.Faults.{Fits, fault, places, IsAuthz, IsFirstMisfit, IsExtensionMisfit, IsPartFault, marked_places, first_of, client_first_places, IsClientFirstFault}
+use Rattle.scram_text.specs.Faults.{Fits, fault, places, IsAuthz, IsFirstMisfit, IsExtensionMisfit, marked_places, first_of, client_first_places, IsClientFirstFault}
 use Rattle.scram_text.specs.Shown.{ShowsClientFirst}
-use Rattle.scram_text.specs.Pieces.{IsMarked, IsBare, IsBareMisfit}
+use Rattle.scram_text.specs.Pieces.{IsMarked, IsBareMisfit}
 use Rattle.scram_text.specs.declared.client_first.ClientFirst.{ClientFirst}
 use Rattle.scram_text.specs.declared.fault.TextFault.{TextFault}
 use Rattle.scram_text.specs.declared.fault.TextWhy.{TextWhy}

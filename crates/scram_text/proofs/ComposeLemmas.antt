@@ -5,14 +5,14 @@ use Rattle.std.specs.declared.option.Option.{Option}
 use Rattle.std.specs.declared.option.Option.TheVariants.{None, Some}
 use Rattle.std.proofs.lemmas.List.Splits.{join_with_byte-slice_split}
 use Rattle.base64.specs.GeneralPurpose.{IsBytes}
-use Rattle.scram_text.specs.Class.{is_comma, IsText, IsPlainName, IsNoncePart}
+use Rattle.scram_text.specs.Class.{IsText, IsPlainName, IsNoncePart}
 use Rattle.scram_text.specs.Name.{IsSaslName, name_spelling}
 use Rattle.scram_text.specs.Base64Field.{base64}
 use Rattle.scram_text.specs.Parts.{parts, joined, is_flag, authz_text}
 use Rattle.scram_text.specs.Messages.{header_text, bare_text, client_first_text, IsClientFirst, server_first_text, IsServerFirst, final_front, client_final_text, IsClientFinal, Outcome, verified, failed, outcome_text, IsOutcome, server_final_text, IsServerFinal}
 use Rattle.scram_text.specs.Shown.{flag_text}
 use Rattle.scram_text.specs.Draft.{behind_comma}
-use Rattle.scram_text.specs.Written.{extension_parts, IsExtensionText, client_first_of, CanBeClientFirst, server_first_of, CanBeServerFirst, client_final_of, CanBeClientFinal, server_final_of, CanBeTold, CanBeServerFinal}
+use Rattle.scram_text.specs.Written.{extension_parts, client_first_of, CanBeClientFirst, server_first_of, CanBeServerFirst, client_final_of, CanBeClientFinal, server_final_of, CanBeTold, CanBeServerFinal}
 use Rattle.scram_text.specs.declared.client_first.Flag.{Flag}
 use Rattle.scram_text.specs.declared.client_first.Flag.TheVariants.{NoBinding, NotOffered, Binding}
 use Rattle.scram_text.proofs.PartLemmas.{parts_count}

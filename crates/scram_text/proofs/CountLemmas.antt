@@ -1,5 +1,5 @@
 -- Counts in decimal.
-use Rattle.std.proofs.Common.{◌≡◌, inl, inr, ℕ, ◌<◌, ◌≤◌, ◌^◌, List, [], ◌∷◌, arith, refl}
+use Rattle.std.proofs.Common.{inl, inr, ℕ, ◌<◌, ◌^◌, List, [], ◌∷◌, arith, refl}
 use Rattle.std.specs.Prelude.{decimal}
 use Rattle.std.specs.Str.Parse.{AllDigits}
 use Rattle.std.proofs.lemmas.Bool.{cases_Bool, eqb-true}

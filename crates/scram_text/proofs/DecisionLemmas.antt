@@ -1,10 +1,9 @@
 -- Each class of a part is decided, and so is whether all parts fit their places.
-use Rattle.std.proofs.Common.{◌≡◌, ◌⊎◌, inl, inr, ℕ, zero, suc, ◌+◌, ◌≤◌, ◌<◌, ◌^◌, Bool, true, false, List, [], ◌∷◌, ◌++◌, length, replicate, refl, sym, ◌∙◌, ap, arith, subst, eqb}
-use Rattle.std.specs.Prelude.{codes, decimal, not, ◌==◌, IsTrue, IfSome}
+use Rattle.std.proofs.Common.{◌≡◌, ◌⊎◌, inl, inr, ℕ, ◌≤◌, Bool, true, List, [], ◌∷◌, length, refl, sym, ◌∙◌, ap, arith, subst}
+use Rattle.std.specs.Prelude.{decimal, not, ◌==◌, IsTrue}
 use Rattle.std.specs.List.{list_all}
-use Rattle.std.specs.Str.{IsUtf8, is_utf8}
+use Rattle.std.specs.Str.{is_utf8}
 use Rattle.std.specs.Str.Parse.{digits_value}
-use Rattle.std.specs.declared.option.Option.{Option}
 use Rattle.std.specs.declared.option.Option.TheVariants.{None, Some}
 use Rattle.std.specs.declared.result.Result.{Result}
 use Rattle.std.specs.declared.result.Result.TheVariants.{Ok, Err}
@@ -15,8 +14,8 @@ use Rattle.std.proofs.lemmas.Str.{IsUtf8-from_is_utf8, is_utf8-from_IsUtf8}
 use Rattle.base64.specs.declared.decode.DecodeError.{DecodeError}
 use Rattle.scram_text.specs.Class.{is_printable, IsRunOf, IsNonce, IsText}
 use Rattle.scram_text.specs.Name.{LacksComma, is_escaped, IsSaslName}
-use Rattle.scram_text.specs.Base64Field.{base64, reading, IsField}
-use Rattle.scram_text.specs.Parts.{is_flag, is_attribute, authz_text, IsHeaded, IsValue, IsCount, SpellsCount, SpellsField, IsExtension, AreExtensions}
+use Rattle.scram_text.specs.Base64Field.{base64, reading}
+use Rattle.scram_text.specs.Parts.{is_flag, is_attribute, IsHeaded, IsValue, IsCount, SpellsCount, SpellsField, IsExtension}
 use Rattle.scram_text.specs.Faults.{Fits, IsAuthz}
 use Rattle.scram_text.specs.declared.fault.TextWhy.{TextWhy}
 use Rattle.scram_text.specs.declared.fault.TextWhy.TheVariants.{TooLong, NotText, Missing, Flag, Authzid, Mandatory, Name, Nonce, Salt, Count, Channel, Extension, Proof, Verifier, ErrorValue}
@@ -107,25 +106,29 @@ spells_count_decided value =
     let worth = digits_value 10 value in
     decided_by ((value ≡ decimal worth) × IsCount worth) (SpellsCount value) (λ h. (worth, h.0, h.1))
     (λ (n, spelled, is).
-      let same : worth ≡ n = ap (digits_value 10) spelled ∙ (decimal_is_IsNumeral n (below_64 n is)).1 in
-      (subst (λ (k : ℕ). value ≡ decimal k) (sym same) spelled, subst IsCount (sym same) is))
+    let same : worth ≡ n = ap (digits_value 10) spelled ∙ (decimal_is_IsNumeral n (below_64 n is)).1 in
+    (subst (λ (k : ℕ). value ≡ decimal k) (sym same) spelled, subst IsCount (sym same) is))
     (decided_both _ _ (decided_same value (decimal worth)) (count_decided worth))
 
 -- a text can be the base64 of the bytes that it is decoded to alone
 field_decided_by : (most : ℕ) (value : List ℕ) (r : Result (List ℕ) DecodeError) → reading value ≡ r → Decided (SpellsField most value)
 field_decided_by most value (Err e) read = inr (λ (bytes, spelled, field).
-  let also = subst (λ (t : List ℕ). reading t ≡ Ok bytes) (sym spelled) field.field.back in cc (also, read))
+    let also = subst (λ (t : List ℕ). reading t ≡ Ok bytes) (sym spelled) field.field.back in cc (also, read))
 field_decided_by most value (Ok bytes) read =
     decided_by ((value ≡ base64 bytes) × ((1 ≤ length bytes) × (length bytes ≤ most))) (SpellsField most value)
-    (λ h. (bytes, h.0, record {
-      at_least = h.1.0;
-      at_most = h.1.1;
-      field = record { spelled = refl; back = subst (λ (t : List ℕ). reading t ≡ Ok bytes) h.0 read; no_comma = base64_lacks bytes };
-    }))
+    (λ h. (
+      bytes,
+      h.0,
+      record {
+        at_least = h.1.0;
+        at_most = h.1.1;
+        field = record { spelled = refl; back = subst (λ (t : List ℕ). reading t ≡ Ok bytes) h.0 read; no_comma = base64_lacks bytes };
+      },
+    ))
     (λ (spelt, spelled, field).
-      let also = subst (λ (t : List ℕ). reading t ≡ Ok spelt) (sym spelled) field.field.back in
-      let same : spelt ≡ bytes = cc (also, read) in
-      (subst (λ (b : List ℕ). value ≡ base64 b) same spelled, (subst (λ (b : List ℕ). 1 ≤ length b) same field.at_least, subst (λ (b : List ℕ). length b ≤ most) same field.at_most)))
+    let also = subst (λ (t : List ℕ). reading t ≡ Ok spelt) (sym spelled) field.field.back in
+    let same : spelt ≡ bytes = cc (also, read) in
+    (subst (λ (b : List ℕ). value ≡ base64 b) same spelled, (subst (λ (b : List ℕ). 1 ≤ length b) same field.at_least, subst (λ (b : List ℕ). length b ≤ most) same field.at_most)))
     (decided_both _ _ (decided_same value (base64 bytes)) (decided_both _ _ (decided_le 1 (length bytes)) (decided_le (length bytes) most)))
 
 spells_field_decided : (most : ℕ) (value : List ℕ) → Decided (SpellsField most value)
@@ -139,9 +142,9 @@ headed_decided letter class (a ∷ b ∷ value) each =
     decided_by ((a ≡ letter) × ((b ≡ 61) × class value)) (IsHeaded letter class (a ∷ b ∷ value))
     (λ h. (value, same_cons a letter (b ∷ value) (61 ∷ value) h.0 (same_cons b 61 value value h.1.0 refl), h.1.1))
     (λ (v, spelled, is).
-      let first = heads_same a letter (b ∷ value) (61 ∷ v) spelled in
-      let second = heads_same b 61 value v first.1 in
-      (first.0, (second.0, subst class (sym second.1) is)))
+    let first = heads_same a letter (b ∷ value) (61 ∷ v) spelled in
+    let second = heads_same b 61 value v first.1 in
+    (first.0, (second.0, subst class (sym second.1) is)))
     (decided_both _ _ (decided_nat a letter) (decided_both _ _ (decided_nat b 61) (each value)))
 
 authz_headed : (a : ℕ) (part : List ℕ) → IsAuthz (a ∷ part) → IsHeaded 97 IsSaslName (a ∷ part)

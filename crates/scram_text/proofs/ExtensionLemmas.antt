@@ -1,5 +1,5 @@
 -- Extensions, from the left.
-use Rattle.std.proofs.Common.{◌≡◌, ℕ, ◌+◌, ◌||◌, Bool, true, false, List, ◌∷◌, length, refl, sym, ◌∙◌, arith}
+use Rattle.std.proofs.Common.{◌≡◌, ℕ, ◌+◌, ◌||◌, Bool, true, false, List, ◌∷◌, length, refl, ◌∙◌, arith}
 use Rattle.scram_text.specs.Parts.{IsExtension, AreExtensions, have_mandatory, is_headed}
 use Rattle.scram_text.specs.Faults.{IsExtensionMisfit, fault}
 use Rattle.scram_text.specs.declared.fault.TextFault.{TextFault}

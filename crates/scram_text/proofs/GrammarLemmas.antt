@@ -1,23 +1,22 @@
 -- Texts whose parts all fit have parts in the relation, so the grammar is decided.
-use Rattle.std.proofs.Common.{◌≡◌, ◌⊎◌, inl, inr, ℕ, zero, suc, ◌+◌, ◌≤◌, ◌<◌, Bool, true, false, List, [], ◌∷◌, ◌++◌, length, take, drop, replicate, refl, sym, ◌∙◌, ap, arith, subst, append-nil, append_assoc, length-append}
-use Rattle.std.specs.Prelude.{codes, decimal, IfSome, is_some}
-use Rattle.std.specs.List.{AllByRecursion}
+use Rattle.std.proofs.Common.{◌≡◌, ◌⊎◌, inl, inr, ℕ, ◌≤◌, true, List, [], ◌∷◌, ◌++◌, length, replicate, refl, sym, ◌∙◌, ap, arith, subst, append_assoc, length-append}
+use Rattle.std.specs.Prelude.{codes}
 use Rattle.std.specs.declared.option.Option.{Option}
 use Rattle.std.specs.declared.option.Option.TheVariants.{None, Some}
-use Rattle.std.proofs.lemmas.Bool.{cases_Bool, cases_lt}
+use Rattle.std.proofs.lemmas.Bool.{cases_Bool}
 use Rattle.std.proofs.lemmas.List.Splits.{join_with_byte-slice_split}
 use Rattle.scram_text.specs.Class.{IsNonce, IsText}
 use Rattle.scram_text.specs.Name.{IsSaslName}
-use Rattle.scram_text.specs.Base64Field.{base64, IsField}
-use Rattle.scram_text.specs.Parts.{parts, joined, is_headed, is_flag, authz_text, mext_parts, IsHeaded, IsValue, IsCount, SpellsCount, SpellsField, IsExtension, AreExtensions}
+use Rattle.scram_text.specs.Base64Field.{base64}
+use Rattle.scram_text.specs.Parts.{parts, joined, is_headed, authz_text, mext_parts, AreExtensions}
 use Rattle.scram_text.specs.Messages.{ClientFirstParts, header_text, bare_text, bare_parts, client_first_text, IsClientFirst, ServerFirstParts, IsServerFirst, ClientFinalParts, final_front, client_final_text, IsClientFinal, Outcome, verified, failed, outcome_text, IsOutcome, ServerFinalParts, IsServerFinal}
-use Rattle.scram_text.specs.Faults.{Fits, IsAuthz, places, first_of, marked_places, result_place, client_first_places, server_first_places, server_final_places}
+use Rattle.scram_text.specs.Faults.{Fits, places, first_of, marked_places, result_place, client_first_places, server_first_places, server_final_places}
 use Rattle.scram_text.specs.Pieces.{IsMarked}
 use Rattle.scram_text.specs.declared.fault.TextWhy.{TextWhy}
 use Rattle.scram_text.specs.declared.fault.TextWhy.TheVariants.{Flag, Authzid, Mandatory, Name, Nonce, Salt, Count, Channel, Extension, Proof}
 use Rattle.scram_text.proofs.PartLemmas.{parts_count}
 use Rattle.scram_text.proofs.PlaceLemmas.{AllFit}
-use Rattle.scram_text.proofs.MarkedLemmas.{places-cons, places_front, marked_length, marked_some}
+use Rattle.scram_text.proofs.MarkedLemmas.{places-cons, marked_length, marked_some}
 use Rattle.scram_text.proofs.ComposeLemmas.{joined_cons}
 use Rattle.scram_text.proofs.DecisionLemmas.{Decided, decided_some, decided_by, decided_both, decided_le, text_decided, all_fit_decided}
 use Rattle.scram_text.proofs.ClientFirstLemmas.{later_places as first_later_places, parts_client_first, header_fit, header_places, bare_marked, bare_fit, regroup}
@@ -73,13 +72,16 @@ server_final_built text (first ∷ extensions) cut short is_text fit =
     let each = fits_first 512 (result_place first) (replicate (length extensions) Extension) first extensions
     (subst (λ (ps : List TextWhy). AllFit 512 ps (first ∷ extensions)) (result_places first extensions) fit) in
     let (outcome, spelled, is) = outcome_of_part first each.0 in
-    let p : ServerFinalParts = record { outcome = outcome; extensions = extensions } in (p, record {
-      spelled = server_final_spelled text first p cut spelled;
-      outcome = is;
-      extensions = fits_extensions 512 extensions each.1;
-      is_text = is_text;
-      short = short;
-    })
+    let p : ServerFinalParts = record { outcome = outcome; extensions = extensions } in (
+      p,
+      record {
+        spelled = server_final_spelled text first p cut spelled;
+        outcome = is;
+        extensions = fits_extensions 512 extensions each.1;
+        is_text = is_text;
+        short = short;
+      },
+    )
 
 server_final_fitting : (text : List ℕ) (p : ServerFinalParts) → IsServerFinal text p
     → Fitting 512 1 (places (server_final_places (parts text)) [] (length (parts text))) text
@@ -89,7 +91,7 @@ server_final_fitting text p is =
       is_text = is.is_text;
       enough = rw cut (omega arith);
       fit = subst (λ (ps : List (List ℕ)). AllFit 512 (places (server_final_places ps) [] (length ps)) ps) (sym cut)
-      (server_final_fit (outcome_text p.outcome) p.extensions (outcome_fits p.outcome is.outcome) is.extensions);
+          (server_final_fit (outcome_text p.outcome) p.extensions (outcome_fits p.outcome is.outcome) is.extensions);
     }
 
 pub server_final_decided : (text : List ℕ) → Decided ((p : ServerFinalParts) × IsServerFinal text p)
@@ -129,15 +131,18 @@ client_final_of_fit text channel nonce proof extensions cut short is_text fit =
     let (nonce_text, nonce_is, nonce_class) = second.0 in
     let (proof_text, proof_is, (proof_bytes, proof_spelled, proof_field)) = last.0 in
     let p : ClientFinalParts = record { channel = channel_bytes; nonce = nonce_text; extensions = extensions; proof = proof_bytes } in
-    let pieces : channel ∷ nonce ∷ (extensions ++ proof ∷ []) ≡ final_parts p = cc (channel_is, channel_spelled, nonce_is, proof_is, proof_spelled) in (p, record {
-      spelled = sym (join_with_byte-slice_split 44 text) ∙ ap joined (cut ∙ pieces) ∙ client_final_joined p;
-      channel = channel_field;
-      nonce = nonce_class;
-      extensions = behind.0;
-      proof = proof_field;
-      is_text = is_text;
-      short = short;
-    })
+    let pieces : channel ∷ nonce ∷ (extensions ++ proof ∷ []) ≡ final_parts p = cc (channel_is, channel_spelled, nonce_is, proof_is, proof_spelled) in (
+      p,
+      record {
+        spelled = sym (join_with_byte-slice_split 44 text) ∙ ap joined (cut ∙ pieces) ∙ client_final_joined p;
+        channel = channel_field;
+        nonce = nonce_class;
+        extensions = behind.0;
+        proof = proof_field;
+        is_text = is_text;
+        short = short;
+      },
+    )
 
 client_final_built : (text : List ℕ) (pieces : List (List ℕ)) → parts text ≡ pieces → 3 ≤ length pieces → length text ≤ 2048 → IsText text
     → AllFit 512 (places (Channel ∷ Nonce ∷ []) (Proof ∷ []) (length pieces)) pieces → (p : ClientFinalParts) × IsClientFinal text p
@@ -158,7 +163,7 @@ client_final_fitting text p is =
       is_text = is.is_text;
       enough = rw cut (omega (arith, length-append p.extensions ((codes "p=" ++ base64 p.proof) ∷ [])));
       fit = subst (λ (ps : List (List ℕ)). AllFit 512 (places (Channel ∷ Nonce ∷ []) (Proof ∷ []) (length ps)) ps) (sym cut)
-      (client_final_fit p is.channel is.nonce is.extensions is.proof);
+          (client_final_fit p is.channel is.nonce is.extensions is.proof);
     }
 
 pub client_final_decided : (text : List ℕ) → Decided ((p : ClientFinalParts) × IsClientFinal text p)
@@ -202,17 +207,20 @@ server_first_of_fit text nonce salt count extensions mext marked short is_text f
     let (nonce_text, nonce_is, nonce_class) = first.0 in
     let (salt_text, salt_is, (salt_bytes, salt_spelled, salt_field)) = second.0 in
     let (count_text, count_is, (number, count_spelled, count_class)) = third.0 in
-    let p : ServerFirstParts = record { mext = mext; nonce = nonce_text; salt = salt_bytes; count = number; extensions = extensions } in (p, record {
-      spelled = server_first_spelled text nonce salt count p marked nonce_is
-      (salt_is ∙ ap (λ (v : List ℕ). codes "s=" ++ v) salt_spelled) (count_is ∙ ap (λ (v : List ℕ). codes "i=" ++ v) count_spelled);
-      mext = marked.value;
-      nonce = nonce_class;
-      salt = salt_field;
-      count = count_class;
-      extensions = fits_extensions 512 extensions third.1;
-      is_text = is_text;
-      short = short;
-    })
+    let p : ServerFirstParts = record { mext = mext; nonce = nonce_text; salt = salt_bytes; count = number; extensions = extensions } in (
+      p,
+      record {
+        spelled = server_first_spelled text nonce salt count p marked nonce_is
+            (salt_is ∙ ap (λ (v : List ℕ). codes "s=" ++ v) salt_spelled) (count_is ∙ ap (λ (v : List ℕ). codes "i=" ++ v) count_spelled);
+        mext = marked.value;
+        nonce = nonce_class;
+        salt = salt_field;
+        count = count_class;
+        extensions = fits_extensions 512 extensions third.1;
+        is_text = is_text;
+        short = short;
+      },
+    )
 
 server_first_of_rest : (text : List ℕ) (rest : List (List ℕ)) (mext : Option (List ℕ)) → IsMarked (parts text) rest mext → 3 ≤ length rest
     → length text ≤ 2048 → IsText text → AllFit 512 (places (Nonce ∷ Salt ∷ Count ∷ []) [] (length rest)) rest → (p : ServerFirstParts) × IsServerFirst text p
@@ -283,17 +291,20 @@ client_first_of_bare text flag authz bare cut short is_text enough fit =
     let (mext, rest, marked, some, later) = marked_split 256 2 (Name ∷ Nonce ∷ []) bare refl enough second.1 in
     let (name, nonce, extensions, bare_is, name_class, nonce_class, are) = bare_of_rest bare rest mext marked some later in
     let p : ClientFirstParts = record { flag = flag; authz = authzid; mext = mext; name = name; nonce = nonce; extensions = extensions } in
-    let pieces : flag ∷ authz ∷ bare ≡ p.flag ∷ authz_text p.authz ∷ bare_parts p = cc (authz_is, bare_is) in (p, record {
-      spelled = sym (join_with_byte-slice_split 44 text) ∙ ap joined (cut ∙ pieces) ∙ client_first_joined p;
-      flag = first.0;
-      authz = authz_class;
-      mext = marked.value;
-      name = name_class;
-      nonce = nonce_class;
-      extensions = are;
-      is_text = is_text;
-      short = short;
-    })
+    let pieces : flag ∷ authz ∷ bare ≡ p.flag ∷ authz_text p.authz ∷ bare_parts p = cc (authz_is, bare_is) in (
+      p,
+      record {
+        spelled = sym (join_with_byte-slice_split 44 text) ∙ ap joined (cut ∙ pieces) ∙ client_first_joined p;
+        flag = first.0;
+        authz = authz_class;
+        mext = marked.value;
+        name = name_class;
+        nonce = nonce_class;
+        extensions = are;
+        is_text = is_text;
+        short = short;
+      },
+    )
 
 client_first_built : (text : List ℕ) (pieces : List (List ℕ)) → parts text ≡ pieces → length text ≤ 2048 → IsText text
     → length (client_first_places pieces) ≤ length pieces → AllFit 256 (places (client_first_places pieces) [] (length pieces)) pieces
@@ -314,8 +325,8 @@ client_first_fitting text p is =
       is_text = is.is_text;
       enough = subst (λ (ps : List (List ℕ)). length (client_first_places ps) ≤ length ps) (sym cut) (omega (arith, lengths.0, lengths.1));
       fit = subst (λ (ps : List (List ℕ)). AllFit 256 (places (client_first_places ps) [] (length ps)) ps) (sym cut)
-      (header_fit p.flag (authz_text p.authz) (bare_parts p) is.flag (p.authz, refl, is.authz)
-      (bare_fit p is.mext is.name is.nonce is.extensions));
+          (header_fit p.flag (authz_text p.authz) (bare_parts p) is.flag (p.authz, refl, is.authz)
+          (bare_fit p is.mext is.name is.nonce is.extensions));
     }
 
 pub client_first_decided : (text : List ℕ) → Decided ((p : ClientFirstParts) × IsClientFirst text p)

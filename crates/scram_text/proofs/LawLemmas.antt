@@ -6,7 +6,7 @@ use Rattle.std.specs.Str.{IsUtf8}
 use Rattle.std.specs.declared.option.Option.{Option}
 use Rattle.std.specs.declared.option.Option.TheVariants.{None, Some}
 use Rattle.std.proofs.Math.Seq.{take-append_seam, drop-append-add, get_or-append_seam}
-use Rattle.std.proofs.lemmas.Str.{IsUtf8-nil, IsUtf8-take, IsUtf8-drop, IsCharBoundary-before_ascii, IsCharBoundary-after_ascii}
+use Rattle.std.proofs.lemmas.Str.{IsUtf8-take, IsUtf8-drop, IsCharBoundary-before_ascii, IsCharBoundary-after_ascii}
 use Rattle.scram_text.specs.Class.{is_comma, is_plain, IsPlainName}
 use Rattle.scram_text.specs.Name.{SpellsName, escape, name_spelling}
 use Rattle.scram_text.specs.Parts.{parts}
@@ -43,8 +43,8 @@ plain_name_decided spelled =
     decided_by (IsPlainName found × SpellsName found spelled) ((name : List ℕ) × IsPlainName name × SpellsName name spelled)
     (λ h. (found, h.0, h.1))
     (λ (name, plain, spells).
-      let same : found ≡ name = ap (decoded 0) spells ∙ decoded-spelling name in
-      (subst IsPlainName (sym same) plain, subst (λ (n : List ℕ). SpellsName n spelled) (sym same) spells))
+    let same : found ≡ name = ap (decoded 0) spells ∙ decoded-spelling name in
+    (subst IsPlainName (sym same) plain, subst (λ (n : List ℕ). SpellsName n spelled) (sym same) spells))
     (decided_both _ _ (run_decided is_plain 255 found) (decided_same spelled (name_spelling found)))
 
 pub name_decided : (spelled : List ℕ) → ((name : List ℕ) × IsPlainName name × SpellsName name spelled)
@@ -55,11 +55,12 @@ name_decided spelled = elim (plain_name_decided spelled) [ inl there ↦ inl the
 utf8_pieces : (front back : List ℕ) → IsUtf8 (front ++ 44 ∷ back) → IsUtf8 front × IsUtf8 back
 utf8_pieces front back utf8 =
     let within : length front < length (front ++ 44 ∷ back) = omega (arith, length-append front (44 ∷ back)) in
-    let ascii : get_or (front ++ 44 ∷ back) (length front) 0 < 128 = rw (get_or-append_seam front 44 back 0) (omega arith) in
-    (rw (take-append_seam front (44 ∷ back)) at
-    (IsUtf8-take (front ++ 44 ∷ back) (length front) utf8 (IsCharBoundary-before_ascii (front ++ 44 ∷ back) (length front) within ascii)),
-    rw (drop-append-add front (44 ∷ back) 1) at
-    (IsUtf8-drop (front ++ 44 ∷ back) (length front + 1) utf8 (IsCharBoundary-after_ascii (front ++ 44 ∷ back) (length front) utf8 within ascii)))
+    let ascii : get_or (front ++ 44 ∷ back) (length front) 0 < 128 = rw (get_or-append_seam front 44 back 0) (omega arith) in (
+      rw (take-append_seam front (44 ∷ back)) at
+          (IsUtf8-take (front ++ 44 ∷ back) (length front) utf8 (IsCharBoundary-before_ascii (front ++ 44 ∷ back) (length front) within ascii)),
+      rw (drop-append-add front (44 ∷ back) 1) at
+          (IsUtf8-drop (front ++ 44 ∷ back) (length front + 1) utf8 (IsCharBoundary-after_ascii (front ++ 44 ∷ back) (length front) utf8 within ascii)),
+    )
 
 parts_utf8_at : (n : ℕ) (text : List ℕ) (o : Option ℕ) → position is_comma text ≡ o → length text ≤ n → IsUtf8 text → AllByRecursion IsUtf8 (parts text)
 parts_utf8_at n text None none short utf8 =

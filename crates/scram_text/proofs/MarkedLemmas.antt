@@ -1,6 +1,6 @@
 -- Messages that may begin with a mandatory extension.
 use Rattle.std.proofs.Common.{◌≡◌, inl, inr, ℕ, suc, ◌+◌, ◌-◌, ◌≤◌, Bool, true, false, ◌&&◌, List, [], ◌∷◌, ◌++◌, length, replicate, refl, sym, ◌∙◌, ap, arith, subst, append-nil, eqb}
-use Rattle.std.specs.Prelude.{codes, is_some, IfSome}
+use Rattle.std.specs.Prelude.{codes, IfSome}
 use Rattle.std.specs.List.{onto_first, AllByRecursion}
 use Rattle.std.specs.declared.option.Option.{Option}
 use Rattle.std.specs.declared.option.Option.TheVariants.{None, Some}
@@ -8,7 +8,7 @@ use Rattle.std.proofs.lemmas.Bool.{cases_Bool, eqb-true}
 use Rattle.scram_text.specs.Class.{is_comma}
 use Rattle.scram_text.specs.Name.{LacksComma}
 use Rattle.scram_text.specs.Parts.{parts, is_headed, mext_parts, IsValue, IsHeaded}
-use Rattle.scram_text.specs.Faults.{Fits, fault, IsFirstMisfit, IsPartFault, places, first_of, marked_places}
+use Rattle.scram_text.specs.Faults.{fault, IsFirstMisfit, IsPartFault, places, first_of, marked_places}
 use Rattle.scram_text.specs.Pieces.{IsMarked, IsMextMisfit}
 use Rattle.scram_text.specs.declared.fault.TextFault.{TextFault}
 use Rattle.scram_text.specs.declared.fault.TextWhy.{TextWhy}

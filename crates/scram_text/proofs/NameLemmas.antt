@@ -1,7 +1,6 @@
 -- A spelling is read in one way, from the left, and is a saslname.
-use Rattle.std.proofs.Common.{◌≡◌, ◌≢◌, ◌⊎◌, inl, inr, ℕ, ◌*◌, ◌≤◌, List, [], ◌∷◌, ◌++◌, length, refl, sym, ◌∙◌, ap, arith, append_assoc, append-nil, Bool, true, false, not, eqb, IsTrue}
-use Rattle.std.specs.Prelude.{codes, flat_map}
-use Rattle.std.specs.List.{list_all}
+use Rattle.std.proofs.Common.{◌≡◌, ◌≢◌, ◌⊎◌, inl, inr, ℕ, ◌*◌, ◌≤◌, List, [], ◌∷◌, ◌++◌, length, refl, sym, ◌∙◌, arith, append_assoc, append-nil, true, false, not, eqb}
+use Rattle.std.specs.Prelude.{codes}
 use Rattle.std.proofs.lemmas.Bool.Decides.{eqb_tells}
 use Rattle.std.proofs.lemmas.List.Folds.{list_all-append}
 use Rattle.scram_text.specs.Class.{is_comma}

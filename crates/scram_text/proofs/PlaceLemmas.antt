@@ -1,12 +1,12 @@
 -- Parts against their places, whichever the message.
-use Rattle.std.proofs.Common.{◌≡◌, ◌⊎◌, inl, inr, ℕ, ◌+◌, ◌-◌, ◌≤◌, Bool, true, false, List, [], ◌∷◌, ◌++◌, length, replicate, refl, sym, ◌∙◌, ap, arith, length-append, subst}
+use Rattle.std.proofs.Common.{◌≡◌, inl, inr, ℕ, ◌+◌, ◌-◌, ◌≤◌, Bool, true, false, List, [], ◌∷◌, ◌++◌, length, replicate, refl, sym, ◌∙◌, ap, arith, subst}
 use Rattle.std.specs.List.{AllByRecursion, list_all}
 use Rattle.std.proofs.lemmas.Bool.{cases_Bool, eqb-true, both_ways}
 use Rattle.scram_text.specs.Class.{is_comma, is_printable, IsNonce, IsText}
 use Rattle.scram_text.specs.Name.{LacksComma}
 use Rattle.scram_text.specs.Base64Field.{base64, IsField}
-use Rattle.scram_text.specs.Parts.{parts, joined, IsExtension, AreExtensions, IsHeaded, SpellsField}
-use Rattle.scram_text.specs.Faults.{Fits, fault, IsFirstMisfit, IsExtensionMisfit, IsPartFault, IsFault, places}
+use Rattle.scram_text.specs.Parts.{parts, joined, AreExtensions, IsHeaded, SpellsField}
+use Rattle.scram_text.specs.Faults.{Fits, IsFirstMisfit, IsPartFault, IsFault, places}
 use Rattle.scram_text.specs.declared.fault.TextFault.{TextFault}
 use Rattle.scram_text.specs.declared.fault.TextWhy.{TextWhy}
 use Rattle.scram_text.specs.declared.fault.TextWhy.TheVariants.{Extension}

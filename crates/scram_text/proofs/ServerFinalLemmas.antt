@@ -1,19 +1,18 @@
 -- The parts of server-final: they are read in one way, and a text that has them has no fault.
-use Rattle.std.proofs.Common.{◌≡◌, inl, inr, ℕ, ◌≤◌, Bool, true, false, List, [], ◌∷◌, ◌++◌, length, replicate, refl, sym, ◌∙◌, ap, arith, subst, append-nil}
-use Rattle.std.specs.Prelude.{codes, IfOk, IfErr, IsOkAnd}
+use Rattle.std.proofs.Common.{◌≡◌, inr, ℕ, ◌≤◌, List, [], ◌∷◌, length, replicate, refl, sym, ◌∙◌, ap, arith, subst, append-nil}
+use Rattle.std.specs.Prelude.{IfOk, IfErr, IsOkAnd}
 use Rattle.std.specs.declared.result.Result.{Result}
 use Rattle.std.specs.declared.result.Result.TheVariants.{Ok, Err}
 use Rattle.std.proofs.lemmas.List.Splits.{join_with_byte-slice_split}
 use Rattle.scram_text.specs.Class.{IsText}
 use Rattle.scram_text.specs.Name.{LacksComma}
-use Rattle.scram_text.specs.Base64Field.{base64, IsField}
-use Rattle.scram_text.specs.Parts.{parts, joined, is_headed, IsValue, AreExtensions}
+use Rattle.scram_text.specs.Base64Field.{base64}
+use Rattle.scram_text.specs.Parts.{parts, joined, AreExtensions}
 use Rattle.scram_text.specs.Messages.{Outcome, verified, failed, ServerFinalParts, outcome_text, IsOutcome, server_final_text, IsServerFinal}
-use Rattle.scram_text.specs.Faults.{Fits, fault, places, IsExtensionMisfit, IsPartFault, IsFault, result_place, server_final_places, IsServerFinalFault}
+use Rattle.scram_text.specs.Faults.{Fits, fault, places, IsExtensionMisfit, result_place, server_final_places, IsServerFinalFault}
 use Rattle.scram_text.specs.Shown.{ShowsServerFinal}
 use Rattle.scram_text.specs.declared.server_final.ServerFinal.{ServerFinal}
 use Rattle.scram_text.specs.declared.fault.TextFault.{TextFault}
-use Rattle.scram_text.specs.declared.fault.TextWhy.{TextWhy}
 use Rattle.scram_text.specs.declared.fault.TextWhy.TheVariants.{Extension}
 use Rattle.scram_text.proofs.PartLemmas.{misfit_here, misfit_later}
 use Rattle.scram_text.proofs.PlaceLemmas.{AllFit, fits_cons, fits_end, fit_behind, fault_at, no_fault_at, extensions_lack, parts-joined, field_fits, field_once, heads_differ}

@@ -1,23 +1,20 @@
 -- The parts of server-first: they are read in one way, and a text that has them has no fault.
-use Rattle.std.proofs.Common.{◌≡◌, inl, inr, ℕ, ◌+◌, ◌<◌, ◌≤◌, ◌^◌, Bool, true, false, List, [], ◌∷◌, ◌++◌, length, replicate, refl, sym, ◌∙◌, ap, arith, subst, append-nil}
-use Rattle.std.specs.Prelude.{codes, decimal, IfOk, IfErr, IfSome, IsOkAnd}
-use Rattle.std.specs.List.{AllByRecursion}
+use Rattle.std.proofs.Common.{◌≡◌, inr, ℕ, ◌+◌, ◌≤◌, List, [], ◌∷◌, ◌++◌, length, replicate, refl, sym, ◌∙◌, ap, arith, subst, append-nil}
+use Rattle.std.specs.Prelude.{codes, decimal, IfOk, IfErr, IsOkAnd}
 use Rattle.std.specs.declared.option.Option.{Option}
 use Rattle.std.specs.declared.result.Result.{Result}
 use Rattle.std.specs.declared.result.Result.TheVariants.{Ok, Err}
 use Rattle.std.proofs.lemmas.Fmt.{decimal_injective}
 use Rattle.std.proofs.lemmas.List.Splits.{join_with_byte-slice_split}
-use Rattle.scram_text.specs.Class.{IsNonce, IsText}
-use Rattle.scram_text.specs.Name.{LacksComma}
-use Rattle.scram_text.specs.Base64Field.{base64, IsField}
-use Rattle.scram_text.specs.Parts.{parts, joined, mext_parts, IsValue, IsCount, AreExtensions}
+use Rattle.scram_text.specs.Class.{IsText}
+use Rattle.scram_text.specs.Base64Field.{base64}
+use Rattle.scram_text.specs.Parts.{parts, joined, mext_parts, AreExtensions}
 use Rattle.scram_text.specs.Messages.{ServerFirstParts, server_first_text, IsServerFirst}
 use Rattle.scram_text.specs.Faults.{Fits, fault, places, IsFirstMisfit, IsExtensionMisfit, IsServerFirstFault, server_first_places}
 use Rattle.scram_text.specs.Shown.{ShowsServerFirst}
 use Rattle.scram_text.specs.Pieces.{IsMarked}
 use Rattle.scram_text.specs.declared.server_first.ServerFirst.{ServerFirst}
 use Rattle.scram_text.specs.declared.fault.TextFault.{TextFault}
-use Rattle.scram_text.specs.declared.fault.TextWhy.{TextWhy}
 use Rattle.scram_text.specs.declared.fault.TextWhy.TheVariants.{Nonce, Salt, Count, Extension}
 use Rattle.scram_text.proofs.PartLemmas.{misfit_here, misfit_later}
 use Rattle.scram_text.proofs.PlaceLemmas.{AllFit, fits_cons, fits_end, fit_behind, no_fault_at, nonce_lacks, extensions_lack, parts-joined_list, field_fits, field_once, misfit_at}

@@ -1,5 +1,5 @@
 -- A message that is composed piece by piece.
-use Rattle.std.specs.Prelude.{ℕ, ◌≡◌, ◌<◌, Bool, true, false, List, [], ◌∷◌, length}
+use Rattle.std.specs.Prelude.{ℕ, ◌≡◌, ◌<◌, true, false, List, [], ◌∷◌, length}
 use Rattle.scram_text.specs.declared.draft.Draft.{Draft}
 
 -- the draft stands for this text: it holds it, or the text has more than 2048 bytes

@@ -1,11 +1,11 @@
 -- What commas cut a message into, and the classes of its parts (RFC 5802, section 7). No value holds a
 -- comma, so a message is cut in one way.
-use Rattle.std.specs.Prelude.{ℕ, ◌≡◌, ◌≤◌, ◌==◌, nat_le, Bool, true, false, ◌&&◌, ◌||◌, ⊤, IsTrue, List, [], ◌∷◌, ◌++◌, length, codes, decimal, IfSome}
+use Rattle.std.specs.Prelude.{ℕ, ◌≡◌, ◌≤◌, ◌==◌, nat_le, Bool, false, ◌&&◌, ◌||◌, IsTrue, List, [], ◌∷◌, ◌++◌, length, codes, decimal}
 use Rattle.std.specs.List.{list_all, list_any, slice_split, join_with_byte, AllByRecursion}
 use Rattle.std.specs.declared.option.Option.{Option}
 use Rattle.std.specs.declared.option.Option.TheVariants.{None, Some}
 use Rattle.scram_text.specs.Class.{is_comma, is_letter, is_cb_char}
-use Rattle.scram_text.specs.Name.{LacksComma, IsSaslName}
+use Rattle.scram_text.specs.Name.{LacksComma}
 use Rattle.scram_text.specs.Base64Field.{base64, IsField}
 
 -- the parts of a text: one more than it has commas, so that "a,,b" has three and "" has one

@@ -1,6 +1,6 @@
 -- What the writers write: the parts that their arguments make, and when the arguments are in their
 -- classes.
-use Rattle.std.specs.Prelude.{ℕ, ◌≡◌, List, [], ◌∷◌, IsTrue, option_map}
+use Rattle.std.specs.Prelude.{ℕ, List, [], ◌∷◌, IsTrue, option_map}
 use Rattle.std.specs.declared.option.Option.{Option}
 use Rattle.std.specs.declared.option.Option.TheVariants.{None}
 use Rattle.scram_text.specs.Class.{IsNonce, IsText}

@@ -50,16 +50,19 @@ pub struct ClientFinal<'a> {
 /// 3 Missing for the whole, else from the left 11 Channel, 8 Nonce, 12 Extension or 13 Proof.
 pub fn read_client_final(message: &[u8]) -> Result<ClientFinal<'_>, TextFault>
     // The text is a message with the parts that are returned.
-    ensures found { IfOk result (λ m. (p : ClientFinalParts) × IsClientFinal message.now p × ShowsClientFinal m p) }
+    ensures found { IfOk result (λ m. (p : ClientFinalParts) × IsClientFinal message.now p
+        × ShowsClientFinal m p) }
     // If it is a message with any parts, these are returned.
-    ensures only { (p : ClientFinalParts) → IsClientFinal message.now p → IsOkAnd result (λ m. ShowsClientFinal m p) }
+    ensures only { (p : ClientFinalParts) → IsClientFinal message.now p
+        → IsOkAnd result (λ m. ShowsClientFinal m p) }
     ensures fault { IfErr result (λ f. IsClientFinalFault message.now f) }
 {
     read_parts(message)
 }
 
 fn read_parts(message: &[u8]) -> Result<ClientFinal<'_>, TextFault>
-    ensures found { IfOk result (λ m. (p : ClientFinalParts) × IsClientFinal message.now p × ShowsClientFinal m p) }
+    ensures found { IfOk result (λ m. (p : ClientFinalParts) × IsClientFinal message.now p
+        × ShowsClientFinal m p) }
     ensures fault { IfErr result (λ f. IsClientFinalFault message.now f) }
 {
     let pieces = pieces_of(message)?;
@@ -202,10 +205,13 @@ fn front_of(channel: &[u8], nonce: &[u8]) -> Draft
 /// channel field and the nonce are those of `write_client_final`. Answers 16 Unwritable where one is
 /// outside its class, else 17 OverLimit where the text would have more than 2048 bytes.
 pub fn compose_front(channel: &[u8], nonce: &[u8]) -> Result<ArrayVec<u8, 2048>, WriteFault>
-    ensures ok { IfOk result (λ front. front.items ≡ final_front (client_final_of channel.now nonce.now [] [])) }
+    ensures ok { IfOk result (λ front. front.items
+        ≡ final_front (client_final_of channel.now nonce.now [] [])) }
     ensures class { OnOk result (IsField 1536 channel.now × IsNonce 512 nonce.now) }
-    ensures unwritable { IsErrOf result WriteFault.Unwritable → IsField 1536 channel.now × IsNonce 512 nonce.now → ⊥ }
-    ensures over_limit { IsErrOf result WriteFault.OverLimit → IsField 1536 channel.now × IsNonce 512 nonce.now
+    ensures unwritable { IsErrOf result WriteFault.Unwritable → IsField 1536 channel.now
+        × IsNonce 512 nonce.now → ⊥ }
+    ensures over_limit { IsErrOf result WriteFault.OverLimit → IsField 1536 channel.now
+        × IsNonce 512 nonce.now
         × (2048 < length (final_front (client_final_of channel.now nonce.now [] []))) }
     ensures no_memory { IsErrOf result WriteFault.NoMemory → ⊥ }
 {

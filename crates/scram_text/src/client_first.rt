@@ -72,16 +72,19 @@ pub struct ClientFirst<'a> {
 /// 12 Extension.
 pub fn read_client_first(message: &[u8]) -> Result<ClientFirst<'_>, TextFault>
     // The text is a message with the parts that are returned.
-    ensures found { IfOk result (λ m. (p : ClientFirstParts) × IsClientFirst message.now p × ShowsClientFirst m p) }
+    ensures found { IfOk result (λ m. (p : ClientFirstParts) × IsClientFirst message.now p
+        × ShowsClientFirst m p) }
     // If it is a message with any parts, these are returned.
-    ensures only { (p : ClientFirstParts) → IsClientFirst message.now p → IsOkAnd result (λ m. ShowsClientFirst m p) }
+    ensures only { (p : ClientFirstParts) → IsClientFirst message.now p
+        → IsOkAnd result (λ m. ShowsClientFirst m p) }
     ensures fault { IfErr result (λ f. IsClientFirstFault message.now f) }
 {
     read_parts(message)
 }
 
 fn read_parts(message: &[u8]) -> Result<ClientFirst<'_>, TextFault>
-    ensures found { IfOk result (λ m. (p : ClientFirstParts) × IsClientFirst message.now p × ShowsClientFirst m p) }
+    ensures found { IfOk result (λ m. (p : ClientFirstParts) × IsClientFirst message.now p
+        × ShowsClientFirst m p) }
     ensures fault { IfErr result (λ f. IsClientFirstFault message.now f) }
 {
     let pieces = pieces_of(message)?;
@@ -184,7 +187,8 @@ struct Bare<'a> {
 fn read_bare(bare: &[u8]) -> Result<Bare<'_>, TextFault>
     requires enough { length (marked_places (parts bare.now) []) + 2 ≤ length (parts bare.now) }
     requires few { length (parts bare.now) ≤ 2049 }
-    ensures found { IfOk result (λ m. (p : ClientFirstParts) × IsBare (parts bare.now) p × ShowsBare m p) }
+    ensures found { IfOk result (λ m. (p : ClientFirstParts) × IsBare (parts bare.now) p
+        × ShowsBare m p) }
     ensures fault { IfErr result (λ f. IsBareMisfit (parts bare.now) f) }
 {
     let pieces = bare_pieces_of(bare)?;
@@ -254,8 +258,10 @@ pub fn write_client_first<A: Allocator>(
         OnOk result (IsClientFirst (client_first_text p) p) }
     ensures err { OnErr result (out.new.items ≡ out.old.items) }
 
-    ensures unwritable { IsErrOf result WriteFault.Unwritable → CanBeClientFirst flag.entry extensions.now → ⊥ }
-    ensures over_limit { IsErrOf result WriteFault.OverLimit → CanBeClientFirst flag.entry extensions.now
+    ensures unwritable { IsErrOf result WriteFault.Unwritable
+        → CanBeClientFirst flag.entry extensions.now → ⊥ }
+    ensures over_limit { IsErrOf result WriteFault.OverLimit
+        → CanBeClientFirst flag.entry extensions.now
         × (2048 < length (client_first_text
         (client_first_of flag.entry (option_copied authzid.entry) name.now nonce.now extensions.now))) }
     ensures no_memory { let p = client_first_of flag.entry (option_copied authzid.entry) name.now nonce.now extensions.now in

@@ -74,7 +74,8 @@ fn comma(text: &[u8]) -> Option<usize>
 
 /// What stands before the last comma and behind it, or None where there is none.
 pub(crate) fn cut_last(text: &[u8]) -> Option<(&[u8], &[u8])>
-    ensures whole { MatchOption result (length (parts text.now) ≡ 1) (λ cut. text.now ≡ cut.0.now ++ 44 ∷ cut.1.now) }
+    ensures whole { MatchOption result (length (parts text.now) ≡ 1)
+        (λ cut. text.now ≡ cut.0.now ++ 44 ∷ cut.1.now) }
     ensures no_comma { IfSome result (λ cut. LacksComma cut.1.now) }
     ensures front_len { IfSome result (λ cut. length cut.0.now ≤ length text.now) }
     ensures back_len { IfSome result (λ cut. length cut.1.now ≤ length text.now) }
@@ -91,7 +92,8 @@ pub(crate) fn cut_last(text: &[u8]) -> Option<(&[u8], &[u8])>
 
 /// The value of a part with this letter, or None where it is another part.
 pub(crate) fn headed(part: &[u8], letter: u8) -> Option<&[u8]>
-    ensures { MatchOption result (is_headed letter part.now ≡ false) (λ value. part.now ≡ letter ∷ 61 ∷ value.now) }
+    ensures { MatchOption result (is_headed letter part.now ≡ false)
+        (λ value. part.now ≡ letter ∷ 61 ∷ value.now) }
 {
     match part {
         [first, b'=', value @ ..] if *first == letter => Some(value),
@@ -127,8 +129,10 @@ pub(crate) struct Extensions<'a> {
 pub(crate) fn extensions_of(text: Option<&[u8]>, first: usize) -> Result<Extensions<'_>, TextFault>
     requires few { first + length (parts_of_some (option_copied text)) < 10000 }
     ensures found { OnOk result (AreExtensions (parts_of_some (option_copied text.entry))) }
-    ensures text { IfOk result (λ e. e.text.now ≡ joined (parts_of_some (option_copied text.entry))) }
-    ensures mandatory { IfOk result (λ e. e.mandatory ≡ have_mandatory (parts_of_some (option_copied text.entry))) }
+    ensures text { IfOk result (λ e. e.text.now
+        ≡ joined (parts_of_some (option_copied text.entry))) }
+    ensures mandatory { IfOk result (λ e. e.mandatory
+        ≡ have_mandatory (parts_of_some (option_copied text.entry))) }
     ensures fault { IfErr result (λ f. IsExtensionMisfit first (parts_of_some (option_copied text.entry)) f) }
 {
     let Some(text) = text else {
@@ -172,7 +176,8 @@ pub(crate) fn two_of(text: &[u8]) -> (&[u8], &[u8], Option<&[u8]>)
     ensures parts { parts text.now ≡ result.0.now ∷ result.1.now ∷ parts_of_some (option_copied result.2) }
     ensures first_len { length result.0.now ≤ length text.now }
     ensures second_len { length result.1.now ≤ length text.now }
-    ensures whole { IfSome result.2 (λ rest. text.now ≡ result.0.now ++ 44 ∷ (result.1.now ++ 44 ∷ rest.now)) }
+    ensures whole { IfSome result.2 (λ rest. text.now
+        ≡ result.0.now ++ 44 ∷ (result.1.now ++ 44 ∷ rest.now)) }
     ensures no_comma { LacksComma result.0.now }
 {
     let (first, rest) = cut(text);
@@ -207,8 +212,10 @@ pub(crate) struct Marked<'a> {
 /// Reads reserved-mext, "m=" and a value, where it is there. The text's first part has this index.
 pub(crate) fn mext_of(text: &[u8], index: usize) -> Result<Marked<'_>, TextFault>
     requires few { index < 10 }
-    requires enough { is_headed 109 (first_of (parts text.now)) ≡ true → 2 ≤ length (parts text.now) }
-    ensures found { IfOk result (λ m. (mext : Option (List ℕ)) × IsMarked (parts text.now) (parts m.rest.now) mext
+    requires enough { is_headed 109 (first_of (parts text.now)) ≡ true
+        → 2 ≤ length (parts text.now) }
+    ensures found { IfOk result (λ m. (mext : Option (List ℕ))
+        × IsMarked (parts text.now) (parts m.rest.now) mext
         × (m.marked ≡ is_some mext) × (m.index ≡ index + length (mext_parts mext))) }
     ensures rest_len { IfOk result (λ m. length m.rest.now ≤ length text.now) }
     ensures fault { IfErr result (λ f. IsMextMisfit index (parts text.now) f) }

@@ -7,78 +7,65 @@ ghost use Rattle.scram_text.specs.Laws.{FieldsHoldBytes, PartsAreUtf8, SpellsOne
 /// decoded to them, and has four bytes for each three begun.
 pub fn base64_is_usual()
     ensures { HasUsualBase64 }
-{
-}
+{}
 
 /// Where base64 has its usual form, a field may hold any bytes within its limits: a writer refuses an
 /// argument only where it is outside its class.
 pub fn fields_hold_bytes()
     ensures { FieldsHoldBytes }
-{
-}
+{}
 
 /// The parts of a UTF-8 text are UTF-8, so their values are made of whole characters.
 pub fn parts_are_utf8()
     ensures { PartsAreUtf8 }
-{
-}
+{}
 
 /// A saslname spells one name (RFC 5802, section 5.1).
 pub fn spells_one_name()
     ensures { SpellsOneName }
-{
-}
+{}
 
 /// For every text there is a plain name that it spells, or there is none.
 pub fn name_is_decided()
     ensures { NameIsDecided }
-{
-}
+{}
 
 /// A text is a client-first message with one list of parts at most.
 pub fn has_one_client_first()
     ensures { HasOneClientFirst }
-{
-}
+{}
 
 /// For every text there are parts of client-first that it has, or there are none.
 pub fn client_first_is_decided()
     ensures { ClientFirstIsDecided }
-{
-}
+{}
 
 /// A text is a server-first message with one list of parts at most.
 pub fn has_one_server_first()
     ensures { HasOneServerFirst }
-{
-}
+{}
 
 /// For every text there are parts of server-first that it has, or there are none.
 pub fn server_first_is_decided()
     ensures { ServerFirstIsDecided }
-{
-}
+{}
 
 /// A text is a client-final message with one list of parts at most.
 pub fn has_one_client_final()
     ensures { HasOneClientFinal }
-{
-}
+{}
 
 /// For every text there are parts of client-final that it has, or there are none.
 pub fn client_final_is_decided()
     ensures { ClientFinalIsDecided }
-{
-}
+{}
 
 /// A text is a server-final message with one list of parts at most.
 pub fn has_one_server_final()
     ensures { HasOneServerFinal }
-{
-}
+{}
 
 /// For every text there are parts of server-final that it has, or there are none.
 pub fn server_final_is_decided()
     ensures { ServerFinalIsDecided }
-{
-}
+{}

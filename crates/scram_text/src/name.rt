@@ -88,7 +88,8 @@ impl<'a> SaslText<'a> {
     /// The name that it spells, or None where that is not 1 to 255 bytes of 20 to 7E hex.
     pub fn plain(&self) -> Option<PlainName>
         ensures some { IfSome result (λ name. SpellsName name self.now) }
-        ensures none { IfNone result ((name : List ℕ) → IsPlainName name → SpellsName name self.now → ⊥) }
+        ensures none { IfNone result ((name : List ℕ) → IsPlainName name
+            → SpellsName name self.now → ⊥) }
     {
         PlainName::new(unescaped(self.spelled)?.as_slice())
     }
@@ -99,7 +100,8 @@ fn unescaped(spelled: &[u8]) -> Option<ArrayVec<u8, 255>>
     requires escaped { IsTrue (is_escaped spelled.now) }
     requires no_comma { LacksComma spelled.now }
     ensures some { IfSome result (λ name. SpellsName name.items spelled.now) }
-    ensures none { IfNone result ((name : List ℕ) → length name ≤ 255 → SpellsName name spelled.now → ⊥) }
+    ensures none { IfNone result ((name : List ℕ) → length name ≤ 255
+        → SpellsName name spelled.now → ⊥) }
 {
     let mut name = ArrayVec::new();
     let mut rest = spelled;
@@ -116,7 +118,8 @@ fn unescaped(spelled: &[u8]) -> Option<ArrayVec<u8, 255>>
 fn unescape(text: &[u8]) -> Option<(u8, &[u8])>
     requires escaped { IsTrue (is_escaped text.now) }
     requires no_comma { LacksComma text.now }
-    ensures first { MatchOption result (text.now ≡ []) (λ found. text.now ≡ escape found.0 ++ found.1.now) }
+    ensures first { MatchOption result (text.now ≡ []) (λ found. text.now ≡ escape found.0
+        ++ found.1.now) }
     ensures escaped { IfSome result (λ found. IsTrue (is_escaped found.1.now)) }
     ensures no_comma { IfSome result (λ found. LacksComma found.1.now) }
 {

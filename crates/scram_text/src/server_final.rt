@@ -50,16 +50,19 @@ pub struct ServerFinal<'a> {
 /// does not, or 12 Extension.
 pub fn read_server_final(message: &[u8]) -> Result<ServerFinal<'_>, TextFault>
     // The text is a message with the parts that are returned.
-    ensures found { IfOk result (λ m. (p : ServerFinalParts) × IsServerFinal message.now p × ShowsServerFinal m p) }
+    ensures found { IfOk result (λ m. (p : ServerFinalParts) × IsServerFinal message.now p
+        × ShowsServerFinal m p) }
     // If it is a message with any parts, these are returned.
-    ensures only { (p : ServerFinalParts) → IsServerFinal message.now p → IsOkAnd result (λ m. ShowsServerFinal m p) }
+    ensures only { (p : ServerFinalParts) → IsServerFinal message.now p
+        → IsOkAnd result (λ m. ShowsServerFinal m p) }
     ensures fault { IfErr result (λ f. IsServerFinalFault message.now f) }
 {
     read_parts(message)
 }
 
 fn read_parts(message: &[u8]) -> Result<ServerFinal<'_>, TextFault>
-    ensures found { IfOk result (λ m. (p : ServerFinalParts) × IsServerFinal message.now p × ShowsServerFinal m p) }
+    ensures found { IfOk result (λ m. (p : ServerFinalParts) × IsServerFinal message.now p
+        × ShowsServerFinal m p) }
     ensures fault { IfErr result (λ f. IsServerFinalFault message.now f) }
 {
     cut::count_of(message)?;
@@ -79,7 +82,8 @@ fn result_of(part: &[u8]) -> Result<FinalResult<'_>, TextFault>
     requires no_comma { LacksComma part.now }
     ensures spelled { IfOk result (λ r. part.now ≡ outcome_text (outcome_of r)) }
     ensures class { IfOk result (λ r. IsOutcome (outcome_of r)) }
-    ensures fault { IfErr result (λ f. (Fits 512 (result_place part.now) part.now → ⊥) × (f ≡ fault 0 (result_place part.now))) }
+    ensures fault { IfErr result (λ f. (Fits 512 (result_place part.now) part.now → ⊥) × (f
+        ≡ fault 0 (result_place part.now))) }
 {
     if is_error(part) {
         match field::value_of(part, b'e') {
@@ -122,8 +126,10 @@ pub fn write_server_final<A: Allocator>(
         OnOk result (IsServerFinal (server_final_text p) p) }
     ensures err { OnErr result (out.new.items ≡ out.old.items) }
 
-    ensures unwritable { IsErrOf result WriteFault.Unwritable → CanBeServerFinal (outcome_of outcome.entry) extensions.now → ⊥ }
-    ensures over_limit { IsErrOf result WriteFault.OverLimit → CanBeServerFinal (outcome_of outcome.entry) extensions.now
+    ensures unwritable { IsErrOf result WriteFault.Unwritable
+        → CanBeServerFinal (outcome_of outcome.entry) extensions.now → ⊥ }
+    ensures over_limit { IsErrOf result WriteFault.OverLimit
+        → CanBeServerFinal (outcome_of outcome.entry) extensions.now
         × (2048 < length (server_final_text (server_final_of (outcome_of outcome.entry) extensions.now))) }
     ensures no_memory { let p = server_final_of (outcome_of outcome.entry) extensions.now in
         IsErrOf result WriteFault.NoMemory → IsServerFinal (server_final_text p) p

@@ -43,16 +43,19 @@ pub struct ServerFirst<'a> {
 /// 12 Extension.
 pub fn read_server_first(message: &[u8]) -> Result<ServerFirst<'_>, TextFault>
     // The text is a message with the parts that are returned.
-    ensures found { IfOk result (λ m. (p : ServerFirstParts) × IsServerFirst message.now p × ShowsServerFirst m p) }
+    ensures found { IfOk result (λ m. (p : ServerFirstParts) × IsServerFirst message.now p
+        × ShowsServerFirst m p) }
     // If it is a message with any parts, these are returned.
-    ensures only { (p : ServerFirstParts) → IsServerFirst message.now p → IsOkAnd result (λ m. ShowsServerFirst m p) }
+    ensures only { (p : ServerFirstParts) → IsServerFirst message.now p
+        → IsOkAnd result (λ m. ShowsServerFirst m p) }
     ensures fault { IfErr result (λ f. IsServerFirstFault message.now f) }
 {
     read_parts(message)
 }
 
 fn read_parts(message: &[u8]) -> Result<ServerFirst<'_>, TextFault>
-    ensures found { IfOk result (λ m. (p : ServerFirstParts) × IsServerFirst message.now p × ShowsServerFirst m p) }
+    ensures found { IfOk result (λ m. (p : ServerFirstParts) × IsServerFirst message.now p
+        × ShowsServerFirst m p) }
     ensures fault { IfErr result (λ f. IsServerFirstFault message.now f) }
 {
     let pieces = pieces_of(message)?;
@@ -138,8 +141,10 @@ pub fn write_server_first<A: Allocator>(
         OnOk result (IsServerFirst (server_first_text p) p) }
     ensures err { OnErr result (out.new.items ≡ out.old.items) }
 
-    ensures unwritable { IsErrOf result WriteFault.Unwritable → CanBeServerFirst nonce.now salt.now count extensions.now → ⊥ }
-    ensures over_limit { IsErrOf result WriteFault.OverLimit → CanBeServerFirst nonce.now salt.now count extensions.now
+    ensures unwritable { IsErrOf result WriteFault.Unwritable
+        → CanBeServerFirst nonce.now salt.now count extensions.now → ⊥ }
+    ensures over_limit { IsErrOf result WriteFault.OverLimit
+        → CanBeServerFirst nonce.now salt.now count extensions.now
         × (2048 < length (server_first_text (server_first_of nonce.now salt.now count extensions.now))) }
     ensures no_memory { let p = server_first_of nonce.now salt.now count extensions.now in
         IsErrOf result WriteFault.NoMemory → IsServerFirst (server_first_text p) p

@@ -1,5 +1,4 @@
-use Rattle.std.proofs.Common.{◌≡◌, ℕ, List, [], ◌∷◌, ◌++◌, length, ap, sym, ◌∙◌, arith, refl}
-use Rattle.std.specs.Prelude.{◌≤◌}
+use Rattle.std.proofs.Common.{length, ap, arith}
 use Rattle.scram_text.proofs.PartLemmas.{parts_last}
 use Rattle.scram_text.proofs.client_final.pieces_of.Goals as goal
 

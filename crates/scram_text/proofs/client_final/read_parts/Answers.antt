@@ -1,4 +1,4 @@
-use Rattle.std.proofs.Common.{◌≡◌, ℕ, List, [], ◌∷◌, ◌++◌, length, refl, sym, ◌∙◌, arith, length-append}
+use Rattle.std.proofs.Common.{ℕ, List, [], ◌∷◌, refl, arith, length-append}
 use Rattle.std.specs.Option.{option_copied}
 use Rattle.std.proofs.lemmas.Result.{err_from_is_err_and}
 use Rattle.scram_text.specs.Parts.{parts_of_some}

@@ -1,7 +1,5 @@
-use Rattle.std.proofs.Common.{◌≡◌, ℕ, List, ◌++◌, subst}
-use Rattle.std.specs.Prelude.{codes}
+use Rattle.std.proofs.Common.{ℕ, List, subst}
 use Rattle.std.specs.Option.{option_copied}
-use Rattle.scram_text.specs.Class.{IsNoncePart}
 use Rattle.scram_text.specs.Draft.{IsDraftOf}
 use Rattle.scram_text.proofs.ComposeLemmas.{client_first_composed, client_first_related}
 use Rattle.scram_text.proofs.client_first.draft_of.Goals as goal

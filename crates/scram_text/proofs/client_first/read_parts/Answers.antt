@@ -1,4 +1,4 @@
-use Rattle.std.proofs.Common.{◌≡◌, refl}
+use Rattle.std.proofs.Common.{refl}
 use Rattle.std.proofs.lemmas.Result.{err_from_is_err_and}
 use Rattle.scram_text.specs.Messages.{ClientFirstParts}
 use Rattle.scram_text.proofs.ClientFirstLemmas.{flag_fault, authz_fault, bare_fault, client_first_spelled}

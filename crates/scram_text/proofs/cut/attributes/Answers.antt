@@ -1,4 +1,4 @@
-use Rattle.std.proofs.Common.{◌≡◌, sym, ◌∙◌, arith, length, rules, ◌<◌, true}
+use Rattle.std.proofs.Common.{sym, ◌∙◌}
 use Rattle.std.proofs.lemmas.Bool.{both_ways}
 use Rattle.scram_text.proofs.ExtensionLemmas.{Leads-next, Leads-misfit}
 use Rattle.scram_text.proofs.cut.attributes.Goals as goal

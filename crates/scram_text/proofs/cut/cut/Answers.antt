@@ -1,4 +1,4 @@
-use Rattle.std.proofs.Common.{sym, ◌∙◌, ◌+◌}
+use Rattle.std.proofs.Common.{sym, ◌+◌}
 use Rattle.scram_text.proofs.PartLemmas.{behind, cut_at, cut_none, cut_text}
 use Rattle.scram_text.proofs.cut.cut.Goals as goal
 

@@ -1,4 +1,4 @@
-use Rattle.std.proofs.Common.{◌≡◌, ℕ, List, [], ◌∷◌, length, drop, ap, arith, subst}
+use Rattle.std.proofs.Common.{◌≡◌, ℕ, List, length, drop, ap, arith}
 use Rattle.scram_text.specs.Name.{LacksComma}
 use Rattle.scram_text.proofs.PartLemmas.{parts_whole}
 use Rattle.scram_text.proofs.cut.cut_last.Goals as goal

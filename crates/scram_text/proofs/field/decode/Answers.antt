@@ -1,6 +1,5 @@
-use Rattle.std.proofs.Common.{◌≡◌, ◌≤◌, ◌<◌, ℕ, List, length, take, arith, length-take}
+use Rattle.std.proofs.Common.{◌≡◌, ◌≤◌, ℕ, List, length, take, arith, length-take}
 use Rattle.base64.specs.GeneralPurpose.{IsBytes}
-use Rattle.scram_text.specs.Parts.{SpellsField}
 use Rattle.scram_text.proofs.Base64Lemmas.{read_field, field_read, field_error}
 use Rattle.scram_text.proofs.field.decode.Goals as goal
 

@@ -1,4 +1,4 @@
-use Rattle.std.proofs.Common.{◌≡◌, ℕ, ◌≤◌, List, [], ◌∷◌, ◌++◌, length, sym, ◌∙◌, arith, append-nil, length-append, rules}
+use Rattle.std.proofs.Common.{◌≡◌, ℕ, ◌≤◌, List, [], ◌∷◌, ◌++◌, length, sym, ◌∙◌, arith, length-append, rules}
 use Rattle.scram_text.specs.Name.{escape, name_spelling}
 use Rattle.scram_text.proofs.NameLemmas.{escape_nonempty, spelling_rest}
 use Rattle.scram_text.proofs.name.unescaped.Goals as goal
