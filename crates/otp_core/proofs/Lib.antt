@@ -1,3 +1,4 @@
 pub mod DigitsLemmas
 pub mod Steps
+pub mod Used
 pub mod WindowLemmas

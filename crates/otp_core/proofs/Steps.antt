@@ -79,7 +79,7 @@ failures_advanced (Totp t) m Fail = refl
 failures_advanced (Totp t) m Locked = refl
 
 -- behind a counter that is due, HOTP's first counter is one more
-first_of : (o : Option ℕ) (next p : ℕ) → option_map_or (λ m. m + 1) o next ≤ p
+pub first_of : (o : Option ℕ) (next p : ℕ) → option_map_or (λ m. m + 1) o next ≤ p
     → option_map_or (λ m. m + 1) (Some (option_map_or (λ most. max p most) o p)) next ≡ p + 1
 first_of None next p h = refl
 first_of (Some m) next p h = omega arith
@@ -134,7 +134,7 @@ locked_alike (Hotp s) t h m said later c same = same
 locked_alike (Totp s) t h m said later c same = same
 
 -- the counter that fits can pass
-candidate_of : (s : Fields) (h : List Attempt) (m : ℕ) (said : Said) (c : ℕ) → IsFitting s h m said c → IsCandidate s h m c
+pub candidate_of : (s : Fields) (h : List Attempt) (m : ℕ) (said : Said) (c : ℕ) → IsFitting s h m said c → IsCandidate s h m c
 candidate_of s h m (OneText text) c fits = fits.0
 
 -- candidates after a due reply

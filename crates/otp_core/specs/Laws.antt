@@ -1,8 +1,28 @@
 -- Laws of histories.
-use Rattle.std.specs.Prelude.{[]}
-use Rattle.otp_core.specs.History.{IsAfter}
+use Rattle.std.specs.Prelude.{ℕ, ◌≤◌, ◌<◌, List, []}
+use Rattle.std.specs.Option.{ForSome}
+use Rattle.otp_core.specs.Attempt.{Attempt, passed}
+use Rattle.otp_core.specs.Window.{IsCandidate, IsAbove}
+use Rattle.otp_core.specs.History.{IsAfter, IsLegal}
 use Rattle.otp_core.specs.declared.token.kinds.Fields.{Fields}
+use Rattle.otp_core.specs.declared.token.kinds.Fields.TheVariants.{Hotp, Totp}
 
 -- each token stands where it and the empty history lead
 abbrev pub BeginsWithItself : Type 0
 BeginsWithItself = (token : Fields) → IsAfter token [] token
+
+-- a counter that can pass is above each that has passed, so no counter passes twice
+abbrev pub CandidatesAreNew : Type 0
+CandidatesAreNew = (start : Fields) (history : List Attempt) (moment c : ℕ)
+    → IsCandidate start history moment c → IsAbove (passed history) c
+
+-- a counter that a token has not used: at HOTP's next or behind it, or above TOTP's last step
+abbrev pub IsNotUsed : Fields → ℕ → Type 0
+IsNotUsed (Hotp t) c = t.next ≤ c
+IsNotUsed (Totp t) c = ForSome t.last (λ l. l < c)
+
+-- a counter that a start has used can pass after no legal history. Failures do not enter, so this
+-- holds across an unlock too.
+abbrev pub UsedStaysUsed : Type 0
+UsedStaysUsed = (start : Fields) (history : List Attempt) (moment c : ℕ)
+    → IsLegal start history → IsCandidate start history moment c → IsNotUsed start c

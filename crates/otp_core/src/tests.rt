@@ -1,5 +1,5 @@
 //! Values from outside: RFC 4226, appendix D, RFC 6238, appendix B, and a tag with a large offset.
-use crate::laws::begins_with_itself;
+use crate::laws::{begins_with_itself, candidates_are_new, used_stays_used};
 use crate::{
     Code, Digits, Fields, HotpFields, Moment, OtpFault, OtpHash, Reply, Secret, Setting, Token,
     TotpFields, hotp, hotp_with, step, truncate,
@@ -478,4 +478,6 @@ fn unlock_opens_again(rt: HostRuntime) {
     token.unlock();
     assert_eq!(rt; token.attempt(now, b"755224"), Reply::Pass(0));
     begins_with_itself();
+    candidates_are_new();
+    used_stays_used();
 }

@@ -1,0 +1,57 @@
+-- Counters that can pass are above those that have passed.
+use Rattle.std.proofs.Common.{◌≡◌, ◌≤◌, ◌<◌, ◌+◌, ℕ, List, [], ◌∷◌, Option, Some, None, max, refl, arith}
+use Rattle.std.specs.Option.{option_map_or}
+use Rattle.otp_core.specs.Attempt.{Attempt, Said, passed, with_passed}
+use Rattle.otp_core.specs.Window.{IsAbove, first_due, greatest}
+use Rattle.otp_core.specs.Reply.{IsDue}
+use Rattle.otp_core.specs.History.{IsLegal}
+use Rattle.otp_core.specs.Laws.{CandidatesAreNew, UsedStaysUsed}
+use Rattle.otp_core.specs.declared.token.answer.Reply.{Reply}
+use Rattle.otp_core.specs.declared.token.answer.Reply.TheVariants.{Pass, Fail, Locked}
+use Rattle.otp_core.specs.declared.token.kinds.HotpFields.{HotpFields}
+use Rattle.otp_core.specs.declared.token.kinds.Fields.TheVariants.{Hotp, Totp}
+use Rattle.otp_core.proofs.Steps.{first_of, candidate_of}
+
+-- what is above the greatest is above each
+parts_below : (o : Option ℕ) (x c : ℕ) → option_map_or (λ most. max x most) o x < c
+    → (x < c) × ((m : ℕ) → o ≡ Some m → m < c)
+parts_below None x c h = (h, λ m is. absurd (cc))
+parts_below (Some g) x c h = ((omega arith), λ m is. let same : g ≡ m = cc in omega arith)
+
+above_greatest : (counters : List ℕ) (c : ℕ) → ((m : ℕ) → greatest counters ≡ Some m → m < c) → IsAbove counters c
+above_greatest [] c h = tt
+above_greatest (x ∷ counters) c h =
+    let parts = parts_below (greatest counters) x c (h _ refl) in
+    (parts.0, above_greatest counters c parts.1)
+
+-- HOTP's first counter is above the greatest that passed
+below_first : (o : Option ℕ) (next c : ℕ) → option_map_or (λ m. m + 1) o next ≤ c → (m : ℕ) → o ≡ Some m → m < c
+below_first None next c h m is = absurd (cc)
+below_first (Some g) next c h m is = let same : g ≡ m = cc in omega arith
+
+pub candidates-are_new : CandidatesAreNew
+candidates-are_new (Hotp t) history moment c due =
+    above_greatest (passed history) c (below_first (greatest (passed history)) t.next c due.not_before)
+candidates-are_new (Totp t) history moment c due = due.3
+
+-- a due reply moves HOTP's first counter nowhere back
+grows_by : (t : HotpFields) (before : List Attempt) (m : ℕ) (said : Said) (reply : Reply)
+    → t.next ≤ first_due t.next (passed before) → IsDue (Hotp t) before m said reply
+    → t.next ≤ first_due t.next (with_passed reply (passed before))
+grows_by t before m said (Pass p) least due =
+    let in_window = candidate_of (Hotp t) before m said p due.1 in
+    let reached : first_due t.next (passed before) ≤ p = in_window.not_before in
+    let first : first_due t.next (p ∷ passed before) ≡ p + 1 = first_of (greatest (passed before)) t.next p reached in
+    omega arith
+grows_by t before m said Fail least due = least
+grows_by t before m said Locked least due = least
+
+first_grows : (t : HotpFields) (history : List Attempt) → IsLegal (Hotp t) history → t.next ≤ first_due t.next (passed history)
+first_grows t [] legal = omega arith
+first_grows t (a ∷ before) legal = grows_by t before a.moment a.said a.reply (first_grows t before legal.2) legal.1
+
+pub used-stays_used : UsedStaysUsed
+used-stays_used (Hotp t) history moment c legal due =
+    let least = first_grows t history legal in
+    let reached : first_due t.next (passed history) ≤ c = due.not_before in omega arith
+used-stays_used (Totp t) history moment c legal due = due.2

@@ -1,0 +1,5 @@
+use Rattle.otp_core.proofs.Used.{used-stays_used}
+use Rattle.otp_core.proofs.laws.used_stays_used.Goals as goal
+
+pub returns : goal.returns
+returns c = used-stays_used
