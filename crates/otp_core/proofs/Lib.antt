@@ -1,4 +1,5 @@
 pub mod DigitsLemmas
+pub mod Joins
 pub mod Steps
 pub mod Used
 pub mod WindowLemmas

@@ -35,7 +35,7 @@ fits_to : (s t : Fields) (h k : List Attempt) (m : ℕ) (said : Said) (c : ℕ) 
 fits_to s t h k m (OneText text) c alike is fits =
     ((alike.candidates m c is).0 fits.0, sym (code_alike s t c alike.settings) ∙ fits.1)
 
-fits_from : (s t : Fields) (h k : List Attempt) (m : ℕ) (said : Said) (c : ℕ) → AreAlike s h t k → IsMoment m
+pub fits_from : (s t : Fields) (h k : List Attempt) (m : ℕ) (said : Said) (c : ℕ) → AreAlike s h t k → IsMoment m
     → IsFitting t k m said c → IsFitting s h m said c
 fits_from s t h k m (OneText text) c alike is fits =
     ((alike.candidates m c is).1 fits.0, code_alike s t c alike.settings ∙ fits.1)
@@ -97,7 +97,7 @@ window_by (Totp t) m p later c =
     (t.t0 ≤ later) × IsStepNear (step_at t later) (pos p -ℤ pos (step_at t m)) t.back t.ahead t.max_drift c
 
 -- candidates after a pass
-pass_alike : (s t : Fields) (h : List Attempt) (m : ℕ) (said : Said) (p later c : ℕ)
+pub pass_alike : (s t : Fields) (h : List Attempt) (m : ℕ) (said : Said) (p later c : ℕ)
     → settings_of s ≡ settings_of t → IsCandidate s h m p
     → IsCandidate s (attempt_of m said (Pass p) ∷ h) later c ↔ IsCandidate (after_pass t m p) [] later c
 unfolding window_by

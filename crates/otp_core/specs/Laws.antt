@@ -1,9 +1,11 @@
 -- Laws of histories.
-use Rattle.std.specs.Prelude.{ℕ, ◌≤◌, ◌<◌, List, []}
+use Rattle.std.specs.Prelude.{ℕ, ◌≡◌, ◌≤◌, ◌<◌, List, [], ◌++◌}
 use Rattle.std.specs.Option.{ForSome}
-use Rattle.otp_core.specs.Attempt.{Attempt, passed}
+use Rattle.otp_core.specs.Attempt.{Attempt, Said, passed}
 use Rattle.otp_core.specs.Window.{IsCandidate, IsAbove}
+use Rattle.otp_core.specs.Reply.{IsDue}
 use Rattle.otp_core.specs.History.{IsAfter, IsLegal}
+use Rattle.otp_core.specs.declared.token.answer.Reply.{Reply}
 use Rattle.otp_core.specs.declared.token.kinds.Fields.{Fields}
 use Rattle.otp_core.specs.declared.token.kinds.Fields.TheVariants.{Hotp, Totp}
 
@@ -26,3 +28,13 @@ IsNotUsed (Totp t) c = ForSome t.last (λ l. l < c)
 abbrev pub UsedStaysUsed : Type 0
 UsedStaysUsed = (start : Fields) (history : List Attempt) (moment c : ℕ)
     → IsLegal start history → IsCandidate start history moment c → IsNotUsed start c
+
+-- a history that goes on from where another one led is one history with it
+abbrev pub HistoriesJoin : Type 0
+HistoriesJoin = (start : Fields) (earlier : List Attempt) (middle : Fields) (later : List Attempt) (end : Fields)
+    → IsAfter start earlier middle → IsAfter middle later end → IsAfter start (later ++ earlier) end
+
+-- no two replies are due to one attempt
+abbrev pub OnlyOneReplyIsDue : Type 0
+OnlyOneReplyIsDue = (start : Fields) (history : List Attempt) (moment : ℕ) (said : Said) (reply other : Reply)
+    → IsDue start history moment said reply → IsDue start history moment said other → reply ≡ other

@@ -1,6 +1,6 @@
 //! Laws over histories of attempts, for what stands on tokens. Each is the contract of a function
 //! that does nothing.
-ghost use Rattle.otp_core.specs.Laws.{BeginsWithItself, CandidatesAreNew, UsedStaysUsed};
+ghost use Rattle.otp_core.specs.Laws.{BeginsWithItself, CandidatesAreNew, UsedStaysUsed, HistoriesJoin, OnlyOneReplyIsDue};
 
 /// Each token stands where it and the empty history lead, so a run may begin with any token.
 pub fn begins_with_itself()
@@ -17,4 +17,16 @@ pub fn candidates_are_new()
 /// set back to 0 on the way.
 pub fn used_stays_used()
     ensures { UsedStaysUsed }
+{}
+
+/// Where one history leads from a start to a token, and another from there on, both as one lead from
+/// the start to where the second leads.
+pub fn histories_join()
+    ensures { HistoriesJoin }
+{}
+
+/// No two replies are due to one attempt: whoever knows the start and the history can judge a
+/// recorded reply.
+pub fn only_one_reply_is_due()
+    ensures { OnlyOneReplyIsDue }
 {}

@@ -1,5 +1,7 @@
 //! Values from outside: RFC 4226, appendix D, RFC 6238, appendix B, and a tag with a large offset.
-use crate::laws::{begins_with_itself, candidates_are_new, used_stays_used};
+use crate::laws::{
+    begins_with_itself, candidates_are_new, histories_join, only_one_reply_is_due, used_stays_used,
+};
 use crate::{
     Code, Digits, Fields, HotpFields, Moment, OtpFault, OtpHash, Reply, Secret, Setting, Token,
     TotpFields, hotp, hotp_with, step, truncate,
@@ -480,4 +482,6 @@ fn unlock_opens_again(rt: HostRuntime) {
     begins_with_itself();
     candidates_are_new();
     used_stays_used();
+    histories_join();
+    only_one_reply_is_due();
 }

@@ -1,0 +1,96 @@
+-- Histories that go on from where others led, and the one reply that is due.
+use Rattle.std.proofs.Common.{◌≡◌, ◌≤◌, ◌<◌, ◌↔◌, ◌++◌, ℕ, List, [], ◌∷◌, refl, ap, arith, ◌∙◌}
+use Rattle.otp_core.specs.Secret.{IsMoment}
+use Rattle.otp_core.specs.Attempt.{Attempt, Said, attempt_of}
+use Rattle.otp_core.specs.Window.{IsCandidate}
+use Rattle.otp_core.specs.Reply.{IsDue, failures_by}
+use Rattle.otp_core.specs.History.{IsAfter, IsLegal, AreAlike}
+use Rattle.otp_core.specs.Laws.{HistoriesJoin, OnlyOneReplyIsDue}
+use Rattle.otp_core.specs.declared.token.answer.Reply.{Reply}
+use Rattle.otp_core.specs.declared.token.answer.Reply.TheVariants.{Pass, Fail, Locked}
+use Rattle.otp_core.specs.declared.token.kinds.Fields.{Fields}
+use Rattle.otp_core.specs.declared.token.kinds.Fields.TheVariants.{Hotp, Totp}
+use Rattle.otp_core.proofs.Steps.{due_alike, fits_from, candidate_of, pass_alike}
+
+-- candidates after a reply that is no pass
+kept_both : (s t : Fields) (h k : List Attempt) (m : ℕ) (said : Said) (later c : ℕ)
+    → (IsCandidate s h later c ↔ IsCandidate t k later c)
+    → IsCandidate s (attempt_of m said Fail ∷ h) later c ↔ IsCandidate t (attempt_of m said Fail ∷ k) later c
+kept_both (Hotp s) (Hotp t) h k m said later c same = same
+kept_both (Hotp s) (Totp t) h k m said later c same = same
+kept_both (Totp s) (Hotp t) h k m said later c same = same
+kept_both (Totp s) (Totp t) h k m said later c same = same
+
+locked_both : (s t : Fields) (h k : List Attempt) (m : ℕ) (said : Said) (later c : ℕ)
+    → (IsCandidate s h later c ↔ IsCandidate t k later c)
+    → IsCandidate s (attempt_of m said Locked ∷ h) later c ↔ IsCandidate t (attempt_of m said Locked ∷ k) later c
+locked_both (Hotp s) (Hotp t) h k m said later c same = same
+locked_both (Hotp s) (Totp t) h k m said later c same = same
+locked_both (Totp s) (Hotp t) h k m said later c same = same
+locked_both (Totp s) (Totp t) h k m said later c same = same
+
+-- candidates after a due reply, in two alike pasts
+candidates_both : (s t : Fields) (h k : List Attempt) (m : ℕ) (said : Said) (reply : Reply) → AreAlike s h t k → IsMoment m
+    → IsDue t k m said reply → (later c : ℕ) → IsMoment later
+    → IsCandidate s (attempt_of m said reply ∷ h) later c ↔ IsCandidate t (attempt_of m said reply ∷ k) later c
+candidates_both s t h k m said (Pass p) alike is due later c when =
+    let first = pass_alike s t h m said p later c alike.settings
+    (candidate_of s h m said p (fits_from s t h k m said p alike is due.1)) in
+    let second = pass_alike t t k m said p later c refl (candidate_of t k m said p due.1) in
+    ((λ w. second.1 (first.0 w)), (λ w. first.1 (second.0 w)))
+candidates_both s t h k m said Fail alike is due later c when =
+    kept_both s t h k m said later c (alike.candidates later c when)
+candidates_both s t h k m said Locked alike is due later c when =
+    locked_both s t h k m said later c (alike.candidates later c when)
+
+-- one attempt more keeps two pasts alike
+alike_more : (s t : Fields) (h k : List Attempt) (m : ℕ) (said : Said) (reply : Reply) → AreAlike s h t k → IsMoment m
+    → IsDue t k m said reply → AreAlike s (attempt_of m said reply ∷ h) t (attempt_of m said reply ∷ k)
+alike_more s t h k m said reply alike is due = record {
+  settings = alike.settings;
+  failures = ap (failures_by reply) alike.failures;
+  candidates = candidates_both s t h k m said reply alike is due;
+}
+
+-- what is legal from the middle on is legal, and alike, from the start on
+legal_joined : (start : Fields) (earlier : List Attempt) (middle : Fields) → IsAfter start earlier middle
+    → (later : List Attempt) → IsLegal middle later
+    → IsLegal start (later ++ earlier) × AreAlike start (later ++ earlier) middle later
+legal_joined start earlier middle after [] legal = (after.legal, after.alike)
+legal_joined start earlier middle after (a ∷ later) legal =
+    let front = legal_joined start earlier middle after later legal.2 in (
+      (legal.0, due_alike start middle (later ++ earlier) later a.moment a.said a.reply front.1 legal.0 legal.1, front.0),
+      alike_more start middle (later ++ earlier) later a.moment a.said a.reply front.1 legal.0 legal.1,
+    )
+
+pub histories-join : HistoriesJoin
+histories-join start earlier middle later end after on =
+    let front = legal_joined start earlier middle after later on.legal in record {
+      legal = front.0;
+      alike = record {
+        settings = front.1.settings ∙ on.alike.settings;
+        failures = front.1.failures ∙ on.alike.failures;
+        candidates = λ moment c is. (
+          (λ w. (on.alike.candidates moment c is).0 ((front.1.candidates moment c is).0 w)),
+          (λ w. (front.1.candidates moment c is).1 ((on.alike.candidates moment c is).1 w)),
+        );
+      };
+    }
+
+-- failures that have and have not reached the limit
+both_ways : (limit failures : ℕ) → limit ≤ failures → failures < limit → ⊥
+both_ways limit failures reached below = omega arith
+
+pub only-one_reply_is_due : OnlyOneReplyIsDue
+only-one_reply_is_due s h m said Locked Locked x y = refl
+only-one_reply_is_due s h m said Locked Fail x y = absurd (both_ways _ _ x y.0)
+only-one_reply_is_due s h m said Locked (Pass q) x y = absurd (both_ways _ _ x y.0)
+only-one_reply_is_due s h m said Fail Locked x y = absurd (both_ways _ _ y x.0)
+only-one_reply_is_due s h m said Fail Fail x y = refl
+only-one_reply_is_due s h m said Fail (Pass q) x y = absurd (x.1 q y.1)
+only-one_reply_is_due s h m said (Pass p) Locked x y = absurd (both_ways _ _ y x.0)
+only-one_reply_is_due s h m said (Pass p) Fail x y = absurd (y.1 p x.1)
+only-one_reply_is_due s h m said (Pass p) (Pass q) x y =
+    let up : p ≤ q = x.2 q y.1 in
+    let down : q ≤ p = y.2 p x.1 in
+    let same : p ≡ q = omega arith in ap (λ c. Pass c) same

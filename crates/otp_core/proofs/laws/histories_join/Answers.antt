@@ -1,0 +1,5 @@
+use Rattle.otp_core.proofs.Joins.{histories-join}
+use Rattle.otp_core.proofs.laws.histories_join.Goals as goal
+
+pub returns : goal.returns
+returns c = histories-join

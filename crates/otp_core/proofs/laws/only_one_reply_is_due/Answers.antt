@@ -1,0 +1,5 @@
+use Rattle.otp_core.proofs.Joins.{only-one_reply_is_due}
+use Rattle.otp_core.proofs.laws.only_one_reply_is_due.Goals as goal
+
+pub returns : goal.returns
+returns c = only-one_reply_is_due
