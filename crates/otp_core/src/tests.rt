@@ -424,6 +424,16 @@ fn totp_edges(rt: HostRuntime) {
             Reply::Pass(0),
         ),
         ((30, 1, 0, 0), (None, 0, 3, 0), 59, "84755224", Reply::Fail),
+    ];
+    for (window, state, seconds, text, want) in rows {
+        let token = Token::totp(totp_fields(&rt, window, state));
+        check_attempts(&rt, token, &[(seconds, text, want)]);
+    }
+}
+
+#[test]
+fn totp_clocks(rt: HostRuntime) {
+    let rows = [
         // A slow clock looks before step 0, where there is nothing.
         ((30, 0, 0, 1), (None, -1, 3, 0), 29, "84755224", Reply::Fail),
         (

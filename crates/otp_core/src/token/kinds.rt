@@ -35,7 +35,7 @@ pub struct HotpFields {
 }
 
 impl HotpFields {
-    // The first field that is not in its range.
+    /// The first field that is not in its range.
     pub(crate) fn first_outside(&self) -> Option<Setting>
         ensures value { result ≡ first_outside (hotp_settings self.now) }
         ensures none { IfNone result (IsHotpInRange self.now) }
@@ -53,7 +53,7 @@ impl HotpFields {
         }
     }
 
-    // A second value of the same fields.
+    /// A second value of the same fields.
     pub(crate) fn copy(&self) -> HotpFields
         ensures { result ≡ self.now }
     {
@@ -110,7 +110,7 @@ pub struct TotpFields {
 }
 
 impl TotpFields {
-    // The first field that is not in its range.
+    /// The first field that is not in its range.
     pub(crate) fn first_outside(&self) -> Option<Setting>
         ensures value { result ≡ first_outside (totp_settings self.now) }
         ensures none { IfNone result (IsTotpInRange self.now) }
@@ -145,7 +145,7 @@ impl TotpFields {
         }
     }
 
-    // A second value of the same fields.
+    /// A second value of the same fields.
     pub(crate) fn copy(&self) -> TotpFields
         ensures { result ≡ self.now }
     {

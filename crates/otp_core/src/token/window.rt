@@ -16,7 +16,7 @@ pub(crate) struct Counters {
     pub(crate) end: u64,
 }
 
-// The counters that can pass at a moment.
+/// The counters that can pass at a moment.
 pub(crate) fn window(token: &Fields, moment: Moment) -> Counters
     requires range { IsInRange token.now }
     requires moment { IsMoment moment }
