@@ -1,4 +1,5 @@
-//! Values from outside: RFC 4226, appendix D, RFC 6238, appendix B, and a tag with a large offset.
+//! Values from outside: RFC 4226, section 5.4 and appendix D, and RFC 6238, appendix B; a few codes of
+//! other counters are from Python's hmac.
 use crate::laws::{
     begins_with_itself, candidates_are_new, histories_join, only_one_reply_is_due, used_stays_used,
 };
