@@ -16,8 +16,7 @@ run: build
 test: kit
 	rt ci
 	$(MAKE) build
-	python3 tests/keys.py $(PROGRAM)
-	python3 tests/codes.py $(PROGRAM)
+	python3 tests/vectors.py $(PROGRAM)
 	sh tests/process.sh $(PROGRAM)
 
 build: kit $(PROGRAM)
