@@ -1,5 +1,6 @@
 pub mod DigitsLemmas
 pub mod Joins
+pub mod OneReply
 pub mod Steps
 pub mod Used
 pub mod WindowLemmas

@@ -38,3 +38,8 @@ HistoriesJoin = (start : Fields) (earlier : List Attempt) (middle : Fields) (lat
 abbrev pub OnlyOneReplyIsDue : Type 0
 OnlyOneReplyIsDue = (start : Fields) (history : List Attempt) (moment : ℕ) (said : Said) (reply other : Reply)
     → IsDue start history moment said reply → IsDue start history moment said other → reply ≡ other
+
+-- to every attempt some reply is due
+abbrev pub SomeReplyIsDue : Type 0
+SomeReplyIsDue = (start : Fields) (history : List Attempt) (moment : ℕ) (said : Said)
+    → (reply : Reply) × IsDue start history moment said reply

@@ -1,6 +1,6 @@
 //! Laws over histories of attempts, for what stands on tokens. Each is the contract of a function
 //! that does nothing.
-ghost use Rattle.otp_core.specs.Laws.{BeginsWithItself, CandidatesAreNew, UsedStaysUsed, HistoriesJoin, OnlyOneReplyIsDue};
+ghost use Rattle.otp_core.specs.Laws.{BeginsWithItself, CandidatesAreNew, UsedStaysUsed, HistoriesJoin, OnlyOneReplyIsDue, SomeReplyIsDue};
 
 /// Each token stands where it and the empty history lead, so a run may begin with any token.
 pub fn begins_with_itself()
@@ -29,4 +29,9 @@ pub fn histories_join()
 /// recorded reply.
 pub fn only_one_reply_is_due()
     ensures { OnlyOneReplyIsDue }
+{}
+
+/// To every attempt some reply is due, after any start and history.
+pub fn some_reply_is_due()
+    ensures { SomeReplyIsDue }
 {}

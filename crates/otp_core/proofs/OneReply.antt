@@ -1,0 +1,130 @@
+-- Some reply is due to every attempt: whether a counter fits is decided, and those that fit are below a
+-- bound, so there is a least one or none.
+use Rattle.std.proofs.Common.{◌≡◌, ◌+◌, ◌<◌, ◌≤◌, ◌^◌, ◌-◌, ◌⊎◌, ℕ, zero, suc, List, [], ◌∷◌, Option, None, Some, ℤ, true, false, arith, inl, inr, refl, subst}
+use Rattle.std.proofs.lemmas.Bool.{cases_Bool, cases_lt, cases_eq}
+use Rattle.std.proofs.lemmas.Slice.Eq.{bytes_eq-Decides}
+use Rattle.std.specs.Str.{bytes_eq}
+use Rattle.std.specs.Prelude.{◌≤ℤ◌, ◌+ℤ◌, ◌-ℤ◌, pos}
+use Rattle.std.specs.Option.{ForSome}
+use Rattle.otp_core.specs.Attempt.{Attempt, Said, passed}
+use Rattle.otp_core.specs.Window.{IsAbove, IsCandidate, IsCounterDue, IsStepNear, first_due, drift_after, step_at}
+use Rattle.otp_core.specs.Reply.{IsDue, IsFitting, code_text, failures_after, limit_of}
+use Rattle.otp_core.specs.Laws.{SomeReplyIsDue}
+use Rattle.otp_core.specs.declared.token.answer.Reply.{Reply}
+use Rattle.otp_core.specs.declared.token.answer.Reply.TheVariants.{Pass, Fail, Locked}
+use Rattle.otp_core.specs.declared.token.kinds.Fields.{Fields}
+use Rattle.otp_core.specs.declared.token.kinds.Fields.TheVariants.{Hotp, Totp}
+use lib.Signed.{le_z}
+
+-- the fact holds, or it does not
+abbrev Decided : Type 0 → Type 0
+Decided P = P ⊎ (P → ⊥)
+
+-- both facts
+decided_both : (P Q : Type 0) → Decided P → Decided Q → Decided (P × Q)
+decided_both P Q (inl p) (inl q) = inl (p, q)
+decided_both P Q (inl p) (inr other) = inr (λ both. other both.1)
+decided_both P Q (inr other) q = inr (λ both. other both.0)
+
+-- a fact that is as good as a decided one
+decided_by : (P Q : Type 0) → (P → Q) → (Q → P) → Decided P → Decided Q
+decided_by P Q to from (inl p) = inl (to p)
+decided_by P Q to from (inr other) = inr (λ q. other (from q))
+
+decided_le : (a b : ℕ) → Decided (a ≤ b)
+decided_le a b = elim (cases_lt b a) [ inl above ↦ inr (λ h. omega arith) | inr h ↦ inl h ]
+
+decided_lt : (a b : ℕ) → Decided (a < b)
+decided_lt a b = elim (cases_lt a b) [ inl h ↦ inl h | inr over ↦ inr (λ h. omega arith) ]
+
+decided_leℤ : (a b : ℤ) → Decided (a ≤ℤ b)
+decided_leℤ a b = elim (cases_Bool (le_z a b)) [
+  | inl is ↦ inl (record { le = rw is tt })
+  | inr other ↦ inr (λ h. rw other at h.le)
+]
+
+decided_text : (xs ys : List ℕ) → Decided (xs ≡ ys)
+decided_text xs ys = elim (cases_Bool (bytes_eq xs ys)) [
+  | inl is ↦ inl ((bytes_eq-Decides xs ys).0 is)
+  | inr other ↦ inr (λ e. let is = (bytes_eq-Decides xs ys).1 e in absurd (cc))
+]
+
+decided_above : (counters : List ℕ) (w : ℕ) → Decided (IsAbove counters w)
+decided_above [] w = inl tt
+decided_above (p ∷ counters) w = decided_both (p < w) (IsAbove counters w) (decided_lt p w) (decided_above counters w)
+
+decided_last : (last : Option ℕ) (w : ℕ) → Decided (ForSome last (λ l. l < w))
+decided_last None w = inl (λ x e. absurd (cc))
+decided_last (Some last) w =
+    decided_by (last < w) (ForSome (Some last) (λ l. l < w))
+    (λ h x e. let same : last ≡ x = cc in omega (arith, h, same))
+    (λ f. f last refl)
+    (decided_lt last w)
+
+decided_counter : (first look_ahead c : ℕ) → Decided (IsCounterDue first look_ahead c)
+decided_counter first look_ahead c =
+    decided_by ((first ≤ c) × ((c ≤ first + look_ahead) × (c ≤ 2 ^ 63 - 2))) (IsCounterDue first look_ahead c)
+    (λ h. record { not_before = h.0; within = h.1.0; most = h.1.1 })
+    (λ d. (d.not_before, (d.within, d.most)))
+    (decided_both _ _ (decided_le first c) (decided_both _ _ (decided_le c (first + look_ahead)) (decided_le c (2 ^ 63 - 2))))
+
+decided_near : (now : ℕ) (drift : ℤ) (back ahead max_drift w : ℕ) → Decided (IsStepNear now drift back ahead max_drift w)
+decided_near now drift back ahead max_drift w =
+    decided_by
+    (((((pos now +ℤ drift) -ℤ pos back) ≤ℤ pos w) × (pos w ≤ℤ ((pos now +ℤ drift) +ℤ pos ahead))) × ((now ≤ w + max_drift) × (w ≤ now + max_drift)))
+    (IsStepNear now drift back ahead max_drift w)
+    (λ h. record { not_before = h.0.0; not_behind = h.0.1; not_early = h.1.0; not_late = h.1.1 })
+    (λ d. ((d.not_before, d.not_behind), (d.not_early, d.not_late)))
+    (decided_both _ _
+    (decided_both _ _ (decided_leℤ ((pos now +ℤ drift) -ℤ pos back) (pos w)) (decided_leℤ (pos w) ((pos now +ℤ drift) +ℤ pos ahead)))
+    (decided_both _ _ (decided_le now (w + max_drift)) (decided_le w (now + max_drift))))
+
+-- whether a counter can pass is decided
+decided_candidate : (s : Fields) (h : List Attempt) (m c : ℕ) → Decided (IsCandidate s h m c)
+decided_candidate (Hotp t) h m c = decided_counter (first_due t.next (passed h)) t.look_ahead c
+decided_candidate (Totp t) h m w =
+    let near : Type 0 = IsStepNear (step_at t m) (drift_after t h) t.back t.ahead t.max_drift w in
+    decided_by ((t.t0 ≤ m) × (near × (ForSome t.last (λ l. l < w) × IsAbove (passed h) w))) (IsCandidate (Totp t) h m w)
+    (λ d. (d.0, d.1.0, d.1.1.0, d.1.1.1))
+    (λ d. (d.0, (d.1, (d.2, d.3))))
+    (decided_both _ _ (decided_le t.t0 m)
+    (decided_both _ _ (decided_near (step_at t m) (drift_after t h) t.back t.ahead t.max_drift w)
+    (decided_both _ _ (decided_last t.last w) (decided_above (passed h) w))))
+
+-- whether a counter fits what was said is decided
+decided_fitting : (s : Fields) (h : List Attempt) (m : ℕ) (said : Said) (c : ℕ) → Decided (IsFitting s h m said c)
+decided_fitting s h m (Said.OneText text) c =
+    decided_both _ _ (decided_candidate s h m c) (decided_text (code_text s c) text)
+
+-- below a number there is a least one that a decided fact holds of, or it holds of none
+least : (P : ℕ → Type 0) → ((k : ℕ) → Decided (P k)) → (n : ℕ)
+    → ((c : ℕ) × P c × ((k : ℕ) → P k → c ≤ k)) ⊎ ((k : ℕ) → k < n → P k → ⊥)
+least P decided zero = inr (λ k low p. absurd (omega arith))
+least P decided (suc n) = elim (least P decided n) [
+  | inl found ↦ inl found
+  | inr none ↦ elim (decided n) [
+    | inl here ↦ inl (n, here, λ k p. elim (cases_lt k n) [ inl low ↦ absurd (none k low p) | inr h ↦ h ])
+    | inr other ↦ inr (λ k low p. elim (cases_lt k n) [
+      | inl lower ↦ none k lower p
+      | inr high ↦ let same : k ≡ n = omega arith in other (subst P same p)
+    ])
+  ]
+]
+
+-- the reply, where what fits is below a bound
+due_below : (s : Fields) (h : List Attempt) (m : ℕ) (said : Said) (n : ℕ)
+    → ((k : ℕ) → IsFitting s h m said k → k < n) → (reply : Reply) × IsDue s h m said reply
+due_below s h m said n bound = elim (cases_lt (failures_after s h) (limit_of s)) [
+  | inl below ↦ elim (least (λ k. IsFitting s h m said k) (decided_fitting s h m said) n) [
+    | inl found ↦ (Pass found.0, (below, found.1, found.2))
+    | inr none ↦ (Fail, (below, λ k fits. none k (bound k fits) fits))
+  ]
+  | inr reached ↦ (Locked, reached)
+]
+
+-- what fits can pass, and that is below a bound
+pub some-reply_is_due : SomeReplyIsDue
+some-reply_is_due (Hotp t) h m (Said.OneText text) =
+    due_below (Hotp t) h m (Said.OneText text) (2 ^ 63) (λ k fits. omega (arith, fits.0.most))
+some-reply_is_due (Totp t) h m (Said.OneText text) =
+    due_below (Totp t) h m (Said.OneText text) (step_at t m + t.max_drift + 1) (λ w fits. omega (arith, fits.0.1.not_late))
