@@ -90,6 +90,11 @@ impl Setting {
 }
 
 impl fmt::Display for Setting {
+    ghost use Rattle.std.specs.Prelude.{Some};
+    ghost use Rattle.otp_core.specs.Fault.{setting_name};
+
+    ghost output = { λ setting. Some (setting_name setting) };
+
     fn fmt<W: fmt::Write>(&self, f: &mut fmt::Formatter<W>) -> fmt::Result {
         f.write_str(self.name())
     }

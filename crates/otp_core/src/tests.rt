@@ -183,6 +183,28 @@ fn fault_texts(rt: HostRuntime) -> Result<(), Fail> {
     Ok(())
 }
 
+// A setting is shown by the name of its field.
+#[test]
+fn setting_names(rt: HostRuntime) -> Result<(), Fail> {
+    let rows = [
+        (Setting::Next, "next"),
+        (Setting::LookAhead, "look_ahead"),
+        (Setting::Step, "step"),
+        (Setting::Back, "back"),
+        (Setting::Ahead, "ahead"),
+        (Setting::MaxDrift, "max_drift"),
+        (Setting::Last, "last"),
+        (Setting::Drift, "drift"),
+        (Setting::Limit, "limit"),
+        (Setting::Failures, "failures"),
+    ];
+    for (setting, name) in rows {
+        assert_eq!(rt; setting.name(), name);
+        assert_eq!(rt; format!(in rt.alloc(); "{setting}")?.as_str(), name);
+    }
+    Ok(())
+}
+
 // A HOTP token's fields: next, look_ahead, limit and failures.
 fn hotp_fields(rt: &impl Abort, state: (u64, u64, u64, u64)) -> HotpFields {
     let (next, look_ahead, limit, failures) = state;

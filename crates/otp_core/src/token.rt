@@ -5,6 +5,7 @@ ghost use Rattle.otp_core.specs.Attempt.{Attempt, attempt_of};
 ghost use Rattle.otp_core.specs.Attempt.Said.{OneText};
 ghost use Rattle.otp_core.specs.Reply.{IsDue};
 ghost use Rattle.otp_core.specs.History.{IsAfter};
+ghost use Rattle.otp_core.specs.State.{advanced};
 ghost use Rattle.otp_core.specs.declared.token.kinds.Fields.{Fields as TheFields};
 ghost use Rattle.otp_core.specs.declared.token.kinds.Fields.TheVariants.{Hotp, Totp};
 
@@ -91,13 +92,16 @@ impl Token {
     /// Judges `text` as a code at `moment`. `Locked` where the failures have reached the limit; else
     /// `Pass` with the least counter that can pass and whose code is the text; else `Fail`. So no
     /// counter passes twice. For every start and history that lead to this token, the reply is the
-    /// one due after them, and they lead, with this attempt added, to the token as it is then.
+    /// one due after them, and they lead, with this attempt added, to the token as it is then. Its
+    /// fields change as the reply says: a pass moves `next`, or `last` and `drift`, past the counter
+    /// and clears the failures; a failure is counted; `Locked` changes nothing.
     pub fn attempt(&mut self, moment: Moment, text: &[u8]) -> Reply
         ensures due { (start : TheFields) (history : List Attempt)
             → IsAfter start history self.old → IsDue start history moment (OneText text.now) result }
         ensures after { (start : TheFields) (history : List Attempt)
             → IsAfter start history self.old
             → IsAfter start (attempt_of moment (OneText text.now) result ∷ history) self.new }
+        ensures state { self.new ≡ advanced self.old moment result }
     {
         prove!(moment.seconds() <= 253_402_300_799);
         answer(&mut self.fields, moment, text)
