@@ -74,6 +74,11 @@ impl Judged {
 }
 
 impl fmt::Display for Judged {
+    ghost use Rattle.std.specs.Prelude.{Some};
+    ghost use Rattle.scramotp.specs.Options.{option_name};
+
+    ghost output = { λ option. Some (option_name option) };
+
     fn fmt<W: fmt::Write>(&self, f: &mut fmt::Formatter<W>) -> fmt::Result {
         f.write_str(self.name())
     }
