@@ -150,6 +150,7 @@ pub fn write_client_final<A: Allocator>(
     ensures related { let p = client_final_of channel.now nonce.now extensions.now proof.now.items in
         OnOk result (IsClientFinal (client_final_text p) p) }
     ensures err { OnErr result (out.new.items ≡ out.old.items) }
+    ensures capacity { vec_capacity out.old ≤ vec_capacity out.new }
 
     ensures unwritable { IsErrOf result WriteFault.Unwritable
         → CanBeClientFinal channel.now nonce.now extensions.now proof.now.items → ⊥ }

@@ -257,6 +257,7 @@ pub fn write_client_first<A: Allocator>(
     ensures related { let p = client_first_of flag.entry (option_copied authzid.entry) name.now nonce.now extensions.now in
         OnOk result (IsClientFirst (client_first_text p) p) }
     ensures err { OnErr result (out.new.items ≡ out.old.items) }
+    ensures capacity { vec_capacity out.old ≤ vec_capacity out.new }
 
     ensures unwritable { IsErrOf result WriteFault.Unwritable
         → CanBeClientFirst flag.entry extensions.now → ⊥ }

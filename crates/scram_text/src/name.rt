@@ -173,6 +173,7 @@ pub fn write_name<A: Allocator>(name: &PlainName, out: &mut Vec<u8, A>) -> Resul
     ensures ok { OnOk result (out.new.items ≡ out.old.items ++ name_spelling name.now) }
     ensures related { IsSaslName (name_spelling name.now) }
     ensures err { OnErr result (out.new.items ≡ out.old.items) }
+    ensures capacity { vec_capacity out.old ≤ vec_capacity out.new }
     ensures no_memory { IfErr result (λ f. (f ≡ WriteFault.NoMemory)
         × (vec_capacity out.old < vec_len out.old + length (name_spelling name.now))) }
 {

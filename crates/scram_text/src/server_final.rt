@@ -125,6 +125,7 @@ pub fn write_server_final<A: Allocator>(
     ensures related { let p = server_final_of (outcome_of outcome.entry) extensions.now in
         OnOk result (IsServerFinal (server_final_text p) p) }
     ensures err { OnErr result (out.new.items ≡ out.old.items) }
+    ensures capacity { vec_capacity out.old ≤ vec_capacity out.new }
 
     ensures unwritable { IsErrOf result WriteFault.Unwritable
         → CanBeServerFinal (outcome_of outcome.entry) extensions.now → ⊥ }

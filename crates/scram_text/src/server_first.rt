@@ -140,6 +140,7 @@ pub fn write_server_first<A: Allocator>(
     ensures related { let p = server_first_of nonce.now salt.now count extensions.now in
         OnOk result (IsServerFirst (server_first_text p) p) }
     ensures err { OnErr result (out.new.items ≡ out.old.items) }
+    ensures capacity { vec_capacity out.old ≤ vec_capacity out.new }
 
     ensures unwritable { IsErrOf result WriteFault.Unwritable
         → CanBeServerFirst nonce.now salt.now count extensions.now → ⊥ }

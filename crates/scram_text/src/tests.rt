@@ -11,6 +11,7 @@ use std::process::Abort;
 use std::test::Fail;
 
 mod exchanges;
+mod faults;
 
 // RFC 5802, section 5, and RFC 7677, section 3.
 const PUBLISHED: [[&str; 5]; 2] = [
