@@ -1,6 +1,7 @@
 -- The formulas by SCRAM mechanism: SHA-1 for SCRAM-SHA-1 (RFC 5802), SHA-256 for SCRAM-SHA-256
 -- (RFC 7677). Both hash functions have blocks of 64 bytes.
-use Rattle.std.specs.Prelude.{ℕ, List, codes}
+use Rattle.std.specs.Prelude.{ℕ, ◌==◌, List, codes}
+use Rattle.std.specs.List.{slice_split, Contains}
 use Rattle.sha1.specs.Sha1.{Holds, sha1}
 use Rattle.sha2.specs.Sha256.{sha256}
 use Rattle.sha2.specs.Hashers.{Holds256}
@@ -17,6 +18,10 @@ use Rattle.mac_core.specs.declared.chosen.ScramMac.TheVariants.{BySha1, BySha256
 abbrev pub name_of : Mechanism → List ℕ
 name_of ScramSha1 = codes "SCRAM-SHA-1"
 name_of ScramSha256 = codes "SCRAM-SHA-256"
+
+-- the mechanism's name is one of those in the text, which a space separates
+abbrev pub IsOffered : Mechanism → List ℕ → Type 0
+IsOffered mechanism names = Contains (slice_split (λ c. c == 32) names) (name_of mechanism)
 
 -- H of the mechanism
 abbrev pub hash_by : Mechanism → List ℕ → List ℕ

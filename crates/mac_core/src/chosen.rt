@@ -1,7 +1,7 @@
 //! The formulas of `keys` and `hmac` where the hash function is chosen at run time, by the name of a
 //! SCRAM mechanism.
-ghost use Rattle.std.specs.Prelude.{◌≡◌, ◌≢◌, ◌≤◌, ℕ, List, [], ◌++◌, length, IfSome, IfNone};
-ghost use Rattle.mac_core.specs.Chosen.{name_of, length_by, hmac_by, hi_by, client_key_by, stored_key_by, server_key_by, IsScramMac};
+ghost use Rattle.std.specs.Prelude.{◌≡◌, ◌≢◌, ◌≤◌, ◌↔◌, IsTrue, ℕ, List, [], ◌++◌, length, IfSome, IfNone};
+ghost use Rattle.mac_core.specs.Chosen.{name_of, IsOffered, length_by, hmac_by, hi_by, client_key_by, stored_key_by, server_key_by, IsScramMac};
 
 use crate::digest::{HSha1, HSha256, Tag};
 use crate::hmac::Mac;
@@ -42,6 +42,29 @@ impl Mechanism {
             Mechanism::ScramSha1 => "SCRAM-SHA-1",
             Mechanism::ScramSha256 => "SCRAM-SHA-256",
         }
+    }
+
+    /// The mechanism to take of the names that a server offers, with one space between each two:
+    /// SCRAM-SHA-256 where it is among them, else SCRAM-SHA-1 where that is, else None.
+    pub fn choose(names: &[u8]) -> Option<Mechanism>
+        ensures some { IfSome result (λ mechanism. IsOffered mechanism names.now) }
+        ensures best { IsOffered Mechanism.ScramSha256 names.now → result ≡ Some Mechanism.ScramSha256 }
+        ensures none { IfNone result ((mechanism : Mechanism) → IsOffered mechanism names.now → ⊥) }
+    {
+        if Mechanism::ScramSha256.is_offered(names) {
+            Some(Mechanism::ScramSha256)
+        } else if Mechanism::ScramSha1.is_offered(names) {
+            Some(Mechanism::ScramSha1)
+        } else {
+            None
+        }
+    }
+
+    fn is_offered(self, names: &[u8]) -> bool
+        ensures { IsTrue result ↔ IsOffered self names.now }
+    {
+        let wanted = self.name().as_bytes();
+        names.split(|byte| *byte == b' ').any(|name| name == wanted)
     }
 
     /// Hi(password, salt, count), as `hi`. `count` is at least 1.

@@ -363,6 +363,24 @@ fn mechanism_names(rt: HostRuntime) {
     }
 }
 
+#[test]
+fn a_client_takes_the_longer_hash_that_is_offered(rt: HostRuntime) {
+    let cases = [
+        (
+            "SCRAM-SHA-1 PLAIN SCRAM-SHA-256",
+            Some(Mechanism::ScramSha256),
+        ),
+        ("PLAIN SCRAM-SHA-1", Some(Mechanism::ScramSha1)),
+        ("PLAIN", None),
+        ("", None),
+        ("SCRAM-SHA-256-PLUS SCRAM-SHA-1-PLUS", None),
+        ("SCRAM-SHA-256,SCRAM-SHA-1", None),
+    ];
+    for (names, want) in cases {
+        assert_eq!(rt; Mechanism::choose(names.as_bytes()), want, "{names}");
+    }
+}
+
 // The same values by a mechanism that is chosen at run time.
 #[test]
 fn keys_by_mechanism(rt: HostRuntime) -> Result<(), Fail> {
