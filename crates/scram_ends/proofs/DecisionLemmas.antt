@@ -1,0 +1,156 @@
+-- Behind an opening some verdict is due to every text: each row is decided.
+use Rattle.std.proofs.Common.{◌≡◌, ℕ, ◌<◌, ◌≤◌, ◌+◌, ◌⊎◌, inl, inr, true, List, length, sym, subst, refl, arith}
+use Rattle.std.specs.List.{Contains, list_any}
+use Rattle.std.specs.Str.{bytes_eq}
+use Rattle.std.specs.declared.option.Option.{Option}
+use Rattle.std.specs.declared.option.Option.TheVariants.{None, Some}
+use Rattle.std.proofs.lemmas.Bool.{cases_Bool, cases_lt, both_ways}
+use Rattle.mac_core.specs.Chosen.{length_by, stored_key_by}
+use Rattle.mac_core.specs.Keys.{xor_bytes}
+use Rattle.mac_core.specs.declared.chosen.Mechanism.{Mechanism}
+use Rattle.mac_core.proofs.AmongLemmas.{any_among}
+use Rattle.scram_text.specs.Messages.{header_text, ClientFinalParts, client_final_mandatory}
+use Rattle.scram_text.proofs.DecisionLemmas.{Decided, decided_by, decided_both, decided_test, decided_nat, decided_same}
+use Rattle.scram_text.proofs.GrammarLemmas.{client_final_law}
+use Rattle.scram_ends.specs.Entry.{Keys, Entry}
+use Rattle.scram_ends.specs.Auth.{auth_message, client_signature, server_signature, IsProof}
+use Rattle.scram_ends.specs.Opening.{Opening, IsOpening, IsAllowed}
+use Rattle.scram_ends.specs.Verdict.{row, Asks, Meets, Passes, IsSignature, accept, refuse}
+use Rattle.scram_ends.specs.Laws.{SomeIsDue}
+use Rattle.scram_ends.specs.declared.verdict.Refusal.{Refusal}
+use Rattle.scram_ends.specs.declared.verdict.Refusal.TheVariants.{InvalidEncoding, ExtensionsNotSupported, OtherNonce, Channel, InvalidProof, NotAuthorised}
+use Rattle.scram_ends.proofs.VerdictLemmas.{asked_of, same_row}
+
+-- whether a name is among others is decided
+decided_among : (names : List (List ℕ)) (name : List ℕ) → Decided (Contains names name)
+decided_among names name =
+    decided_by (list_any (λ x. bytes_eq x name) names ≡ true) (Contains names name)
+    (any_among names name).0 (any_among names name).1 (decided_test _)
+
+decided_allowed : (e : Entry) (name : List ℕ) (authz : Option (List ℕ)) → Decided (IsAllowed e name authz)
+decided_allowed e name None = inl tt
+decided_allowed e name (Some authz) = elim (decided_same authz name) [
+  | inl own ↦ inl (inl own)
+  | inr other ↦ elim (decided_among e.act_as authz) [
+    | inl among ↦ inl (inr among)
+    | inr not_among ↦ inr (λ allowed. elim allowed [ inl own ↦ other own | inr among ↦ not_among among ])
+  ]
+]
+
+decided_proof : (m : Mechanism) (keys : Keys) (auth proof : List ℕ) → Decided (IsProof m keys auth proof)
+decided_proof m keys auth proof =
+    decided_by ((length proof ≡ length_by m) × (stored_key_by m (xor_bytes proof (client_signature m keys auth)) ≡ keys.stored)) (IsProof m keys auth proof)
+    (λ h. record { len = h.0; opens = h.1 }) (λ p. (p.len, p.opens))
+    (decided_both _ _ (decided_nat (length proof) (length_by m)) (decided_same _ _))
+
+no_keys : (keys : Keys) → None ≡ Some keys → ⊥
+no_keys keys same = cc
+
+some_keys : (one other : Keys) → Some one ≡ Some other → one ≡ other
+some_keys one other same = cc
+
+decided_keys : (m : Mechanism) (held : Option Keys) (auth proof : List ℕ)
+    → Decided ((keys : Keys) × (held ≡ Some keys) × IsProof m keys auth proof)
+decided_keys m None auth proof = inr (λ h. no_keys h.0 h.1)
+decided_keys m (Some keys) auth proof =
+    decided_by (IsProof m keys auth proof) ((k : Keys) × (Some keys ≡ Some k) × IsProof m k auth proof)
+    (λ h. (keys, refl, h)) (λ h. subst (λ (k : Keys). IsProof m k auth proof) (sym (some_keys keys h.0 h.1)) h.2)
+    (decided_proof m keys auth proof)
+
+-- what a row asks of the parts is decided
+decided_asked : (r : Refusal) (e : Entry) (m : Mechanism) (t2 : List ℕ) (o : Opening) (p : ClientFinalParts) → Decided (Asks r e m t2 o p)
+decided_asked InvalidEncoding e m t2 o p = inl tt
+decided_asked ExtensionsNotSupported e m t2 o p = elim (cases_Bool (client_final_mandatory p)) [
+  | inl asks ↦ inr (λ none. both_ways (client_final_mandatory p) none asks)
+  | inr none ↦ inl none
+]
+decided_asked OtherNonce e m t2 o p = decided_same p.nonce o.challenge.nonce
+decided_asked Channel e m t2 o p = decided_same p.channel (header_text o.first)
+decided_asked InvalidProof e m t2 o p = decided_keys m e.keys (auth_message o.first t2 p) p.proof
+decided_asked NotAuthorised e m t2 o p = decided_allowed e o.name o.authz
+
+-- a text that is no client-final message meets no row, and one that is meets a row where its parts do
+decided_meets : (r : Refusal) (e : Entry) (m : Mechanism) (t1 t2 t3 : List ℕ) (o : Opening) → IsOpening e t1 t2 o → Decided (Meets r e m t1 t2 t3)
+decided_meets r e m t1 t2 t3 o is_opening = elim (client_final_law t3) [
+  | inr none ↦ inr (λ meets. none meets.final meets.is_final)
+  | inl found ↦ decided_by (Asks r e m t2 o found.0) (Meets r e m t1 t2 t3)
+      (λ asked. record { opening = o; final = found.0; is_opening = is_opening; is_final = found.1; asked = asked })
+      (asked_of r e m t1 t2 t3 o found.0 is_opening found.1)
+      (decided_asked r e m t2 o found.0)
+]
+
+decided_passes : (r : Refusal) (e : Entry) (m : Mechanism) (t1 t2 t3 : List ℕ) (o : Opening) → IsOpening e t1 t2 o → Decided (Passes r e m t1 t2 t3)
+decided_passes InvalidEncoding e m t1 t2 t3 o is_opening = elim (client_final_law t3) [ inl found ↦ inl found | inr none ↦ inr (λ h. none h.0 h.1) ]
+decided_passes ExtensionsNotSupported e m t1 t2 t3 o is_opening = decided_meets ExtensionsNotSupported e m t1 t2 t3 o is_opening
+decided_passes OtherNonce e m t1 t2 t3 o is_opening = decided_meets OtherNonce e m t1 t2 t3 o is_opening
+decided_passes Channel e m t1 t2 t3 o is_opening = decided_meets Channel e m t1 t2 t3 o is_opening
+decided_passes InvalidProof e m t1 t2 t3 o is_opening = decided_meets InvalidProof e m t1 t2 t3 o is_opening
+decided_passes NotAuthorised e m t1 t2 t3 o is_opening = decided_meets NotAuthorised e m t1 t2 t3 o is_opening
+
+-- each row is one of these
+row_range : (q : Refusal) → (1 ≤ row q) × (row q ≤ 6)
+row_range InvalidEncoding = (omega arith, omega arith)
+row_range ExtensionsNotSupported = (omega arith, omega arith)
+row_range OtherNonce = (omega arith, omega arith)
+row_range Channel = (omega arith, omega arith)
+row_range InvalidProof = (omega arith, omega arith)
+row_range NotAuthorised = (omega arith, omega arith)
+
+-- a fact of each row before this one and of this one is one of each row before the next
+one_more : (P : Refusal → Type 0) (r : Refusal) → ((q : Refusal) → row q < row r → P q) → P r → (q : Refusal) → row q < row r + 1 → P q
+one_more P r earlier here q below = elim (cases_lt (row q) (row r)) [
+  | inl before ↦ earlier q before
+  | inr not_before ↦ let same : row r ≡ row q = omega arith in subst P (same_row r q same) here
+]
+
+-- the first row of which a decided fact does not hold, or it holds of all
+first_refused : (P : Refusal → Type 0) → ((r : Refusal) → Decided (P r))
+    → ((r : Refusal) × (P r → ⊥) × ((q : Refusal) → row q < row r → P q)) ⊎ ((q : Refusal) → P q)
+first_refused P decided =
+    let before_1 : (q : Refusal) → row q < 1 → P q = λ q below. absurd (omega (arith, row_range q, below)) in
+    elim (decided InvalidEncoding) [
+      | inr no_1 ↦ inl (InvalidEncoding, no_1, before_1)
+      | inl is_1 ↦
+          let before_2 : (q : Refusal) → row q < 2 → P q = one_more P InvalidEncoding before_1 is_1 in
+          elim (decided ExtensionsNotSupported) [
+            | inr no_2 ↦ inl (ExtensionsNotSupported, no_2, before_2)
+            | inl is_2 ↦
+                let before_3 : (q : Refusal) → row q < 3 → P q = one_more P ExtensionsNotSupported before_2 is_2 in
+                elim (decided OtherNonce) [
+                  | inr no_3 ↦ inl (OtherNonce, no_3, before_3)
+                  | inl is_3 ↦
+                      let before_4 : (q : Refusal) → row q < 4 → P q = one_more P OtherNonce before_3 is_3 in
+                      elim (decided Channel) [
+                        | inr no_4 ↦ inl (Channel, no_4, before_4)
+                        | inl is_4 ↦
+                            let before_5 : (q : Refusal) → row q < 5 → P q = one_more P Channel before_4 is_4 in
+                            elim (decided InvalidProof) [
+                              | inr no_5 ↦ inl (InvalidProof, no_5, before_5)
+                              | inl is_5 ↦
+                                  let before_6 : (q : Refusal) → row q < 6 → P q = one_more P InvalidProof before_5 is_5 in
+                                  elim (decided NotAuthorised) [
+                                    | inr no_6 ↦ inl (NotAuthorised, no_6, before_6)
+                                    | inl is_6 ↦
+                                        inr (λ q. one_more P NotAuthorised before_6 is_6 q (omega (arith, row_range q)))
+                                  ]
+                            ]
+                      ]
+                ]
+          ]
+    ]
+
+-- the signature, where the proof passes
+signature_of_proof : (e : Entry) (m : Mechanism) (t1 t2 t3 : List ℕ) → Meets InvalidProof e m t1 t2 t3
+    → (signature : List ℕ) × IsSignature e m t1 t2 t3 signature
+signature_of_proof e m t1 t2 t3 meets =
+    let proof = meets.asked in (
+      server_signature m proof.0 (auth_message meets.opening.first t2 meets.final),
+      record { opening = meets.opening; final = meets.final; keys = proof.0; is_opening = meets.is_opening; is_final = meets.is_final; has_keys = proof.1; signed = refl },
+    )
+
+pub some_is_due : SomeIsDue
+some_is_due e m t1 t2 t3 o is_opening =
+    elim (first_refused (λ r. Passes r e m t1 t2 t3) (λ r. decided_passes r e m t1 t2 t3 o is_opening)) [
+      | inl found ↦ (refuse found.0, (found.1, found.2))
+      | inr all ↦ let signed = signature_of_proof e m t1 t2 t3 (all InvalidProof) in (accept signed.0, (all, signed.1))
+    ]

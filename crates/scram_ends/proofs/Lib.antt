@@ -1,0 +1,3 @@
+pub mod OpeningLemmas
+pub mod VerdictLemmas
+pub mod DecisionLemmas

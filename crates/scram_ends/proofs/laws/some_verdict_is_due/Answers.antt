@@ -1,0 +1,5 @@
+use Rattle.scram_ends.proofs.DecisionLemmas.{some_is_due}
+use Rattle.scram_ends.proofs.laws.some_verdict_is_due.Goals as goal
+
+pub returns : goal.returns
+returns c = some_is_due

@@ -1,0 +1,39 @@
+-- What both ends sign, and what shows that an end has its key (RFC 5802, section 3).
+use Rattle.std.specs.Prelude.{ℕ, ◌≡◌, List, [], ◌∷◌, ◌++◌, length}
+use Rattle.mac_core.specs.Chosen.{length_by, hmac_by, hi_by, client_key_by, stored_key_by}
+use Rattle.mac_core.specs.Keys.{xor_bytes}
+use Rattle.mac_core.specs.declared.chosen.Mechanism.{Mechanism}
+use Rattle.scram_text.specs.Messages.{ClientFirstParts, bare_text, ClientFinalParts, final_front}
+use Rattle.scram_ends.specs.Entry.{Keys, password_keys}
+
+-- AuthMessage as far as the challenge: client-first-bare, comma, server-first, comma. A text is that of
+-- its parts, so each stands here as it was sent.
+abbrev pub auth_front : ClientFirstParts → List ℕ → List ℕ
+auth_front first challenge = bare_text first ++ 44 ∷ [] ++ challenge ++ 44 ∷ []
+
+-- AuthMessage: behind these, client-final-without-proof
+abbrev pub auth_message : ClientFirstParts → List ℕ → ClientFinalParts → List ℕ
+auth_message first challenge final = auth_front first challenge ++ final_front final
+
+-- ClientSignature = HMAC(StoredKey, AuthMessage)
+abbrev pub client_signature : Mechanism → Keys → List ℕ → List ℕ
+client_signature m keys auth = hmac_by m keys.stored auth
+
+-- ServerSignature = HMAC(ServerKey, AuthMessage)
+abbrev pub server_signature : Mechanism → Keys → List ℕ → List ℕ
+server_signature m keys auth = hmac_by m keys.server auth
+
+-- the proof has the length of H, and the client key that it hides, ClientProof xor ClientSignature, is
+-- the one whose digest the server stores
+pub record IsProof (m : Mechanism) (keys : Keys) (auth proof : List ℕ) : Type 0 where
+  pub len : length proof ≡ length_by m
+  pub opens : stored_key_by m (xor_bytes proof (client_signature m keys auth)) ≡ keys.stored
+
+-- ClientProof = ClientKey xor ClientSignature, for the keys of a password
+abbrev pub proof_of : Mechanism → List ℕ → List ℕ → ℕ → List ℕ → List ℕ
+proof_of m password salt count auth =
+    xor_bytes (client_key_by m (hi_by m password salt count)) (client_signature m (password_keys m password salt count) auth)
+
+-- the server signature that a client expects, for the server key of its password
+abbrev pub signature_of : Mechanism → List ℕ → List ℕ → ℕ → List ℕ → List ℕ
+signature_of m password salt count auth = server_signature m (password_keys m password salt count) auth

@@ -1,0 +1,66 @@
+-- What a client stands for at each of its steps, and why it ends a login.
+use Rattle.std.specs.Prelude.{ℕ, ◌≡◌, ◌≢◌, ◌≤◌, ◌<◌, ◌⊎◌, true, false, List, ◌++◌, length}
+use Rattle.std.specs.declared.option.Option.{Option}
+use Rattle.mac_core.specs.declared.chosen.Mechanism.{Mechanism}
+use Rattle.scram_text.specs.Messages.{ClientFirstParts, header_text, bare_text, ServerFirstParts, IsServerFirst, server_first_mandatory, verified, failed, ServerFinalParts, IsServerFinal, server_final_mandatory}
+use Rattle.scram_text.specs.Faults.{IsServerFirstFault, IsServerFinalFault}
+use Rattle.scram_ends.specs.Auth.{auth_message, signature_of}
+use Rattle.scram_ends.specs.Honest.{IsHonestFirst, IsHonest}
+use Rattle.scram_ends.specs.declared.client.Limits.{Limits}
+use Rattle.scram_ends.specs.declared.client.ClientOne.{ClientOne}
+use Rattle.scram_ends.specs.declared.client.ClientTwo.{ClientTwo}
+use Rattle.scram_ends.specs.declared.client.ClientFault.{ClientFault}
+use Rattle.scram_ends.specs.declared.client.ClientFault.TheVariants.{Text, Mandatory, NonceNotMine, NonceNotLonger, CountOutside, ServerRefused, WrongSignature}
+
+-- the client has sent this first message, by this mechanism and within these limits
+pub record IsStarted (w : ClientOne) (m : Mechanism) (limits : Limits) (name : List ℕ) (authz : Option (List ℕ)) (own t1 : List ℕ) : Type 0 where
+  pub first : ClientFirstParts
+  pub is_first : IsHonestFirst name authz own t1 first
+  pub mechanism : w.mechanism ≡ m
+  pub within : w.limits ≡ limits
+  pub bare : w.bare.items ≡ bare_text first
+  pub header : w.header.items ≡ header_text first
+  pub nonce : w.nonce.items ≡ own
+
+-- the client has sent the third message of an honest login, and expects the signature of the password's
+-- own server key
+pub record IsExpecting (w : ClientTwo) (m : Mechanism) (password name : List ℕ) (authz : Option (List ℕ)) (own t1 t2 t3 : List ℕ) : Type 0 where
+  pub honest : IsHonest password m name authz own t1 t2 t3
+  pub signature : w.expected.items ≡ signature_of m password honest.challenge.salt honest.challenge.count (auth_message honest.first t2 honest.final)
+
+-- the count is outside the client's limits
+abbrev pub IsOutside : Limits → ℕ → Type 0
+IsOutside limits count = (count < limits.least) ⊎ (limits.most < count)
+
+-- why a client with this nonce of its own does not answer a challenge, the first that is so: the text is
+-- no server-first message, with its first fault; it is mandatory; its nonce does not begin with the
+-- client's; it is the client's; its count is outside the limits
+abbrev pub IsChallengeFault : Limits → List ℕ → List ℕ → ClientFault → Type 0
+IsChallengeFault limits own t2 (Text fault) = ((p : ServerFirstParts) → IsServerFirst t2 p → ⊥) × IsServerFirstFault t2 fault
+IsChallengeFault limits own t2 Mandatory = (p : ServerFirstParts) × IsServerFirst t2 p × (server_first_mandatory p ≡ true)
+IsChallengeFault limits own t2 NonceNotMine =
+    (p : ServerFirstParts) × IsServerFirst t2 p × (server_first_mandatory p ≡ false)
+    × ((more : List ℕ) → p.nonce ≢ own ++ more)
+IsChallengeFault limits own t2 NonceNotLonger =
+    (p : ServerFirstParts) × IsServerFirst t2 p × (server_first_mandatory p ≡ false) × (p.nonce ≡ own)
+IsChallengeFault limits own t2 CountOutside =
+    (p : ServerFirstParts) × IsServerFirst t2 p × (server_first_mandatory p ≡ false)
+    × ((more : List ℕ) × (p.nonce ≡ own ++ more) × (1 ≤ length more)) × IsOutside limits p.count
+IsChallengeFault limits own t2 ServerRefused = ⊥
+IsChallengeFault limits own t2 WrongSignature = ⊥
+
+-- why a client that expects this signature does not take the server for authentic, the first that is so:
+-- the text is no server-final message, with its first fault; it is mandatory; it is an error; its verifier
+-- is another
+abbrev pub IsLastFault : List ℕ → List ℕ → ClientFault → Type 0
+IsLastFault signature t4 (Text fault) = ((p : ServerFinalParts) → IsServerFinal t4 p → ⊥) × IsServerFinalFault t4 fault
+IsLastFault signature t4 Mandatory = (p : ServerFinalParts) × IsServerFinal t4 p × (server_final_mandatory p ≡ true)
+IsLastFault signature t4 ServerRefused =
+    (p : ServerFinalParts) × IsServerFinal t4 p × (server_final_mandatory p ≡ false)
+    × ((value : List ℕ) × (p.outcome ≡ failed value))
+IsLastFault signature t4 WrongSignature =
+    (p : ServerFinalParts) × IsServerFinal t4 p × (server_final_mandatory p ≡ false)
+    × ((other : List ℕ) × (p.outcome ≡ verified other) × (other ≢ signature))
+IsLastFault signature t4 NonceNotMine = ⊥
+IsLastFault signature t4 NonceNotLonger = ⊥
+IsLastFault signature t4 CountOutside = ⊥

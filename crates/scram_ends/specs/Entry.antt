@@ -1,0 +1,34 @@
+-- What a server keeps of an account for one mechanism, and what both ends make of a password.
+use Rattle.std.specs.Prelude.{ℕ, List, option_map}
+use Rattle.std.specs.declared.option.Option.{Option}
+use Rattle.mac_core.specs.Chosen.{hi_by, client_key_by, stored_key_by, server_key_by}
+use Rattle.mac_core.specs.declared.chosen.Mechanism.{Mechanism}
+use Rattle.mac_core.specs.declared.keys.ScramKeys.{ScramKeys}
+use Rattle.scram_ends.specs.declared.entry.KeysView.{KeysView}
+
+-- StoredKey and ServerKey (RFC 5802, section 3)
+pub record Keys : Type 0 where
+  pub stored : List ℕ
+  pub server : List ℕ
+
+-- an account for one mechanism: its salt, its iteration count, its keys, and the other names that it
+-- may act as. A decoy, which stands in for a name that has no keys, has none.
+pub record Entry : Type 0 where
+  pub salt : List ℕ
+  pub count : ℕ
+  pub keys : Option Keys
+  pub act_as : List (List ℕ)
+
+-- the keys, as bytes
+abbrev pub keys_of : ScramKeys → Keys
+keys_of keys = record { stored = keys.stored.items; server = keys.server.items }
+
+-- the account that a view shows
+abbrev pub entry_of : KeysView → Entry
+entry_of view = record { salt = view.salt; count = view.count; keys = option_map keys_of view.keys; act_as = view.act_as.now }
+
+-- the keys of a password: those of its SaltedPassword (RFC 5802, section 3)
+abbrev pub password_keys : Mechanism → List ℕ → List ℕ → ℕ → Keys
+password_keys m password salt count =
+    let salted = hi_by m password salt count in
+    record { stored = stored_key_by m (client_key_by m salted); server = server_key_by m salted }

@@ -1,0 +1,39 @@
+-- The server's answer to client-first: its challenge, or the first fault.
+use Rattle.std.specs.Prelude.{ℕ, ◌≡◌, true, false, List, [], ◌++◌, codes}
+use Rattle.std.specs.declared.option.Option.{Option}
+use Rattle.scram_text.specs.Messages.{ClientFirstParts, IsClientFirst, client_first_mandatory, IsServerFirst}
+use Rattle.scram_text.specs.Faults.{IsClientFirstFault}
+use Rattle.scram_text.specs.Written.{server_first_of}
+use Rattle.scram_ends.specs.Entry.{Entry}
+use Rattle.scram_ends.specs.Opening.{IsNameOf, IsAuthzOf, IsUnbound, IsTakenUp, Opening, IsOpening}
+use Rattle.scram_ends.specs.declared.first.FirstFault.{FirstFault}
+use Rattle.scram_ends.specs.declared.first.FirstFault.TheVariants.{Text, Mandatory, BindingAsked, OutsideProfile}
+use Rattle.scram_ends.specs.declared.recorded.RecordedFault.{RecordedFault}
+use Rattle.scram_ends.specs.declared.recorded.RecordedFault.TheVariants.{First, NotThisChallenge}
+
+-- the server's challenge to a client-first message: the client's nonce with the server's own part behind
+-- it, the account's salt and count, and no extensions
+pub record IsChallengeTo (e : Entry) (t1 own t2 : List ℕ) : Type 0 where
+  pub first : ClientFirstParts
+  pub is_first : IsClientFirst t1 first
+  pub is_challenge : IsServerFirst t2 (server_first_of (first.nonce ++ own) e.salt e.count [])
+
+-- why a server takes up no login, the first that is so: the text is no client-first message, with its
+-- first fault; it is mandatory; its flag is "p=" and a name; a name in it is not plain
+abbrev pub IsFirstFault : List ℕ → FirstFault → Type 0
+IsFirstFault t1 (Text fault) = ((p : ClientFirstParts) → IsClientFirst t1 p → ⊥) × IsClientFirstFault t1 fault
+IsFirstFault t1 Mandatory = (p : ClientFirstParts) × IsClientFirst t1 p × (client_first_mandatory p ≡ true)
+IsFirstFault t1 BindingAsked =
+    (p : ClientFirstParts) × IsClientFirst t1 p × (client_first_mandatory p ≡ false)
+    × ((binding : List ℕ) × (p.flag ≡ codes "p=" ++ binding))
+IsFirstFault t1 OutsideProfile =
+    (p : ClientFirstParts) × IsClientFirst t1 p × (client_first_mandatory p ≡ false) × IsUnbound p.flag
+    × ((name : List ℕ) (authz : Option (List ℕ)) → IsNameOf name p.name → IsAuthzOf authz p.authz → ⊥)
+
+-- why two recorded texts open no login of this account, the first that is so: a server does not take up
+-- the first text, or it does and the second is no challenge to it
+abbrev pub IsRecordedFault : Entry → List ℕ → List ℕ → RecordedFault → Type 0
+IsRecordedFault e t1 t2 (First fault) = IsFirstFault t1 fault
+IsRecordedFault e t1 t2 NotThisChallenge =
+    ((p : ClientFirstParts) × (name : List ℕ) × (authz : Option (List ℕ)) × IsClientFirst t1 p × IsTakenUp p name authz)
+    × ((o : Opening) → IsOpening e t1 t2 o → ⊥)

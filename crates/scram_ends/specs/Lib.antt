@@ -1,0 +1,11 @@
+pub mod Entry
+pub mod Auth
+pub mod Opening
+pub mod Verdict
+pub mod Login
+pub mod Standing
+pub mod First
+pub mod Honest
+pub mod Client
+pub mod Faults
+pub mod Laws

@@ -1,0 +1,42 @@
+-- What a waiting server stands for: it keeps none of the messages, but two MACs that have taken them in.
+use Rattle.std.specs.Prelude.{ℕ, ◌≡◌, ◌↔◌, IsTrue, List}
+use Rattle.std.specs.declared.option.Option.{Option}
+use Rattle.std.specs.declared.option.Option.TheVariants.{None, Some}
+use Rattle.mac_core.specs.Chosen.{IsScramMac}
+use Rattle.mac_core.specs.declared.chosen.Mechanism.{Mechanism}
+use Rattle.scram_text.specs.Messages.{header_text}
+use Rattle.scram_text.specs.declared.fault.WriteFault.{WriteFault}
+use Rattle.scram_ends.specs.Entry.{Keys, Entry}
+use Rattle.scram_ends.specs.Auth.{auth_front}
+use Rattle.scram_ends.specs.Opening.{Opening, IsOpening, IsAllowed}
+use Rattle.scram_ends.specs.declared.signing.Signing.{Signing}
+use Rattle.scram_ends.specs.declared.server.ServerWait.{ServerWait}
+
+-- the keys at work are those of the account, and both MACs have taken in AuthMessage as far as the
+-- challenge
+pub record IsSigning (s : Signing) (m : Mechanism) (keys : Keys) (front : List ℕ) : Type 0 where
+  pub mechanism : s.mechanism ≡ m
+  pub stored : s.stored.items ≡ keys.stored
+  pub client : IsScramMac m s.client keys.stored front
+  pub server : IsScramMac m s.server keys.server front
+
+-- the same where the account has keys; a decoy has none at work
+abbrev pub IsSigningFor : Option Signing → Mechanism → Option Keys → List ℕ → Type 0
+IsSigningFor None m None front = Unit {0}
+IsSigningFor (Some s) m (Some keys) front = IsSigning s m keys front
+IsSigningFor None m (Some keys) front = ⊥
+IsSigningFor (Some s) m None front = ⊥
+
+-- the value stands for a login of this account that these two messages open
+pub record StandsFor (w : ServerWait) (e : Entry) (m : Mechanism) (t1 t2 : List ℕ) : Type 0 where
+  pub opening : Opening
+  pub is_opening : IsOpening e t1 t2 opening
+  pub nonce : w.nonce.items ≡ opening.challenge.nonce
+  pub header : w.header.items ≡ header_text opening.first
+  pub allowed : IsTrue w.allowed ↔ IsAllowed e opening.name opening.authz
+  pub signing : IsSigningFor w.signing m e.keys (auth_front opening.first t2)
+  pub unspent : w.spent ≡ None
+
+-- the value is spent: its message could not be written, for this reason. It stands for no login.
+abbrev pub IsSpent : ServerWait → WriteFault → Type 0
+IsSpent w fault = w.spent ≡ Some fault

@@ -1,0 +1,99 @@
+//! The client's end of a login.
+ghost use Rattle.std.specs.Prelude.{◌≡◌};
+ghost use Rattle.scram_ends.specs.Faults.{client_number};
+
+use arrayvec::ArrayVec;
+use mac_core::{Mechanism, Tag};
+use scram_text::{TextFault, WriteFault};
+use thiserror::Error;
+
+/// The iteration counts that a client accepts.
+#[derive(Clone, Copy, Debug, PartialEq, Eq)]
+pub struct Limits {
+    /// The least, at least 1.
+    pub least: u32,
+
+    /// The most.
+    pub most: u32,
+}
+
+/// Why a client ends a login: the first of these that is so.
+#[derive(Clone, Copy, Debug, PartialEq, Eq, Error)]
+pub enum ClientFault {
+    /// The text is no message of the server's: its first fault.
+    #[error("no message of the server's: {0}")]
+    Text(TextFault),
+
+    /// The message begins with `m=` or an extension is named `m`.
+    #[error("the server asks for an extension that is not known here")]
+    Mandatory,
+
+    /// The nonce does not begin with the client's own.
+    #[error("the nonce does not begin with the client's own: another login's challenge")]
+    NonceNotMine,
+
+    /// The nonce is the client's own, with nothing of the server's.
+    #[error("the nonce has no part of the server's")]
+    NonceNotLonger,
+
+    /// The iteration count is outside the client's limits.
+    #[error("the iteration count is outside the client's limits")]
+    CountOutside,
+
+    /// The server has refused the login: its message is an `e=`.
+    #[error("the server refuses the login")]
+    ServerRefused,
+
+    /// The signature is not the one that the password's own server key makes.
+    #[error("the signature is wrong: the other end does not have the account's keys")]
+    WrongSignature,
+}
+
+impl ClientFault {
+    /// The number of the fault, 24 to 30.
+    pub fn number(&self) -> u16
+        ensures { result ≡ client_number self.now }
+    {
+        match self {
+            ClientFault::Text(_) => 24,
+            ClientFault::Mandatory => 25,
+            ClientFault::NonceNotMine => 26,
+            ClientFault::NonceNotLonger => 27,
+            ClientFault::CountOutside => 28,
+            ClientFault::ServerRefused => 29,
+            ClientFault::WrongSignature => 30,
+        }
+    }
+}
+
+/// A client that has sent its first message and waits for the challenge.
+///
+/// It does not keep the message, so its contracts say which one it stands for.
+#[derive(Drop)]
+pub struct ClientOne {
+    mechanism: Mechanism,
+    limits: Limits,
+    bare: ArrayVec<u8, 2048>,
+    header: ArrayVec<u8, 1536>,
+    nonce: ArrayVec<u8, 256>,
+}
+
+/// A challenge that a client does not answer.
+#[derive(Drop)]
+pub enum OneRefused {
+    /// The client has ended the login.
+    Spent(ClientFault),
+
+    /// Its answer is not written, and the client is as before.
+    Back(ClientOne, WriteFault),
+}
+
+/// A client that has sent its proof and waits for the server's.
+#[derive(Drop)]
+pub struct ClientTwo {
+    expected: Tag,
+}
+
+/// The server has shown that it has the keys of the client's password.
+#[derive(Clone, Copy, Debug, PartialEq, Eq)]
+pub struct Authenticated;

@@ -1,0 +1,18 @@
+//! Laws of logins, for proofs that stand on this crate: each is what a function ensures that does
+//! nothing.
+ghost use Rattle.scram_ends.specs.Laws.{AtMostOneIsDue, SomeIsDue, AcceptsExactlyValid};
+
+/// At most one verdict is due to a login.
+pub fn at_most_one_verdict_is_due()
+    ensures { AtMostOneIsDue }
+{}
+
+/// Behind an opening some verdict is due to every text.
+pub fn some_verdict_is_due()
+    ensures { SomeIsDue }
+{}
+
+/// Acceptance is due exactly where there is a valid login.
+pub fn acceptance_is_due_to_valid_logins()
+    ensures { AcceptsExactlyValid }
+{}

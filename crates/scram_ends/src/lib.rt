@@ -1,0 +1,22 @@
+//! Both ends of a SCRAM login (RFC 5802, RFC 7677), without channel binding.
+//!
+//! `specs/` says what a login is by its whole messages: which verdict is due to it, when it is valid, and
+//! what an honest client sends.
+#![tactic(auto)]
+
+mod client;
+mod entry;
+mod first;
+pub mod laws;
+mod recorded;
+mod server;
+mod signing;
+mod verdict;
+
+pub use client::{Authenticated, ClientFault, ClientOne, ClientTwo, Limits, OneRefused};
+pub use entry::KeysView;
+pub use first::FirstFault;
+pub use mac_core::Mechanism;
+pub use recorded::RecordedFault;
+pub use server::{FirstRefused, ServerWait};
+pub use verdict::{Judged, Refusal, Verdict};

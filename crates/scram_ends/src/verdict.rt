@@ -1,0 +1,62 @@
+//! What a server says to a client-final message.
+ghost use Rattle.std.specs.Prelude.{◌≡◌};
+ghost use Rattle.scram_ends.specs.Verdict.{error_value};
+
+use mac_core::Tag;
+
+/// Why a login is refused: the first of these that is so.
+#[derive(Clone, Copy, Debug, PartialEq, Eq)]
+pub enum Refusal {
+    /// The text is no client-final message.
+    InvalidEncoding,
+
+    /// An extension is named `m`.
+    ExtensionsNotSupported,
+
+    /// The nonce is not exactly the one that was sent.
+    OtherNonce,
+
+    /// The channel field is not exactly the gs2-header of client-first.
+    Channel,
+
+    /// The proof is not that of the account's keys, or the account is a decoy.
+    InvalidProof,
+
+    /// The account may not act as the authorisation name.
+    NotAuthorised,
+}
+
+impl Refusal {
+    /// The value of `e=` that tells the refusal (RFC 5802, section 7).
+    pub fn error_value(&self) -> &'static str
+        ensures { result.now ≡ error_value self.now }
+    {
+        match self {
+            Refusal::InvalidEncoding => "invalid-encoding",
+            Refusal::ExtensionsNotSupported => "extensions-not-supported",
+            Refusal::OtherNonce | Refusal::NotAuthorised => "other-error",
+            Refusal::Channel => "channel-bindings-dont-match",
+            Refusal::InvalidProof => "invalid-proof",
+        }
+    }
+}
+
+/// What a login came to, of which the client was told.
+#[derive(Clone, Copy, Debug, PartialEq, Eq)]
+pub enum Verdict {
+    /// The login is valid.
+    Accepted,
+
+    /// It is refused.
+    Refused(Refusal),
+}
+
+/// What a login comes to, of which nobody was told.
+#[derive(Drop)]
+pub enum Judged {
+    /// The login is valid, and this is the server's signature.
+    Accepted(Tag),
+
+    /// It is refused.
+    Refused(Refusal),
+}
