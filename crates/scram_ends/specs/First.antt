@@ -1,11 +1,12 @@
 -- The server's answer to client-first: its challenge, or the first fault.
 use Rattle.std.specs.Prelude.{ℕ, ◌≡◌, true, false, List, [], ◌++◌, codes}
 use Rattle.std.specs.declared.option.Option.{Option}
-use Rattle.scram_text.specs.Messages.{ClientFirstParts, IsClientFirst, client_first_mandatory, IsServerFirst}
+use Rattle.scram_text.specs.Messages.{ClientFirstParts, header_text, bare_text, IsClientFirst, client_first_mandatory, IsServerFirst}
 use Rattle.scram_text.specs.Faults.{IsClientFirstFault}
 use Rattle.scram_text.specs.Written.{server_first_of}
 use Rattle.scram_ends.specs.Entry.{Entry}
 use Rattle.scram_ends.specs.Opening.{IsNameOf, IsAuthzOf, IsUnbound, IsTakenUp, Opening, IsOpening}
+use Rattle.scram_ends.specs.declared.first.Taken.{Taken}
 use Rattle.scram_ends.specs.declared.first.FirstFault.{FirstFault}
 use Rattle.scram_ends.specs.declared.first.FirstFault.TheVariants.{Text, Mandatory, BindingAsked, OutsideProfile}
 use Rattle.scram_ends.specs.declared.recorded.RecordedFault.{RecordedFault}
@@ -17,6 +18,13 @@ pub record IsChallengeTo (e : Entry) (t1 own t2 : List ℕ) : Type 0 where
   pub first : ClientFirstParts
   pub is_first : IsClientFirst t1 first
   pub is_challenge : IsServerFirst t2 (server_first_of (first.nonce ++ own) e.salt e.count [])
+
+-- what a server takes from a client-first message that it takes up
+pub record ShowsTaken (taken : Taken) (first : ClientFirstParts) : Type 0 where
+  pub header : taken.header.now ≡ header_text first
+  pub bare : taken.bare.now ≡ bare_text first
+  pub nonce : taken.nonce.now ≡ first.nonce
+  pub taken_up : IsTakenUp first taken.name taken.authzid
 
 -- why a server takes up no login, the first that is so: the text is no client-first message, with its
 -- first fault; it is mandatory; its flag is "p=" and a name; a name in it is not plain

@@ -1,8 +1,19 @@
-//! What a server takes from a client-first message.
-ghost use Rattle.std.specs.Prelude.{◌≡◌};
+//! What a server takes from a client-first message: `n,a=root,n=user,r=abc` has the gs2-header
+//! `n,a=root,`, the bare message `n=user,r=abc`, the name `user` and the authorisation name `root`.
+//!
+//! Names are 1 to 255 bytes from space to tilde, which SASLprep (RFC 4013) leaves as they are; others are
+//! refused. So is the flag `p=`, since no channel binding is offered.
+ghost use Rattle.std.specs.Prelude.{◌≡◌, ℕ, List, codes, IfOk, IfErr, IfSome, IfNone, ◌++◌};
+ghost use Rattle.std.specs.Bool.{OnTrue, OnFalse};
+ghost use Rattle.std.specs.declared.option.Option.{Option};
+ghost use Rattle.scram_text.specs.Messages.{ClientFirstParts, IsClientFirst};
+ghost use Rattle.scram_text.specs.Shown.{flag_text};
+ghost use Rattle.scram_ends.specs.Opening.{IsNameOf, IsAuthzOf, IsUnbound, IsTakenUp};
+ghost use Rattle.scram_ends.specs.First.{IsFirstFault, ShowsTaken};
 ghost use Rattle.scram_ends.specs.Faults.{first_number};
+ghost use Rattle.scram_ends.specs.declared.first.FirstFault.TheVariants.{Text};
 
-use scram_text::TextFault;
+use scram_text::{Flag, PlainName, SaslText, TextFault, read_client_first};
 use thiserror::Error;
 
 /// Why a client-first message is refused: the first of these that is so.
@@ -37,4 +48,92 @@ impl FirstFault {
             FirstFault::OutsideProfile => 23,
         }
     }
+}
+
+impl From<TextFault> for FirstFault {
+    ghost from_gives = { λ fault f. f ≡ Text fault };
+
+    fn from(fault: TextFault) -> FirstFault {
+        FirstFault::Text(fault)
+    }
+}
+
+/// The name that a client-first message gives, in plain bytes: whose account a server looks up. Refused
+/// are, in this order, 20 a text that is no client-first message, 21 a mandatory one, 22 the flag `p=` and
+/// 23 a name or an authorisation name outside its limits.
+pub fn first_name(t1: &[u8]) -> Result<PlainName, FirstFault>
+    ensures ok { IfOk result (λ name. (first : ClientFirstParts) × (authz : Option (List ℕ))
+        × IsClientFirst t1.now first × IsTakenUp first name authz) }
+    ensures err { IfErr result (λ fault. IsFirstFault t1.now fault) }
+{
+    Ok(take_up(t1)?.name)
+}
+
+/// What a server takes from a client-first message. Slices are slices of the message.
+#[derive(Drop)]
+pub(crate) struct Taken<'a> {
+    pub(crate) header: &'a [u8],
+    pub(crate) bare: &'a [u8],
+    pub(crate) nonce: &'a [u8],
+    pub(crate) name: PlainName,
+    pub(crate) authzid: Option<PlainName>,
+}
+
+/// Reads the message, and refuses it as `first_name` does.
+pub(crate) fn take_up(t1: &[u8]) -> Result<Taken<'_>, FirstFault>
+    ensures ok { IfOk result (λ taken. (first : ClientFirstParts) × IsClientFirst t1.now first
+        × ShowsTaken taken first) }
+    ensures err { IfErr result (λ fault. IsFirstFault t1.now fault) }
+{
+    let message = read_client_first(t1)?;
+    if message.mandatory {
+        return Err(FirstFault::Mandatory);
+    }
+    if !is_unbound(&message.flag) {
+        return Err(FirstFault::BindingAsked);
+    }
+    let Some((name, authzid)) = names_of(&message.name, &message.authzid) else {
+        return Err(FirstFault::OutsideProfile);
+    };
+    Ok(Taken {
+        header: message.header,
+        bare: message.bare,
+        nonce: message.nonce,
+        name,
+        authzid,
+    })
+}
+
+fn is_unbound(flag: &Flag<'_>) -> bool
+    ensures unbound { OnTrue result (IsUnbound (flag_text flag.now)) }
+    ensures bound { OnFalse result ((binding : List ℕ) × (flag_text flag.now ≡ codes "p=" ++ binding)) }
+{
+    match flag {
+        Flag::NoBinding | Flag::NotOffered => true,
+        Flag::Binding(_) => false,
+    }
+}
+
+// The names that are spelled, where they are plain.
+fn names_of(
+    name: &SaslText<'_>,
+    authzid: &Option<SaslText<'_>>,
+) -> Option<(PlainName, Option<PlainName>)>
+    ensures some { IfSome result (λ names. IsNameOf names.0 name.now × IsAuthzOf names.1 authzid.now) }
+    ensures none { IfNone result ((plain : List ℕ) (authz : Option (List ℕ)) → IsNameOf plain name.now
+        → IsAuthzOf authz authzid.now → ⊥) }
+{
+    let plain = plain_of(name)?;
+    match authzid {
+        None => Some((plain, None)),
+        Some(spelled) => Some((plain, Some(plain_of(spelled)?))),
+    }
+}
+
+// The name that is spelled, where it is plain.
+fn plain_of(spelled: &SaslText<'_>) -> Option<PlainName>
+    ensures some { IfSome result (λ name. IsNameOf name spelled.now) }
+    ensures none { IfNone result ((name : List ℕ) → IsNameOf name spelled.now → ⊥) }
+{
+    spelled.plain()
 }

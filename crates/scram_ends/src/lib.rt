@@ -7,6 +7,7 @@
 mod client;
 mod entry;
 mod first;
+mod fixed;
 pub mod laws;
 mod recorded;
 mod server;
@@ -15,7 +16,7 @@ mod verdict;
 
 pub use client::{Authenticated, ClientFault, ClientOne, ClientTwo, Limits, OneRefused};
 pub use entry::KeysView;
-pub use first::FirstFault;
+pub use first::{FirstFault, first_name};
 pub use mac_core::Mechanism;
 pub use recorded::RecordedFault;
 pub use server::{FirstRefused, ServerWait};

@@ -1,5 +1,14 @@
-//! The keys of an account at work on one login.
-use mac_core::{Mechanism, ScramMac, Tag};
+//! The keys of an account at work on one login: AuthMessage (RFC 5802, section 3) is never kept, but two
+//! MACs take it in as it comes, by StoredKey to check the client's proof and by ServerKey to sign.
+ghost use Rattle.std.specs.Prelude.{◌≡◌, ◌≤◌, ◌↔◌, ℕ, List, [], ◌∷◌, ◌++◌, length, IsTrue};
+ghost use Rattle.mac_core.specs.Chosen.{length_by, hmac_by, IsScramMac};
+ghost use Rattle.scram_text.specs.Messages.{ClientFirstParts, bare_text};
+ghost use Rattle.scram_ends.specs.Entry.{Keys, keys_of};
+ghost use Rattle.scram_ends.specs.Auth.{auth_front, server_signature, IsProof};
+ghost use Rattle.scram_ends.specs.Standing.{IsSigning};
+
+use crate::fixed::{are_same, copy_of};
+use mac_core::{Mechanism, ScramKeys, ScramMac, Tag, xor};
 
 /// StoredKey, and the two MACs of AuthMessage as far as it is known.
 #[derive(Drop)]
@@ -8,4 +17,70 @@ pub(crate) struct Signing {
     stored: Tag,
     client: ScramMac,
     server: ScramMac,
+}
+
+impl Signing {
+    /// The keys at work on a login of this client-first-bare and this challenge.
+    pub(crate) fn new(
+        mechanism: Mechanism,
+        keys: &ScramKeys,
+        bare: &[u8],
+        challenge: &[u8],
+    ) -> Signing
+        ensures { (first : ClientFirstParts) → bare.now ≡ bare_text first
+            → IsSigning result mechanism (keys_of keys.now) (auth_front first challenge.now) }
+    {
+        Signing {
+            mechanism,
+            stored: copy_of(keys.stored.as_slice()),
+            client: running(mechanism, &keys.stored, bare, challenge),
+            server: running(mechanism, &keys.server, bare, challenge),
+        }
+    }
+
+    /// The proof is that of the account's keys, where AuthMessage ends with client-final-without-proof.
+    pub(crate) fn is_proof(&self, without_proof: &[u8], proof: &Tag) -> bool
+        ensures { (m : Mechanism) (keys : Keys) (front : List ℕ) → IsSigning self.now m keys front
+            → (IsTrue result ↔ IsProof m keys (front ++ without_proof.now) proof.now.items) }
+    {
+        let signature = signed(&self.client, without_proof);
+        if proof.len() != signature.len() {
+            return false;
+        }
+        let stored = self.mechanism.stored_key(&xor(proof, &signature));
+        are_same(stored.as_slice(), self.stored.as_slice())
+    }
+
+    /// The server's signature, where AuthMessage ends with client-final-without-proof.
+    pub(crate) fn signature(&self, without_proof: &[u8]) -> Tag
+        ensures { (m : Mechanism) (keys : Keys) (front : List ℕ) → IsSigning self.now m keys front
+            → result.items ≡ server_signature m keys (front ++ without_proof.now) }
+    {
+        signed(&self.server, without_proof)
+    }
+}
+
+// A MAC that has taken in AuthMessage as far as the challenge.
+fn running(mechanism: Mechanism, key: &Tag, bare: &[u8], challenge: &[u8]) -> ScramMac
+    ensures { IsScramMac mechanism result key.now.items
+        (bare.now ++ 44 ∷ [] ++ challenge.now ++ 44 ∷ []) }
+{
+    let mut mac = ScramMac::new(mechanism, key.as_slice());
+    mac.add(bare);
+    mac.add(b",");
+    mac.add(challenge);
+    mac.add(b",");
+    mac
+}
+
+// The MAC with `rest` behind what it has taken in.
+fn signed(mac: &ScramMac, rest: &[u8]) -> Tag
+    ensures value { (m : Mechanism) (key front : List ℕ) → IsScramMac m mac.now key front
+        → result.items ≡ hmac_by m key (front ++ rest.now) }
+    ensures len { (m : Mechanism) (key front : List ℕ) → IsScramMac m mac.now key front
+        → length result.items ≡ length_by m }
+{
+    let mut mac = mac.copy();
+    mac.add(rest);
+    mac.done()
 }

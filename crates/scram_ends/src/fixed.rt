@@ -1,0 +1,34 @@
+//! Bytes in fixed buffers.
+ghost use Rattle.std.specs.Prelude.{◌≡◌, ◌≤◌, ◌+◌, ◌↔◌, ◌++◌, length, IsTrue};
+
+use arrayvec::ArrayVec;
+
+/// A copy of the bytes.
+pub(crate) fn copy_of<const N: usize>(bytes: &[u8]) -> ArrayVec<u8, N>
+    requires { length bytes.now ≤ N }
+    ensures { result.items ≡ bytes.now }
+{
+    let Ok(copy) = ArrayVec::try_from(bytes) else {
+        unreachable!()
+    };
+    copy
+}
+
+/// The bytes of `front` and then those of `back`.
+pub(crate) fn joined<const N: usize>(front: &[u8], back: &[u8]) -> ArrayVec<u8, N>
+    requires { length front.now + length back.now ≤ N }
+    ensures { result.items ≡ front.now ++ back.now }
+{
+    let mut bytes = copy_of(front);
+    let Ok(()) = bytes.try_extend_from_slice(back) else {
+        unreachable!()
+    };
+    bytes
+}
+
+/// Whether the bytes are the same. `==` says so too, but no proof can read it.
+pub(crate) fn are_same(one: &[u8], other: &[u8]) -> bool
+    ensures { IsTrue result ↔ (one.now ≡ other.now) }
+{
+    one == other
+}
