@@ -1,3 +1,4 @@
 pub mod OpeningLemmas
 pub mod VerdictLemmas
 pub mod DecisionLemmas
+pub mod ServerLemmas

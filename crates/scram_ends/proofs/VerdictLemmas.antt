@@ -1,18 +1,19 @@
 -- At most one verdict is due, and acceptance exactly to a valid login.
-use Rattle.std.proofs.Common.{◌≡◌, ℕ, ◌==◌, inl, inr, List, sym, ◌∙◌, ap, subst, refl, arith, if◌then◌else◌}
+use Rattle.std.proofs.Common.{◌≡◌, ◌↔◌, ℕ, ◌==◌, inl, inr, List, sym, ◌∙◌, ap, subst, refl, arith, if◌then◌else◌}
 use Rattle.std.proofs.lemmas.Bool.{cases_lt}
 use Rattle.std.specs.declared.option.Option.TheVariants.{Some}
 use Rattle.mac_core.specs.declared.chosen.Mechanism.{Mechanism}
-use Rattle.scram_text.specs.Messages.{ClientFinalParts, IsClientFinal}
+use Rattle.scram_text.specs.Messages.{ClientFinalParts, IsClientFinal, IsServerFinal}
 use Rattle.scram_text.proofs.ClientFinalLemmas.{client_final_once}
 use Rattle.scram_ends.specs.Entry.{Keys, Entry}
 use Rattle.scram_ends.specs.Auth.{auth_message, server_signature}
 use Rattle.scram_ends.specs.Opening.{Opening, IsOpening}
-use Rattle.scram_ends.specs.Verdict.{row, Asks, Meets, Passes, IsSignature, accept, refuse, IsDue}
+use Rattle.scram_ends.specs.Verdict.{row, Asks, Meets, Passes, IsSignature, Due, accept, refuse, IsDue, IsWeighed, final_due, due_text, verdict_of}
 use Rattle.scram_ends.specs.Login.{IsAuthentic, IsValidLogin}
 use Rattle.scram_ends.specs.Laws.{AtMostOneIsDue, AcceptsExactlyValid}
 use Rattle.scram_ends.specs.declared.verdict.Refusal.{Refusal}
 use Rattle.scram_ends.specs.declared.verdict.Refusal.TheVariants.{InvalidEncoding, ExtensionsNotSupported, OtherNonce, Channel, InvalidProof, NotAuthorised}
+use Rattle.scram_ends.specs.declared.verdict.Verdict.TheVariants as told
 use Rattle.scram_ends.proofs.OpeningLemmas.{same_opening}
 
 -- the refusal of a row
@@ -73,15 +74,47 @@ at_most_one e m t1 t2 t3 (refuse r) (refuse q) due also = elim (cases_lt (row r)
   ]
 ]
 
--- a valid login passes each row
-valid_passes : (e : Entry) (m : Mechanism) (t1 t2 t3 t4 : List ℕ) → IsValidLogin e m t1 t2 t3 t4
-    → (q : Refusal) → Passes q e m t1 t2 t3
-valid_passes e m t1 t2 t3 t4 v InvalidEncoding = (v.final, v.is_final)
-valid_passes e m t1 t2 t3 t4 v ExtensionsNotSupported = record { opening = v.opening; final = v.final; is_opening = v.is_opening; is_final = v.is_final; asked = v.not_mandatory }
-valid_passes e m t1 t2 t3 t4 v OtherNonce = record { opening = v.opening; final = v.final; is_opening = v.is_opening; is_final = v.is_final; asked = v.nonce }
-valid_passes e m t1 t2 t3 t4 v Channel = record { opening = v.opening; final = v.final; is_opening = v.is_opening; is_final = v.is_final; asked = v.channel }
-valid_passes e m t1 t2 t3 t4 v InvalidProof = record { opening = v.opening; final = v.final; is_opening = v.is_opening; is_final = v.is_final; asked = (v.keys, v.has_keys, v.proof) }
-valid_passes e m t1 t2 t3 t4 v NotAuthorised = record { opening = v.opening; final = v.final; is_opening = v.is_opening; is_final = v.is_final; asked = v.allowed }
+-- what parts meet their texts pass
+pub passes_of : (q : Refusal) (e : Entry) (m : Mechanism) (t1 t2 t3 : List ℕ) (o : Opening) (p : ClientFinalParts)
+    → IsOpening e t1 t2 o → IsClientFinal t3 p → Asks q e m t2 o p → Passes q e m t1 t2 t3
+passes_of InvalidEncoding e m t1 t2 t3 o p is_opening is_final asked = (p, is_final)
+passes_of ExtensionsNotSupported e m t1 t2 t3 o p is_opening is_final asked = record { opening = o; final = p; is_opening = is_opening; is_final = is_final; asked = asked }
+passes_of OtherNonce e m t1 t2 t3 o p is_opening is_final asked = record { opening = o; final = p; is_opening = is_opening; is_final = is_final; asked = asked }
+passes_of Channel e m t1 t2 t3 o p is_opening is_final asked = record { opening = o; final = p; is_opening = is_opening; is_final = is_final; asked = asked }
+passes_of InvalidProof e m t1 t2 t3 o p is_opening is_final asked = record { opening = o; final = p; is_opening = is_opening; is_final = is_final; asked = asked }
+passes_of NotAuthorised e m t1 t2 t3 o p is_opening is_final asked = record { opening = o; final = p; is_opening = is_opening; is_final = is_final; asked = asked }
+
+-- what the texts pass their parts meet
+pub asked_by : (q : Refusal) (e : Entry) (m : Mechanism) (t1 t2 t3 : List ℕ) (o : Opening) (p : ClientFinalParts)
+    → IsOpening e t1 t2 o → IsClientFinal t3 p → Passes q e m t1 t2 t3 → Asks q e m t2 o p
+asked_by InvalidEncoding e m t1 t2 t3 o p is_opening is_final passes = tt
+asked_by ExtensionsNotSupported e m t1 t2 t3 o p is_opening is_final passes = asked_of ExtensionsNotSupported e m t1 t2 t3 o p is_opening is_final passes
+asked_by OtherNonce e m t1 t2 t3 o p is_opening is_final passes = asked_of OtherNonce e m t1 t2 t3 o p is_opening is_final passes
+asked_by Channel e m t1 t2 t3 o p is_opening is_final passes = asked_of Channel e m t1 t2 t3 o p is_opening is_final passes
+asked_by InvalidProof e m t1 t2 t3 o p is_opening is_final passes = asked_of InvalidProof e m t1 t2 t3 o p is_opening is_final passes
+asked_by NotAuthorised e m t1 t2 t3 o p is_opening is_final passes = asked_of NotAuthorised e m t1 t2 t3 o p is_opening is_final passes
+
+-- the verdict on the parts is the one due to the texts
+pub due_weighed : (e : Entry) (m : Mechanism) (t1 t2 t3 : List ℕ) (o : Opening) (p : ClientFinalParts) (d : Due)
+    → IsOpening e t1 t2 o → IsClientFinal t3 p → IsWeighed e m t2 o p d → IsDue e m t1 t2 t3 d
+due_weighed e m t1 t2 t3 o p (refuse r) is_opening is_final weighed = (
+  (λ passes. weighed.0 (asked_by r e m t1 t2 t3 o p is_opening is_final passes)),
+  λ q before. passes_of q e m t1 t2 t3 o p is_opening is_final (weighed.1 q before),
+)
+due_weighed e m t1 t2 t3 o p (accept signature) is_opening is_final weighed = (
+  (λ q. passes_of q e m t1 t2 t3 o p is_opening is_final (weighed.0 q)),
+  record { opening = o; final = p; keys = weighed.1.0; is_opening = is_opening; is_final = is_final; has_keys = weighed.1.1; signed = weighed.1.2 },
+)
+
+-- the parts of a valid login meet each row
+valid_asked : (e : Entry) (m : Mechanism) (t1 t2 t3 t4 : List ℕ) (v : IsValidLogin e m t1 t2 t3 t4) (q : Refusal)
+    → Asks q e m t2 v.opening v.final
+valid_asked e m t1 t2 t3 t4 v InvalidEncoding = tt
+valid_asked e m t1 t2 t3 t4 v ExtensionsNotSupported = v.not_mandatory
+valid_asked e m t1 t2 t3 t4 v OtherNonce = v.nonce
+valid_asked e m t1 t2 t3 t4 v Channel = v.channel
+valid_asked e m t1 t2 t3 t4 v InvalidProof = (v.keys, v.has_keys, v.proof)
+valid_asked e m t1 t2 t3 t4 v NotAuthorised = v.allowed
 
 -- where acceptance is due, a text that shows the signature makes a valid login
 valid_of : (e : Entry) (m : Mechanism) (t1 t2 t3 t4 signature : List ℕ)
@@ -110,9 +143,28 @@ valid_of e m t1 t2 t3 t4 signature due authentic =
 pub accepts_exactly_valid : AcceptsExactlyValid
 accepts_exactly_valid e m t1 t2 t3 t4 = (
   (λ (signature, due, authentic). valid_of e m t1 t2 t3 t4 signature due authentic),
-  λ v. (
-    server_signature m v.keys (auth_message v.opening.first t2 v.final),
-    (valid_passes e m t1 t2 t3 t4 v, record { opening = v.opening; final = v.final; keys = v.keys; is_opening = v.is_opening; is_final = v.is_final; has_keys = v.has_keys; signed = refl }),
+  λ v. let signature : List ℕ = server_signature m v.keys (auth_message v.opening.first t2 v.final) in (
+    signature,
+    due_weighed e m t1 t2 t3 v.opening v.final (accept signature) v.is_opening v.is_final (valid_asked e m t1 t2 t3 t4 v, (v.keys, v.has_keys, refl)),
     v.authentic,
   ),
+)
+
+refusal_is_not_acceptance : (r : Refusal) (signature : List ℕ) → refuse r ≡ accept signature → ⊥
+refusal_is_not_acceptance r signature same = cc
+
+told_refused : (r : Refusal) → told.Refused r ≡ told.Accepted → ⊥
+told_refused r same = cc
+
+-- with the message due, acceptance makes a valid login and a refusal none
+pub valid_iff : (e : Entry) (m : Mechanism) (t1 t2 t3 : List ℕ) (d : Due) → IsDue e m t1 t2 t3 d → IsServerFinal (due_text d) (final_due d)
+    → (verdict_of d ≡ told.Accepted) ↔ IsValidLogin e m t1 t2 t3 (due_text d)
+valid_iff e m t1 t2 t3 (accept signature) due is_last =
+    let authentic : IsAuthentic (due_text (accept signature)) signature =
+    record { last = final_due (accept signature); is_last = is_last; not_mandatory = refl; verifier = refl } in
+    ((λ _. (accepts_exactly_valid e m t1 t2 t3 (due_text (accept signature))).0 (signature, due, authentic)), λ _. refl)
+valid_iff e m t1 t2 t3 (refuse r) due is_last = (
+  (λ same. absurd (told_refused r same)),
+  λ valid. let accepted = (accepts_exactly_valid e m t1 t2 t3 (due_text (refuse r))).1 valid in
+      absurd (refusal_is_not_acceptance r accepted.0 (at_most_one e m t1 t2 t3 (refuse r) (accept accepted.0) due accepted.1)),
 )

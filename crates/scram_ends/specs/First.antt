@@ -26,6 +26,14 @@ pub record ShowsTaken (taken : Taken) (first : ClientFirstParts) : Type 0 where
   pub nonce : taken.nonce.now ≡ first.nonce
   pub taken_up : IsTakenUp first taken.name taken.authzid
 
+-- what a server takes, and the nonce that it sends, are those of this opening
+pub record ShowsOpening (taken : Taken) (sent : List ℕ) (o : Opening) : Type 0 where
+  pub header : taken.header.now ≡ header_text o.first
+  pub bare : taken.bare.now ≡ bare_text o.first
+  pub name : taken.name ≡ o.name
+  pub authz : taken.authzid ≡ o.authz
+  pub nonce : sent ≡ o.challenge.nonce
+
 -- why a server takes up no login, the first that is so: the text is no client-first message, with its
 -- first fault; it is mandatory; its flag is "p=" and a name; a name in it is not plain
 abbrev pub IsFirstFault : List ℕ → FirstFault → Type 0

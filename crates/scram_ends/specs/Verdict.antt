@@ -75,6 +75,15 @@ IsDue e m t1 t2 t3 (refuse r) =
 IsDue e m t1 t2 t3 (accept signature) =
     ((q : Refusal) → Passes q e m t1 t2 t3) × IsSignature e m t1 t2 t3 signature
 
+-- the verdict on the parts, given the opening: the refusal of the first row that they do not meet, or
+-- acceptance with the signature
+abbrev pub IsWeighed : Entry → Mechanism → List ℕ → Opening → ClientFinalParts → Due → Type 0
+IsWeighed e m t2 o final (refuse r) =
+    (Asks r e m t2 o final → ⊥) × ((q : Refusal) → row q < row r → Asks q e m t2 o final)
+IsWeighed e m t2 o final (accept signature) =
+    ((q : Refusal) → Asks q e m t2 o final)
+    × ((keys : Keys) × (e.keys ≡ Some keys) × (signature ≡ server_signature m keys (auth_message o.first t2 final)))
+
 -- the server-error-value of a refusal (RFC 5802, section 7)
 abbrev pub error_value : Refusal → List ℕ
 error_value InvalidEncoding = codes "invalid-encoding"

@@ -3,7 +3,7 @@
 //!
 //! Names are 1 to 255 bytes from space to tilde, which SASLprep (RFC 4013) leaves as they are; others are
 //! refused. So is the flag `p=`, since no channel binding is offered.
-ghost use Rattle.std.specs.Prelude.{◌≡◌, ℕ, List, codes, IfOk, IfErr, IfSome, IfNone, ◌++◌};
+ghost use Rattle.std.specs.Prelude.{◌≡◌, ◌≤◌, ℕ, List, length, codes, IfOk, IfErr, IfSome, IfNone, ◌++◌};
 ghost use Rattle.std.specs.Bool.{OnTrue, OnFalse};
 ghost use Rattle.std.specs.declared.option.Option.{Option};
 ghost use Rattle.scram_text.specs.Messages.{ClientFirstParts, IsClientFirst};
@@ -83,6 +83,8 @@ pub(crate) struct Taken<'a> {
 pub(crate) fn take_up(t1: &[u8]) -> Result<Taken<'_>, FirstFault>
     ensures ok { IfOk result (λ taken. (first : ClientFirstParts) × IsClientFirst t1.now first
         × ShowsTaken taken first) }
+    ensures nonce { IfOk result (λ taken. length taken.nonce.now ≤ 256) }
+    ensures header { IfOk result (λ taken. length taken.header.now ≤ 2048) }
     ensures err { IfErr result (λ fault. IsFirstFault t1.now fault) }
 {
     let message = read_client_first(t1)?;

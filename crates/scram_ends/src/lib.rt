@@ -19,5 +19,5 @@ pub use entry::KeysView;
 pub use first::{FirstFault, first_name};
 pub use mac_core::Mechanism;
 pub use recorded::RecordedFault;
-pub use server::{FirstRefused, ServerWait};
+pub use server::{FirstRefused, ServerWait, server_first};
 pub use verdict::{Judged, Refusal, Verdict};

@@ -1,11 +1,42 @@
-//! The server's end of a login.
-ghost use Rattle.std.specs.Prelude.{◌≡◌};
+//! The server's end of a login (RFC 5802, section 3):
+//!
+//! ```text
+//! client-first   n,,n=user,r=abc
+//! server-first   r=abcdef,s=QSXCR+Q6sek8bf92,i=4096    server_first
+//! client-final   c=biws,r=abcdef,p=..
+//! server-final   v=.. or e=..                          ServerWait::finish, judge
+//! ```
+//!
+//! The RFC lets a server name the fault of a client-first message in an `e=`. This one answers the fault to
+//! its caller alone, who may say nothing of it. Of the RFC's error values it sends five; a name that has no
+//! keys is never told apart from a wrong proof.
+ghost use Rattle.std.specs.Prelude.{◌≡◌, ◌≢◌, ◌≤◌, ◌<◌, ◌+◌, ◌↔◌, ℕ, List, ◌++◌, length, IsTrue, IfOk, IfErr, OnErr, OnOk, IsErrAnd, IsErrOf, vec_len, vec_capacity, Contains};
+ghost use Rattle.std.specs.Option.{option_copied};
+ghost use Rattle.mac_core.specs.declared.chosen.Mechanism.{Mechanism};
+ghost use Rattle.scram_text.specs.Messages.{header_text, ClientFirstParts, bare_text, ClientFinalParts, IsServerFinal};
+ghost use Rattle.scram_text.specs.Shown.{ShowsClientFinal};
+ghost use Rattle.scram_text.specs.Written.{CanBeTold};
+ghost use Rattle.scram_ends.specs.Entry.{Entry, entry_of};
+ghost use Rattle.scram_ends.specs.Auth.{auth_front};
+ghost use Rattle.scram_ends.specs.Opening.{IsAllowed, Opening, IsOpening};
+ghost use Rattle.scram_ends.specs.Verdict.{Due, refuse, IsDue, IsWeighed, due_of, outcome_due, final_due, due_text, verdict_of};
+ghost use Rattle.scram_ends.specs.Login.{IsValidLogin};
+ghost use Rattle.scram_ends.specs.Standing.{IsSigningFor, StandsFor, IsSpent};
+ghost use Rattle.scram_ends.specs.First.{IsFirstFault, IsChallengeTo, ShowsOpening};
 ghost use Rattle.scram_ends.specs.Faults.{first_refused_number};
 
-use crate::first::FirstFault;
+use crate::entry::KeysView;
+use crate::first::{FirstFault, Taken, take_up};
+use crate::fixed::{are_same, copy_of, joined};
 use crate::signing::Signing;
+use crate::verdict::{Judged, Refusal, Verdict};
 use arrayvec::ArrayVec;
-use scram_text::WriteFault;
+use mac_core::Mechanism;
+use scram_text::{
+    ClientFinal, FinalResult, NoncePart, PlainName, WriteFault, read_client_final,
+    write_server_final, write_server_first,
+};
+use std::alloc::Allocator;
 use thiserror::Error;
 
 /// Why a server sends no challenge.
@@ -35,7 +66,7 @@ impl FirstRefused {
 /// A server that has sent its challenge and waits for the client-final message.
 ///
 /// It does not keep the messages, so its contracts say which account, client-first message and
-/// challenge it stands for.
+/// challenge it stands for. No part of it grows.
 #[derive(Drop)]
 pub struct ServerWait {
     nonce: ArrayVec<u8, 512>,
@@ -43,4 +74,242 @@ pub struct ServerWait {
     allowed: bool,
     signing: Option<Signing>,
     spent: Option<WriteFault>,
+}
+
+/// Appends the challenge to a client-first message to `out`: the client's nonce with `own` behind it, the
+/// account's salt and its count, which is at least 1. Refused are a client-first message, as by
+/// `first_name`, else 16 or 17 where there is no such challenge, else 99 where `out` has no room for it
+/// reserved and cannot grow; `out` is then unchanged.
+pub fn server_first<A: Allocator>(
+    mechanism: Mechanism,
+    view: &KeysView<'_>,
+    t1: &[u8],
+    own: &NoncePart,
+    out: &mut Vec<u8, A>,
+) -> Result<ServerWait, FirstRefused>
+    // The challenge is appended, and the value stands for it.
+    ensures ok { IfOk result (λ wait. (t2 : List ℕ) × (out.new.items ≡ out.old.items ++ t2)
+        × IsChallengeTo (entry_of view.now) t1.now own.now t2
+        × StandsFor wait (entry_of view.now) mechanism t1.now t2) }
+    ensures err { OnErr result (out.new.items ≡ out.old.items) }
+    ensures first { IfErr result (λ r. (f : FirstFault) → r ≡ FirstRefused.First f → IsFirstFault t1.now f) }
+    ensures unwritable { IfErr result (λ r. r ≡ FirstRefused.Write WriteFault.Unwritable
+        → (t2 : List ℕ) → IsChallengeTo (entry_of view.now) t1.now own.now t2 → ⊥) }
+    ensures over_limit { IfErr result (λ r. r ≡ FirstRefused.Write WriteFault.OverLimit
+        → (t2 : List ℕ) → IsChallengeTo (entry_of view.now) t1.now own.now t2 → ⊥) }
+    ensures no_memory { IfErr result (λ r. r ≡ FirstRefused.Write WriteFault.NoMemory
+        → (t2 : List ℕ) × IsChallengeTo (entry_of view.now) t1.now own.now t2
+        × (vec_capacity out.old < vec_len out.old + length t2)) }
+{
+    let taken = match take_up(t1) {
+        Ok(taken) => taken,
+        Err(fault) => return Err(FirstRefused::First(fault)),
+    };
+    let nonce: ArrayVec<u8, 512> = joined(taken.nonce, own.bytes());
+    let start = out.len();
+    match write_server_first(nonce.as_slice(), &view.salt, view.count, b"", out) {
+        Ok(()) => Ok(wait_for(
+            mechanism,
+            view,
+            &taken,
+            nonce.as_slice(),
+            &out.as_slice()[start..],
+        )),
+        Err(fault) => Err(FirstRefused::Write(fault)),
+    }
+}
+
+// A server that waits behind this challenge, which has this nonce.
+pub(crate) fn wait_for(
+    mechanism: Mechanism,
+    view: &KeysView<'_>,
+    taken: &Taken<'_>,
+    nonce: &[u8],
+    challenge: &[u8],
+) -> ServerWait
+    requires nonce { length nonce.now ≤ 512 }
+    requires header { length taken.now.header.now ≤ 2048 }
+    ensures { (t1 : List ℕ) (o : Opening) → IsOpening (entry_of view.now) t1 challenge.now o
+        → ShowsOpening taken.now nonce.now o
+        → StandsFor result (entry_of view.now) mechanism t1 challenge.now }
+{
+    ServerWait {
+        nonce: copy_of(nonce),
+        header: copy_of(taken.header),
+        allowed: is_allowed(view, &taken.name, &taken.authzid),
+        signing: signing_for(mechanism, view, taken.bare, challenge),
+        spent: None,
+    }
+}
+
+fn is_allowed(view: &KeysView<'_>, name: &PlainName, authzid: &Option<PlainName>) -> bool
+    ensures { IsTrue result ↔ IsAllowed (entry_of view.now) name.now authzid.now }
+{
+    match authzid {
+        None => true,
+        Some(authzid) => {
+            are_same(authzid.bytes(), name.bytes()) || is_among(authzid.bytes(), view.act_as)
+        }
+    }
+}
+
+fn is_among(name: &[u8], names: &[PlainName]) -> bool
+    ensures { IsTrue result ↔ Contains names.now name.now }
+{
+    names.iter().any(|other| other.bytes() == name)
+}
+
+fn signing_for(
+    mechanism: Mechanism,
+    view: &KeysView<'_>,
+    bare: &[u8],
+    challenge: &[u8],
+) -> Option<Signing>
+    ensures { (first : ClientFirstParts) → bare.now ≡ bare_text first
+        → IsSigningFor result mechanism (entry_of view.now).keys (auth_front first challenge.now) }
+{
+    match &view.keys {
+        Some(keys) => Some(Signing::new(mechanism, keys, bare, challenge)),
+        None => None,
+    }
+}
+
+impl ServerWait {
+    /// The verdict on a client-final message, of which nobody is told. The first of these that is so
+    /// decides: the text is no client-final message (InvalidEncoding), an extension is named `m`
+    /// (ExtensionsNotSupported), the nonce is not exactly the one that was sent (OtherNonce), the channel
+    /// field is not exactly the gs2-header of client-first (Channel), the account has no keys or the proof
+    /// is not by them (InvalidProof), the account may not act as the authorisation name (NotAuthorised).
+    /// Else the login is accepted, with the server's signature. A spent value refuses as InvalidProof.
+    pub fn judge(self, t3: &[u8]) -> Judged
+        ensures due { (e : Entry) (m : Mechanism) (t1 t2 : List ℕ) → StandsFor self e m t1 t2
+            → IsDue e m t1 t2 t3.now (due_of result) }
+        ensures spent { (fault : WriteFault) → IsSpent self fault
+            → due_of result ≡ refuse Refusal.InvalidProof }
+    {
+        if self.spent.is_some() {
+            return Judged::Refused(Refusal::InvalidProof);
+        }
+        self.verdict_on(t3)
+    }
+
+    fn verdict_on(&self, t3: &[u8]) -> Judged
+        ensures { (e : Entry) (m : Mechanism) (t1 t2 : List ℕ) → StandsFor self.now e m t1 t2
+            → IsDue e m t1 t2 t3.now (due_of result) }
+    {
+        match read_client_final(t3) {
+            Ok(last) => self.weigh(&last),
+            Err(_) => Judged::Refused(Refusal::InvalidEncoding),
+        }
+    }
+
+    // The verdict on the parts.
+    fn weigh(&self, last: &ClientFinal<'_>) -> Judged
+        ensures { (e : Entry) (m : Mechanism) (t1 t2 : List ℕ) (s : StandsFor self.now e m t1 t2)
+            (p : ClientFinalParts) → ShowsClientFinal last.now p
+            → IsWeighed e m t2 s.opening p (due_of result) }
+    {
+        if last.mandatory {
+            return Judged::Refused(Refusal::ExtensionsNotSupported);
+        }
+        if !are_same(last.nonce, self.nonce.as_slice()) {
+            return Judged::Refused(Refusal::OtherNonce);
+        }
+        if !are_same(last.channel.as_slice(), self.header.as_slice()) {
+            return Judged::Refused(Refusal::Channel);
+        }
+        let Some(signing) = &self.signing else {
+            return Judged::Refused(Refusal::InvalidProof);
+        };
+        if !signing.is_proof(last.without_proof, &last.proof) {
+            return Judged::Refused(Refusal::InvalidProof);
+        }
+        if !self.allowed {
+            return Judged::Refused(Refusal::NotAuthorised);
+        }
+        Judged::Accepted(signing.signature(last.without_proof))
+    }
+
+    /// Appends the server's final message to `out`, and says what it tells: that the login is accepted, or
+    /// why not, as `judge` decides.
+    ///
+    /// Else `out` is unchanged. Behind 99 NoMemory, which does not come where `out` has reserved room for
+    /// 2048 bytes, the value that is handed back is as before. Behind 16 or 17, which a value that stands
+    /// for a login does not meet, it is spent, and answers that fault to each further call.
+    pub fn finish<A: Allocator>(
+        self,
+        t3: &[u8],
+        out: &mut Vec<u8, A>,
+    ) -> Result<Verdict, (ServerWait, WriteFault)>
+        // The message due is appended, and the verdict is what it tells.
+        ensures ok { IfOk result (λ v. (e : Entry) (m : Mechanism) (t1 t2 : List ℕ)
+            → StandsFor self e m t1 t2 → (d : Due) × IsDue e m t1 t2 t3.now d × (v ≡ verdict_of d)
+            × (out.new.items ≡ out.old.items ++ due_text d)) }
+        // Accepted are exactly the valid logins.
+        ensures valid { IfOk result (λ v. (e : Entry) (m : Mechanism) (t1 t2 : List ℕ)
+            → StandsFor self e m t1 t2 → (t4 : List ℕ) × (out.new.items ≡ out.old.items ++ t4)
+            × ((v ≡ Verdict.Accepted) ↔ IsValidLogin e m t1 t2 t3.now t4)) }
+        ensures err { OnErr result (out.new.items ≡ out.old.items) }
+        ensures back { IfErr result (λ r. r.1 ≡ WriteFault.NoMemory → r.0 ≡ self) }
+        ensures spent { IfErr result (λ r. r.1 ≢ WriteFault.NoMemory → IsSpent r.0 r.1) }
+        ensures again { (fault : WriteFault) → IsSpent self fault
+            → IsErrAnd result (λ r. (r.0 ≡ self) × (r.1 ≡ fault)) }
+        ensures unwritable { IfErr result (λ r. r.1 ≡ WriteFault.Unwritable → (e : Entry) (m : Mechanism)
+            (t1 t2 : List ℕ) → StandsFor self e m t1 t2 → (d : Due) × IsDue e m t1 t2 t3.now d
+            × (CanBeTold (outcome_due d) → ⊥)) }
+        ensures over_limit { IfErr result (λ r. r.1 ≡ WriteFault.OverLimit → (e : Entry) (m : Mechanism)
+            (t1 t2 : List ℕ) → StandsFor self e m t1 t2 → (d : Due) × IsDue e m t1 t2 t3.now d
+            × (2048 < length (due_text d))) }
+        ensures no_memory { IfErr result (λ r. r.1 ≡ WriteFault.NoMemory → (e : Entry) (m : Mechanism)
+            (t1 t2 : List ℕ) → StandsFor self e m t1 t2 → (d : Due) × IsDue e m t1 t2 t3.now d
+            × (length (due_text d) ≤ 2048)
+            × (vec_capacity out.old < vec_len out.old + length (due_text d))) }
+    {
+        if let Some(fault) = self.spent {
+            return Err((self, fault));
+        }
+        let judged = self.verdict_on(t3);
+        match tell(&judged, out) {
+            Ok(()) => Ok(judged.verdict()),
+            Err(WriteFault::NoMemory) => Err((self, WriteFault::NoMemory)),
+            Err(fault) => Err((self.spent_by(fault), fault)),
+        }
+    }
+
+    fn spent_by(self, fault: WriteFault) -> ServerWait
+        ensures { IsSpent result fault }
+    {
+        ServerWait {
+            spent: Some(fault),
+            ..self
+        }
+    }
+}
+
+// Appends the server's final message with this verdict.
+fn tell<A: Allocator>(judged: &Judged, out: &mut Vec<u8, A>) -> Result<(), WriteFault>
+    ensures ok { OnOk result (out.new.items ≡ out.old.items ++ due_text (due_of judged.now)) }
+    ensures related { OnOk result (IsServerFinal (due_text (due_of judged.now)) (final_due (due_of judged.now))) }
+    ensures err { OnErr result (out.new.items ≡ out.old.items) }
+    ensures unwritable { IsErrOf result WriteFault.Unwritable
+        → CanBeTold (outcome_due (due_of judged.now)) → ⊥ }
+    ensures over_limit { IsErrOf result WriteFault.OverLimit
+        → 2048 < length (due_text (due_of judged.now)) }
+    ensures no_memory { IsErrOf result WriteFault.NoMemory
+        → (length (due_text (due_of judged.now)) ≤ 2048)
+        × (vec_capacity out.old < vec_len out.old + length (due_text (due_of judged.now))) }
+{
+    match judged {
+        Judged::Accepted(signature) => {
+            write_server_final(
+                FinalResult::Verifier(copy_of(signature.as_slice())),
+                b"",
+                out,
+            )
+        }
+        Judged::Refused(refusal) => {
+            let value = refusal.error_value().as_bytes();
+            write_server_final(FinalResult::ErrorValue(value), b"", out)
+        }
+    }
 }

@@ -1,6 +1,6 @@
 //! What a server says to a client-final message.
 ghost use Rattle.std.specs.Prelude.{◌≡◌};
-ghost use Rattle.scram_ends.specs.Verdict.{error_value};
+ghost use Rattle.scram_ends.specs.Verdict.{error_value, due_of, verdict_of};
 
 use mac_core::Tag;
 
@@ -59,4 +59,16 @@ pub enum Judged {
 
     /// It is refused.
     Refused(Refusal),
+}
+
+impl Judged {
+    /// The verdict without the signature.
+    pub(crate) fn verdict(&self) -> Verdict
+        ensures { result ≡ verdict_of (due_of self.now) }
+    {
+        match self {
+            Judged::Accepted(_) => Verdict::Accepted,
+            Judged::Refused(refusal) => Verdict::Refused(*refusal),
+        }
+    }
 }

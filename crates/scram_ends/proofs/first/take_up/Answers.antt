@@ -1,5 +1,5 @@
-use Rattle.std.proofs.Common.{rules, ◌≡◌, false, sym, ◌∙◌, subst}
-use Rattle.scram_text.specs.Messages.{client_first_mandatory}
+use Rattle.std.proofs.Common.{◌≡◌, ◌≤◌, ℕ, List, length, false, sym, ◌∙◌, subst, ap, arith, length-append}
+use Rattle.scram_text.specs.Messages.{ClientFirstParts, header_text, bare_text, client_first_text, client_first_mandatory, IsClientFirst}
 use Rattle.scram_ends.specs.Opening.{IsUnbound}
 use Rattle.scram_ends.proofs.first.take_up.Goals as goal
 
@@ -15,3 +15,13 @@ returns-in_default-clause-err c =
       unbound,
       λ name authz is_name is_authz. c.in_default.ensures.none name authz (rw shows.name is_name) (rw shows.authzid is_authz),
     )
+
+-- the header is a front of the message
+header_short : (t1 : List ℕ) (p : ClientFirstParts) (header : List ℕ) → IsClientFirst t1 p → header ≡ header_text p → length header ≤ 2048
+unfolding client_first_text
+header_short t1 p header is same = omega (arith, ap length is.spelled, ap length same, length-append (header_text p) (bare_text p), is.short)
+
+pub returns-clause-header : goal.returns-clause-header
+returns-clause-header c =
+    let found = c.in_ok-message.ensures.found in
+    header_short c.args.t1.now found.0 c.in_ok-message.message.header.now found.1 found.2.header
