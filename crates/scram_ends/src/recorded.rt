@@ -1,8 +1,22 @@
-//! A server's place in a login that was recorded.
-ghost use Rattle.std.specs.Prelude.{◌≡◌};
+//! A server's place in a login that was recorded, for an audit. A recorded challenge may have extensions
+//! and a longer own part, which `server_first` does not write, so it is taken as it stands.
+ghost use Rattle.std.specs.Prelude.{◌≡◌, ◌≤◌, ◌↔◌, ℕ, List, ◌++◌, length, IsTrue, IfOk, IfErr};
+ghost use Rattle.std.specs.Bool.{OnTrue, OnFalse};
+ghost use Rattle.scram_text.specs.Messages.{ClientFirstParts, IsClientFirst, ServerFirstParts, IsServerFirst};
+ghost use Rattle.scram_text.specs.Shown.{ShowsServerFirst};
+ghost use Rattle.scram_ends.specs.Entry.{entry_of};
+ghost use Rattle.scram_ends.specs.Opening.{IsTakenUp, Opening, IsOpening};
+ghost use Rattle.scram_ends.specs.First.{IsRecordedFault};
+ghost use Rattle.scram_ends.specs.Standing.{StandsFor};
 ghost use Rattle.scram_ends.specs.Faults.{recorded_number};
+ghost use Rattle.scram_ends.specs.declared.recorded.RecordedFault.TheVariants.{First};
 
-use crate::first::FirstFault;
+use crate::entry::KeysView;
+use crate::first::{FirstFault, take_up};
+use crate::fixed::are_same;
+use crate::server::{ServerWait, wait_for};
+use mac_core::Mechanism;
+use scram_text::{ServerFirst, read_server_first};
 use thiserror::Error;
 
 /// Why two recorded messages do not open a login: the first of these that is so.
@@ -27,4 +41,61 @@ impl RecordedFault {
             RecordedFault::NotThisChallenge => 31,
         }
     }
+}
+
+impl From<FirstFault> for RecordedFault {
+    ghost from_gives = { λ fault f. f ≡ First fault };
+
+    fn from(fault: FirstFault) -> RecordedFault {
+        RecordedFault::First(fault)
+    }
+}
+
+impl ServerWait {
+    /// A server behind a recorded client-first message and challenge. Refused are a client-first message,
+    /// as by `first_name`, else 31 where the second text is no server-first message, or a mandatory one, or
+    /// its nonce does not begin with the client's or is the client's, or its salt or count is not the
+    /// account's.
+    pub fn recorded(
+        mechanism: Mechanism,
+        view: &KeysView<'_>,
+        t1: &[u8],
+        t2: &[u8],
+    ) -> Result<ServerWait, RecordedFault>
+        ensures ok { IfOk result (λ wait. StandsFor wait (entry_of view.now) mechanism t1.now t2.now) }
+        ensures err { IfErr result (λ fault. IsRecordedFault (entry_of view.now) t1.now t2.now fault) }
+    {
+        let taken = take_up(t1)?;
+        let Ok(challenge) = read_server_first(t2) else {
+            return Err(RecordedFault::NotThisChallenge);
+        };
+        if !is_challenge_to(view, taken.nonce, &challenge) {
+            return Err(RecordedFault::NotThisChallenge);
+        }
+        Ok(wait_for(mechanism, view, &taken, challenge.nonce, t2))
+    }
+}
+
+// A challenge that was read is one to this nonce, for this account.
+fn is_challenge_to(view: &KeysView<'_>, nonce: &[u8], challenge: &ServerFirst<'_>) -> bool
+    ensures opens { OnTrue result ((t1 t2 : List ℕ) (o : Opening) → IsClientFirst t1 o.first
+        → IsTakenUp o.first o.name o.authz → IsServerFirst t2 o.challenge
+        → nonce.now ≡ o.first.nonce → ShowsServerFirst challenge.now o.challenge
+        → IsOpening (entry_of view.now) t1 t2 o) }
+    ensures not { OnFalse result ((t1 t2 : List ℕ) (o : Opening) → nonce.now ≡ o.first.nonce
+        → ShowsServerFirst challenge.now o.challenge → IsOpening (entry_of view.now) t1 t2 o → ⊥) }
+{
+    if challenge.mandatory {
+        return false;
+    }
+    is_longer(challenge.nonce, nonce)
+        && are_same(challenge.salt.bytes(), view.salt.bytes())
+        && challenge.count == view.count
+}
+
+// The nonce begins with the client's and goes on.
+fn is_longer(nonce: &[u8], client: &[u8]) -> bool
+    ensures { IsTrue result ↔ ((own : List ℕ) × (nonce.now ≡ client.now ++ own) × (1 ≤ length own)) }
+{
+    nonce.len() > client.len() && nonce.starts_with(client)
 }
