@@ -1,1 +1,2 @@
 pub mod AmongLemmas
+pub mod LengthLemmas

@@ -1,12 +1,19 @@
 -- The challenge that a server sends opens a login.
-use Rattle.std.proofs.Common.{◌≡◌, ◌≤◌, ◌<◌, ◌-◌, ℕ, List, [], ◌++◌, length, take, drop, ◌∙◌, ap, refl, arith}
+use Rattle.std.proofs.Common.{◌≡◌, ◌≤◌, ◌-◌, ℕ, List, [], ◌++◌, length, take, drop, ap, subst, refl, arith, ◌∙◌}
 use Rattle.std.proofs.lemmas.Grind.{common_steps}
-use Rattle.scram_text.specs.Messages.{ClientFirstParts, IsClientFirst, server_first_text, IsServerFirst}
+use Rattle.mac_core.specs.Chosen.{length_by, hmac_by}
+use Rattle.mac_core.specs.declared.chosen.Mechanism.{Mechanism}
+use Rattle.mac_core.specs.declared.chosen.Mechanism.TheVariants.{ScramSha1, ScramSha256}
+use Rattle.mac_core.proofs.LengthLemmas.{length-hmac_by}
+use Rattle.scram_text.specs.declared.fault.WriteFault.{WriteFault}
+use Rattle.scram_text.specs.declared.fault.WriteFault.TheVariants.{Unwritable, OverLimit, NoMemory}
+use Rattle.scram_text.specs.Messages.{ClientFirstParts, IsClientFirst, IsServerFirst}
 use Rattle.scram_text.specs.Written.{server_first_of}
-use Rattle.scram_text.proofs.ClientFirstLemmas.{client_first_once}
 use Rattle.scram_ends.specs.Entry.{Entry}
+use Rattle.scram_ends.specs.Auth.{auth_message}
+use Rattle.scram_ends.specs.Verdict.{Due, accept, IsDue}
 use Rattle.scram_ends.specs.Opening.{Opening, IsOpening}
-use Rattle.scram_ends.specs.First.{IsChallengeTo, ShowsTaken, ShowsOpening}
+use Rattle.scram_ends.specs.First.{ShowsTaken, ShowsOpening}
 use Rattle.scram_ends.specs.declared.first.Taken.{Taken}
 
 -- a client-first message that is taken up and a challenge to it are an opening, that of what was taken
@@ -22,16 +29,23 @@ challenge_opens e t1 own t2 sent first taken is_first shows same some is_challen
       record { header = shows.header; bare = shows.bare; name = refl; authz = refl; nonce = refl },
     )
 
--- a challenge is no longer than a message may be
-pub challenge_short : (e : Entry) (t1 own t2 : List ℕ) (first : ClientFirstParts) → IsClientFirst t1 first → IsChallengeTo e t1 own t2
-    → 2048 < length (server_first_text (server_first_of (first.nonce ++ own) e.salt e.count [])) → ⊥
-challenge_short e t1 own t2 first is_first c over =
-    let same : c.first ≡ first = client_first_once t1 c.first first c.is_first is_first in
-    let text : t2 ≡ server_first_text (server_first_of (first.nonce ++ own) e.salt e.count []) =
-    c.is_challenge.spelled ∙ ap (λ (p : ClientFirstParts). server_first_text (server_first_of (p.nonce ++ own) e.salt e.count [])) same in
-    omega (arith, ap length text, c.is_challenge.short, over)
-
 -- what stands behind the front of a list
 pub behind : (items front text : List ℕ) (start : ℕ) → items ≡ front ++ text → start ≡ length front
     → take (length items - start) (drop start items) ≡ text
 behind items front text start same at = rw (same, at) (grind (arith, common_steps))
+
+-- what has the length of a MAC is not empty
+is_signed : (m : Mechanism) (mac signature : List ℕ) → length mac ≡ length_by m → signature ≡ mac → length signature ≡ 0 → ⊥
+is_signed ScramSha1 mac signature len same none = omega (arith, len, ap length same, none)
+is_signed ScramSha256 mac signature len same none = omega (arith, len, ap length same, none)
+
+-- a verdict that is due has a signature to write, so memory alone can be wanting
+pub memory_alone : (e : Entry) (m : Mechanism) (t1 t2 t3 : List ℕ) (d : Due) (fault : WriteFault) → IsDue e m t1 t2 t3 d
+    → (fault ≡ Unwritable → (signature : List ℕ) × (d ≡ accept signature) × (length signature ≡ 0)) → (fault ≡ OverLimit → ⊥)
+    → fault ≡ NoMemory
+memory_alone e m t1 t2 t3 d NoMemory due empty over = refl
+memory_alone e m t1 t2 t3 d OverLimit due empty over = absurd (over refl)
+memory_alone e m t1 t2 t3 d Unwritable due empty over =
+    let none = empty refl in
+    let s = (subst (λ (x : Due). IsDue e m t1 t2 t3 x) none.1 due).1 in
+    absurd (is_signed m (hmac_by m s.keys.server (auth_message s.opening.first t2 s.final)) none.0 (length-hmac_by m _ _) s.signed none.2)

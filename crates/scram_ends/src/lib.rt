@@ -13,6 +13,7 @@ mod recorded;
 mod server;
 mod signing;
 mod verdict;
+mod written;
 
 pub use client::{Authenticated, ClientFault, ClientOne, ClientTwo, Limits, OneRefused};
 pub use entry::KeysView;
@@ -21,3 +22,6 @@ pub use mac_core::Mechanism;
 pub use recorded::RecordedFault;
 pub use server::{FirstRefused, ServerWait, server_first};
 pub use verdict::{Judged, Refusal, Verdict};
+
+#[cfg(test)]
+mod tests;

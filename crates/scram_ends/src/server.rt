@@ -10,16 +10,15 @@
 //! The RFC lets a server name the fault of a client-first message in an `e=`. This one answers the fault to
 //! its caller alone, who may say nothing of it. Of the RFC's error values it sends five; a name that has no
 //! keys is never told apart from a wrong proof.
-ghost use Rattle.std.specs.Prelude.{◌≡◌, ◌≢◌, ◌≤◌, ◌<◌, ◌+◌, ◌↔◌, ℕ, List, ◌++◌, length, IsTrue, IfOk, IfErr, OnErr, OnOk, IsErrAnd, IsErrOf, vec_len, vec_capacity, Contains};
-ghost use Rattle.std.specs.Option.{option_copied};
+ghost use Rattle.std.specs.Prelude.{◌≡◌, ◌≢◌, ◌≤◌, ◌<◌, ◌+◌, ◌↔◌, ℕ, List, ◌++◌, length, IsTrue, IfOk, IfErr, OnErr, IsErrAnd, vec_len, vec_capacity, Contains};
+ghost use Rattle.std.specs.declared.option.Option.{Option};
 ghost use Rattle.mac_core.specs.declared.chosen.Mechanism.{Mechanism};
-ghost use Rattle.scram_text.specs.Messages.{header_text, ClientFirstParts, bare_text, ClientFinalParts, IsServerFinal};
+ghost use Rattle.scram_text.specs.Messages.{header_text, ClientFirstParts, bare_text, IsClientFirst, ClientFinalParts};
 ghost use Rattle.scram_text.specs.Shown.{ShowsClientFinal};
-ghost use Rattle.scram_text.specs.Written.{CanBeTold};
 ghost use Rattle.scram_ends.specs.Entry.{Entry, entry_of};
 ghost use Rattle.scram_ends.specs.Auth.{auth_front};
-ghost use Rattle.scram_ends.specs.Opening.{IsAllowed, Opening, IsOpening};
-ghost use Rattle.scram_ends.specs.Verdict.{Due, refuse, IsDue, IsWeighed, due_of, outcome_due, final_due, due_text, verdict_of};
+ghost use Rattle.scram_ends.specs.Opening.{IsTakenUp, IsAllowed, Opening, IsOpening};
+ghost use Rattle.scram_ends.specs.Verdict.{Due, refuse, IsDue, IsWeighed, due_of, due_text, verdict_of};
 ghost use Rattle.scram_ends.specs.Login.{IsValidLogin};
 ghost use Rattle.scram_ends.specs.Standing.{IsSigningFor, StandsFor, IsSpent};
 ghost use Rattle.scram_ends.specs.First.{IsFirstFault, IsChallengeTo, ShowsOpening};
@@ -30,12 +29,10 @@ use crate::first::{FirstFault, Taken, take_up};
 use crate::fixed::{are_same, copy_of, joined};
 use crate::signing::Signing;
 use crate::verdict::{Judged, Refusal, Verdict};
+use crate::written::{write_challenge, write_judgement};
 use arrayvec::ArrayVec;
 use mac_core::Mechanism;
-use scram_text::{
-    ClientFinal, FinalResult, NoncePart, PlainName, WriteFault, read_client_final,
-    write_server_final, write_server_first,
-};
+use scram_text::{ClientFinal, NoncePart, PlainName, WriteFault, read_client_final};
 use std::alloc::Allocator;
 use thiserror::Error;
 
@@ -77,9 +74,8 @@ pub struct ServerWait {
 }
 
 /// Appends the challenge to a client-first message to `out`: the client's nonce with `own` behind it, the
-/// account's salt and its count, which is at least 1. Refused are a client-first message, as by
-/// `first_name`, else 16 or 17 where there is no such challenge, else 99 where `out` has no room for it
-/// reserved and cannot grow; `out` is then unchanged.
+/// account's salt and its count. Refused are a client-first message, as by `first_name`, and else 99 where
+/// `out` has no room for the challenge reserved and cannot grow; `out` is then unchanged.
 pub fn server_first<A: Allocator>(
     mechanism: Mechanism,
     view: &KeysView<'_>,
@@ -87,16 +83,17 @@ pub fn server_first<A: Allocator>(
     own: &NoncePart,
     out: &mut Vec<u8, A>,
 ) -> Result<ServerWait, FirstRefused>
+    requires { 1 ≤ view.now.count }
     // The challenge is appended, and the value stands for it.
     ensures ok { IfOk result (λ wait. (t2 : List ℕ) × (out.new.items ≡ out.old.items ++ t2)
         × IsChallengeTo (entry_of view.now) t1.now own.now t2
         × StandsFor wait (entry_of view.now) mechanism t1.now t2) }
     ensures err { OnErr result (out.new.items ≡ out.old.items) }
     ensures first { IfErr result (λ r. (f : FirstFault) → r ≡ FirstRefused.First f → IsFirstFault t1.now f) }
-    ensures unwritable { IfErr result (λ r. r ≡ FirstRefused.Write WriteFault.Unwritable
-        → (t2 : List ℕ) → IsChallengeTo (entry_of view.now) t1.now own.now t2 → ⊥) }
-    ensures over_limit { IfErr result (λ r. r ≡ FirstRefused.Write WriteFault.OverLimit
-        → (t2 : List ℕ) → IsChallengeTo (entry_of view.now) t1.now own.now t2 → ⊥) }
+    // Behind a client-first message that is taken up, memory alone can be wanting.
+    ensures taken { IfErr result (λ r. (f : WriteFault) → r ≡ FirstRefused.Write f
+        → (f ≡ WriteFault.NoMemory) × ((first : ClientFirstParts) × (name : List ℕ)
+        × (authz : Option (List ℕ)) × IsClientFirst t1.now first × IsTakenUp first name authz)) }
     ensures no_memory { IfErr result (λ r. r ≡ FirstRefused.Write WriteFault.NoMemory
         → (t2 : List ℕ) × IsChallengeTo (entry_of view.now) t1.now own.now t2
         × (vec_capacity out.old < vec_len out.old + length t2)) }
@@ -106,15 +103,10 @@ pub fn server_first<A: Allocator>(
         Err(fault) => return Err(FirstRefused::First(fault)),
     };
     let nonce: ArrayVec<u8, 512> = joined(taken.nonce, own.bytes());
+    let nonce = nonce.as_slice();
     let start = out.len();
-    match write_server_first(nonce.as_slice(), &view.salt, view.count, b"", out) {
-        Ok(()) => Ok(wait_for(
-            mechanism,
-            view,
-            &taken,
-            nonce.as_slice(),
-            &out.as_slice()[start..],
-        )),
+    match write_challenge(nonce, &view.salt, view.count, out) {
+        Ok(()) => Ok(wait_for(mechanism, view, &taken, nonce, &out.as_slice()[start..])),
         Err(fault) => Err(FirstRefused::Write(fault)),
     }
 }
@@ -234,8 +226,8 @@ impl ServerWait {
     /// why not, as `judge` decides.
     ///
     /// Else `out` is unchanged. Behind 99 NoMemory, which does not come where `out` has reserved room for
-    /// 2048 bytes, the value that is handed back is as before. Behind 16 or 17, which a value that stands
-    /// for a login does not meet, it is spent, and answers that fault to each further call.
+    /// 2048 bytes, the value that is handed back is as before. Behind 16 or 17, which no value that stands
+    /// for a login meets, it is spent, and answers that fault to each further call.
     pub fn finish<A: Allocator>(
         self,
         t3: &[u8],
@@ -254,14 +246,11 @@ impl ServerWait {
         ensures spent { IfErr result (λ r. r.1 ≢ WriteFault.NoMemory → IsSpent r.0 r.1) }
         ensures again { (fault : WriteFault) → IsSpent self fault
             → IsErrAnd result (λ r. (r.0 ≡ self) × (r.1 ≡ fault)) }
-        ensures unwritable { IfErr result (λ r. r.1 ≡ WriteFault.Unwritable → (e : Entry) (m : Mechanism)
-            (t1 t2 : List ℕ) → StandsFor self e m t1 t2 → (d : Due) × IsDue e m t1 t2 t3.now d
-            × (CanBeTold (outcome_due d) → ⊥)) }
-        ensures over_limit { IfErr result (λ r. r.1 ≡ WriteFault.OverLimit → (e : Entry) (m : Mechanism)
-            (t1 t2 : List ℕ) → StandsFor self e m t1 t2 → (d : Due) × IsDue e m t1 t2 t3.now d
-            × (2048 < length (due_text d))) }
-        ensures no_memory { IfErr result (λ r. r.1 ≡ WriteFault.NoMemory → (e : Entry) (m : Mechanism)
-            (t1 t2 : List ℕ) → StandsFor self e m t1 t2 → (d : Due) × IsDue e m t1 t2 t3.now d
+        // A value that stands for a login is refused for want of memory alone.
+        ensures memory { IfErr result (λ r. (e : Entry) (m : Mechanism) (t1 t2 : List ℕ)
+            → StandsFor self e m t1 t2 → r.1 ≡ WriteFault.NoMemory) }
+        ensures no_memory { IfErr result (λ r. (e : Entry) (m : Mechanism) (t1 t2 : List ℕ)
+            → StandsFor self e m t1 t2 → (d : Due) × IsDue e m t1 t2 t3.now d
             × (length (due_text d) ≤ 2048)
             × (vec_capacity out.old < vec_len out.old + length (due_text d))) }
     {
@@ -269,7 +258,7 @@ impl ServerWait {
             return Err((self, fault));
         }
         let judged = self.verdict_on(t3);
-        match tell(&judged, out) {
+        match write_judgement(&judged, out) {
             Ok(()) => Ok(judged.verdict()),
             Err(WriteFault::NoMemory) => Err((self, WriteFault::NoMemory)),
             Err(fault) => Err((self.spent_by(fault), fault)),
@@ -282,34 +271,6 @@ impl ServerWait {
         ServerWait {
             spent: Some(fault),
             ..self
-        }
-    }
-}
-
-// Appends the server's final message with this verdict.
-fn tell<A: Allocator>(judged: &Judged, out: &mut Vec<u8, A>) -> Result<(), WriteFault>
-    ensures ok { OnOk result (out.new.items ≡ out.old.items ++ due_text (due_of judged.now)) }
-    ensures related { OnOk result (IsServerFinal (due_text (due_of judged.now)) (final_due (due_of judged.now))) }
-    ensures err { OnErr result (out.new.items ≡ out.old.items) }
-    ensures unwritable { IsErrOf result WriteFault.Unwritable
-        → CanBeTold (outcome_due (due_of judged.now)) → ⊥ }
-    ensures over_limit { IsErrOf result WriteFault.OverLimit
-        → 2048 < length (due_text (due_of judged.now)) }
-    ensures no_memory { IsErrOf result WriteFault.NoMemory
-        → (length (due_text (due_of judged.now)) ≤ 2048)
-        × (vec_capacity out.old < vec_len out.old + length (due_text (due_of judged.now))) }
-{
-    match judged {
-        Judged::Accepted(signature) => {
-            write_server_final(
-                FinalResult::Verifier(copy_of(signature.as_slice())),
-                b"",
-                out,
-            )
-        }
-        Judged::Refused(refusal) => {
-            let value = refusal.error_value().as_bytes();
-            write_server_final(FinalResult::ErrorValue(value), b"", out)
         }
     }
 }

@@ -1,0 +1,20 @@
+use Rattle.std.proofs.Common.{length, arith, inl, inr}
+use Rattle.std.proofs.lemmas.Bool.{cases_lt}
+use Rattle.scram_text.proofs.Base64Lemmas.{field_of_bytes}
+use Rattle.scram_ends.proofs.WrittenLemmas.{can_be_signature, signature_fits}
+use Rattle.scram_ends.proofs.written.write_signature.Goals as goal
+
+pub returns-clause-unwritable : goal.returns-clause-unwritable
+returns-clause-unwritable g c = λ refused.
+    let signature = c.args.signature.now in
+    elim (cases_lt 0 (length signature)) [
+      | inr none ↦ omega (arith, none)
+      | inl some ↦
+          let can = can_be_signature signature (field_of_bytes 64 signature (λ i. omega (arith, c.type_inv.signature i)) (omega (arith, some)) c.requires) in
+          absurd (c.write_server_final.ensures.unwritable refused (rw c.copy_of.ensures can))
+    ]
+
+pub returns-clause-over_limit : goal.returns-clause-over_limit
+returns-clause-over_limit g c = λ over.
+    let longer = c.write_server_final.ensures.over_limit over in
+    signature_fits c.args.signature.now c.requires (rw c.copy_of.ensures at longer.1)

@@ -1,0 +1,105 @@
+//! What no contract shows: that the definitions are those of RFC 5802, by its login, that of RFC 7677 and
+//! those of other software, and that each call has an answer other than a refusal.
+ghost use Rattle.std.specs.Prelude.{◌≤◌, IfSome};
+
+use crate::{
+    FirstFault, FirstRefused, Judged, KeysView, Mechanism, RecordedFault, Refusal, ServerWait,
+    Verdict, first_name, server_first,
+};
+use linked_list_allocator::LocalHeap;
+use mac_core::{ScramMac, Tag, xor};
+use scram_text::{
+    FinalResult, NoncePart, PlainName, TextFault, TextWhy, WriteFault, compose_front,
+    read_client_first, read_server_first, write_client_final, write_server_final,
+};
+use std::alloc::Global;
+use std::process::Abort;
+use std::test::Fail;
+
+mod exchanges;
+mod names;
+mod recorded;
+mod server;
+
+// RFC 5802, section 5: the name is `user` and the password `pencil`.
+const SHA1: [&str; 4] = [
+    "n,,n=user,r=fyko+d2lbbFgONRv9qkxdawL",
+    "r=fyko+d2lbbFgONRv9qkxdawL3rfcNHYJY1ZVvWVs7j,s=QSXCR+Q6sek8bf92,i=4096",
+    "c=biws,r=fyko+d2lbbFgONRv9qkxdawL3rfcNHYJY1ZVvWVs7j,p=v0X8v3Bz2T0CJGbJQyF0X+HI4Ts=",
+    "v=rmF9pqV8S7suAoZWja4dJRkFsKQ=",
+];
+
+// RFC 7677, section 3: the same name and password.
+const SHA256: [&str; 4] = [
+    "n,,n=user,r=rOprNGfwEbeRWgbNEkqO",
+    "r=rOprNGfwEbeRWgbNEkqO%hvYDpWUa2RaTCAfuxFIlj)hNlF$k0,s=W22ZaJ0SNY7soEsUEjb6gQ==,i=4096",
+    "c=biws,r=rOprNGfwEbeRWgbNEkqO%hvYDpWUa2RaTCAfuxFIlj)hNlF$k0,p=dHzbZapWIk4jUhN+Ute9ytag9zjfMHgsqmmiz7AndVQ=",
+    "v=6rriTRBi23WpRR/wtup+mMhUZUn/dB5nLTJRsjl95G4=",
+];
+
+// The account of a password, with the salt and count of a challenge.
+fn view_of<'a>(
+    mechanism: Mechanism,
+    password: &[u8],
+    challenge: &[u8],
+    act_as: &'a [PlainName],
+) -> Option<KeysView<'a>>
+    ensures { IfSome result (λ view. 1 ≤ view.count) }
+{
+    let read = read_server_first(challenge).ok()?;
+    let keys = mechanism.scram_keys(password, read.salt.bytes(), read.count);
+    Some(KeysView {
+        salt: read.salt,
+        count: read.count,
+        keys: Some(keys),
+        act_as,
+    })
+}
+
+// RFC 5802's account.
+fn pencil(act_as: &[PlainName]) -> Option<KeysView<'_>>
+    ensures { IfSome result (λ view. 1 ≤ view.count) }
+{
+    view_of(Mechanism::ScramSha1, b"pencil", SHA1[1].as_bytes(), act_as)
+}
+
+// The server's final message with this judgement.
+fn text_of(alloc: Global, judged: &Judged) -> Result<Vec<u8>, Fail> {
+    let mut out = Vec::new(alloc);
+    match judged {
+        Judged::Accepted(signature) => {
+            let signature = Tag::try_from(signature.as_slice())?;
+            write_server_final(FinalResult::Verifier(signature), b"", &mut out)?;
+        }
+        Judged::Refused(refusal) => {
+            let value = refusal.error_value().as_bytes();
+            write_server_final(FinalResult::ErrorValue(value), b"", &mut out)?;
+        }
+    }
+    Ok(out)
+}
+
+// An honest client's answer to RFC 5802's challenge, where `signed` is the client-first-bare in
+// AuthMessage. It is worked out from the RFC's formulas, with none of this crate's calls.
+fn answer(alloc: Global, header: &str, signed: &str, challenge: &str) -> Result<Vec<u8>, Fail> {
+    let sha1 = Mechanism::ScramSha1;
+    let Ok(read) = read_server_first(challenge.as_bytes()) else {
+        return Err(Fail::from("a challenge"));
+    };
+    let front = compose_front(header.as_bytes(), read.nonce)?;
+    let client = sha1.client_key(&sha1.hi(b"pencil", read.salt.bytes(), read.count));
+    let mut mac = ScramMac::new(sha1, sha1.stored_key(&client).as_slice());
+    mac.add(signed.as_bytes());
+    mac.add(b",");
+    mac.add(challenge.as_bytes());
+    mac.add(b",");
+    mac.add(front.as_slice());
+    let signature = mac.done();
+    if signature.len() != client.len() {
+        return Err(Fail::from("a signature of another length"));
+    }
+    let proof = xor(&client, &signature);
+    let mut out = Vec::new(alloc);
+    write_client_final(header.as_bytes(), read.nonce, b"", &proof, &mut out)?;
+    Ok(out)
+}

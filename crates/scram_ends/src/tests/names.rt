@@ -1,0 +1,62 @@
+use super::*;
+
+#[test]
+fn names_of_client_first(rt: HostRuntime) -> Result<(), Fail> {
+    let name = first_name(b"n,,n=a=2Cb=3Dc,r=x").ok().ok_or("a name")?;
+    assert_eq!(rt; name.bytes(), b"a,b=c".as_slice());
+    let name = first_name(b"y,a=root,n=user,r=x").ok().ok_or("a name")?;
+    assert_eq!(rt; name.bytes(), b"user".as_slice());
+    Ok(())
+}
+
+#[test]
+fn refused_client_first(rt: HostRuntime) {
+    let no_name = FirstFault::Text(TextFault {
+        part: 2,
+        why: TextWhy::Name,
+    });
+    for (text, want) in [
+        ("n,,n=,r=x", no_name),
+        ("n,,m=x,n=user,r=x", FirstFault::Mandatory),
+        ("n,,n=user,r=x,m=x", FirstFault::Mandatory),
+        ("p=tls-unique,,n=user,r=x", FirstFault::BindingAsked),
+        ("n,,n=a\x7F,r=x", FirstFault::OutsideProfile),
+        ("n,a=a\x7F,n=user,r=x", FirstFault::OutsideProfile),
+        // Two at once: the first of the order.
+        ("p=tls-unique,,m=x,n=a\x7F,r=x", FirstFault::Mandatory),
+        ("p=tls-unique,,n=a\x7F,r=x", FirstFault::BindingAsked),
+    ] {
+        assert_eq!(rt; first_name(text.as_bytes()).err(), Some(want), "{text}");
+    }
+}
+
+#[test]
+fn texts_of_faults(rt: HostRuntime) -> Result<(), Fail> {
+    let alloc = rt.alloc();
+    let name = FirstFault::Text(TextFault {
+        part: 2,
+        why: TextWhy::Name,
+    });
+    let refused = FirstRefused::First(name);
+    assert_eq!(rt;
+        format!(in alloc; "{refused}")?.as_str(),
+        "no client-first message: part 2: the name is not `n=` and a name: write `,` as `=2C` and `=` as `=3D`"
+    );
+    let recorded = RecordedFault::First(FirstFault::BindingAsked);
+    assert_eq!(rt;
+        format!(in alloc; "{recorded}")?.as_str(),
+        "channel binding is not offered: send the flag `n` or `y`"
+    );
+    let numbers = [
+        (RecordedFault::First(name), 20),
+        (RecordedFault::First(FirstFault::Mandatory), 21),
+        (RecordedFault::First(FirstFault::BindingAsked), 22),
+        (RecordedFault::First(FirstFault::OutsideProfile), 23),
+        (RecordedFault::NotThisChallenge, 31),
+    ];
+    for (fault, want) in numbers {
+        assert_eq!(rt; fault.number(), want);
+    }
+    assert_eq!(rt; FirstRefused::Write(WriteFault::NoMemory).number(), 99);
+    Ok(())
+}

@@ -1,0 +1,239 @@
+use super::*;
+
+// A login with a published server's own part of the nonce.
+fn check_published(
+    rt: &impl Abort,
+    alloc: Global,
+    mechanism: Mechanism,
+    own: &str,
+    messages: &[&str; 4],
+) -> Result<(), Fail> {
+    let [first, challenge, last, outcome] = *messages;
+    let view = view_of(mechanism, b"pencil", challenge.as_bytes(), &[]).ok_or("an account")?;
+    let own = NoncePart::new(own.as_bytes()).ok_or("a nonce")?;
+    let mut out = Vec::new(alloc);
+    let Ok(wait) = server_first(mechanism, &view, first.as_bytes(), &own, &mut out) else {
+        return Err(Fail::from("no challenge"));
+    };
+    assert_eq!(rt; out.as_slice(), challenge.as_bytes());
+    out.clear();
+    let verdict = wait.finish(last.as_bytes(), &mut out).ok();
+    assert_eq!(rt; verdict, Some(Verdict::Accepted));
+    assert_eq!(rt; out.as_slice(), outcome.as_bytes());
+    Ok(())
+}
+
+#[test]
+fn published_logins(rt: HostRuntime) -> Result<(), Fail> {
+    let alloc = rt.alloc();
+    check_published(
+        &rt,
+        alloc,
+        Mechanism::ScramSha1,
+        "3rfcNHYJY1ZVvWVs7j",
+        &SHA1,
+    )?;
+    check_published(
+        &rt,
+        alloc,
+        Mechanism::ScramSha256,
+        "%hvYDpWUa2RaTCAfuxFIlj)hNlF$k0",
+        &SHA256,
+    )
+}
+
+// The last message of RFC 5802's login with one or two parts changed, and what is due to it.
+const LAST: [(&str, &str); 13] = [
+    ("", "e=invalid-encoding"),
+    // An unused bit of the proof is set.
+    (
+        "c=biws,r=fyko+d2lbbFgONRv9qkxdawL3rfcNHYJY1ZVvWVs7j,p=v0X8v3Bz2T0CJGbJQyF0X+HI4Tt=",
+        "e=invalid-encoding",
+    ),
+    (
+        "c=biws,r=fyko+d2lbbFgONRv9qkxdawL3rfcNHYJY1ZVvWVs7j,m=1,p=v0X8v3Bz2T0CJGbJQyF0X+HI4Ts=",
+        "e=extensions-not-supported",
+    ),
+    (
+        "c=biws,r=fyko+d2lbbFgONRv9qkxdawL,p=v0X8v3Bz2T0CJGbJQyF0X+HI4Ts=",
+        "e=other-error",
+    ),
+    (
+        "c=biws,r=fyko+d2lbbFgONRv9qkxdawL3rfcNHYJY1ZVvWVs7jx,p=v0X8v3Bz2T0CJGbJQyF0X+HI4Ts=",
+        "e=other-error",
+    ),
+    (
+        "c=eSws,r=fyko+d2lbbFgONRv9qkxdawL3rfcNHYJY1ZVvWVs7j,p=v0X8v3Bz2T0CJGbJQyF0X+HI4Ts=",
+        "e=channel-bindings-dont-match",
+    ),
+    (
+        "c=biws,r=fyko+d2lbbFgONRv9qkxdawL3rfcNHYJY1ZVvWVs7j,p=w0X8v3Bz2T0CJGbJQyF0X+HI4Ts=",
+        "e=invalid-proof",
+    ),
+    (
+        "c=biws,r=fyko+d2lbbFgONRv9qkxdawL3rfcNHYJY1ZVvWVs7j,p=AA==",
+        "e=invalid-proof",
+    ),
+    // An extension that the proof does not cover.
+    (
+        "c=biws,r=fyko+d2lbbFgONRv9qkxdawL3rfcNHYJY1ZVvWVs7j,x=1,p=v0X8v3Bz2T0CJGbJQyF0X+HI4Ts=",
+        "e=invalid-proof",
+    ),
+    // Two at once: the first of the order.
+    (
+        "c=biws,r=fyko+d2lbbFgONRv9qkxdawL3rfcNHYJY1ZVvWVs7j,m=1,p=",
+        "e=invalid-encoding",
+    ),
+    (
+        "c=biws,r=fyko,m=1,p=v0X8v3Bz2T0CJGbJQyF0X+HI4Ts=",
+        "e=extensions-not-supported",
+    ),
+    (
+        "c=eSws,r=fyko,p=v0X8v3Bz2T0CJGbJQyF0X+HI4Ts=",
+        "e=other-error",
+    ),
+    (
+        "c=eSws,r=fyko+d2lbbFgONRv9qkxdawL3rfcNHYJY1ZVvWVs7j,p=AA==",
+        "e=channel-bindings-dont-match",
+    ),
+];
+
+#[test]
+fn each_refusal(rt: HostRuntime) -> Result<(), Fail> {
+    let alloc = rt.alloc();
+    let view = pencil(&[]).ok_or("an account")?;
+    let [first, challenge, _, _] = SHA1;
+    for (last, want) in LAST {
+        let sha1 = Mechanism::ScramSha1;
+        let wait = ServerWait::recorded(sha1, &view, first.as_bytes(), challenge.as_bytes())?;
+        let judged = wait.judge(last.as_bytes());
+        assert_eq!(rt;
+            text_of(alloc, &judged)?.as_slice(),
+            want.as_bytes(),
+            "{last}"
+        );
+        let wait = ServerWait::recorded(sha1, &view, first.as_bytes(), challenge.as_bytes())?;
+        let mut out = Vec::from_slice(alloc, b"before ")?;
+        let verdict = wait.finish(last.as_bytes(), &mut out).ok();
+        assert!(rt; matches!(verdict, Some(Verdict::Refused(_))), "{last}");
+        assert_eq!(rt; &out.as_slice()[7..], want.as_bytes(), "{last}");
+    }
+    Ok(())
+}
+
+// A decoy answers a proof, also the right one of another account, as a wrong one is answered.
+#[test]
+fn decoy(rt: HostRuntime) -> Result<(), Fail> {
+    let alloc = rt.alloc();
+    let own = NoncePart::new(b"3rfcNHYJY1ZVvWVs7j").ok_or("a nonce")?;
+    for (last, want) in [
+        (SHA1[2], "e=invalid-proof"),
+        ("c=biws,r=fyko,p=AA==", "e=other-error"),
+    ] {
+        let mut view = pencil(&[]).ok_or("an account")?;
+        view.keys = None;
+        let mut out = Vec::new(alloc);
+        let sha1 = Mechanism::ScramSha1;
+        let Ok(wait) = server_first(sha1, &view, SHA1[0].as_bytes(), &own, &mut out) else {
+            return Err(Fail::from("no challenge"));
+        };
+        assert_eq!(rt; out.as_slice(), SHA1[1].as_bytes());
+        assert_eq!(rt;
+            text_of(alloc, &wait.judge(last.as_bytes()))?.as_slice(),
+            want.as_bytes()
+        );
+    }
+    Ok(())
+}
+
+// What is due to an honest client of this header, whose proof is over `signed` as client-first-bare.
+fn due_to(
+    alloc: Global,
+    header: &str,
+    bare: &str,
+    signed: &str,
+    act_as: &[PlainName],
+) -> Result<Option<Refusal>, Fail> {
+    let view = pencil(act_as).ok_or("an account")?;
+    let first = format!(in alloc; "{header}{bare}")?;
+    let challenge = SHA1[1];
+    let wait = ServerWait::recorded(
+        Mechanism::ScramSha1,
+        &view,
+        first.as_bytes(),
+        challenge.as_bytes(),
+    )?;
+    let last = answer(alloc, header, signed, challenge)?;
+    Ok(match wait.judge(last.as_slice()) {
+        Judged::Accepted(_) => None,
+        Judged::Refused(refusal) => Some(refusal),
+    })
+}
+
+const BARE: &str = "n=user,r=fyko+d2lbbFgONRv9qkxdawL";
+
+#[test]
+fn headers_and_authorisation_names(rt: HostRuntime) -> Result<(), Fail> {
+    let alloc = rt.alloc();
+    let root = [PlainName::new(b"root").ok_or("a name")?];
+    let odd = [PlainName::new(b"a,b=c").ok_or("a name")?];
+    let accepted = None;
+    let refused = Some(Refusal::NotAuthorised);
+    assert_eq!(rt; due_to(alloc, "n,,", BARE, BARE, &[])?, accepted);
+    assert_eq!(rt; due_to(alloc, "y,,", BARE, BARE, &[])?, accepted);
+    assert_eq!(rt; due_to(alloc, "n,a=user,", BARE, BARE, &[])?, accepted);
+    assert_eq!(rt; due_to(alloc, "n,a=root,", BARE, BARE, &[])?, refused);
+    assert_eq!(rt; due_to(alloc, "n,a=root,", BARE, BARE, &root)?, accepted);
+    assert_eq!(rt; due_to(alloc, "n,a=roo,", BARE, BARE, &root)?, refused);
+    assert_eq!(rt;
+        due_to(alloc, "n,a=a=2Cb=3Dc,", BARE, BARE, &odd)?,
+        accepted
+    );
+    // A wrong proof is told before a name that is not allowed.
+    assert_eq!(rt;
+        due_to(alloc, "n,a=root,", BARE, "n=user,r=fyko", &[])?,
+        Some(Refusal::InvalidProof)
+    );
+    Ok(())
+}
+
+#[test]
+fn the_proof_covers_extensions(rt: HostRuntime) -> Result<(), Fail> {
+    let alloc = rt.alloc();
+    let extended = "n=user,r=fyko+d2lbbFgONRv9qkxdawL,x=1";
+    assert_eq!(rt; due_to(alloc, "n,,", extended, extended, &[])?, None);
+    assert_eq!(rt;
+        due_to(alloc, "n,,", extended, BARE, &[])?,
+        Some(Refusal::InvalidProof)
+    );
+    Ok(())
+}
+
+#[test]
+fn refused_memory(rt: HostRuntime) -> Result<(), Fail> {
+    let alloc = rt.alloc();
+    let view = pencil(&[]).ok_or("an account")?;
+    let own = NoncePart::new(b"3rfcNHYJY1ZVvWVs7j").ok_or("a nonce")?;
+    let [first, challenge, last, outcome] = SHA1;
+    let sha1 = Mechanism::ScramSha1;
+    let heap = LocalHeap::new(alloc, 16)?;
+    let mut none = Vec::new(&heap);
+    let refused = server_first(sha1, &view, first.as_bytes(), &own, &mut none);
+    assert_eq!(rt;
+        refused.err(),
+        Some(FirstRefused::Write(WriteFault::NoMemory))
+    );
+    assert_eq!(rt; none.len(), 0);
+    let wait = ServerWait::recorded(sha1, &view, first.as_bytes(), challenge.as_bytes())?;
+    let Err((wait, fault)) = wait.finish(last.as_bytes(), &mut none) else {
+        return Err(Fail::from("memory was there"));
+    };
+    assert_eq!(rt; fault, WriteFault::NoMemory);
+    assert_eq!(rt; none.len(), 0);
+    // The same call again, with room.
+    let mut out = Vec::new(alloc);
+    let verdict = wait.finish(last.as_bytes(), &mut out).ok();
+    assert_eq!(rt; verdict, Some(Verdict::Accepted));
+    assert_eq!(rt; out.as_slice(), outcome.as_bytes());
+    Ok(())
+}
