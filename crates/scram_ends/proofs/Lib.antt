@@ -3,3 +3,7 @@ pub mod VerdictLemmas
 pub mod DecisionLemmas
 pub mod ServerLemmas
 pub mod WrittenLemmas
+pub mod DigestLemmas
+pub mod HonestLemmas
+pub mod ClientLemmas
+pub mod ChallengeLemmas

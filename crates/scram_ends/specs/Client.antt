@@ -1,14 +1,19 @@
 -- What a client stands for at each of its steps, and why it ends a login.
 use Rattle.std.specs.Prelude.{ℕ, ◌≡◌, ◌≢◌, ◌≤◌, ◌<◌, ◌⊎◌, true, false, List, ◌++◌, length}
 use Rattle.std.specs.declared.option.Option.{Option}
+use Rattle.std.specs.declared.result.Result.{Result}
+use Rattle.std.specs.declared.result.Result.TheVariants.{Ok, Err}
 use Rattle.mac_core.specs.declared.chosen.Mechanism.{Mechanism}
 use Rattle.scram_text.specs.Messages.{ClientFirstParts, header_text, bare_text, ServerFirstParts, IsServerFirst, server_first_mandatory, verified, failed, ServerFinalParts, IsServerFinal, server_final_mandatory}
 use Rattle.scram_text.specs.Faults.{IsServerFirstFault, IsServerFinalFault}
+use Rattle.scram_text.specs.declared.fault.WriteFault.{WriteFault}
 use Rattle.scram_ends.specs.Auth.{auth_message, signature_of}
 use Rattle.scram_ends.specs.Honest.{IsHonestFirst, IsHonest}
 use Rattle.scram_ends.specs.declared.client.Limits.{Limits}
 use Rattle.scram_ends.specs.declared.client.ClientOne.{ClientOne}
 use Rattle.scram_ends.specs.declared.client.ClientTwo.{ClientTwo}
+use Rattle.scram_ends.specs.declared.client.OneRefused.{OneRefused}
+use Rattle.scram_ends.specs.declared.client.OneRefused.TheVariants.{Spent, Back}
 use Rattle.scram_ends.specs.declared.client.ClientFault.{ClientFault}
 use Rattle.scram_ends.specs.declared.client.ClientFault.TheVariants.{Text, Mandatory, NonceNotMine, NonceNotLonger, CountOutside, ServerRefused, WrongSignature}
 
@@ -26,7 +31,21 @@ pub record IsStarted (w : ClientOne) (m : Mechanism) (limits : Limits) (name : L
 -- own server key
 pub record IsExpecting (w : ClientTwo) (m : Mechanism) (password name : List ℕ) (authz : Option (List ℕ)) (own t1 t2 t3 : List ℕ) : Type 0 where
   pub honest : IsHonest password m name authz own t1 t2 t3
-  pub signature : w.expected.items ≡ signature_of m password honest.challenge.salt honest.challenge.count (auth_message honest.first t2 honest.final)
+  pub signature : List ℕ
+  pub signed : signature ≡ signature_of m password honest.challenge.salt honest.challenge.count (auth_message honest.first t2 honest.final)
+  pub expected : w.expected.items ≡ signature
+
+-- the nonce is the client's own and something of the server's
+abbrev pub IsLonger : List ℕ → List ℕ → Type 0
+IsLonger own nonce = (more : List ℕ) × (nonce ≡ own ++ more) × (1 ≤ length more)
+
+-- a client within these limits, with this nonce of its own, answers the challenge
+pub record IsAnswerable (limits : Limits) (own t2 : List ℕ) (challenge : ServerFirstParts) : Type 0 where
+  pub is_challenge : IsServerFirst t2 challenge
+  pub not_mandatory : server_first_mandatory challenge ≡ false
+  pub longer : IsLonger own challenge.nonce
+  pub at_least : limits.least ≤ challenge.count
+  pub at_most : challenge.count ≤ limits.most
 
 -- the count is outside the client's limits
 abbrev pub IsOutside : Limits → ℕ → Type 0
@@ -45,9 +64,27 @@ IsChallengeFault limits own t2 NonceNotLonger =
     (p : ServerFirstParts) × IsServerFirst t2 p × (server_first_mandatory p ≡ false) × (p.nonce ≡ own)
 IsChallengeFault limits own t2 CountOutside =
     (p : ServerFirstParts) × IsServerFirst t2 p × (server_first_mandatory p ≡ false)
-    × ((more : List ℕ) × (p.nonce ≡ own ++ more) × (1 ≤ length more)) × IsOutside limits p.count
+    × IsLonger own p.nonce × IsOutside limits p.count
 IsChallengeFault limits own t2 ServerRefused = ⊥
 IsChallengeFault limits own t2 WrongSignature = ⊥
+
+-- the client has answered the challenge, or would have: its answer was not written
+abbrev pub IsAnswered : Result ClientTwo OneRefused → Type 0
+IsAnswered (Ok two) = Unit {0}
+IsAnswered (Err (Back client fault)) = Unit {0}
+IsAnswered (Err (Spent fault)) = ⊥
+
+-- a fact of the fault, where the client has ended the login
+abbrev pub IfSpent : Result ClientTwo OneRefused → (ClientFault → Type 0) → Type 0
+IfSpent (Ok two) fact = Unit {0}
+IfSpent (Err (Back client fault)) fact = Unit {0}
+IfSpent (Err (Spent fault)) fact = fact fault
+
+-- a fact of the client and the fault, where the client comes back
+abbrev pub IfBack : Result ClientTwo OneRefused → (ClientOne → WriteFault → Type 0) → Type 0
+IfBack (Ok two) fact = Unit {0}
+IfBack (Err (Back client fault)) fact = fact client fault
+IfBack (Err (Spent fault)) fact = Unit {0}
 
 -- why a client that expects this signature does not take the server for authentic, the first that is so:
 -- the text is no server-final message, with its first fault; it is mandatory; it is an error; its verifier

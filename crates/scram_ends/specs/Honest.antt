@@ -17,16 +17,20 @@ pub record IsHonestFirst (name : List ℕ) (authz : Option (List ℕ)) (nonce : 
   pub is_authz : IsAuthzOf authz first.authz
   pub own : first.nonce ≡ nonce
 
--- client-first, and client-final to a challenge: the gs2-header of client-first as channel field, the
--- challenge's nonce, no extensions, and the proof of the password under the challenge's salt and count
+-- client-final to this client-first message and challenge: the gs2-header of client-first as channel field,
+-- the challenge's nonce, no extensions, and the proof of the password under the challenge's salt and count
+pub record IsHonestFinal (password : List ℕ) (m : Mechanism) (first : ClientFirstParts) (t2 : List ℕ) (challenge : ServerFirstParts) (t3 : List ℕ) (final : ClientFinalParts) : Type 0 where
+  pub is_final : IsClientFinal t3 final
+  pub channel : final.channel ≡ header_text first
+  pub sent_nonce : final.nonce ≡ challenge.nonce
+  pub plain : final.extensions ≡ []
+  pub proof : final.proof ≡ proof_of m password challenge.salt challenge.count (auth_message first t2 final)
+
+-- both messages of the client, and the challenge between them
 pub record IsHonest (password : List ℕ) (m : Mechanism) (name : List ℕ) (authz : Option (List ℕ)) (nonce t1 t2 t3 : List ℕ) : Type 0 where
   pub first : ClientFirstParts
   pub challenge : ServerFirstParts
   pub final : ClientFinalParts
   pub is_first : IsHonestFirst name authz nonce t1 first
   pub is_challenge : IsServerFirst t2 challenge
-  pub is_final : IsClientFinal t3 final
-  pub channel : final.channel ≡ header_text first
-  pub sent_nonce : final.nonce ≡ challenge.nonce
-  pub plain : final.extensions ≡ []
-  pub proof : final.proof ≡ proof_of m password challenge.salt challenge.count (auth_message first t2 final)
+  pub is_final : IsHonestFinal password m first t2 challenge t3 final

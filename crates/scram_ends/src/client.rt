@@ -1,11 +1,25 @@
-//! The client's end of a login.
+//! The client's end of a login: client-first with `Client::start`, client-final with
+//! `ClientOne::first`, and with `ClientTwo::last` whether the server has the account's keys.
+//!
+//! A client sends the flag `n` and no extensions. It answers no challenge whose iteration count is outside
+//! its limits: under a small one its proof would be cheap to try passwords on, and a large one would keep
+//! it busy (RFC 5802, section 9, and RFC 7677, section 4).
 ghost use Rattle.std.specs.Prelude.{◌≡◌};
 ghost use Rattle.scram_ends.specs.Faults.{client_number};
+ghost use Rattle.scram_ends.specs.declared.client.ClientFault.TheVariants.{Text};
+
+mod answer;
+mod last;
+mod start;
 
 use arrayvec::ArrayVec;
 use mac_core::{Mechanism, Tag};
 use scram_text::{TextFault, WriteFault};
 use thiserror::Error;
+
+/// A client that has sent nothing yet.
+#[derive(Clone, Copy, Debug, PartialEq, Eq)]
+pub struct Client;
 
 /// The iteration counts that a client accepts.
 #[derive(Clone, Copy, Debug, PartialEq, Eq)]
@@ -15,6 +29,20 @@ pub struct Limits {
 
     /// The most.
     pub most: u32,
+}
+
+impl Limits {
+    /// 4096 to 1000000. The RFCs ask for at least 4096 (RFC 5802, section 5.1); the most is this crate's
+    /// own.
+    pub fn usual() -> Limits
+        ensures least { result.least ≡ 4096 }
+        ensures most { result.most ≡ 1000000 }
+    {
+        Limits {
+            least: 4096,
+            most: 1_000_000,
+        }
+    }
 }
 
 /// Why a client ends a login: the first of these that is so.
@@ -63,6 +91,14 @@ impl ClientFault {
             ClientFault::ServerRefused => 29,
             ClientFault::WrongSignature => 30,
         }
+    }
+}
+
+impl From<TextFault> for ClientFault {
+    ghost from_gives = { λ fault f. f ≡ Text fault };
+
+    fn from(fault: TextFault) -> ClientFault {
+        ClientFault::Text(fault)
     }
 }
 

@@ -1,0 +1,238 @@
+-- The client's messages: that they can be written and are short, and that they are honest.
+use Rattle.std.proofs.Common.{◌≡◌, ℕ, ◌+◌, ◌-◌, ◌*◌, ◌<◌, ◌≤◌, List, [], ◌∷◌, ◌++◌, length, take, drop, length-append, sym, ◌∙◌, ap, subst, refl, arith}
+use Rattle.std.proofs.Math.Seq.{drop-append_seam}
+use Rattle.std.specs.Prelude.{codes, option_map, IfSome}
+use Rattle.std.specs.declared.option.Option.{Option}
+use Rattle.std.specs.declared.option.Option.TheVariants.{None, Some}
+use Rattle.std.specs.declared.result.Result.{Result}
+use Rattle.std.specs.declared.result.Result.TheVariants.{Err}
+use Rattle.mac_core.specs.declared.chosen.Mechanism.{Mechanism}
+use Rattle.scram_text.specs.Class.{IsPlainName, IsNoncePart, IsNonce}
+use Rattle.scram_text.specs.Name.{name_spelling}
+use Rattle.scram_text.specs.Base64Field.{base64, IsField}
+use Rattle.scram_text.specs.Parts.{authz_text}
+use Rattle.scram_text.specs.Messages.{ClientFirstParts, header_text, bare_text, client_first_text, IsClientFirst, ServerFirstParts, IsServerFirst, final_front, ClientFinalParts, client_final_text, IsClientFinal}
+use Rattle.scram_text.specs.Written.{client_first_of, CanBeClientFirst, client_final_of, CanBeClientFinal}
+use Rattle.scram_text.specs.declared.fault.WriteFault.{WriteFault}
+use Rattle.scram_text.specs.declared.fault.WriteFault.TheVariants.{Unwritable, OverLimit, NoMemory}
+use Rattle.scram_text.specs.declared.client_first.Flag.TheVariants.{NoBinding}
+use Rattle.scram_text.proofs.PartLemmas.{behind}
+use Rattle.scram_text.proofs.NameLemmas.{length-spelling}
+use Rattle.scram_text.proofs.Base64Lemmas.{length-base64, field_of_bytes}
+use Rattle.scram_text.proofs.TextLemmas.{text_nil}
+use Rattle.scram_ends.specs.Opening.{IsAuthzOf}
+use Rattle.scram_ends.specs.Auth.{auth_front, auth_message, proof_of, signature_of}
+use Rattle.scram_ends.specs.Honest.{IsHonestFirst}
+use Rattle.scram_ends.specs.Client.{IsStarted, IsExpecting}
+use Rattle.scram_ends.specs.declared.client.Limits.{Limits}
+use Rattle.scram_ends.specs.declared.client.ClientOne.{ClientOne}
+use Rattle.scram_ends.specs.declared.client.ClientTwo.{ClientTwo}
+use Rattle.scram_ends.proofs.DigestLemmas.{AreBytes}
+
+-- a writer that is given what it can write wants memory alone
+only_memory : {T : Type 0} (r : Result T WriteFault) (f : WriteFault) → r ≡ Err f → (r ≡ Err Unwritable → ⊥) → (r ≡ Err OverLimit → ⊥) → f ≡ NoMemory
+only_memory r Unwritable failed unwritable over = absurd (unwritable failed)
+only_memory r OverLimit failed unwritable over = absurd (over failed)
+only_memory r NoMemory failed unwritable over = refl
+
+-- client-first
+
+pub can_start : CanBeClientFirst NoBinding []
+can_start = record { flag_class = refl; extensions_class = record { is_text = text_nil; each = tt } }
+
+flat_first : (f a n r : List ℕ) → length ((f ++ 44 ∷ (a ++ 44 ∷ [])) ++ (n ++ 44 ∷ r)) ≡ length f + length a + length n + length r + 3
+flat_first f a n r =
+    omega (arith, length-append (f ++ 44 ∷ (a ++ 44 ∷ [])) (n ++ 44 ∷ r), length-append f (44 ∷ (a ++ 44 ∷ [])), length-append a (44 ∷ []), length-append n (44 ∷ r))
+
+spelled_authz : (authz : Option (List ℕ)) → IfSome authz IsPlainName → length (authz_text (option_map name_spelling authz)) ≤ 767
+spelled_authz None is = omega arith
+spelled_authz (Some name) is = omega (arith, length-spelling name, is.at_most)
+
+first_bound : (f a n r : ℕ) → f ≡ 1 → a ≤ 767 → n ≤ 767 → r ≤ 258 → f + a + n + r + 3 ≤ 2048
+first_bound f a n r one authz name nonce = omega arith
+
+pub first_short : (authz : Option (List ℕ)) (name nonce : List ℕ) → IfSome authz IsPlainName → IsPlainName name → IsNoncePart nonce
+    → length (client_first_text (client_first_of NoBinding authz name nonce [])) ≤ 2048
+unfolding client_first_text header_text bare_text
+first_short authz name nonce is_authz is_name is_nonce =
+    subst (λ (k : ℕ). k ≤ 2048)
+    (sym (flat_first (codes "n") (authz_text (option_map name_spelling authz)) (codes "n=" ++ name_spelling name) (codes "r=" ++ nonce)))
+    (first_bound 1 _ _ _ refl (spelled_authz authz is_authz) (omega (arith, length-spelling name, is_name.at_most)) (omega (arith, is_nonce.at_most)))
+
+pub first_fails : {T : Type 0} (r : Result T WriteFault) (f : WriteFault) (authz : Option (List ℕ)) (name nonce : List ℕ) → r ≡ Err f
+    → IfSome authz IsPlainName → IsPlainName name → IsNoncePart nonce
+    → (r ≡ Err Unwritable → CanBeClientFirst NoBinding [] → ⊥)
+    → (r ≡ Err OverLimit → CanBeClientFirst NoBinding [] × (2048 < length (client_first_text (client_first_of NoBinding authz name nonce []))))
+    → f ≡ NoMemory
+first_fails r f authz name nonce failed is_authz is_name is_nonce unwritable over =
+    only_memory r f failed (λ e. unwritable e can_start)
+    (λ e. let long = over e in omega (arith, long.1, first_short authz name nonce is_authz is_name is_nonce))
+
+authz_of : (authz : Option (List ℕ)) → IfSome authz IsPlainName → IsAuthzOf authz (option_map name_spelling authz)
+authz_of None is = tt
+authz_of (Some name) is = record { plain = is; spelled = refl }
+
+-- what is written is honest
+pub honest_first : (authz : Option (List ℕ)) (name nonce t1 : List ℕ) → IfSome authz IsPlainName → IsPlainName name
+    → IsClientFirst t1 (client_first_of NoBinding authz name nonce [])
+    → IsHonestFirst name authz nonce t1 (client_first_of NoBinding authz name nonce [])
+honest_first authz name nonce t1 is_authz is_name is_first = record {
+  is_first = is_first;
+  flag = refl;
+  not_mandatory = refl;
+  plain = refl;
+  is_name = record { plain = is_name; spelled = refl };
+  is_authz = authz_of authz is_authz;
+  own = refl;
+}
+
+-- what was appended is what stands behind the old end
+pub appended : (whole written front text : List ℕ) (start : ℕ) → whole ≡ written → written ≡ front ++ text → start ≡ length front
+    → take (length whole - start) (drop start whole) ≡ text
+appended whole written front text start same is at =
+    behind whole start
+    ∙ (ap (λ (k : ℕ). drop k whole) at
+    ∙ (ap (λ (xs : List ℕ). drop (length front) xs) (same ∙ is)
+    ∙ drop-append_seam front text))
+
+-- its bare message and its gs2-header
+
+pub bare_length : (text bare : List ℕ) (p : ClientFirstParts) → IsClientFirst text p → bare ≡ bare_text p → length bare ≤ 2048
+unfolding client_first_text
+bare_length text bare p is same =
+    let whole : length text ≡ length (header_text p) + length (bare_text p) = ap length is.spelled ∙ length-append (header_text p) (bare_text p) in
+    let part : length bare ≡ length (bare_text p) = ap length same in
+    omega (arith, whole, part, is.short)
+
+authz_length : (authz part : Option (List ℕ)) → IsAuthzOf authz part → length (authz_text part) ≤ 767
+authz_length None None is = omega arith
+authz_length None (Some part) is = absurd is
+authz_length (Some name) None is = absurd is
+authz_length (Some name) (Some part) is =
+    let same : length part ≡ length (name_spelling name) = ap length is.spelled in
+    omega (arith, same, length-spelling name, is.plain.at_most)
+
+flat_header : (f a : List ℕ) → length (f ++ 44 ∷ (a ++ 44 ∷ [])) ≡ length f + length a + 2
+flat_header f a = omega (arith, length-append f (44 ∷ (a ++ 44 ∷ [])), length-append a (44 ∷ []))
+
+pub header_length : (name : List ℕ) (authz : Option (List ℕ)) (nonce t1 : List ℕ) (first : ClientFirstParts) → IsHonestFirst name authz nonce t1 first
+    → (1 ≤ length (header_text first)) × (length (header_text first) ≤ 770)
+unfolding header_text
+header_length name authz nonce t1 first honest =
+    let flag : length first.flag ≡ 1 = ap length honest.flag in
+    let short = authz_length authz first.authz honest.is_authz in
+    let whole = flat_header first.flag (authz_text first.authz) in
+    (omega (arith, flag, whole), omega (arith, flag, short, whole))
+
+pub header_fits : (name : List ℕ) (authz : Option (List ℕ)) (nonce t1 header : List ℕ) (first : ClientFirstParts) → IsHonestFirst name authz nonce t1 first
+    → header ≡ header_text first → length header ≤ 1536
+header_fits name authz nonce t1 header first honest same =
+    let long : length header ≡ length (header_text first) = ap length same in
+    omega (arith, long, (header_length name authz nonce t1 first honest).1)
+
+-- client-final
+
+pub can_answer : (header nonce proof : List ℕ) → AreBytes header → AreBytes proof → 1 ≤ length header → length header ≤ 770
+    → IsNonce 512 nonce → 1 ≤ length proof → length proof ≤ 64 → CanBeClientFinal header nonce [] proof
+can_answer header nonce proof bytes also some short is_nonce some_proof short_proof = record {
+  channel_class = field_of_bytes 1536 header bytes some (omega (arith, short));
+  nonce_class = is_nonce;
+  extensions_class = record { is_text = text_nil; each = tt };
+  proof_class = field_of_bytes 64 proof also some_proof short_proof;
+}
+
+flat_final : (c n p : List ℕ) → length ((c ++ 44 ∷ n) ++ 44 ∷ p) ≡ length c + length n + length p + 2
+flat_final c n p = omega (arith, length-append (c ++ 44 ∷ n) (44 ∷ p), length-append c (44 ∷ n))
+
+final_bound : (c n p : ℕ) → c ≤ 1030 → n ≤ 514 → p ≤ 90 → c + n + p + 2 ≤ 2048
+final_bound c n p channel nonce proof = omega arith
+
+field_bound : (bytes : List ℕ) (most : ℕ) → length bytes ≤ 3 * most → length (base64 bytes) ≤ 4 * most
+field_bound bytes most within = omega (arith, length-base64 bytes)
+
+pub answer_short : (header nonce proof : List ℕ) → length header ≤ 770 → length nonce ≤ 512 → length proof ≤ 64
+    → length (client_final_text (client_final_of header nonce [] proof)) ≤ 2048
+unfolding client_final_text final_front
+answer_short header nonce proof short is_nonce is_proof =
+    subst (λ (k : ℕ). k ≤ 2048) (sym (flat_final (codes "c=" ++ base64 header) (codes "r=" ++ nonce) (codes "p=" ++ base64 proof)))
+    (final_bound _ _ _ (omega (arith, field_bound header 257 (omega arith))) (omega arith) (omega (arith, field_bound proof 22 (omega arith))))
+
+pub front_short : (header nonce : List ℕ) → length header ≤ 770 → length nonce ≤ 512
+    → length (final_front (client_final_of header nonce [] [])) ≤ 2048
+unfolding final_front
+front_short header nonce short is_nonce =
+    omega (arith, length-append (codes "c=" ++ base64 header) (44 ∷ (codes "r=" ++ nonce)), field_bound header 257 (omega arith))
+
+-- the front does not say the proof
+pub same_front : (header nonce proof : List ℕ) → final_front (client_final_of header nonce [] []) ≡ final_front (client_final_of header nonce [] proof)
+unfolding final_front
+same_front header nonce proof = refl
+
+pub front_fails : {T : Type 0} (r : Result T WriteFault) (f : WriteFault) (header nonce : List ℕ) → r ≡ Err f
+    → AreBytes header → 1 ≤ length header → length header ≤ 770 → IsNonce 512 nonce
+    → (r ≡ Err Unwritable → IsField 1536 header × IsNonce 512 nonce → ⊥)
+    → (r ≡ Err OverLimit → IsField 1536 header × IsNonce 512 nonce × (2048 < length (final_front (client_final_of header nonce [] []))))
+    → (r ≡ Err NoMemory → ⊥) → ⊥
+front_fails r f header nonce failed bytes some short is_nonce unwritable over no_memory =
+    let field = field_of_bytes 1536 header bytes some (omega (arith, short)) in
+    let full : f ≡ NoMemory = only_memory r f failed (λ e. unwritable e (field, is_nonce))
+    (λ e. let long = over e in omega (arith, long.2, front_short header nonce short is_nonce.at_most)) in
+    no_memory (failed ∙ ap (λ (x : WriteFault). Err x) full)
+
+pub answer_fails : {T : Type 0} (r : Result T WriteFault) (f : WriteFault) (header nonce proof : List ℕ) → r ≡ Err f
+    → CanBeClientFinal header nonce [] proof → length header ≤ 770
+    → (r ≡ Err Unwritable → CanBeClientFinal header nonce [] proof → ⊥)
+    → (r ≡ Err OverLimit → CanBeClientFinal header nonce [] proof × (2048 < length (client_final_text (client_final_of header nonce [] proof))))
+    → f ≡ NoMemory
+answer_fails r f header nonce proof failed can short unwritable over =
+    only_memory r f failed (λ e. unwritable e can)
+    (λ e. let long = over e in omega (arith, long.1, answer_short header nonce proof short can.nonce_class.at_most can.proof_class.at_most))
+
+-- the client's own header
+pub header_range : (w : ClientOne) (m : Mechanism) (limits : Limits) (name : List ℕ) (authz : Option (List ℕ)) (own t1 header : List ℕ)
+    → IsStarted w m limits name authz own t1 → header ≡ w.header.items → (1 ≤ length header) × (length header ≤ 770)
+header_range w m limits name authz own t1 header started same =
+    let range = header_length name authz own t1 started.first started.is_first in
+    let long : length header ≡ length (header_text started.first) = ap length (same ∙ started.header) in
+    (omega (arith, long, range.0), omega (arith, long, range.1))
+
+same_proof : (m n : Mechanism) (password salt other auth text : List ℕ) (count also : ℕ) → m ≡ n → salt ≡ other → count ≡ also → auth ≡ text
+    → proof_of m password salt count auth ≡ proof_of n password other also text
+same_proof m n password salt other auth text count also e f g h = λ i. proof_of (e i) password (f i) (g i) (h i)
+
+same_signature : (m n : Mechanism) (password salt other auth text : List ℕ) (count also : ℕ) → m ≡ n → salt ≡ other → count ≡ also → auth ≡ text
+    → signature_of m password salt count auth ≡ signature_of n password other also text
+same_signature m n password salt other auth text count also e f g h = λ i. signature_of (e i) password (f i) (g i) (h i)
+
+-- what is written is honest, and its signature is the one to expect
+pub expecting : (w : ClientOne) (two : ClientTwo) (m : Mechanism) (limits : Limits) (name : List ℕ) (authz : Option (List ℕ)) (own t1 t2 password header nonce salt front proof : List ℕ) (count : ℕ) (p : ServerFirstParts)
+    → (started : IsStarted w m limits name authz own t1) → IsServerFirst t2 p
+    → header ≡ w.header.items → nonce ≡ p.nonce → salt ≡ p.salt → count ≡ p.count
+    → front ≡ final_front (client_final_of header nonce [] [])
+    → proof ≡ proof_of w.mechanism password salt count (auth_front started.first t2 ++ front)
+    → two.expected.items ≡ signature_of w.mechanism password salt count (auth_front started.first t2 ++ front)
+    → IsClientFinal (client_final_text (client_final_of header nonce [] proof)) (client_final_of header nonce [] proof)
+    → IsExpecting two m password name authz own t1 t2 (client_final_text (client_final_of header nonce [] proof))
+expecting w two m limits name authz own t1 t2 password header nonce salt front proof count p started is_challenge is_header is_nonce is_salt is_count is_front is_proof is_signature is_final =
+    let q : ClientFinalParts = client_final_of header nonce [] proof in
+    let auth : auth_front started.first t2 ++ front ≡ auth_message started.first t2 q =
+    ap (λ (text : List ℕ). auth_front started.first t2 ++ text) (is_front ∙ same_front header nonce proof) in
+    record {
+      honest = record {
+        first = started.first;
+        challenge = p;
+        final = q;
+        is_first = started.is_first;
+        is_challenge = is_challenge;
+        is_final = record {
+          is_final = is_final;
+          channel = is_header ∙ started.header;
+          sent_nonce = is_nonce;
+          plain = refl;
+          proof = is_proof ∙ same_proof w.mechanism m password salt p.salt _ _ count p.count started.mechanism is_salt is_count auth;
+        };
+      };
+      signature = two.expected.items;
+      signed = is_signature ∙ same_signature w.mechanism m password salt p.salt _ _ count p.count started.mechanism is_salt is_count auth;
+      expected = refl;
+    }

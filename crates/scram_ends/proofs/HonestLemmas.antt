@@ -1,0 +1,136 @@
+-- Honest logins succeed.
+use Rattle.std.proofs.Common.{◌≡◌, ℕ, ◌≤◌, inl, List, [], ◌++◌, length, sym, ◌∙◌, ap, subst, refl, arith}
+use Rattle.std.specs.Prelude.{codes}
+use Rattle.std.specs.declared.option.Option.{Option}
+use Rattle.mac_core.specs.Chosen.{length_by, hi_by, client_key_by, stored_key_by}
+use Rattle.mac_core.specs.Keys.{xor_bytes}
+use Rattle.mac_core.specs.declared.chosen.Mechanism.{Mechanism}
+use Rattle.mac_core.specs.declared.chosen.Mechanism.TheVariants.{ScramSha1, ScramSha256}
+use Rattle.scram_text.specs.Parts.{have_mandatory}
+use Rattle.scram_text.specs.Messages.{ClientFirstParts, ServerFirstParts, server_first_mandatory, verified, server_final_text}
+use Rattle.scram_text.specs.Written.{server_final_of}
+use Rattle.scram_text.proofs.Base64Lemmas.{length-base64, field_of_bytes}
+use Rattle.scram_text.proofs.TextLemmas.{text_nil}
+use Rattle.scram_text.proofs.ComposeLemmas.{signature_text, server_final_related}
+use Rattle.scram_text.proofs.ClientFirstLemmas.{client_first_once}
+use Rattle.scram_text.proofs.ServerFirstLemmas.{server_first_once}
+use Rattle.scram_ends.specs.Entry.{Entry, password_keys}
+use Rattle.scram_ends.specs.Auth.{auth_message, client_signature, server_signature, IsProof, proof_of, signature_of}
+use Rattle.scram_ends.specs.Opening.{IsOpening}
+use Rattle.scram_ends.specs.Verdict.{accept, IsDue, due_text, final_due}
+use Rattle.scram_ends.specs.Login.{IsAuthentic, IsValidLogin}
+use Rattle.scram_ends.specs.First.{IsChallengeTo}
+use Rattle.scram_ends.specs.Honest.{IsHonest}
+use Rattle.scram_ends.specs.Laws.{HonestLogsIn}
+use Rattle.scram_ends.proofs.VerdictLemmas.{accepts_exactly_valid}
+use Rattle.scram_ends.proofs.DigestLemmas.{AreBytes, mac_bytes, length-mac, length-xor, xor_back}
+
+pub length_range : (m : Mechanism) → (1 ≤ length_by m) × (length_by m ≤ 32)
+length_range ScramSha1 = (omega arith, omega arith)
+length_range ScramSha256 = (omega arith, omega arith)
+
+final_short : (signature : List ℕ) → length signature ≤ 64 → length (server_final_text (server_final_of (verified signature) [])) ≤ 2048
+unfolding server_final_text
+final_short signature within = omega (arith, within, length-base64 signature)
+
+-- the message that tells a signature bears it
+shown : (signature : List ℕ) → AreBytes signature → 1 ≤ length signature → length signature ≤ 64
+    → IsAuthentic (due_text (accept signature)) signature
+shown signature fits some within = record {
+  last = final_due (accept signature);
+  is_last = server_final_related (verified signature) [] (signature_text signature fits)
+      (record { outcome_class = field_of_bytes 64 signature fits some within; extensions_class = record { is_text = text_nil; each = tt } })
+      (final_short signature within);
+  not_mandatory = refl;
+  verifier = refl;
+}
+
+-- the proof of a password passes by its keys: what the signature hides is ClientKey
+proved : (m : Mechanism) (password salt auth proof : List ℕ) (count : ℕ) → proof ≡ proof_of m password salt count auth
+    → IsProof m (password_keys m password salt count) auth proof
+proved m password salt auth proof count is =
+    let key = client_key_by m (hi_by m password salt count) in
+    let signature = client_signature m (password_keys m password salt count) auth in
+    let key_length : length key ≡ length_by m = length-mac m (hi_by m password salt count) (codes "Client Key") in
+    let same : length key ≡ length signature = key_length ∙ sym (length-mac m (stored_key_by m key) auth) in
+    record {
+      len = ap length is ∙ (length-xor key signature same ∙ key_length);
+      opens = ap (λ (p : List ℕ). stored_key_by m (xor_bytes p signature)) is ∙ ap (λ (k : List ℕ). stored_key_by m k) (xor_back key signature same);
+    }
+
+-- what an honest client and the account's challenge open
+opened : (e : Entry) (m : Mechanism) (password name : List ℕ) (authz : Option (List ℕ)) (nonce own t1 t2 t3 : List ℕ)
+    → 1 ≤ length own → IsChallengeTo e t1 own t2 → (honest : IsHonest password m name authz nonce t1 t2 t3)
+    → IsOpening e t1 t2 (record { first = honest.first; name = name; authz = authz; challenge = honest.challenge })
+opened e m password name authz nonce own t1 t2 t3 some challenge honest =
+    let first : challenge.first ≡ honest.first = client_first_once t1 challenge.first honest.first challenge.is_first honest.is_first.is_first in
+    let same = server_first_once t2 honest.challenge _ honest.is_challenge challenge.is_challenge in
+    record {
+      is_first = honest.is_first.is_first;
+      taken_up = record {
+        not_mandatory = honest.is_first.not_mandatory;
+        unbound = inl honest.is_first.flag;
+        is_name = honest.is_first.is_name;
+        is_authz = honest.is_first.is_authz;
+      };
+      is_challenge = honest.is_challenge;
+      not_mandatory = ap (λ (p : ServerFirstParts). server_first_mandatory p) same;
+      longer = (own, ap (λ (p : ServerFirstParts). p.nonce) same ∙ ap (λ (p : ClientFirstParts). p.nonce ++ own) first, some);
+      salt = ap (λ (p : ServerFirstParts). p.salt) same;
+      count = ap (λ (p : ServerFirstParts). p.count) same;
+    }
+
+same_proof : (m : Mechanism) (password salt other auth : List ℕ) (count also : ℕ) → salt ≡ other → count ≡ also
+    → proof_of m password salt count auth ≡ proof_of m password other also auth
+same_proof m password salt other auth count also e f = λ i. proof_of m password (e i) (f i) auth
+
+same_signature : (m : Mechanism) (password salt other auth : List ℕ) (count also : ℕ) → salt ≡ other → count ≡ also
+    → signature_of m password salt count auth ≡ signature_of m password other also auth
+same_signature m password salt other auth count also e f = λ i. signature_of m password (e i) (f i) auth
+
+-- a valid login makes acceptance due with the signature that its last message bears
+due_of_valid : (e : Entry) (m : Mechanism) (t1 t2 t3 t4 : List ℕ) (v : IsValidLogin e m t1 t2 t3 t4)
+    → IsDue e m t1 t2 t3 (accept (server_signature m v.keys (auth_message v.opening.first t2 v.final)))
+due_of_valid e m t1 t2 t3 t4 v = (
+  ((accepts_exactly_valid e m t1 t2 t3 t4).1 v).1.0,
+  record {
+    opening = v.opening;
+    final = v.final;
+    keys = v.keys;
+    is_opening = v.is_opening;
+    is_final = v.is_final;
+    has_keys = v.has_keys;
+    signed = refl;
+  },
+)
+
+pub honest_logs_in : HonestLogsIn
+honest_logs_in e m password name authz nonce own t1 t2 t3 has_keys allowed some challenge honest =
+    let auth = auth_message honest.first t2 honest.final in
+    let keys = password_keys m password e.salt e.count in
+    let signature = signature_of m password honest.challenge.salt honest.challenge.count auth in
+    let is_opening = opened e m password name authz nonce own t1 t2 t3 some challenge honest in
+    let same : signature ≡ server_signature m keys auth = same_signature m password _ e.salt auth _ e.count is_opening.salt is_opening.count in
+    let long : length signature ≡ length_by m = length-mac m _ auth in
+    let range = length_range m in
+    let authentic : IsAuthentic (due_text (accept signature)) signature =
+    shown signature (mac_bytes m _ auth) (omega (arith, long, range.0)) (omega (arith, long, range.1)) in
+    let valid : IsValidLogin e m t1 t2 t3 (due_text (accept signature)) = record {
+      opening = record { first = honest.first; name = name; authz = authz; challenge = honest.challenge };
+      final = honest.final;
+      keys = keys;
+      is_opening = is_opening;
+      is_final = honest.is_final.is_final;
+      not_mandatory = ap (λ (xs : List (List ℕ)). have_mandatory xs) honest.is_final.plain;
+      nonce = honest.is_final.sent_nonce;
+      channel = honest.is_final.channel;
+      has_keys = has_keys;
+      proof = proved m password e.salt auth honest.final.proof e.count
+          (honest.is_final.proof ∙ same_proof m password _ e.salt auth _ e.count is_opening.salt is_opening.count);
+      allowed = allowed;
+      authentic = subst (λ (s : List ℕ). IsAuthentic (due_text (accept signature)) s) same authentic;
+    } in (
+      subst (λ (s : List ℕ). IsDue e m t1 t2 t3 (accept s)) (sym same) (due_of_valid e m t1 t2 t3 _ valid),
+      authentic,
+      valid,
+    )

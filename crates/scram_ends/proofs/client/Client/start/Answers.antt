@@ -1,0 +1,49 @@
+use Rattle.std.proofs.Common.{◌≡◌, ℕ, List, [], length, sym, ◌∙◌, ap, subst, arith, rules}
+use Rattle.std.specs.Option.{option_copied}
+use Rattle.std.specs.declared.result.Result.TheVariants.{Err}
+use Rattle.std.proofs.lemmas.Result.{err_from_is_err_and}
+use Rattle.scram_text.specs.Messages.{client_first_text, IsClientFirst}
+use Rattle.scram_text.specs.Written.{client_first_of}
+use Rattle.scram_text.specs.declared.client_first.Flag.TheVariants.{NoBinding}
+use Rattle.scram_text.specs.declared.fault.WriteFault.{WriteFault}
+use Rattle.scram_ends.proofs.ClientLemmas.{first_fails, appended, honest_first, bare_length, header_fits}
+use Rattle.scram_ends.proofs.client.Client.start.Goals as goal
+
+pub returns-in_err-write_client_first-clause-no_memory : goal.returns-in_err-write_client_first-clause-no_memory
+returns-in_err-write_client_first-clause-no_memory g c =
+    let e = err_from_is_err_and c.from_residual.result c.from_residual.ensures.1 in
+    let authz = option_copied c.args.authzid in
+    let first = client_first_of NoBinding authz c.args.name.now c.args.nonce.now [] in
+    let full = first_fails c.write_client_first.result _ authz c.args.name.now c.args.nonce.now c.in_err-write_client_first.was
+    c.are_in_class.ensures.authzid c.are_in_class.ensures.name c.are_in_class.ensures.nonce
+    c.write_client_first.ensures.unwritable c.write_client_first.ensures.over_limit in
+    let room = c.write_client_first.ensures.no_memory (c.in_err-write_client_first.was ∙ ap (λ (x : WriteFault). Err x) full) in
+    rw (e.1, e.2) (
+      full,
+      (
+        client_first_text first,
+        first,
+        honest_first authz c.args.name.now c.args.nonce.now (client_first_text first) c.are_in_class.ensures.authzid c.are_in_class.ensures.name room.0,
+        room.1,
+      ),
+    )
+
+pub kept-requires : goal.kept-requires
+kept-requires g c =
+    let found = c.in-Ok.ensures.found in
+    (omega arith, bare_length _ c.in-Ok.message.bare.now found.0 found.1 found.2.bare)
+
+pub kept-requires-2 : goal.kept-requires-2
+kept-requires-2 g c =
+    let authz = option_copied c.args.authzid in
+    let first = client_first_of NoBinding authz c.args.name.now c.args.nonce.now [] in
+    let start : c.len-start.result ≡ length c.args.out.now.items = search rules in
+    let written = appended c.deref.result.now c.write_client_first.new.out.items c.args.out.now.items (client_first_text first) c.len-start.result
+    c.deref.ensures.value c.in_ok-write_client_first.ensures.ok start in
+    let shows = c.in-Ok.ensures.only first
+    (subst (λ (t1 : List ℕ). IsClientFirst t1 first) (sym written) c.in_ok-write_client_first.ensures.related) in (
+      omega arith,
+      header_fits c.args.name.now authz c.args.nonce.now (client_first_text first) c.in-Ok.message.header.now first
+          (honest_first authz c.args.name.now c.args.nonce.now (client_first_text first) c.are_in_class.ensures.authzid c.are_in_class.ensures.name c.in_ok-write_client_first.ensures.related)
+          shows.header,
+    )

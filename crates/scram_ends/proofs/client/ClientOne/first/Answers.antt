@@ -1,0 +1,11 @@
+use Rattle.scram_ends.proofs.client.ClientOne.first.Goals as goal
+
+pub returns-in-Ok-answer-clause-ok : goal.returns-in-Ok-answer-clause-ok
+returns-in-Ok-answer-clause-ok g c = λ m limits name authz own t1 started.
+    let taken = c.in-Ok.ensures.ok in
+    c.in-Ok-answer.ensures.ok m limits name authz own t1 taken.0 started taken.2.is_challenge taken.1
+
+pub returns-in-Err-answer-clause-no_memory : goal.returns-in-Err-answer-clause-no_memory
+returns-in-Err-answer-clause-no_memory g c = λ m limits name authz own t1 started.
+    let taken = c.in-Ok.ensures.ok in
+    c.in-Err-answer.ensures.no_memory m limits name authz own t1 taken.0 started taken.2.is_challenge taken.1

@@ -1,0 +1,5 @@
+use Rattle.scram_ends.proofs.HonestLemmas.{honest_logs_in}
+use Rattle.scram_ends.proofs.honest.honest_login.Goals as goal
+
+pub returns : goal.returns
+returns c = honest_logs_in

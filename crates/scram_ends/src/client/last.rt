@@ -1,0 +1,43 @@
+//! The end of a login for the client: whether server-final bears the signature that it expects.
+ghost use Rattle.std.specs.Prelude.{◌≡◌, ℕ, List, IfErr, OnOk, IsOk};
+ghost use Rattle.std.specs.declared.option.Option.{Option};
+ghost use Rattle.scram_ends.specs.Login.{IsAuthentic};
+ghost use Rattle.scram_ends.specs.Client.{IsExpecting, IsLastFault};
+
+use crate::client::{Authenticated, ClientFault, ClientTwo};
+use mac_core::Mechanism;
+use scram_text::{FinalResult, read_server_final};
+
+impl ClientTwo {
+    /// Whether `t4` shows that the server has the keys of the client's password: it is a server-final
+    /// message, which may have extensions, and its verifier is the server signature of the three messages
+    /// before it. Else the answer is the first of these: 24 for a text that is no server-final message, 25
+    /// for a mandatory one, 29 for an error and 30 for another verifier.
+    pub fn last(self, t4: &[u8]) -> Result<Authenticated, ClientFault>
+        ensures ok { OnOk result ((m : Mechanism) (password name : List ℕ) (authz : Option (List ℕ))
+            (own t1 t2 t3 : List ℕ) → (x : IsExpecting self m password name authz own t1 t2 t3)
+            → IsAuthentic t4.now x.signature) }
+        ensures only { (m : Mechanism) (password name : List ℕ) (authz : Option (List ℕ))
+            (own t1 t2 t3 : List ℕ) → (x : IsExpecting self m password name authz own t1 t2 t3)
+            → IsAuthentic t4.now x.signature → IsOk result }
+        ensures err { IfErr result (λ fault. (m : Mechanism) (password name : List ℕ)
+            (authz : Option (List ℕ)) (own t1 t2 t3 : List ℕ)
+            → (x : IsExpecting self m password name authz own t1 t2 t3)
+            → IsLastFault x.signature t4.now fault) }
+    {
+        let last = read_server_final(t4)?;
+        if last.mandatory {
+            return Err(ClientFault::Mandatory);
+        }
+        match last.result {
+            FinalResult::ErrorValue(_) => Err(ClientFault::ServerRefused),
+            FinalResult::Verifier(signature) => {
+                if signature.as_slice() == self.expected.as_slice() {
+                    Ok(Authenticated)
+                } else {
+                    Err(ClientFault::WrongSignature)
+                }
+            }
+        }
+    }
+}

@@ -1,0 +1,75 @@
+//! The client's first message, as `n,,n=user,r=fyko+d2lbbFgONRv9qkxdawL`.
+ghost use Rattle.std.specs.Prelude.{◌≡◌, ◌≤◌, ◌<◌, ◌+◌, ℕ, List, [], ◌++◌, length, vec_len, vec_capacity, IfSome, IfOk, IfErr, OnErr};
+ghost use Rattle.std.specs.Option.{option_copied};
+ghost use Rattle.scram_text.specs.Class.{IsPlainName, IsNoncePart};
+ghost use Rattle.scram_text.specs.Messages.{ClientFirstParts};
+ghost use Rattle.scram_ends.specs.Honest.{IsHonestFirst};
+ghost use Rattle.scram_ends.specs.Client.{IsStarted};
+
+use crate::client::{Client, ClientOne, Limits};
+use arrayvec::ArrayVec;
+use mac_core::Mechanism;
+use scram_text::{Flag, NoncePart, PlainName, WriteFault, read_client_first, write_client_first};
+use std::alloc::Allocator;
+
+impl Client {
+    /// Appends the client-first message of this name, authorisation name and nonce to `out`: at most
+    /// 1796 bytes, with the flag `n` and no extensions. `limits` are the counts that the client will
+    /// accept, the least at least 1. Answers 99 NoMemory alone, which does not come where `out` has
+    /// reserved room for the message; `out` is then unchanged.
+    pub fn start<A: Allocator>(
+        mechanism: Mechanism,
+        name: &PlainName,
+        authzid: Option<&PlainName>,
+        nonce: &NoncePart,
+        limits: Limits,
+        out: &mut Vec<u8, A>,
+    ) -> Result<ClientOne, WriteFault>
+        requires { 1 ≤ limits.least }
+        ensures ok { IfOk result (λ client. (t1 : List ℕ) × (out.new.items ≡ out.old.items ++ t1)
+            × IsStarted client mechanism limits name.now (option_copied authzid.entry) nonce.now t1) }
+        ensures err { OnErr result (out.new.items ≡ out.old.items) }
+        ensures no_memory { IfErr result (λ fault. (fault ≡ WriteFault.NoMemory)
+            × ((t1 : List ℕ) × (first : ClientFirstParts)
+            × IsHonestFirst name.now (option_copied authzid.entry) nonce.now t1 first
+            × (vec_capacity out.old < vec_len out.old + length t1))) }
+    {
+        let start = out.len();
+        are_in_class(name, authzid, nonce);
+        write_client_first(Flag::NoBinding, authzid, name, nonce, b"", out)?;
+        let Ok(message) = read_client_first(&out[start..]) else {
+            unreachable!()
+        };
+        Ok(ClientOne {
+            mechanism,
+            limits,
+            bare: kept(message.bare),
+            header: kept(message.header),
+            nonce: kept(nonce.bytes()),
+        })
+    }
+}
+
+// A copy of the bytes.
+fn kept<const N: usize>(bytes: &[u8]) -> ArrayVec<u8, N>
+    requires { length bytes.now ≤ N }
+    ensures { result.items ≡ bytes.now }
+{
+    let Ok(copy) = ArrayVec::try_from(bytes) else {
+        unreachable!()
+    };
+    copy
+}
+
+// Names and nonces are in their classes by their types, which is for the proof alone.
+fn are_in_class(name: &PlainName, authzid: Option<&PlainName>, nonce: &NoncePart)
+    ensures name { IsPlainName name.now }
+    ensures authzid { IfSome (option_copied authzid.entry) IsPlainName }
+    ensures nonce { IsNoncePart nonce.now }
+{
+    name.bytes();
+    nonce.bytes();
+    if let Some(authzid) = authzid {
+        authzid.bytes();
+    }
+}
