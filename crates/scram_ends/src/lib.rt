@@ -13,6 +13,8 @@ pub mod laws;
 mod recorded;
 mod server;
 mod signing;
+#[cfg(test)]
+mod tests;
 mod verdict;
 mod written;
 

@@ -16,7 +16,9 @@ use std::alloc::Global;
 use std::process::Abort;
 use std::test::Fail;
 
+mod client;
 mod exchanges;
+mod logins;
 mod names;
 mod recorded;
 mod server;
