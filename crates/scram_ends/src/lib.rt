@@ -13,8 +13,6 @@ pub mod laws;
 mod recorded;
 mod server;
 mod signing;
-#[cfg(test)]
-mod tests;
 mod verdict;
 mod written;
 
