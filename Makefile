@@ -33,6 +33,7 @@ bench: build
 	cd crates/bench && rt run -- hotp 1 12345678901234567890
 	python3 bench/keys.py $(PROGRAM)
 	python3 bench/messages.py crates/bench/out/bench
+	python3 bench/verdicts.py crates/bench/out/bench
 
 clean:
 	rm -rf crates/*/out

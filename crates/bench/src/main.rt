@@ -1,9 +1,14 @@
 //! Does one thing of the libraries many times over, for a script to time.
 //!
 //! `bench KIND COUNT TEXT` reads the message TEXT of that kind COUNT times, and prints how often it was
-//! read; `bench hotp COUNT SECRET` makes the codes of the counters below COUNT, and prints the last.
+//! read; `bench hotp COUNT SECRET` makes the codes of the counters below COUNT, and prints the last;
+//! `bench verdict COUNT TEXT` judges TEXT COUNT times as the client-final message of RFC 7677's example,
+//! and prints how often it was accepted.
 #![tactic(auto)]
 
+mod login;
+
+use crate::login::print_verdicts;
 use mac_core::{HSha1, Prepared};
 use otp_core::{Digits, Secret, hotp_with};
 use scram_text::{read_client_final, read_client_first, read_server_final, read_server_first};
@@ -54,13 +59,10 @@ fn main(rt: HostRuntime) -> io::Result<ExitCode> {
     let Ok(count) = count.parse::<u32>() else {
         return Ok(ExitCode::from(2));
     };
-    if kind.as_str() == "hotp" {
-        print_codes(&rt, text.as_bytes(), count)?;
-    } else {
-        println!(rt;
-            "{kind} {}",
-            readings(kind.as_str(), text.as_bytes(), count)
-        )?;
+    match kind.as_str() {
+        "hotp" => print_codes(&rt, text.as_bytes(), count)?,
+        "verdict" => print_verdicts(&rt, text.as_bytes(), count)?,
+        kind => println!(rt; "{kind} {}", readings(kind, text.as_bytes(), count))?,
     }
     Ok(ExitCode::SUCCESS)
 }

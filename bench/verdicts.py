@@ -1,0 +1,55 @@
+#!/usr/bin/env python3
+"""Times verdicts on the login of RFC 7677's example beside their MACs alone by Python's hmac.
+
+Usage: verdicts.py PROGRAM
+
+PROGRAM is the built crate bench. A verdict reads the three messages of a log, opens the login and judges
+it: two HMACs and a hash, over keys that are given. The other software makes two HMACs and a hash over the
+same texts, and then four and a hash, and reads no message. Best of several turns, without the time of a
+start.
+"""
+import hashlib
+import hmac
+import subprocess
+import sys
+import time
+
+COUNT = 300_000
+PYTHON_COUNT = 30_000
+TURNS = 5
+AUTH = (
+    b"n=user,r=rOprNGfwEbeRWgbNEkqO,"
+    b"r=rOprNGfwEbeRWgbNEkqO%hvYDpWUa2RaTCAfuxFIlj)hNlF$k0,s=W22ZaJ0SNY7soEsUEjb6gQ==,i=4096,"
+    b"c=biws,r=rOprNGfwEbeRWgbNEkqO%hvYDpWUa2RaTCAfuxFIlj)hNlF$k0"
+)
+FINAL = "c=biws,r=rOprNGfwEbeRWgbNEkqO%hvYDpWUa2RaTCAfuxFIlj)hNlF$k0,p=dHzbZapWIk4jUhN+Ute9ytag9zjfMHgsqmmiz7AndVQ="
+
+
+def by_python(macs):
+    key, hidden = hashlib.sha256(b"key").digest(), hashlib.sha256(b"hidden").digest()
+    begun = time.perf_counter()
+    for _ in range(PYTHON_COUNT):
+        for _ in range(macs):
+            hmac.digest(key, AUTH, "sha256")
+        hashlib.sha256(hidden).digest()
+    return PYTHON_COUNT / (time.perf_counter() - begun)
+
+
+def seconds(words, want):
+    begun = time.perf_counter()
+    done = subprocess.run(words, check=True, capture_output=True, text=True)
+    if done.stdout != want:
+        sys.exit(f"{words}: {done.stdout!r}, not {want!r}")
+    return time.perf_counter() - begun
+
+
+def main():
+    program = sys.argv[1]
+    start = min(seconds([program, "verdict", "1", FINAL], "accepted 1\n") for _ in range(TURNS))
+    many = [program, "verdict", str(COUNT), FINAL]
+    ours = min(seconds(many, f"accepted {COUNT}\n") for _ in range(TURNS)) - start
+    two, four = (max(by_python(macs) for _ in range(TURNS)) for macs in (2, 4))
+    print(f"verdicts: {COUNT / ours:,.0f} a second; by Python's hmac two HMACs and a hash {two:,.0f}, four {four:,.0f}")
+
+
+main()
