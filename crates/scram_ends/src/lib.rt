@@ -1,7 +1,20 @@
 //! Both ends of a SCRAM login (RFC 5802, RFC 7677), without channel binding.
 //!
+//! A server finds the account by `first_name`, answers the client-first message by `server_first`, and the
+//! client-final message by `ServerWait::finish`. That accepts exactly the valid logins, and refuses each
+//! other for the first reason of a fixed order. `ServerWait::recorded` and `judge` give the same verdict on
+//! a login that was recorded, and take no memory.
+//!
 //! `specs/` says what a login is by its whole messages: which verdict is due to it, when it is valid, and
-//! what an honest client sends.
+//! what an honest client sends. `laws` has what follows from that alone: exactly one verdict is due to
+//! every client-final message, and acceptance exactly to valid logins.
+//!
+//! ```rust
+//! use scram_ends::first_name;
+//!
+//! let name = first_name(b"n,a=root,n=user,r=fyko+d2lbbFgONRv9qkxdawL")?;
+//! assert_eq!(rt; name.bytes(), b"user".as_slice());
+//! ```
 #![tactic(auto)]
 
 mod client;

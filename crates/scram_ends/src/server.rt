@@ -111,7 +111,7 @@ pub fn server_first<A: Allocator>(
     }
 }
 
-// A server that waits behind this challenge, which has this nonce.
+/// A server that waits behind this challenge, which has this nonce.
 pub(crate) fn wait_for(
     mechanism: Mechanism,
     view: &KeysView<'_>,
