@@ -1,9 +1,18 @@
--- The nonce of a challenge against the client's own.
-use Rattle.std.proofs.Common.{◌≡◌, ℕ, ◌≤◌, true, false, inl, inr, List, ◌++◌, length, sym, ◌∙◌, ap, arith, eqb, append-nil}
+-- The nonce of a challenge against the client's own, and that a challenge to answer is not refused.
+use Rattle.std.proofs.Common.{◌≡◌, ℕ, ◌≤◌, true, false, inl, inr, List, ◌++◌, length, length-append, sym, ◌∙◌, ap, subst, arith, eqb, append-nil}
 use Rattle.std.specs.Prelude.{◌≢◌}
 use Rattle.std.proofs.lemmas.List.{nil_from_length}
 use Rattle.std.proofs.lemmas.Bool.{eqb-true, both_ways}
 use Rattle.std.proofs.lemmas.Bool.Decides.{eqb_tells}
+use Rattle.std.specs.declared.option.Option.{Option}
+use Rattle.mac_core.specs.declared.chosen.Mechanism.{Mechanism}
+use Rattle.scram_text.specs.Messages.{ServerFirstParts, server_first_mandatory}
+use Rattle.scram_text.proofs.ServerFirstLemmas.{server_first_once}
+use Rattle.scram_ends.specs.Client.{IsStarted, IsAnswerable, IsChallengeFault}
+use Rattle.scram_ends.specs.declared.client.Limits.{Limits}
+use Rattle.scram_ends.specs.declared.client.ClientOne.{ClientOne}
+use Rattle.scram_ends.specs.declared.client.ClientFault.{ClientFault}
+use Rattle.scram_ends.specs.declared.client.ClientFault.TheVariants.{Text, Mandatory, NonceNotMine, NonceNotLonger, CountOutside, ServerRefused, WrongSignature}
 
 pub not_mine : (own nonce sent prefix : List ℕ) → sent ≡ nonce → prefix ≡ own → ((rest : List ℕ) → sent ≢ prefix ++ rest)
     → (more : List ℕ) → nonce ≡ own ++ more → ⊥
@@ -25,3 +34,34 @@ pub longer : (own nonce sent prefix rest : List ℕ) → sent ≡ nonce → pref
     → eqb (length rest) 0 ≡ false → (more : List ℕ) × (nonce ≡ own ++ more) × (1 ≤ length more)
 longer own nonce sent prefix rest same is cut some =
     (rest, sym same ∙ (cut ∙ ap (λ (front : List ℕ). front ++ rest) is), some_length (length rest) some)
+
+-- what is refused is no challenge to answer
+pub not_refused : (limits : Limits) (own t2 : List ℕ) (fault : ClientFault) (c : ServerFirstParts)
+    → IsChallengeFault limits own t2 fault → IsAnswerable limits own t2 c → ⊥
+not_refused limits own t2 (Text fault) c h a = h.0 c a.is_challenge
+not_refused limits own t2 Mandatory c h a =
+    let same = server_first_once t2 h.0 c h.1 a.is_challenge in
+    both_ways (server_first_mandatory c) a.not_mandatory (ap (λ (q : ServerFirstParts). server_first_mandatory q) (sym same) ∙ h.2)
+not_refused limits own t2 NonceNotMine c h a =
+    let same = server_first_once t2 h.0 c h.1 a.is_challenge in
+    h.3 a.longer.0 (ap (λ (q : ServerFirstParts). q.nonce) same ∙ a.longer.1)
+not_refused limits own t2 NonceNotLonger c h a =
+    let same = server_first_once t2 h.0 c h.1 a.is_challenge in
+    let long : length own ≡ length (own ++ a.longer.0) = ap length (sym h.3 ∙ (ap (λ (q : ServerFirstParts). q.nonce) same ∙ a.longer.1)) in
+    omega (arith, long, length-append own a.longer.0, a.longer.2)
+not_refused limits own t2 CountOutside c h a =
+    let same = server_first_once t2 h.0 c h.1 a.is_challenge in
+    let count : h.0.count ≡ c.count = ap (λ (q : ServerFirstParts). q.count) same in
+    elim h.4 [
+      | inl low ↦ omega (arith, low, count, a.at_least)
+      | inr high ↦ omega (arith, high, count, a.at_most)
+    ]
+not_refused limits own t2 ServerRefused c h a = h
+not_refused limits own t2 WrongSignature c h a = h
+
+-- a fault by what the client keeps is one by what it stands for
+pub fault_of : (w : ClientOne) (m : Mechanism) (limits : Limits) (name : List ℕ) (authz : Option (List ℕ)) (own t1 t2 : List ℕ) (fault : ClientFault)
+    → IsStarted w m limits name authz own t1 → IsChallengeFault w.limits w.nonce.items t2 fault → IsChallengeFault limits own t2 fault
+fault_of w m limits name authz own t1 t2 fault started is =
+    subst (λ (l : Limits). IsChallengeFault l own t2 fault) started.within
+    (subst (λ (nonce : List ℕ). IsChallengeFault w.limits nonce t2 fault) started.nonce is)

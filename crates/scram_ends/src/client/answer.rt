@@ -40,6 +40,10 @@ impl ClientOne {
         ensures answerable { IsAnswered result → (m : Mechanism) (limits : Limits) (name : List ℕ)
             (authz : Option (List ℕ)) (own t1 : List ℕ) → IsStarted self m limits name authz own t1
             → (challenge : ServerFirstParts) × IsAnswerable limits own t2.now challenge }
+        // Each challenge to this client is answered.
+        ensures only { (m : Mechanism) (limits : Limits) (name : List ℕ) (authz : Option (List ℕ))
+            (own t1 : List ℕ) (challenge : ServerFirstParts) → IsStarted self m limits name authz own t1
+            → IsAnswerable limits own t2.now challenge → IsAnswered result }
         ensures spent { IfSpent result (λ fault. (m : Mechanism) (limits : Limits) (name : List ℕ)
             (authz : Option (List ℕ)) (own t1 : List ℕ) → IsStarted self m limits name authz own t1
             → IsChallengeFault limits own t2.now fault) }
