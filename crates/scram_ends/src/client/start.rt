@@ -7,7 +7,7 @@ ghost use Rattle.scram_ends.specs.Honest.{IsHonestFirst};
 ghost use Rattle.scram_ends.specs.Client.{IsStarted};
 
 use crate::client::{Client, ClientOne, Limits};
-use arrayvec::ArrayVec;
+use crate::fixed::copy_of;
 use mac_core::Mechanism;
 use scram_text::{Flag, NoncePart, PlainName, WriteFault, read_client_first, write_client_first};
 use std::alloc::Allocator;
@@ -43,22 +43,11 @@ impl Client {
         Ok(ClientOne {
             mechanism,
             limits,
-            bare: kept(message.bare),
-            header: kept(message.header),
-            nonce: kept(nonce.bytes()),
+            bare: copy_of(message.bare),
+            header: copy_of(message.header),
+            nonce: copy_of(nonce.bytes()),
         })
     }
-}
-
-// A copy of the bytes.
-fn kept<const N: usize>(bytes: &[u8]) -> ArrayVec<u8, N>
-    requires { length bytes.now ≤ N }
-    ensures { result.items ≡ bytes.now }
-{
-    let Ok(copy) = ArrayVec::try_from(bytes) else {
-        unreachable!()
-    };
-    copy
 }
 
 // Names and nonces are in their classes by their types, which is for the proof alone.

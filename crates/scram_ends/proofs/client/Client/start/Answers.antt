@@ -28,13 +28,13 @@ returns-in_err-write_client_first-clause-no_memory g c =
       ),
     )
 
-pub kept-requires : goal.kept-requires
-kept-requires g c =
+pub copy_of-requires : goal.copy_of-requires
+copy_of-requires g c =
     let found = c.in-Ok.ensures.found in
     (omega arith, bare_length _ c.in-Ok.message.bare.now found.0 found.1 found.2.bare)
 
-pub kept-requires-2 : goal.kept-requires-2
-kept-requires-2 g c =
+pub copy_of-requires-2 : goal.copy_of-requires-2
+copy_of-requires-2 g c =
     let authz = option_copied c.args.authzid in
     let first = client_first_of NoBinding authz c.args.name.now c.args.nonce.now [] in
     let start : c.len-start.result ≡ length c.args.out.now.items = search rules in
