@@ -89,6 +89,7 @@ pub fn server_first<A: Allocator>(
         × IsChallengeTo (entry_of view.now) t1.now own.now t2
         × StandsFor wait (entry_of view.now) mechanism t1.now t2) }
     ensures err { OnErr result (out.new.items ≡ out.old.items) }
+    ensures capacity { vec_capacity out.old ≤ vec_capacity out.new }
     ensures first { IfErr result (λ r. (f : FirstFault) → r ≡ FirstRefused.First f → IsFirstFault t1.now f) }
     // Behind a client-first message that is taken up, memory alone can be wanting.
     ensures taken { IfErr result (λ r. (f : WriteFault) → r ≡ FirstRefused.Write f
@@ -242,6 +243,7 @@ impl ServerWait {
             → StandsFor self e m t1 t2 → (t4 : List ℕ) × (out.new.items ≡ out.old.items ++ t4)
             × ((v ≡ Verdict.Accepted) ↔ IsValidLogin e m t1 t2 t3.now t4)) }
         ensures err { OnErr result (out.new.items ≡ out.old.items) }
+        ensures capacity { vec_capacity out.old ≤ vec_capacity out.new }
         ensures back { IfErr result (λ r. r.1 ≡ WriteFault.NoMemory → r.0 ≡ self) }
         ensures spent { IfErr result (λ r. r.1 ≢ WriteFault.NoMemory → IsSpent r.0 r.1) }
         ensures again { (fault : WriteFault) → IsSpent self fault

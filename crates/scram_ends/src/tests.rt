@@ -18,6 +18,7 @@ use std::test::Fail;
 
 mod client;
 mod exchanges;
+mod faults;
 mod logins;
 mod names;
 mod recorded;

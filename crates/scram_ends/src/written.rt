@@ -26,6 +26,7 @@ pub(crate) fn write_challenge<A: Allocator>(
     ensures related { let p = server_first_of nonce.now salt.now count [] in
         OnOk result (IsServerFirst (server_first_text p) p) }
     ensures err { OnErr result (out.new.items ≡ out.old.items) }
+    ensures capacity { vec_capacity out.old ≤ vec_capacity out.new }
     ensures unwritable { IsErrOf result WriteFault.Unwritable → ⊥ }
     ensures over_limit { IsErrOf result WriteFault.OverLimit → ⊥ }
     ensures no_memory { let p = server_first_of nonce.now salt.now count [] in
@@ -52,6 +53,7 @@ pub(crate) fn write_judgement<A: Allocator>(
     ensures related { let d = due_of judged.now in
         OnOk result (IsServerFinal (due_text d) (final_due d)) }
     ensures err { OnErr result (out.new.items ≡ out.old.items) }
+    ensures capacity { vec_capacity out.old ≤ vec_capacity out.new }
     // A signature that is empty cannot be written, and no key makes one.
     ensures unwritable { IsErrOf result WriteFault.Unwritable
         → (signature : List ℕ) × (due_of judged.now ≡ accept signature) × (length signature ≡ 0) }
@@ -71,6 +73,7 @@ fn write_signature<A: Allocator>(signature: &[u8], out: &mut Vec<u8, A>) -> Resu
     ensures related { let d = accept signature.now in
         OnOk result (IsServerFinal (due_text d) (final_due d)) }
     ensures err { OnErr result (out.new.items ≡ out.old.items) }
+    ensures capacity { vec_capacity out.old ≤ vec_capacity out.new }
     ensures unwritable { IsErrOf result WriteFault.Unwritable → length signature.now ≡ 0 }
     ensures over_limit { IsErrOf result WriteFault.OverLimit → ⊥ }
     ensures no_memory { let text = due_text (accept signature.now) in IsErrOf result WriteFault.NoMemory
@@ -84,6 +87,7 @@ fn write_refusal<A: Allocator>(refusal: Refusal, out: &mut Vec<u8, A>) -> Result
     ensures related { let d = refuse refusal in
         OnOk result (IsServerFinal (due_text d) (final_due d)) }
     ensures err { OnErr result (out.new.items ≡ out.old.items) }
+    ensures capacity { vec_capacity out.old ≤ vec_capacity out.new }
     ensures unwritable { IsErrOf result WriteFault.Unwritable → ⊥ }
     ensures over_limit { IsErrOf result WriteFault.OverLimit → ⊥ }
     ensures no_memory { let text = due_text (refuse refusal) in IsErrOf result WriteFault.NoMemory

@@ -36,6 +36,7 @@ impl ClientOne {
             → (t3 : List ℕ) × (out.new.items ≡ out.old.items ++ t3)
             × IsExpecting two m password.now name authz own t1 t2.now t3) }
         ensures err { OnErr result (out.new.items ≡ out.old.items) }
+        ensures capacity { vec_capacity out.old ≤ vec_capacity out.new }
         // What is answered is a challenge to this client.
         ensures answerable { IsAnswered result → (m : Mechanism) (limits : Limits) (name : List ℕ)
             (authz : Option (List ℕ)) (own t1 : List ℕ) → IsStarted self m limits name authz own t1
@@ -101,6 +102,7 @@ impl ClientOne {
             → ShowsServerFirst challenge.now p → (t3 : List ℕ) × (out.new.items ≡ out.old.items ++ t3)
             × IsExpecting two m password.now name authz own t1 t2.now t3) }
         ensures err { OnErr result (out.new.items ≡ out.old.items) }
+        ensures capacity { vec_capacity out.old ≤ vec_capacity out.new }
         ensures no_memory { IfErr result (λ fault. (m : Mechanism) (limits : Limits) (name : List ℕ)
             (authz : Option (List ℕ)) (own t1 : List ℕ) (p : ServerFirstParts)
             → IsStarted self.now m limits name authz own t1 → IsServerFirst t2.now p

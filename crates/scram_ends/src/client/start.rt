@@ -29,6 +29,7 @@ impl Client {
         ensures ok { IfOk result (λ client. (t1 : List ℕ) × (out.new.items ≡ out.old.items ++ t1)
             × IsStarted client mechanism limits name.now (option_copied authzid.entry) nonce.now t1) }
         ensures err { OnErr result (out.new.items ≡ out.old.items) }
+        ensures capacity { vec_capacity out.old ≤ vec_capacity out.new }
         ensures no_memory { IfErr result (λ fault. (fault ≡ WriteFault.NoMemory)
             × ((t1 : List ℕ) × (first : ClientFirstParts)
             × IsHonestFirst name.now (option_copied authzid.entry) nonce.now t1 first

@@ -130,6 +130,7 @@ fn counts_at_the_limits(rt: HostRuntime) {
     let outside = Some(ClientFault::CountOutside);
     for (limits, challenge, fault) in [
         (Limits::usual(), "r=ab,s=QQ==,i=4096", None),
+        (Limits::usual(), "r=ab,s=QQ==,i=1000000", None),
         (narrow, "r=ab,s=QQ==,i=1", outside),
         (narrow, "r=ab,s=QQ==,i=2", None),
         (narrow, "r=ab,s=QQ==,i=3", None),

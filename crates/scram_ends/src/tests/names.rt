@@ -31,22 +31,11 @@ fn refused_client_first(rt: HostRuntime) {
 }
 
 #[test]
-fn texts_of_faults(rt: HostRuntime) -> Result<(), Fail> {
-    let alloc = rt.alloc();
+fn numbers_of_faults(rt: HostRuntime) {
     let name = FirstFault::Text(TextFault {
         part: 2,
         why: TextWhy::Name,
     });
-    let refused = FirstRefused::First(name);
-    assert_eq!(rt;
-        format!(in alloc; "{refused}")?.as_str(),
-        "no client-first message: part 2: the name is not `n=` and a name: write `,` as `=2C` and `=` as `=3D`"
-    );
-    let recorded = RecordedFault::First(FirstFault::BindingAsked);
-    assert_eq!(rt;
-        format!(in alloc; "{recorded}")?.as_str(),
-        "channel binding is not offered: send the flag `n` or `y`"
-    );
     let numbers = [
         (RecordedFault::First(name), 20),
         (RecordedFault::First(FirstFault::Mandatory), 21),
@@ -58,5 +47,4 @@ fn texts_of_faults(rt: HostRuntime) -> Result<(), Fail> {
         assert_eq!(rt; fault.number(), want);
     }
     assert_eq!(rt; FirstRefused::Write(WriteFault::NoMemory).number(), 99);
-    Ok(())
 }

@@ -1,0 +1,80 @@
+//! The text of each fault of both ends, which says what is wrong and where it can be set right.
+use super::*;
+use crate::ClientFault;
+
+fn no_name() -> TextFault {
+    TextFault {
+        part: 2,
+        why: TextWhy::Name,
+    }
+}
+
+#[test]
+fn texts_of_first_faults(rt: HostRuntime) -> Result<(), Fail> {
+    let alloc = rt.alloc();
+    for (fault, text) in [
+        (
+            FirstFault::Text(no_name()),
+            "no client-first message: part 2: the name is not `n=` and a name: write `,` as `=2C` and `=` as `=3D`",
+        ),
+        (
+            FirstFault::Mandatory,
+            "the message asks for an extension that is not known here: send none named `m`",
+        ),
+        (
+            FirstFault::BindingAsked,
+            "channel binding is not offered: send the flag `n` or `y`",
+        ),
+        (
+            FirstFault::OutsideProfile,
+            "a name is not 1 to 255 bytes from space to tilde",
+        ),
+    ] {
+        assert_eq!(rt; format!(in alloc; "{fault}")?.as_str(), text);
+        let refused = FirstRefused::First(fault);
+        assert_eq!(rt; format!(in alloc; "{refused}")?.as_str(), text);
+        let recorded = RecordedFault::First(fault);
+        assert_eq!(rt; format!(in alloc; "{recorded}")?.as_str(), text);
+    }
+    let recorded = RecordedFault::NotThisChallenge;
+    assert_eq!(rt;
+        format!(in alloc; "{recorded}")?.as_str(),
+        "the second text is no challenge for this account and client-first message"
+    );
+    Ok(())
+}
+
+#[test]
+fn texts_of_client_faults(rt: HostRuntime) -> Result<(), Fail> {
+    let alloc = rt.alloc();
+    for (fault, text) in [
+        (
+            ClientFault::Text(no_name()),
+            "no message of the server's: part 2: the name is not `n=` and a name: write `,` as `=2C` and `=` as `=3D`",
+        ),
+        (
+            ClientFault::Mandatory,
+            "the server asks for an extension that is not known here",
+        ),
+        (
+            ClientFault::NonceNotMine,
+            "the nonce does not begin with the client's own: another login's challenge",
+        ),
+        (
+            ClientFault::NonceNotLonger,
+            "the nonce has no part of the server's",
+        ),
+        (
+            ClientFault::CountOutside,
+            "the iteration count is outside the client's limits",
+        ),
+        (ClientFault::ServerRefused, "the server refuses the login"),
+        (
+            ClientFault::WrongSignature,
+            "the signature is wrong: the other end does not have the account's keys",
+        ),
+    ] {
+        assert_eq!(rt; format!(in alloc; "{fault}")?.as_str(), text);
+    }
+    Ok(())
+}
