@@ -12,9 +12,9 @@ use arrayvec::ArrayVec;
 use std::alloc::Allocator;
 use std::marker::Model;
 
-/// A name: 1 to 255 bytes of 20 to 7E hex, which SASLprep (RFC 4013) leaves as they are. Contracts
-/// see it as its bytes.
-#[derive(Drop)]
+/// A name: 1 to 255 bytes of 20 to 7E hex, which SASLprep (RFC 4013) leaves as they are. Names are in
+/// order of their bytes, as `Z`, `a`, `a.`, `aa`. Contracts see a name as its bytes.
+#[derive(PartialEq, Eq, PartialOrd, Ord, Drop)]
 pub struct PlainName {
     bytes: ArrayVec<u8, 255>,
 }
@@ -25,6 +25,8 @@ impl Model for PlainName {
     ghost view = { λ n. n.bytes.items };
 
     ghost invariant = { λ n. IsPlainName n.bytes.items };
+
+    ghost inverse = { λ bytes. record { bytes = record { items = bytes } } };
 }
 
 impl PlainName {
@@ -47,6 +49,26 @@ impl PlainName {
         ensures fits { IsPlainName self.now }
     {
         self.bytes.as_slice()
+    }
+
+    /// Its bytes as a text.
+    pub fn text(&self) -> &str
+        ensures { result.now ≡ self.now }
+    {
+        let Ok(text) = str::from_utf8(self.bytes()) else {
+            unreachable!()
+        };
+        text
+    }
+
+    /// A second value of this name.
+    pub fn copy(&self) -> PlainName
+        ensures { result ≡ self.now }
+    {
+        let Ok(bytes) = ArrayVec::try_from(self.bytes()) else {
+            unreachable!()
+        };
+        PlainName { bytes }
     }
 }
 

@@ -118,4 +118,14 @@ impl Salt {
     {
         self.bytes.as_slice()
     }
+
+    /// A second value of this salt.
+    pub fn copy(&self) -> Salt
+        ensures { result ≡ self.now }
+    {
+        let Ok(bytes) = ArrayVec::try_from(self.bytes()) else {
+            unreachable!()
+        };
+        Salt { bytes }
+    }
 }

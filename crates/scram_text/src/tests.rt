@@ -12,6 +12,7 @@ use std::test::Fail;
 
 mod exchanges;
 mod faults;
+mod values;
 
 // RFC 5802, section 5, and RFC 7677, section 3.
 const PUBLISHED: [[&str; 5]; 2] = [
