@@ -87,6 +87,18 @@ pub struct ScramKeys {
     pub server: Tag,
 }
 
+impl ScramKeys {
+    /// A second value of the same keys.
+    pub fn copy(&self) -> ScramKeys
+        ensures { result ≡ self.now }
+    {
+        ScramKeys {
+            stored: tag_of(self.stored.as_slice()),
+            server: tag_of(self.server.as_slice()),
+        }
+    }
+}
+
 /// The keys of `password` under `salt` and `count`, each of `H::LEN` bytes. `count` is at least 1.
 pub fn scram_keys<H: HashFn>(password: &[u8], salt: &[u8], count: u32) -> ScramKeys
     requires { 1 ≤ count }
