@@ -53,7 +53,8 @@ impl PlainName {
 
     /// Its bytes as a text.
     pub fn text(&self) -> &str
-        ensures { result.now ≡ self.now }
+        ensures value { result.now ≡ self.now }
+        ensures fits { IsPlainName self.now }
     {
         let Ok(text) = str::from_utf8(self.bytes()) else {
             unreachable!()
