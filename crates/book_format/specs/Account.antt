@@ -1,0 +1,24 @@
+-- What is kept of an account, and the ranges of it.
+use Rattle.std.specs.Prelude.{ℕ, ◌≤◌, ◌≡◌, List, length, Option}
+use Rattle.std.specs.Option.{ForSome}
+use Rattle.book_format.specs.declared.account.MechKeys.{MechKeys}
+use Rattle.otp_core.specs.declared.token.kinds.Fields.{Fields}
+
+-- an account: the keys of each mechanism, the other names that it may act as, and its token
+pub record AccountFields : Type 0 where
+  pub sha1 : Option MechKeys
+  pub sha256 : Option MechKeys
+  pub act_as : List (List ℕ)
+  pub token : Option Fields
+
+-- keys that are values of a hash function of so many bytes, and an iteration count
+pub record AreKeys (len : ℕ) (keys : MechKeys) : Type 0 where
+  pub some_count : 1 ≤ keys.count
+  pub stored : length keys.keys.stored.items ≡ len
+  pub server : length keys.keys.server.items ≡ len
+
+-- an account is in its ranges; names, salts and tokens have ranges of their own
+pub record IsAccount (account : AccountFields) : Type 0 where
+  pub sha1 : ForSome account.sha1 (AreKeys 20)
+  pub sha256 : ForSome account.sha256 (AreKeys 32)
+  pub names : length account.act_as ≤ 16

@@ -1,0 +1,42 @@
+//! What is kept of an account.
+use mac_core::ScramKeys;
+use otp_core::Token;
+use scram_text::{PlainName, Salt};
+use std::marker::Model;
+
+/// What is kept of a password for one mechanism (RFC 5802, section 3).
+#[derive(Drop)]
+pub struct MechKeys {
+    /// The salt that the keys were made with.
+    pub salt: Salt,
+
+    /// The iteration count that they were made with, at least 1.
+    pub count: u32,
+
+    /// StoredKey and ServerKey: 20 bytes each for SCRAM-SHA-1, 32 for SCRAM-SHA-256.
+    pub keys: ScramKeys,
+}
+
+/// An account. It may have no keys, for either mechanism, and no token.
+#[derive(Drop)]
+pub struct Account {
+    /// The keys of SCRAM-SHA-1.
+    pub sha1: Option<MechKeys>,
+
+    /// The keys of SCRAM-SHA-256.
+    pub sha256: Option<MechKeys>,
+
+    /// The other names that it may act as, at most 16.
+    pub act_as: Vec<PlainName>,
+
+    /// The token that gives its codes.
+    pub token: Option<Token>,
+}
+
+impl Model for Account {
+    ghost use Rattle.book_format.specs.Account.{AccountFields};
+
+    ghost Value = { AccountFields };
+
+    ghost view = { λ a. record { sha1 = a.sha1; sha256 = a.sha256; act_as = a.act_as.items; token = a.token } };
+}

@@ -1,0 +1,76 @@
+//! Why a text is no account book.
+ghost use Rattle.std.specs.Prelude.{◌≡◌};
+ghost use Rattle.book_format.specs.Faults.{why_number};
+
+use thiserror::Error;
+
+/// What is wrong with a book's text, each with its number.
+#[derive(Clone, Copy, Debug, PartialEq, Eq, Error)]
+pub enum BookWhy {
+    /// It is not UTF-8, or no TOML document.
+    #[error("not a TOML document")]
+    Toml = 60,
+
+    /// `format` is missing, or is not 1.
+    #[error("`format` is not 1")]
+    Format = 61,
+
+    /// A key is missing, unknown, or of another type.
+    #[error("a key is missing, unknown, or of another type")]
+    Key = 62,
+
+    /// A name has other than 1 to 255 bytes of 20 to 7E hex, or `act_as` has more than 16 names.
+    #[error("a name is not 1 to 255 bytes of 20 to 7E hex, or `act_as` has more than 16")]
+    Name = 63,
+
+    /// A salt is not the hexadecimal text of 1 to 64 bytes.
+    #[error("a salt is not the hexadecimal text of 1 to 64 bytes")]
+    Salt = 64,
+
+    /// An iteration count is not 1 to 4294967295.
+    #[error("a count is not 1 to 4294967295")]
+    Count = 65,
+
+    /// A key is no hexadecimal text, or has another length than its hash function's or the decoy key's.
+    #[error("a key is not the hexadecimal text of as many bytes as it has to have")]
+    KeyLength = 66,
+
+    /// A token is of another kind, or has a setting that is out of its range.
+    #[error("a token is of another kind, or a setting of it is out of its range")]
+    Token = 67,
+
+    /// There is no memory for the book.
+    #[error("no memory for the book")]
+    NoMemory = 99,
+}
+
+impl BookWhy {
+    /// The fault's number: 60 to 67, or 99.
+    pub fn number(&self) -> u16
+        ensures { result ≡ why_number self.now }
+    {
+        *self as u16
+    }
+}
+
+/// Why a text is no account book: the first fault, the book's own keys first, and then account by
+/// account in byte order of their names.
+#[derive(Clone, Copy, Debug, PartialEq, Eq, Error)]
+#[error("{why}")]
+pub struct BookFault {
+    /// What is wrong.
+    pub why: BookWhy,
+
+    /// The index of the account at fault, from 0 in byte order of names. It is None where the fault
+    /// lies in no account.
+    pub account: Option<usize>,
+}
+
+impl BookFault {
+    /// The fault's number: 60 to 67, or 99.
+    pub fn number(&self) -> u16
+        ensures { result ≡ why_number self.now.why }
+    {
+        self.why.number()
+    }
+}
