@@ -1,3 +1,6 @@
 pub mod Account
 pub mod Book
 pub mod Faults
+pub mod Keys
+pub mod Trees
+pub mod Reading
