@@ -4,3 +4,5 @@ pub mod Faults
 pub mod Keys
 pub mod Trees
 pub mod Reading
+pub mod Written
+pub mod Put

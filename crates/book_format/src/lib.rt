@@ -4,6 +4,7 @@
 mod account;
 mod contents;
 mod fault;
+mod write;
 
 pub use account::{Account, MechKeys};
 pub use contents::Contents;

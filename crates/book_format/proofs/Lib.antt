@@ -1,0 +1,4 @@
+mod Lookups
+mod Stands
+mod PutLemmas
+mod Printable

@@ -1,0 +1,24 @@
+use Rattle.std.proofs.Common.{◌≡◌, ◌≤◌, Some, Err, sym, ap, ◌∙◌, subst, string_bytes, arith}
+use Rattle.std.proofs.lemmas.Str.{IsUtf8-string_bytes}
+use Rattle.std.proofs.lemmas.Bool.{false≢true}
+use Rattle.toml.specs.Data.{members_depth, members_have_valid_dates}
+use Rattle.toml.specs.Parse.{parse_document}
+use Rattle.book_format.specs.Written.{book_tree}
+use Rattle.book_format.proofs.Printable.{book_flat}
+use Rattle.book_format.proofs.contents.Contents.write.Goals as goal
+
+pub returns-in-Ok-clause-stands : goal.returns-in-Ok-clause-stands
+returns-in-Ok-clause-stands c =
+    let flat = book_flat c.args.self.now in
+    record {
+      tree = book_tree c.args.self.now;
+      utf8 = IsUtf8-string_bytes c.in-Ok.text;
+      parsed = subst (λ ms. members_depth ms ≤ 80 → parse_document (string_bytes c.in-Ok.text) ≡ Some ms) c.in_ok-book_table.ensures.tree
+          c.in-Ok.ensures.reads_back (omega (arith, flat.0));
+      of_book = c.in_ok-book_table.ensures.stands;
+    }
+
+pub unreachable-requires : goal.unreachable-requires
+unreachable-requires c =
+    let faulty = c.table_to_string.ensures.dates.0 (c.in-Err-DateInvalid.is ∙ ap Err c.in-Err-DateInvalid.field-0-is) in
+    false≢true (sym faulty ∙ ap members_have_valid_dates c.in_ok-book_table.ensures.tree ∙ (book_flat c.args.self.now).1)

@@ -1,0 +1,86 @@
+//! The text of an account book, written.
+ghost use Rattle.std.specs.Prelude.{◌≡◌, false, codes, length, Ok, IfOk, OnOk, string_bytes};
+ghost use Rattle.hex.specs.Hex.{decode_of, encode_lower};
+ghost use Rattle.toml.specs.Text.{IsDocumentText};
+ghost use Rattle.toml.specs.View.{table_view};
+ghost use Rattle.book_format.specs.Book.{AreAccounts};
+ghost use Rattle.book_format.specs.Put.{put_member};
+ghost use Rattle.book_format.specs.Trees.{AreAccountTrees, IsBookTree, IsBookText};
+ghost use Rattle.book_format.specs.Written.{hex_tree, book_tree, accounts_tree};
+
+mod account;
+mod put;
+mod token;
+
+use crate::account::Account;
+use crate::contents::Contents;
+use account::account_value;
+use put::{put, put_count, put_hex, put_number};
+use scram_text::PlainName;
+use std::alloc::{AllocError, Global};
+use std::collections::BTreeMap;
+use toml::ser::Error;
+use toml::{Table, Value};
+
+impl Contents {
+    /// The book's text. It has every key that has a value, in byte order and in one table for each
+    /// account, mechanism and token, and bytes in lower-case hexadecimal. `AllocError` comes only
+    /// where memory is refused.
+    pub fn write(&self, alloc: Global) -> Result<String, AllocError>
+        ensures stands { IfOk result (λ s. IsBookText (string_bytes s) self.now) }
+        ensures text { IfOk result (λ s. IsDocumentText false (book_tree self.now) (string_bytes s)) }
+    {
+        match toml::table_to_string(alloc, &book_table(alloc, self)?) {
+            Ok(text) => Ok(text),
+            Err(Error::OutOfMemory) => Err(AllocError),
+            Err(Error::DateInvalid) => unreachable!(),
+        }
+    }
+}
+
+#[tactic(auto, unfolding(crate::specs::Written::book_tree))]
+fn book_table(alloc: Global, book: &Contents) -> Result<Table, AllocError>
+    ensures tree { IfOk result (λ t. table_view t ≡ book_tree book.now) }
+    ensures stands { OnOk result (IsBookTree (book_tree book.now) book.now) }
+{
+    let mut table = Table::new(alloc);
+    put_number(alloc, &mut table, "format", 1)?;
+    put_decoy_key(alloc, &mut table, &book.decoy_key)?;
+    put_count(alloc, &mut table, "decoy_count", book.decoy_count)?;
+    put(
+        alloc,
+        &mut table,
+        "accounts",
+        Value::Table(accounts_table(alloc, &book.accounts)?),
+    )?;
+    Ok(table)
+}
+
+fn put_decoy_key(alloc: Global, table: &mut Table, key: &[u8; 32]) -> Result<(), AllocError>
+    ensures tree { OnOk result (table_view table.new
+        ≡ put_member (codes "decoy_key") (hex_tree key.now) (table_view table.old)) }
+    ensures len { length key.now ≡ 32 }
+    ensures back { decode_of (encode_lower key.now) ≡ Ok key.now }
+{
+    put_hex(alloc, table, "decoy_key", key)
+}
+
+fn accounts_table(
+    alloc: Global,
+    accounts: &BTreeMap<PlainName, Account>,
+) -> Result<Table, AllocError>
+    requires { AreAccounts accounts.now.entries }
+    ensures tree { IfOk result (λ t. table_view t ≡ accounts_tree accounts.now.entries) }
+    ensures stands { OnOk result (AreAccountTrees (accounts_tree accounts.now.entries) accounts.now.entries) }
+{
+    let mut table = Table::new(alloc);
+    for (name, account) in accounts.iter() {
+        put(
+            alloc,
+            &mut table,
+            name.text(),
+            account_value(alloc, account)?,
+        )?;
+    }
+    Ok(table)
+}

@@ -1,0 +1,87 @@
+//! The values of an account.
+ghost use Rattle.std.specs.Prelude.{◌≡◌, ℕ, IfOk, OnOk, codes, option_map};
+ghost use Rattle.std.specs.Option.{ForSome};
+ghost use Rattle.toml.specs.View.{view, table_view};
+ghost use Rattle.book_format.specs.Account.{AreKeys, IsAccount};
+ghost use Rattle.book_format.specs.Put.{put_some};
+ghost use Rattle.book_format.specs.Trees.{IsMechTree, IsTokenTree, AreNames, IsAccountTree};
+ghost use Rattle.book_format.specs.Written.{mech_tree, token_tree, names_tree, account_tree};
+
+use super::put::{put, put_count, put_hex};
+use super::token::token_value;
+use crate::account::{Account, MechKeys};
+use otp_core::Token;
+use scram_text::PlainName;
+use std::alloc::{AllocError, Global};
+use toml::{Table, Value};
+
+/// The value of an account.
+#[tactic(auto, unfolding(crate::specs::Written::account_tree))]
+pub(super) fn account_value(alloc: Global, account: &Account) -> Result<Value, AllocError>
+    ensures tree { IfOk result (λ v. view v ≡ account_tree account.now) }
+    ensures stands { OnOk result (IsAccount account.now → IsAccountTree (account_tree account.now) account.now) }
+{
+    let mut table = Table::new(alloc);
+    put(
+        alloc,
+        &mut table,
+        "act_as",
+        names_value(alloc, account.act_as.as_slice())?,
+    )?;
+    put_keys(alloc, &mut table, "sha1", &account.sha1)?;
+    put_keys(alloc, &mut table, "sha256", &account.sha256)?;
+    put_token(alloc, &mut table, &account.token)?;
+    Ok(Value::Table(table))
+}
+
+fn put_keys(
+    alloc: Global,
+    table: &mut Table,
+    key: &str,
+    keys: &Option<MechKeys>,
+) -> Result<(), AllocError>
+    ensures tree { OnOk result (table_view table.new
+        ≡ put_some key.now (option_map mech_tree keys.now) (table_view table.old)) }
+    ensures stands { OnOk result ((len : ℕ) → ForSome keys.now (AreKeys len)
+        → ForSome keys.now (λ k. IsMechTree len (mech_tree k) k)) }
+{
+    match keys {
+        Some(keys) => put(alloc, table, key, mech_value(alloc, keys)?),
+        None => Ok(()),
+    }
+}
+
+fn put_token(alloc: Global, table: &mut Table, token: &Option<Token>) -> Result<(), AllocError>
+    ensures tree { OnOk result (table_view table.new
+        ≡ put_some (codes "token") (option_map token_tree token.now) (table_view table.old)) }
+    ensures stands { OnOk result (ForSome token.now (λ t. IsTokenTree (token_tree t) t)) }
+{
+    match token {
+        Some(token) => put(alloc, table, "token", token_value(alloc, token)?),
+        None => Ok(()),
+    }
+}
+
+#[tactic(auto, unfolding(crate::specs::Written::mech_tree))]
+fn mech_value(alloc: Global, keys: &MechKeys) -> Result<Value, AllocError>
+    ensures tree { IfOk result (λ v. view v ≡ mech_tree keys.now) }
+    ensures stands { OnOk result ((len : ℕ) → AreKeys len keys.now → IsMechTree len (mech_tree keys.now) keys.now) }
+{
+    let mut table = Table::new(alloc);
+    put_hex(alloc, &mut table, "salt", keys.salt.bytes())?;
+    put_count(alloc, &mut table, "count", keys.count)?;
+    put_hex(alloc, &mut table, "stored", keys.keys.stored.as_slice())?;
+    put_hex(alloc, &mut table, "server", keys.keys.server.as_slice())?;
+    Ok(Value::Table(table))
+}
+
+fn names_value(alloc: Global, names: &[PlainName]) -> Result<Value, AllocError>
+    ensures tree { IfOk result (λ v. view v ≡ names_tree names.now) }
+    ensures plain { OnOk result (AreNames names.now) }
+{
+    let mut values = Vec::new(alloc);
+    for name in names {
+        values.push(Value::string(alloc, name.text())?)?;
+    }
+    Ok(Value::Array(values))
+}

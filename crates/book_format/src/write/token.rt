@@ -1,0 +1,105 @@
+//! The value of a token.
+ghost use Rattle.std.specs.Prelude.{◌≡◌, ◌≤◌, ◌-◌, ◌^◌, None, IfOk, OnOk, codes, option_map};
+ghost use Rattle.std.specs.Option.{ForSome};
+ghost use Rattle.toml.specs.View.{view, table_view};
+ghost use Rattle.otp_core.specs.Settings.{IsHotpInRange, IsTotpInRange};
+ghost use Rattle.book_format.specs.Keys.{hash_name};
+ghost use Rattle.book_format.specs.Put.{put_some};
+ghost use Rattle.book_format.specs.Trees.{IsHotpTree, IsTotpTree, IsTokenTree};
+ghost use Rattle.book_format.specs.Written.{number_tree, hotp_tree, totp_members, totp_tree, token_tree};
+
+use super::put::{put_hex, put_number, put_text};
+use otp_core::{Fields, HotpFields, OtpHash, Token, TotpFields};
+use std::alloc::{AllocError, Global};
+use toml::{Table, Value};
+
+/// The value of a token.
+pub(super) fn token_value(alloc: Global, token: &Token) -> Result<Value, AllocError>
+    ensures tree { IfOk result (λ v. view v ≡ token_tree token.now) }
+    ensures stands { OnOk result (IsTokenTree (token_tree token.now) token.now) }
+{
+    match token.fields() {
+        Fields::Hotp(fields) => hotp_value(alloc, fields),
+        Fields::Totp(fields) => totp_value(alloc, fields),
+    }
+}
+
+#[tactic(auto, unfolding(crate::specs::Written::hotp_tree))]
+fn hotp_value(alloc: Global, fields: &HotpFields) -> Result<Value, AllocError>
+    requires { IsHotpInRange fields.now }
+    ensures tree { IfOk result (λ v. view v ≡ hotp_tree fields.now) }
+    ensures stands { OnOk result (IsHotpTree (hotp_tree fields.now) fields.now) }
+{
+    let mut table = Table::new(alloc);
+    put_text(alloc, &mut table, "kind", "hotp")?;
+    put_hex(alloc, &mut table, "secret", fields.secret.bytes())?;
+    put_number(
+        alloc,
+        &mut table,
+        "digits",
+        i64::from(fields.digits.count()),
+    )?;
+    put_number(alloc, &mut table, "next", fields.next as i64)?;
+    put_number(alloc, &mut table, "look_ahead", fields.look_ahead as i64)?;
+    put_number(alloc, &mut table, "limit", fields.limit as i64)?;
+    put_number(alloc, &mut table, "failures", fields.failures as i64)?;
+    Ok(Value::Table(table))
+}
+
+fn totp_value(alloc: Global, fields: &TotpFields) -> Result<Value, AllocError>
+    requires { IsTotpInRange fields.now }
+    ensures tree { IfOk result (λ v. view v ≡ totp_tree fields.now) }
+    ensures stands { OnOk result (IsTotpTree (totp_tree fields.now) fields.now) }
+{
+    let mut table = settings_table(alloc, fields)?;
+    put_last(alloc, &mut table, fields.last)?;
+    Ok(Value::Table(table))
+}
+
+// The table of a TOTP token but for its last step.
+fn settings_table(alloc: Global, fields: &TotpFields) -> Result<Table, AllocError>
+    requires { IsTotpInRange fields.now }
+    ensures tree { IfOk result (λ t. table_view t ≡ totp_members (record fields.now { last = None })) }
+    ensures stands { OnOk result (IsTotpTree (totp_tree fields.now) fields.now) }
+{
+    let mut table = Table::new(alloc);
+    put_text(alloc, &mut table, "kind", "totp")?;
+    put_text(alloc, &mut table, "hash", hash_name(fields.hash))?;
+    put_hex(alloc, &mut table, "secret", fields.secret.bytes())?;
+    put_number(
+        alloc,
+        &mut table,
+        "digits",
+        i64::from(fields.digits.count()),
+    )?;
+    put_number(alloc, &mut table, "t0", fields.t0.seconds() as i64)?;
+    put_number(alloc, &mut table, "step", fields.step as i64)?;
+    put_number(alloc, &mut table, "back", fields.back as i64)?;
+    put_number(alloc, &mut table, "ahead", fields.ahead as i64)?;
+    put_number(alloc, &mut table, "max_drift", fields.max_drift as i64)?;
+    put_number(alloc, &mut table, "drift", fields.drift)?;
+    put_number(alloc, &mut table, "limit", fields.limit as i64)?;
+    put_number(alloc, &mut table, "failures", fields.failures as i64)?;
+    Ok(table)
+}
+
+fn put_last(alloc: Global, table: &mut Table, last: Option<u64>) -> Result<(), AllocError>
+    requires { ForSome last (λ l. l ≤ 2 ^ 63 - 2) }
+    ensures { OnOk result (table_view table.new
+        ≡ put_some (codes "last") (option_map number_tree last) (table_view table.old)) }
+{
+    match last {
+        Some(last) => put_number(alloc, table, "last", last as i64),
+        None => Ok(()),
+    }
+}
+
+fn hash_name(hash: OtpHash) -> &'static str
+    ensures { result.now ≡ hash_name hash }
+{
+    match hash {
+        OtpHash::Sha1 => "sha1",
+        OtpHash::Sha256 => "sha256",
+        OtpHash::Sha512 => "sha512",
+    }
+}
