@@ -187,13 +187,18 @@ names_in (item d ds) = do
   names ← names_in ds
   Ok (name ∷ names)
 
--- the names that an account may act as: all types before any value
-unfoldable pub act_as_of : Data → Result (List (List ℕ)) BookWhy
-act_as_of d = do
-  list ← ok_or (as_array d) Key
+-- at most 16 names: all types before any value
+unfoldable pub names_of : Items → Result (List (List ℕ)) BookWhy
+names_of list = do
   typed ← demand (are_texts list) Key
   few ← demand (nat_le (item_count list) 16) Name
   names_in list
+
+-- the names that an account may act as
+unfoldable pub act_as_of : Data → Result (List (List ℕ)) BookWhy
+act_as_of d = do
+  list ← ok_or (as_array d) Key
+  names_of list
 
 -- the same of a value that may be missing
 abbrev pub act_as_at : Option Data → Result (List (List ℕ)) BookWhy

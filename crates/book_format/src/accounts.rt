@@ -1,0 +1,168 @@
+//! The accounts of a book.
+ghost use Rattle.std.specs.Prelude.{◌≡◌, ◌≤◌, IfOk, MatchResult, ◌⊎◌, codes, Some};
+ghost use Rattle.toml.specs.Data.{get_member};
+ghost use Rattle.toml.specs.View.{view, items_view, table_view};
+ghost use Rattle.book_format.specs.Reading.{Gives, GivesFault, optional, mech_of, name_of, are_texts, names_in, names_of, act_as_of, act_as_at, token_of, account_of, entry_of, accounts_of, in_account};
+ghost use Rattle.book_format.specs.declared.fault.BookWhy.TheVariants.{NoMemory};
+
+use crate::account::{Account, MechKeys};
+use crate::fault::{BookFault, BookWhy};
+use crate::field::{at, known_keys, table_of};
+use crate::mech::mech_of;
+use crate::token::token_of;
+use otp_core::Token;
+use scram_text::PlainName;
+use std::alloc::Global;
+use std::collections::BTreeMap;
+use toml::{Table, Value};
+
+/// The accounts of a table in byte order of names, each wholly read before the next. A fault says the
+/// index of its account.
+#[tactic(auto, unfolding(crate::specs::Reading::accounts_of))]
+pub(crate) fn accounts_of(
+    alloc: Global,
+    table: &Table,
+) -> Result<BTreeMap<PlainName, Account>, BookFault>
+    ensures { GivesFault (λ m. m.entries) result (accounts_of 0 (table_view table.now)) }
+{
+    let mut accounts = BTreeMap::new(alloc);
+    let mut index = 0;
+    for (key, value) in table.iter() {
+        let (name, account) = match entry_of(alloc, key.as_str(), value) {
+            Ok(entry) => entry,
+            Err(why) => return Err(in_account(why, index)),
+        };
+        if accounts.insert(name, account).is_err() {
+            return Err(in_account(BookWhy::NoMemory, index));
+        }
+        index += 1;
+    }
+    Ok(accounts)
+}
+
+fn in_account(why: BookWhy, index: usize) -> BookFault
+    ensures { result ≡ record { why = why; account = Some index } }
+{
+    BookFault {
+        why,
+        account: Some(index),
+    }
+}
+
+#[tactic(auto, unfolding(crate::specs::Reading::entry_of))]
+fn entry_of(alloc: Global, key: &str, value: &Value) -> Result<(PlainName, Account), BookWhy>
+    ensures { Gives (λ e. e) result (entry_of key.now (view value.now)) }
+{
+    let name = name_of(key)?;
+    let account = account_of(alloc, value)?;
+    Ok((name, account))
+}
+
+fn name_of(text: &str) -> Result<PlainName, BookWhy>
+    ensures { result ≡ name_of text.now }
+{
+    PlainName::new(text.as_bytes()).ok_or(BookWhy::Name)
+}
+
+#[tactic(auto, unfolding(crate::specs::Reading::account_of))]
+fn account_of(alloc: Global, value: &Value) -> Result<Account, BookWhy>
+    ensures { Gives (λ a. a) result (account_of (view value.now)) }
+{
+    let table = table_of(value)?;
+    known_keys(table, &["sha1", "sha256", "act_as", "token"])?;
+    let sha1 = mech_at(20, table, "sha1")?;
+    let sha256 = mech_at(32, table, "sha256")?;
+    let act_as = act_as_at(alloc, table)?;
+    let token = token_at(table)?;
+    Ok(Account {
+        sha1,
+        sha256,
+        act_as,
+        token,
+    })
+}
+
+// What is kept for a mechanism, or None where its key is missing.
+fn mech_at(len: usize, table: &Table, key: &str) -> Result<Option<MechKeys>, BookWhy>
+    requires { len ≤ 64 }
+    ensures { result ≡ optional (mech_of len) (get_member key.now (table_view table.now)) }
+{
+    match at(table, key) {
+        Some(value) => Ok(Some(mech_of(len, value)?)),
+        None => Ok(None),
+    }
+}
+
+// The token, or None where there is no key `token`.
+fn token_at(table: &Table) -> Result<Option<Token>, BookWhy>
+    ensures { result ≡ optional token_of (get_member (codes "token") (table_view table.now)) }
+{
+    match at(table, "token") {
+        Some(value) => Ok(Some(token_of(value)?)),
+        None => Ok(None),
+    }
+}
+
+// The names that the account may act as: none where there is no key `act_as`.
+fn act_as_at(alloc: Global, table: &Table) -> Result<Vec<PlainName>, BookWhy>
+    ensures { Gives (λ v. v.items) result (act_as_at (get_member (codes "act_as") (table_view table.now))) }
+{
+    match at(table, "act_as") {
+        Some(value) => act_as_of(alloc, value),
+        None => Ok(Vec::new(alloc)),
+    }
+}
+
+// The names of a list.
+#[tactic(auto, unfolding(crate::specs::Reading::act_as_of))]
+fn act_as_of(alloc: Global, value: &Value) -> Result<Vec<PlainName>, BookWhy>
+    ensures { Gives (λ v. v.items) result (act_as_of (view value.now)) }
+{
+    let list = value.as_array().ok_or(BookWhy::Key)?;
+    names_of(alloc, list.as_slice())
+}
+
+// The names, judged by the types of all before the value of any. Their number comes before their values
+// too, since both faults are `Name`.
+fn names_of(alloc: Global, list: &[Value]) -> Result<Vec<PlainName>, BookWhy>
+    ensures { Gives (λ v. v.items) result (names_of (items_view list.now)) }
+{
+    if !are_texts(list) {
+        return Err(BookWhy::Key);
+    }
+    if list.len() > 16 {
+        return Err(BookWhy::Name);
+    }
+    names_in(alloc, list)
+}
+
+fn are_texts(list: &[Value]) -> bool
+    ensures { result ≡ are_texts (items_view list.now) }
+{
+    for value in list {
+        if value.as_str().is_none() {
+            return false;
+        }
+    }
+    true
+}
+
+#[tactic(auto, unfolding(crate::specs::Reading::names_in))]
+fn names_in(alloc: Global, list: &[Value]) -> Result<Vec<PlainName>, BookWhy>
+    ensures { Gives (λ v. v.items) result (names_in (items_view list.now)) }
+{
+    let mut names = Vec::new(alloc);
+    for value in list {
+        let Some(text) = value.as_str() else {
+            return Err(BookWhy::Key);
+        };
+        let name = match name_of(text) {
+            Ok(name) => name,
+            Err(why) => return Err(why),
+        };
+        if names.push(name).is_err() {
+            return Err(BookWhy::NoMemory);
+        }
+    }
+    Ok(names)
+}

@@ -1,0 +1,40 @@
+//! What is kept for one mechanism: `salt`, `count`, `stored`, `server`.
+ghost use Rattle.std.specs.Prelude.{◌≡◌, ◌≤◌, length};
+ghost use Rattle.toml.specs.View.{view};
+ghost use Rattle.book_format.specs.Reading.{mech_of};
+
+use crate::account::MechKeys;
+use crate::fault::BookWhy;
+use crate::field::{bytes_of, known_keys, number_of, table_of};
+use mac_core::{ScramKeys, Tag};
+use scram_text::Salt;
+use toml::Value;
+
+/// What is kept for a mechanism whose keys have `len` bytes.
+#[tactic(auto, unfolding(crate::specs::Reading::mech_of))]
+pub(crate) fn mech_of(len: usize, value: &Value) -> Result<MechKeys, BookWhy>
+    requires { len ≤ 64 }
+    ensures { result ≡ mech_of len (view value.now) }
+{
+    let table = table_of(value)?;
+    known_keys(table, &["salt", "count", "stored", "server"])?;
+    let salt = bytes_of(table, "salt", 1, 64, BookWhy::Salt)?;
+    let count = number_of(table, "count", 1, 4_294_967_295, BookWhy::Count)?;
+    let stored = bytes_of(table, "stored", len, len, BookWhy::KeyLength)?;
+    let server = bytes_of(table, "server", len, len, BookWhy::KeyLength)?;
+    Ok(MechKeys {
+        salt: salt_of(&salt),
+        count: count as u32,
+        keys: ScramKeys { stored, server },
+    })
+}
+
+fn salt_of(bytes: &Tag) -> Salt
+    requires { 1 ≤ length bytes.now.items }
+    ensures { result ≡ bytes.now.items }
+{
+    let Some(salt) = Salt::new(bytes.as_slice()) else {
+        unreachable!()
+    };
+    salt
+}

@@ -1,0 +1,145 @@
+//! A book's text, read from the document down.
+ghost use Rattle.std.specs.Prelude.{◌≡◌, ◌⊎◌, IfOk, IfErr, option_map, Ok, Some, None, codes, length, option_and_then};
+ghost use Rattle.toml.specs.Data.{get_member, as_integer};
+ghost use Rattle.toml.specs.View.{table_view};
+ghost use Rattle.book_format.specs.Book.{BookFields};
+ghost use Rattle.book_format.specs.Trees.{IsBookText};
+ghost use Rattle.book_format.specs.Reading.{Gives, GivesFault, TopFields, seen, at_top, tree_in, top_of, table_at, accounts_in, book_of, book_in, is_one, IsFirstFault};
+ghost use Rattle.book_format.specs.declared.fault.BookWhy.TheVariants.{NoMemory};
+ghost use Rattle.book_format.specs.declared.read.Top.{Top};
+
+use crate::account::Account;
+use crate::accounts::accounts_of;
+use crate::contents::Contents;
+use crate::fault::{BookFault, BookWhy};
+use crate::field::{at, bytes_of, known_keys, number_of, table_of};
+use mac_core::Tag;
+use scram_text::PlainName;
+use std::alloc::Global;
+use std::collections::BTreeMap;
+use toml::Table;
+
+// What stands in the document itself.
+#[derive(Drop)]
+struct Top<'a> {
+    decoy_key: [u8; 32],
+    decoy_count: u32,
+    accounts: Option<&'a Table>,
+}
+
+impl Contents {
+    /// The contents that `bytes` are the text of, or the first fault: of the document, of `format`, of
+    /// the document's keys, then of account by account in byte order of names. In each table unknown
+    /// keys come first, and then its keys in the order of the format. `NoMemory` may come at any place.
+    pub fn read(alloc: Global, bytes: &[u8]) -> Result<Contents, BookFault>
+        ensures found { IfOk result (λ c. IsBookText bytes.now c) }
+        ensures only { (c : BookFields) → IsBookText bytes.now c → (result ≡ Ok c) ⊎ IfErr result (λ f. f.why ≡ NoMemory) }
+        ensures first_fault { IfErr result (λ f. (f.why ≡ NoMemory) ⊎ IsFirstFault bytes.now f) }
+    {
+        contents_of(alloc, bytes)
+    }
+}
+
+fn contents_of(alloc: Global, bytes: &[u8]) -> Result<Contents, BookFault>
+    ensures { GivesFault (λ c. c) result (book_in bytes.now) }
+{
+    let document = match document_of(alloc, bytes) {
+        Ok(document) => document,
+        Err(why) => return Err(at_top(why)),
+    };
+    let top = match top_of(&document) {
+        Ok(top) => top,
+        Err(why) => return Err(at_top(why)),
+    };
+    match accounts_in(alloc, top.accounts) {
+        Ok(accounts) => Ok(Contents {
+            decoy_key: top.decoy_key,
+            decoy_count: top.decoy_count,
+            accounts,
+        }),
+        Err(fault) => Err(fault),
+    }
+}
+
+fn at_top(why: BookWhy) -> BookFault
+    ensures { result ≡ record { why = why; account = None } }
+{
+    BookFault { why, account: None }
+}
+
+// The TOML document.
+#[tactic(auto, unfolding(crate::specs::Reading::tree_in))]
+fn document_of(alloc: Global, bytes: &[u8]) -> Result<Table, BookWhy>
+    ensures { Gives table_view result (tree_in bytes.now) }
+{
+    match toml::table_from_slice(alloc, bytes) {
+        Ok(table) => Ok(table),
+        Err(e) => {
+            if e.is_memory() {
+                Err(BookWhy::NoMemory)
+            } else {
+                Err(BookWhy::Toml)
+            }
+        }
+    }
+}
+
+#[tactic(auto, unfolding(crate::specs::Reading::top_of))]
+fn top_of(table: &Table) -> Result<Top<'_>, BookWhy>
+    ensures { seen (λ t. record { decoy_key = t.decoy_key; decoy_count = t.decoy_count; accounts = option_map (λ m. table_view m.now) t.accounts }) result ≡ top_of (table_view table.now) }
+{
+    if !is_format(table) {
+        return Err(BookWhy::Format);
+    }
+    known_keys(table, &["format", "decoy_key", "decoy_count", "accounts"])?;
+    let decoy_key = bytes_of(table, "decoy_key", 32, 32, BookWhy::KeyLength)?;
+    let decoy_count = number_of(table, "decoy_count", 1, 4_294_967_295, BookWhy::Count)?;
+    let accounts = table_at(table, "accounts")?;
+    Ok(Top {
+        decoy_key: key_of(&decoy_key),
+        decoy_count: decoy_count as u32,
+        accounts,
+    })
+}
+
+// `format = 1`
+fn is_format(table: &Table) -> bool
+    ensures { result ≡ is_one (option_and_then as_integer (get_member (codes "format") (table_view table.now))) }
+{
+    match at(table, "format") {
+        Some(value) => value.as_integer() == Some(1),
+        None => false,
+    }
+}
+
+fn key_of(bytes: &Tag) -> [u8; 32]
+    requires { length bytes.now.items ≡ 32 }
+    ensures { result ≡ bytes.now.items }
+{
+    let mut key = [0; 32];
+    key.copy_from_slice(bytes.as_slice());
+    key
+}
+
+// The table at a key, or None where it is missing.
+fn table_at<'a>(table: &'a Table, key: &str) -> Result<Option<&'a Table>, BookWhy>
+    ensures { seen (λ t. option_map (λ m. table_view m.now) t) result ≡ table_at (get_member key.now (table_view table.now)) }
+{
+    match at(table, key) {
+        Some(value) => Ok(Some(table_of(value)?)),
+        None => Ok(None),
+    }
+}
+
+// The accounts of a table, or none where it is missing.
+fn accounts_in(
+    alloc: Global,
+    table: Option<&Table>,
+) -> Result<BTreeMap<PlainName, Account>, BookFault>
+    ensures { GivesFault (λ m. m.entries) result (accounts_in (option_map (λ m. table_view m.now) table.entry)) }
+{
+    match table {
+        Some(table) => accounts_of(alloc, table),
+        None => Ok(BTreeMap::new(alloc)),
+    }
+}
