@@ -56,10 +56,10 @@ impl PlainName {
         ensures value { result.now ≡ self.now }
         ensures fits { IsPlainName self.now }
     {
-        let Ok(text) = str::from_utf8(self.bytes()) else {
-            unreachable!()
-        };
-        text
+        match str::from_utf8(self.bytes()) {
+            Ok(text) => text,
+            Err(_) => unreachable!(),
+        }
     }
 
     /// A second value of this name.

@@ -208,3 +208,136 @@ secret = \"3132333435363738393031323334353637383930\"
 ";
     shows(&rt, "user", &account, want)
 }
+
+const FRONT: &str = "\
+format = 1
+decoy_key = \"000102030405060708090a0b0c0d0e0f101112131415161718191a1b1c1d1e1f\"
+decoy_count = 4096
+";
+
+const FRONT_WRITTEN: &str = "\
+decoy_count = 4096
+decoy_key = \"000102030405060708090a0b0c0d0e0f101112131415161718191a1b1c1d1e1f\"
+format = 1
+";
+
+// The keys of RFC 5802's example, some in upper case.
+const USER: &str = "
+[accounts.user]
+act_as = []
+
+[accounts.user.sha1]
+salt = \"4125C247E43AB1E93C6DFF76\"
+count = 4096
+stored = \"e9d94660c39d65c38fbad91c358f14da0eef2bd6\"
+server = \"0FE09258b3ac852ba502cc62ba903eaacdbf7d31\"
+";
+
+const USER_WRITTEN: &str = "
+[accounts.user]
+act_as = []
+
+[accounts.user.sha1]
+count = 4096
+salt = \"4125c247e43ab1e93c6dff76\"
+server = \"0fe09258b3ac852ba502cc62ba903eaacdbf7d31\"
+stored = \"e9d94660c39d65c38fbad91c358f14da0eef2bd6\"
+";
+
+const HOTP: &str = "
+[accounts.user.token]
+kind = \"hotp\"
+secret = \"3132333435363738393031323334353637383930\"
+digits = 6
+next = 0
+look_ahead = 3
+limit = 3
+failures = 0
+";
+
+const HOTP_WRITTEN: &str = "
+[accounts.user.token]
+digits = 6
+failures = 0
+kind = \"hotp\"
+limit = 3
+look_ahead = 3
+next = 0
+secret = \"3132333435363738393031323334353637383930\"
+";
+
+const TOTP: &str = "
+[accounts.user.token]
+kind = \"totp\"
+hash = \"sha1\"
+secret = \"3132333435363738393031323334353637383930\"
+digits = 8
+t0 = 0
+step = 30
+back = 0
+ahead = 1
+max_drift = 1
+drift = 0
+limit = 3
+failures = 0
+";
+
+const TOTP_WRITTEN: &str = "
+[accounts.user.token]
+ahead = 1
+back = 0
+digits = 8
+drift = 0
+failures = 0
+hash = \"sha1\"
+kind = \"totp\"
+limit = 3
+max_drift = 1
+secret = \"3132333435363738393031323334353637383930\"
+step = 30
+t0 = 0
+";
+
+// What is read of the text is written as `want`, and so is what is read of that.
+fn writes(rt: &(impl AllocGlobal + Abort), text: &str, want: &str) -> Result<(), Fail> {
+    let alloc = rt.alloc();
+    let written = Contents::read(alloc, text.as_bytes())?.write(alloc)?;
+    assert_eq!(rt; written.as_str(), want);
+    let again = Contents::read(alloc, written.as_bytes())?.write(alloc)?;
+    assert_eq!(rt; again.as_str(), want);
+    Ok(())
+}
+
+#[test]
+fn books_that_were_read(rt: HostRuntime) -> Result<(), Fail> {
+    let alloc = rt.alloc();
+    for (token, written) in [("", ""), (HOTP, HOTP_WRITTEN), (TOTP, TOTP_WRITTEN)] {
+        let text = format!(in alloc; "{FRONT}{USER}{token}")?;
+        let want = format!(in alloc; "{FRONT_WRITTEN}{USER_WRITTEN}{written}")?;
+        writes(&rt, text.as_str(), want.as_str())?;
+    }
+    Ok(())
+}
+
+// An account with everything, and one with nothing, whose name comes first.
+#[test]
+fn accounts_in_order_of_their_names(rt: HostRuntime) -> Result<(), Fail> {
+    let alloc = rt.alloc();
+    let text = format!(in alloc; "{FRONT}{USER}{HOTP}\n[accounts.\"a.b\"]\n")?;
+    let empty = "\n[accounts.\"a.b\"]\nact_as = []\n";
+    let want = format!(in alloc; "{FRONT_WRITTEN}{empty}{USER_WRITTEN}{HOTP_WRITTEN}")?;
+    writes(&rt, text.as_str(), want.as_str())
+}
+
+#[test]
+fn thousand_accounts(rt: HostRuntime) -> Result<(), Fail> {
+    let alloc = rt.alloc();
+    let mut text = String::from_str(alloc, FRONT)?;
+    let mut want = String::from_str(alloc, FRONT_WRITTEN)?;
+    for number in 0..1000u32 {
+        let last = 999 - number;
+        text.push_str(format!(in alloc; "\n[accounts.n{last:03}]\n")?.as_str())?;
+        want.push_str(format!(in alloc; "\n[accounts.n{number:03}]\nact_as = []\n")?.as_str())?;
+    }
+    writes(&rt, text.as_str(), want.as_str())
+}

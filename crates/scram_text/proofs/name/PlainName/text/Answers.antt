@@ -5,4 +5,4 @@ use Rattle.scram_text.proofs.name.PlainName.text.Goals as goal
 
 pub unreachable-requires : goal.unreachable-requires
 unreachable-requires c =
-    c.in_default.ensures.cases.0 (subst IsUtf8 (sym c.bytes.ensures.value) (plain_text _ c.bytes.ensures.fits.each).utf8)
+    c.in-Err.ensures.cases.0 (subst IsUtf8 (sym c.bytes.ensures.value) (plain_text _ c.bytes.ensures.fits.each).utf8)
