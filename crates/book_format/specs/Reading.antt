@@ -22,8 +22,8 @@ use Rattle.book_format.specs.declared.fault.BookFault.{BookFault}
 use Rattle.book_format.specs.declared.fault.BookWhy.{BookWhy}
 use Rattle.book_format.specs.declared.fault.BookWhy.TheVariants.{Toml, Format, Key, Name, Salt, Count, KeyLength, Token, NoMemory}
 
--- the second step where the first gave a value, else its fault
 infixl 10 ◌>>=◌
+-- the second step where the first gave a value, else its fault
 abbrev pub ◌>>=◌ : {A B E : Type 0} → Result A E → (A → Result B E) → Result B E
 Ok x >>= f = f x
 Err e >>= f = Err e

@@ -2,6 +2,7 @@
 ghost use Rattle.std.specs.Prelude.{◌≡◌};
 ghost use Rattle.book_format.specs.Faults.{why_number};
 
+use std::fmt;
 use thiserror::Error;
 
 /// What is wrong with a book's text, each with its number.
@@ -55,8 +56,7 @@ impl BookWhy {
 
 /// Why a text is no account book: the first fault, the book's own keys first, and then account by
 /// account in byte order of their names.
-#[derive(Clone, Copy, Debug, PartialEq, Eq, Error)]
-#[error("{why}")]
+#[derive(Clone, Copy, Debug, PartialEq, Eq)]
 pub struct BookFault {
     /// What is wrong.
     pub why: BookWhy,
@@ -74,3 +74,14 @@ impl BookFault {
         self.why.number()
     }
 }
+
+impl fmt::Display for BookFault {
+    fn fmt<W: fmt::Write>(&self, f: &mut fmt::Formatter<W>) -> fmt::Result {
+        if let Some(index) = self.account {
+            write!(f, "account {index}: ")?;
+        }
+        write!(f, "{}", self.why)
+    }
+}
+
+impl std::error::Error for BookFault {}

@@ -14,3 +14,6 @@ mod write;
 pub use account::{Account, MechKeys};
 pub use contents::Contents;
 pub use fault::{BookFault, BookWhy};
+
+#[cfg(test)]
+mod tests;

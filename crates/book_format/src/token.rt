@@ -6,7 +6,8 @@ ghost use Rattle.toml.specs.View.{view, table_view};
 ghost use Rattle.otp_core.specs.Settings.{IsHotpInRange, IsTotpInRange};
 ghost use Rattle.otp_core.specs.Secret.{IsDigitCount, IsMoment};
 ghost use Rattle.otp_core.specs.declared.token.kinds.Fields.TheVariants.{Hotp, Totp};
-ghost use Rattle.book_format.specs.Reading.{optional, hash_named, hash_of, last_of, drift_of, hotp_of, totp_of, token_of, kind_of};
+ghost use Rattle.book_format.specs.Keys.{is_among, totp_keys};
+ghost use Rattle.book_format.specs.Reading.{optional, known_keys, hash_named, hash_of, last_of, drift_of, hotp_of, totp_of, token_of, kind_of};
 
 use crate::fault::BookWhy;
 use crate::field::{
@@ -100,24 +101,7 @@ fn totp_of(table: &Table) -> Result<TotpFields, BookWhy>
     ensures value { result ≡ totp_of (table_view table.now) }
     ensures range { IfOk result IsTotpInRange }
 {
-    known_keys(
-        table,
-        &[
-            "kind",
-            "hash",
-            "secret",
-            "digits",
-            "t0",
-            "step",
-            "back",
-            "ahead",
-            "max_drift",
-            "last",
-            "drift",
-            "limit",
-            "failures",
-        ],
-    )?;
+    known_totp_keys(table)?;
     let hash = hash_of(table, "hash")?;
     let secret = bytes_of(table, "secret", 10, 64, BookWhy::Token)?;
     let digits = number_of(table, "digits", 6, 8, BookWhy::Token)?;
@@ -144,6 +128,29 @@ fn totp_of(table: &Table) -> Result<TotpFields, BookWhy>
         limit,
         failures,
     })
+}
+
+fn known_totp_keys(table: &Table) -> Result<(), BookWhy>
+    ensures { result ≡ known_keys (is_among totp_keys) (table_view table.now) }
+{
+    known_keys(
+        table,
+        &[
+            "kind",
+            "hash",
+            "secret",
+            "digits",
+            "t0",
+            "step",
+            "back",
+            "ahead",
+            "max_drift",
+            "last",
+            "drift",
+            "limit",
+            "failures",
+        ],
+    )
 }
 
 fn secret_of(bytes: &Tag) -> Secret

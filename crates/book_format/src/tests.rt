@@ -1,0 +1,74 @@
+//! What no contract shows: that the definitions are those of the format, by books that a person wrote,
+//! and that each fault comes at each place that can have it.
+use crate::{Account, BookFault, BookWhy, Contents, MechKeys};
+use otp_core::{Fields, OtpHash};
+use std::alloc::{AllocError, Global};
+use std::test::Fail;
+
+mod accounts;
+mod books;
+mod document;
+mod tokens;
+
+// The keys of the document.
+const TOP: &str = concat!(
+    "format = 1\n",
+    "decoy_key = \"000102030405060708090a0b0c0d0e0f101112131415161718191a1b1c1d1e1f\"\n",
+    "decoy_count = 4096\n\n",
+);
+
+// One account with keys of SCRAM-SHA-1: those of RFC 5802, section 5.
+const USER: &str = concat!(
+    "[accounts.user]\n",
+    "act_as = []\n\n",
+    "[accounts.user.sha1]\n",
+    "salt = \"4125c247e43ab1e93c6dff76\"\n",
+    "count = 4096\n",
+    "stored = \"e9d94660c39d65c38fbad91c358f14da0eef2bd6\"\n",
+    "server = \"0fe09258b3ac852ba502cc62ba903eaacdbf7d31\"\n\n",
+);
+
+// Its token: the secret is that of RFC 4226, appendix D.
+const HOTP: &str = concat!(
+    "[accounts.user.token]\n",
+    "kind = \"hotp\"\n",
+    "secret = \"3132333435363738393031323334353637383930\"\n",
+    "digits = 6\n",
+    "next = 0\n",
+    "look_ahead = 3\n",
+    "limit = 3\n",
+    "failures = 0\n",
+);
+
+// A token by time in its place.
+const TOTP: &str = concat!(
+    "[accounts.user.token]\n",
+    "kind = \"totp\"\n",
+    "hash = \"sha1\"\n",
+    "secret = \"3132333435363738393031323334353637383930\"\n",
+    "digits = 8\n",
+    "t0 = 0\n",
+    "step = 30\n",
+    "back = 0\n",
+    "ahead = 1\n",
+    "max_drift = 1\n",
+    "drift = 0\n",
+    "limit = 3\n",
+    "failures = 0\n",
+);
+
+// A book's text: the document's keys, then these parts, with what stands first for `old` put right.
+fn edited(alloc: Global, parts: [&str; 2], old: &str, new: &str) -> Result<String, Fail> {
+    let text = format!(in alloc; "{TOP}{}{}", parts[0], parts[1])?;
+    let (front, back) = text
+        .as_str()
+        .split_once(old)
+        .ok_or("what the edit replaces")?;
+    Ok(format!(in alloc; "{front}{new}{back}")?)
+}
+
+// The number and the account of the fault, or None where there is none.
+fn fault_of(alloc: Global, text: &[u8]) -> Option<(u16, Option<usize>)> {
+    let fault = Contents::read(alloc, text).err()?;
+    Some((fault.number(), fault.account))
+}

@@ -1,0 +1,156 @@
+//! Faults of accounts, of their mechanisms and of the names that they may act as.
+use super::*;
+
+const ACCOUNT_EDITS: [(&str, &str, u16); 34] = [
+    ("act_as = []", "act_as = []\nx = 1", 62),
+    ("act_as = []", "sha256 = 1", 62),
+    ("act_as = []", "token = 1", 62),
+    ("act_as = []", "act_as = 1", 62),
+    ("act_as = []", "act_as = [\"a\", 1]", 62),
+    ("act_as = []", "act_as = [\"\", 1]", 62),
+    ("act_as = []", "act_as = [\"\"]", 63),
+    ("act_as = []", "act_as = [\"a\", \"\\u007F\"]", 63),
+    ("act_as = []", "act_as = [\"\\u00E9\"]", 63),
+    ("act_as = []", "act_as = [\"\", \"\"]\ntoken = 1", 63),
+    ("salt", "x = 1\nsalt", 62),
+    ("salt", "# salt", 62),
+    ("salt = \"4125c247e43ab1e93c6dff76\"", "salt = 1", 62),
+    ("salt = \"4125c247e43ab1e93c6dff76\"", "salt = \"\"", 64),
+    ("salt = \"4125c247e43ab1e93c6dff76\"", "salt = \"4\"", 64),
+    ("salt = \"4125c247e43ab1e93c6dff76\"", "salt = \"4x\"", 64),
+    (
+        "salt = \"4125c247e43ab1e93c6dff76\"",
+        "salt = \"\"\nx = 1",
+        62,
+    ),
+    (
+        "salt = \"4125c247e43ab1e93c6dff76\"\ncount = 4096",
+        "salt = \"\"",
+        64,
+    ),
+    (
+        "salt = \"4125c247e43ab1e93c6dff76\"\ncount = 4096",
+        "count = 0",
+        62,
+    ),
+    ("\ncount = 4096", "", 62),
+    ("\ncount = 4096", "\ncount = 4096.5", 62),
+    ("\ncount = 4096", "\ncount = 0", 65),
+    ("\ncount = 4096", "\ncount = -4096", 65),
+    ("\ncount = 4096", "\ncount = 4294967296", 65),
+    ("stored = ", "x = 1\nstored = ", 62),
+    ("stored = ", "# ", 62),
+    ("stored = \"", "stored = 1 # ", 62),
+    ("stored = \"e9", "stored = \"", 66),
+    ("stored = \"e9", "stored = \"e9e9", 66),
+    ("stored = \"e9", "stored = \"e9000000000000000000000000", 66),
+    ("server = ", "# ", 62),
+    ("server = \"", "server = true # ", 62),
+    ("server = \"0f", "server = \"0", 66),
+    ("server = \"0f", "server = \"-f", 66),
+];
+
+#[test]
+fn faults_of_an_account(rt: HostRuntime) -> Result<(), Fail> {
+    for (old, new, number) in ACCOUNT_EDITS {
+        let text = edited(rt.alloc(), [USER, ""], old, new)?;
+        let want = Some((number, Some(0)));
+        assert_eq!(rt;
+            fault_of(rt.alloc(), text.as_bytes()),
+            want,
+            "{old} to {new}"
+        );
+    }
+    Ok(())
+}
+
+// The keys of one mechanism are not those of the other.
+#[test]
+fn keys_of_the_other_length(rt: HostRuntime) -> Result<(), Fail> {
+    let text = edited(rt.alloc(), [USER, ""], "user.sha1", "user.sha256")?;
+    assert_eq!(rt; fault_of(rt.alloc(), text.as_bytes()), Some((66, Some(0))));
+    Ok(())
+}
+
+#[test]
+fn faults_of_tables_of_accounts(rt: HostRuntime) -> Result<(), Fail> {
+    let rows = [
+        ("[accounts]\nuser = 1\n", 62, 0),
+        ("[[accounts.user]]\n", 62, 0),
+        ("[accounts.user]\nsha1 = 1\n", 62, 0),
+        ("[accounts.\"\"]\n", 63, 0),
+        ("[accounts.\"\"]\nx = 1\n", 63, 0),
+        ("[accounts.\"a\\u007F\"]\n", 63, 0),
+        ("[accounts.\"a\\tb\"]\n", 63, 0),
+        ("[accounts.\"\\u00E9\"]\n", 63, 0),
+        ("[accounts.b]\n[accounts.a]\nx = 1\n", 62, 0),
+        ("[accounts.b]\nx = 1\n[accounts.a]\n", 62, 1),
+        (
+            "[accounts.b]\nx = 1\n[accounts.a]\nact_as = [\"\"]\n",
+            63,
+            0,
+        ),
+        (
+            "[accounts.a]\n[accounts.B]\n[accounts.\"a.\"]\n[accounts.aa]\nsha1 = 1\n",
+            62,
+            3,
+        ),
+        ("[accounts.a]\n[accounts.B]\nsha1 = 1\n", 62, 0),
+    ];
+    for (accounts, number, index) in rows {
+        let text = format!(in rt.alloc(); "{TOP}{accounts}")?;
+        let want = Some((number, Some(index)));
+        assert_eq!(rt; fault_of(rt.alloc(), text.as_bytes()), want, "{accounts}");
+    }
+    Ok(())
+}
+
+// So many names that are `"a"`, as a list's text.
+fn names(alloc: Global, count: usize) -> Result<String, AllocError> {
+    let mut text = String::from_str(alloc, "[")?;
+    for _ in 0..count {
+        text.push_str("\"a\", ")?;
+    }
+    text.push_str("]")?;
+    Ok(text)
+}
+
+#[test]
+fn sixteen_names_at_most(rt: HostRuntime) -> Result<(), Fail> {
+    for (count, want) in [(0, None), (16, None), (17, Some((63, Some(0))))] {
+        let list = names(rt.alloc(), count)?;
+        let text = edited(rt.alloc(), [USER, ""], "[]", list.as_str())?;
+        assert_eq!(rt; fault_of(rt.alloc(), text.as_bytes()), want, "{count}");
+    }
+    Ok(())
+}
+
+// So many letters.
+fn letters(alloc: Global, count: usize) -> Result<String, AllocError> {
+    let mut text = String::new(alloc);
+    for _ in 0..count {
+        text.push_str("a")?;
+    }
+    Ok(text)
+}
+
+// Names have at most 255 bytes, and salts at most 64.
+#[test]
+fn longest_texts(rt: HostRuntime) -> Result<(), Fail> {
+    for (count, want) in [(255, None), (256, Some((63, Some(0))))] {
+        let name = letters(rt.alloc(), count)?;
+        let text = format!(in rt.alloc(); "{TOP}[accounts.{name}]\n")?;
+        assert_eq!(rt; fault_of(rt.alloc(), text.as_bytes()), want, "{count}");
+    }
+    for (count, want) in [(128, None), (130, Some((64, Some(0))))] {
+        let salt = letters(rt.alloc(), count)?;
+        let text = edited(
+            rt.alloc(),
+            [USER, ""],
+            "4125c247e43ab1e93c6dff76",
+            salt.as_str(),
+        )?;
+        assert_eq!(rt; fault_of(rt.alloc(), text.as_bytes()), want, "{count}");
+    }
+    Ok(())
+}

@@ -1,0 +1,123 @@
+//! Faults of the document and of its keys.
+use super::*;
+
+#[test]
+fn texts_of_no_book(rt: HostRuntime) -> Result<(), Fail> {
+    let rows: [(&[u8], u16); 6] = [
+        (b"", 61),
+        (b"\xFF", 60),
+        (b"format = 1\n# \xC3\n", 60),
+        (b"format", 60),
+        (b"format = 1\nformat = 1\n", 60),
+        (b"x = 1\n", 61),
+    ];
+    for (text, number) in rows {
+        assert_eq!(rt;
+            fault_of(rt.alloc(), text),
+            Some((number, None)),
+            "{text:?}"
+        );
+    }
+    Ok(())
+}
+
+const DOCUMENT_EDITS: [(&str, &str, u16); 24] = [
+    ("format = 1\n", "", 61),
+    ("format = 1", "format = 2", 61),
+    ("format = 1", "format = -1", 61),
+    ("format = 1", "format = 1.0", 61),
+    ("format = 1", "format = \"1\"", 61),
+    ("format = 1", "format = 2\nx = 1", 61),
+    ("format = 1", "format = 1\nx = 1", 62),
+    ("format = 1", "format = 1\nFormat = 1", 62),
+    ("decoy_key", "decoy_keys", 62),
+    ("decoy_key = \"00", "decoy_key = \"", 66),
+    ("decoy_key = \"00", "decoy_key = \"0", 66),
+    ("decoy_key = \"00", "decoy_key = \"0000", 66),
+    ("decoy_key = \"00", "decoy_key = \"0g", 66),
+    ("decoy_key = \"00", "x = 1\ndecoy_key = \"", 62),
+    ("decoy_key = ", "decoy_key = 1 # ", 62),
+    ("decoy_count", "# decoy_count", 62),
+    ("decoy_count = 4096", "decoy_count = \"4096\"", 62),
+    ("decoy_count = 4096", "decoy_count = 4096.0", 62),
+    ("decoy_count = 4096", "decoy_count = 0", 65),
+    ("decoy_count = 4096", "decoy_count = -1", 65),
+    ("decoy_count = 4096", "decoy_count = 4294967296", 65),
+    (
+        "decoy_count = 4096",
+        "decoy_count = 9223372036854775808",
+        60,
+    ),
+    (
+        "decoy_count = 4096\n",
+        "decoy_count = 4096\naccounts = 1\n#",
+        62,
+    ),
+    (
+        "decoy_count = 4096\n",
+        "decoy_count = 0\naccounts = []\n#",
+        65,
+    ),
+];
+
+#[test]
+fn faults_of_the_document(rt: HostRuntime) -> Result<(), Fail> {
+    for (old, new, number) in DOCUMENT_EDITS {
+        let text = edited(rt.alloc(), ["", ""], old, new)?;
+        assert_eq!(rt;
+            fault_of(rt.alloc(), text.as_bytes()),
+            Some((number, None)),
+            "{new}"
+        );
+    }
+    Ok(())
+}
+
+#[test]
+fn decoy_key_of_one_byte(rt: HostRuntime) -> Result<(), Fail> {
+    let text = "format = 1\ndecoy_key = \"00\"\ndecoy_count = 4096\n";
+    assert_eq!(rt; fault_of(rt.alloc(), text.as_bytes()), Some((66, None)));
+    Ok(())
+}
+
+// What a user reads of each fault.
+#[test]
+fn texts_of_faults(rt: HostRuntime) -> Result<(), Fail> {
+    let rows = [
+        (BookWhy::Toml, "not a TOML document"),
+        (BookWhy::Format, "`format` is not 1"),
+        (
+            BookWhy::Key,
+            "a key is missing, unknown, or of another type",
+        ),
+        (
+            BookWhy::Name,
+            "a name is not 1 to 255 bytes of 20 to 7E hex, or `act_as` has more than 16",
+        ),
+        (
+            BookWhy::Salt,
+            "a salt is not the hexadecimal text of 1 to 64 bytes",
+        ),
+        (BookWhy::Count, "a count is not 1 to 4294967295"),
+        (
+            BookWhy::KeyLength,
+            "a key is not the hexadecimal text of as many bytes as it has to have",
+        ),
+        (
+            BookWhy::Token,
+            "a token is of another kind, or a setting of it is out of its range",
+        ),
+        (BookWhy::NoMemory, "no memory for the book"),
+    ];
+    for (why, want) in rows {
+        let fault = BookFault { why, account: None };
+        assert_eq!(rt; format!(in rt.alloc(); "{fault}")?.as_str(), want);
+        let fault = BookFault {
+            why,
+            account: Some(7),
+        };
+        let place = format!(in rt.alloc(); "account 7: {want}")?;
+        assert_eq!(rt; format!(in rt.alloc(); "{fault}")?.as_str(), place.as_str());
+    }
+    Ok(())
+}
