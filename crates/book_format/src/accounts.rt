@@ -16,6 +16,9 @@ use std::alloc::Global;
 use std::collections::BTreeMap;
 use toml::{Table, Value};
 
+// The most names that an account may act as.
+const MOST_NAMES: usize = 16;
+
 /// The accounts of a table in byte order of names, each wholly read before the next. A fault says the
 /// index of its account.
 #[tactic(auto, unfolding(crate::specs::Reading::accounts_of))]
@@ -130,7 +133,7 @@ fn names_of(alloc: Global, list: &[Value]) -> Result<Vec<PlainName>, BookWhy>
     if !are_texts(list) {
         return Err(BookWhy::Key);
     }
-    if list.len() > 16 {
+    if list.len() > MOST_NAMES {
         return Err(BookWhy::Name);
     }
     names_in(alloc, list)

@@ -1,4 +1,28 @@
-//! The text of an account book: a TOML document, read and written.
+//! Account books and their text, a TOML document with `format = 1`.
+//!
+//! `Contents::read` takes a text exactly where it is that of a book, and else answers the first fault:
+//! of the document, of its own keys, then of account by account in byte order of names. In each table
+//! unknown keys come first, then its keys in the order below. `Contents::write` gives a text that is
+//! that of the book.
+//!
+//! | Table | Keys |
+//! |---|---|
+//! | the document | `format`, `decoy_key`, `decoy_count`, `accounts` |
+//! | an account | `sha1`, `sha256`, `act_as`, `token` |
+//! | `sha1`, `sha256` | `salt`, `count`, `stored`, `server` |
+//! | `token`, a HOTP one | `kind`, `secret`, `digits`, `next`, `look_ahead`, `limit`, `failures` |
+//! | `token`, a TOTP one | `kind`, `hash`, `secret`, `digits`, `t0`, `step`, `back`, `ahead`, `max_drift`, `last`, `drift`, `limit`, `failures` |
+//!
+//! `accounts`, each key of an account, and `last` may be missing. Bytes are hexadecimal text: both
+//! cases are read, and lower case is written.
+//!
+//! ```rust
+//! use book_format::Contents;
+//!
+//! let text = b"format = 1\ndecoy_count = 4096\ndecoy_key = \"00\"\n";
+//! let fault = Contents::read(rt.alloc(), text).err().ok_or("a key of one byte")?;
+//! assert_eq!(rt; fault.number(), 66);
+//! ```
 #![tactic(auto)]
 
 mod account;

@@ -1,24 +1,18 @@
-//! A token: its settings and state, of either kind.
-ghost use Rattle.std.specs.Prelude.{◌≡◌, ◌≤◌, ◌-◌, ◌^◌, length, codes, nat_abs, IfOk};
-ghost use Rattle.std.specs.Option.{ForSome};
-ghost use Rattle.toml.specs.Data.{get_member};
+//! A token of either kind: `kind`, and the keys of that kind.
+ghost use Rattle.std.specs.Prelude.{◌≡◌};
 ghost use Rattle.toml.specs.View.{view, table_view};
-ghost use Rattle.otp_core.specs.Settings.{IsHotpInRange, IsTotpInRange};
-ghost use Rattle.otp_core.specs.Secret.{IsDigitCount, IsMoment};
-ghost use Rattle.otp_core.specs.declared.token.kinds.Fields.TheVariants.{Hotp, Totp};
-ghost use Rattle.book_format.specs.Keys.{is_among, totp_keys};
-ghost use Rattle.book_format.specs.Reading.{optional, known_keys, hash_named, hash_of, last_of, drift_of, hotp_of, totp_of, token_of, kind_of};
+ghost use Rattle.book_format.specs.Reading.{token_of, kind_of};
+
+mod hotp;
+mod setting;
+mod totp;
 
 use crate::fault::BookWhy;
-use crate::field::{
-    at, bytes_of, integer_of, known_keys, number_of, number_within, table_of, text_of,
-};
-use mac_core::Tag;
-use otp_core::{Digits, HotpFields, Moment, OtpHash, Secret, Token, TotpFields};
+use crate::field::{table_of, text_of};
+use hotp::{hotp_of, hotp_token};
+use otp_core::Token;
 use toml::{Table, Value};
-
-// The greatest counter that can pass.
-const MOST_COUNTER: u64 = 0x7fff_ffff_ffff_fffe;
+use totp::{totp_of, totp_token};
 
 /// A token.
 #[tactic(auto, unfolding(crate::specs::Reading::token_of))]
@@ -38,198 +32,6 @@ fn kind_of(kind: &str, table: &Table) -> Result<Token, BookWhy>
         Ok(hotp_token(hotp_of(table)?))
     } else if kind == "totp" {
         Ok(totp_token(totp_of(table)?))
-    } else {
-        Err(BookWhy::Token)
-    }
-}
-
-fn hotp_token(fields: HotpFields) -> Token
-    requires { IsHotpInRange fields }
-    ensures { result ≡ Hotp fields }
-{
-    let Ok(token) = Token::hotp(fields) else {
-        unreachable!()
-    };
-    token
-}
-
-fn totp_token(fields: TotpFields) -> Token
-    requires { IsTotpInRange fields }
-    ensures { result ≡ Totp fields }
-{
-    let Ok(token) = Token::totp(fields) else {
-        unreachable!()
-    };
-    token
-}
-
-#[tactic(auto, unfolding(crate::specs::Reading::hotp_of))]
-fn hotp_of(table: &Table) -> Result<HotpFields, BookWhy>
-    ensures value { result ≡ hotp_of (table_view table.now) }
-    ensures range { IfOk result IsHotpInRange }
-{
-    known_keys(
-        table,
-        &[
-            "kind",
-            "secret",
-            "digits",
-            "next",
-            "look_ahead",
-            "limit",
-            "failures",
-        ],
-    )?;
-    let secret = bytes_of(table, "secret", 10, 64, BookWhy::Token)?;
-    let digits = number_of(table, "digits", 6, 8, BookWhy::Token)?;
-    let next = number_of(table, "next", 0, MOST_COUNTER + 1, BookWhy::Token)?;
-    let look_ahead = number_of(table, "look_ahead", 0, 100, BookWhy::Token)?;
-    let limit = number_of(table, "limit", 1, 100, BookWhy::Token)?;
-    let failures = number_of(table, "failures", 0, limit, BookWhy::Token)?;
-    Ok(HotpFields {
-        secret: secret_of(&secret),
-        digits: digits_of(digits),
-        next,
-        look_ahead,
-        limit,
-        failures,
-    })
-}
-
-#[tactic(auto, unfolding(crate::specs::Reading::totp_of))]
-fn totp_of(table: &Table) -> Result<TotpFields, BookWhy>
-    ensures value { result ≡ totp_of (table_view table.now) }
-    ensures range { IfOk result IsTotpInRange }
-{
-    known_totp_keys(table)?;
-    let hash = hash_of(table, "hash")?;
-    let secret = bytes_of(table, "secret", 10, 64, BookWhy::Token)?;
-    let digits = number_of(table, "digits", 6, 8, BookWhy::Token)?;
-    let t0 = number_of(table, "t0", 0, 253_402_300_799, BookWhy::Token)?;
-    let step = number_of(table, "step", 1, 3600, BookWhy::Token)?;
-    let back = number_of(table, "back", 0, 10, BookWhy::Token)?;
-    let ahead = number_of(table, "ahead", 0, 10, BookWhy::Token)?;
-    let max_drift = number_of(table, "max_drift", 0, 100, BookWhy::Token)?;
-    let last = last_at(table)?;
-    let drift = drift_of(table, "drift", max_drift)?;
-    let limit = number_of(table, "limit", 1, 100, BookWhy::Token)?;
-    let failures = number_of(table, "failures", 0, limit, BookWhy::Token)?;
-    Ok(TotpFields {
-        hash,
-        secret: secret_of(&secret),
-        digits: digits_of(digits),
-        t0: moment_of(t0),
-        step,
-        back,
-        ahead,
-        max_drift,
-        last,
-        drift,
-        limit,
-        failures,
-    })
-}
-
-fn known_totp_keys(table: &Table) -> Result<(), BookWhy>
-    ensures { result ≡ known_keys (is_among totp_keys) (table_view table.now) }
-{
-    known_keys(
-        table,
-        &[
-            "kind",
-            "hash",
-            "secret",
-            "digits",
-            "t0",
-            "step",
-            "back",
-            "ahead",
-            "max_drift",
-            "last",
-            "drift",
-            "limit",
-            "failures",
-        ],
-    )
-}
-
-fn secret_of(bytes: &Tag) -> Secret
-    requires { 10 ≤ length bytes.now.items }
-    ensures { result ≡ bytes.now.items }
-{
-    let Ok(secret) = Secret::new(bytes.as_slice()) else {
-        unreachable!()
-    };
-    secret
-}
-
-fn digits_of(count: u64) -> Digits
-    requires { IsDigitCount count }
-    ensures { result ≡ count }
-{
-    let Ok(digits) = Digits::new(count as u8) else {
-        unreachable!()
-    };
-    digits
-}
-
-fn moment_of(seconds: u64) -> Moment
-    requires { IsMoment seconds }
-    ensures { result ≡ seconds }
-{
-    let Some(moment) = Moment::new(seconds) else {
-        unreachable!()
-    };
-    moment
-}
-
-fn hash_named(name: &str) -> Option<OtpHash>
-    ensures { result ≡ hash_named name.now }
-{
-    match name {
-        "sha1" => Some(OtpHash::Sha1),
-        "sha256" => Some(OtpHash::Sha256),
-        "sha512" => Some(OtpHash::Sha512),
-        _ => None,
-    }
-}
-
-#[tactic(auto, unfolding(crate::specs::Reading::hash_of))]
-fn hash_of(table: &Table, key: &str) -> Result<OtpHash, BookWhy>
-    ensures { result ≡ hash_of key.now (table_view table.now) }
-{
-    let name = text_of(table, key)?;
-    hash_named(name).ok_or(BookWhy::Token)
-}
-
-// The last step, or None where there is no key `last`.
-fn last_at(table: &Table) -> Result<Option<u64>, BookWhy>
-    ensures value { result ≡ optional last_of (get_member (codes "last") (table_view table.now)) }
-    ensures range { IfOk result (λ last. ForSome last (λ l. l ≤ 2 ^ 63 - 2)) }
-{
-    match at(table, "last") {
-        Some(value) => Ok(Some(last_of(value)?)),
-        None => Ok(None),
-    }
-}
-
-#[tactic(auto, unfolding(crate::specs::Reading::last_of))]
-fn last_of(value: &Value) -> Result<u64, BookWhy>
-    ensures value { result ≡ last_of (view value.now) }
-    ensures range { IfOk result (λ last. last ≤ 2 ^ 63 - 2) }
-{
-    let number = value.as_integer().ok_or(BookWhy::Key)?;
-    number_within(0, MOST_COUNTER, number).ok_or(BookWhy::Token)
-}
-
-#[tactic(auto, unfolding(crate::specs::Reading::drift_of))]
-fn drift_of(table: &Table, key: &str, most: u64) -> Result<i64, BookWhy>
-    ensures value { result ≡ drift_of key.now most (table_view table.now) }
-    ensures range { IfOk result (λ drift. nat_abs drift ≤ most) }
-{
-    let drift = integer_of(table, key)?;
-    if drift.unsigned_abs() <= most {
-        Ok(drift)
     } else {
         Err(BookWhy::Token)
     }

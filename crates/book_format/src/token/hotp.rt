@@ -1,0 +1,57 @@
+//! A HOTP token: `secret`, `digits`, `next`, `look_ahead`, `limit`, `failures`.
+ghost use Rattle.std.specs.Prelude.{◌≡◌, IfOk};
+ghost use Rattle.toml.specs.View.{table_view};
+ghost use Rattle.otp_core.specs.Settings.{IsHotpInRange};
+ghost use Rattle.otp_core.specs.declared.token.kinds.Fields.TheVariants.{Hotp};
+ghost use Rattle.book_format.specs.Reading.{hotp_of};
+
+use crate::fault::BookWhy;
+use crate::field::{bytes_of, known_keys, number_of};
+use crate::token::setting::{MOST_COUNTER, digits_of, secret_of};
+use otp_core::{HotpFields, Token};
+use toml::Table;
+
+/// The settings and the state of a HOTP token, whose table says that kind.
+#[tactic(auto, unfolding(crate::specs::Reading::hotp_of))]
+pub(super) fn hotp_of(table: &Table) -> Result<HotpFields, BookWhy>
+    ensures value { result ≡ hotp_of (table_view table.now) }
+    ensures range { IfOk result IsHotpInRange }
+{
+    known_keys(
+        table,
+        &[
+            "kind",
+            "secret",
+            "digits",
+            "next",
+            "look_ahead",
+            "limit",
+            "failures",
+        ],
+    )?;
+    let secret = bytes_of(table, "secret", 10, 64, BookWhy::Token)?;
+    let digits = number_of(table, "digits", 6, 8, BookWhy::Token)?;
+    let next = number_of(table, "next", 0, MOST_COUNTER + 1, BookWhy::Token)?;
+    let look_ahead = number_of(table, "look_ahead", 0, 100, BookWhy::Token)?;
+    let limit = number_of(table, "limit", 1, 100, BookWhy::Token)?;
+    let failures = number_of(table, "failures", 0, limit, BookWhy::Token)?;
+    Ok(HotpFields {
+        secret: secret_of(&secret),
+        digits: digits_of(digits),
+        next,
+        look_ahead,
+        limit,
+        failures,
+    })
+}
+
+/// The token of settings that are in their ranges.
+pub(super) fn hotp_token(fields: HotpFields) -> Token
+    requires { IsHotpInRange fields }
+    ensures { result ≡ Hotp fields }
+{
+    let Ok(token) = Token::hotp(fields) else {
+        unreachable!()
+    };
+    token
+}

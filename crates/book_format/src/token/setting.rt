@@ -1,0 +1,42 @@
+//! Settings that have types of their own, made of values in their ranges.
+ghost use Rattle.std.specs.Prelude.{◌≡◌, ◌≤◌, length};
+ghost use Rattle.otp_core.specs.Secret.{IsDigitCount, IsMoment};
+
+use mac_core::Tag;
+use otp_core::{Digits, Moment, Secret};
+
+/// The greatest counter that can pass.
+pub(super) const MOST_COUNTER: u64 = 0x7fff_ffff_ffff_fffe;
+
+/// The secret of 10 bytes or more.
+pub(super) fn secret_of(bytes: &Tag) -> Secret
+    requires { 10 ≤ length bytes.now.items }
+    ensures { result ≡ bytes.now.items }
+{
+    let Ok(secret) = Secret::new(bytes.as_slice()) else {
+        unreachable!()
+    };
+    secret
+}
+
+/// Codes of 6 to 8 digits.
+pub(super) fn digits_of(count: u64) -> Digits
+    requires { IsDigitCount count }
+    ensures { result ≡ count }
+{
+    let Ok(digits) = Digits::new(count as u8) else {
+        unreachable!()
+    };
+    digits
+}
+
+/// The moment so many seconds after the start of 1970.
+pub(super) fn moment_of(seconds: u64) -> Moment
+    requires { IsMoment seconds }
+    ensures { result ≡ seconds }
+{
+    let Some(moment) = Moment::new(seconds) else {
+        unreachable!()
+    };
+    moment
+}
