@@ -1,11 +1,9 @@
 -- What stands in the tree of a book is read.
-use Rattle.std.proofs.Common.{◌≡◌, ◌≤◌, ◌+◌, ◌&&◌, nat_le, le-leb, nat_abs, pos, ℕ, List, [], ◌∷◌, length, map, codes, Bool, true, Option, Some, None, Ok, refl, rules, arith, inl, inr}
+use Rattle.std.proofs.Common.{◌≡◌, ◌≤◌, ◌+◌, ◌&&◌, nat_le, le-leb, nat_abs, ℕ, List, [], ◌∷◌, length, map, true, Option, Some, None, Ok, refl, arith, inl, inr}
 use Rattle.std.proofs.lemmas.Bool.Decides.{nat_tests}
-use Rattle.std.specs.List.{list_all}
-use Rattle.hex.specs.Hex.{decode_of}
-use Rattle.toml.specs.Data.{Data, string, integer, table, Members, no_members, member, get_member}
+use Rattle.toml.specs.Data.{Data, string, integer, Members, no_members, member, get_member}
 use Rattle.toml.specs.View.{items_of}
-use Rattle.scram_text.specs.Class.{IsPlainName, is_plain}
+use Rattle.scram_text.specs.Class.{IsPlainName}
 use Rattle.otp_core.specs.declared.hash.OtpHash.{OtpHash}
 use Rattle.otp_core.specs.declared.hash.OtpHash.TheVariants.{Sha1, Sha256, Sha512}
 use Rattle.otp_core.specs.declared.token.kinds.Fields.{Fields}
@@ -15,8 +13,8 @@ use Rattle.otp_core.specs.declared.token.kinds.TotpFields.{TotpFields}
 use Rattle.book_format.specs.Account.{AccountFields}
 use Rattle.book_format.specs.Book.{BookFields}
 use Rattle.book_format.specs.Keys.{hash_name}
-use Rattle.book_format.specs.Reading.{text_of, integer_of, number_within, number_of, bytes_in, bytes_within, bytes_of, mech_of, hash_named, hash_of, optional, last_of, drift_of, hotp_of, totp_of, kind_of, token_of, are_texts, item_count, name_of, names_in, names_of, act_as_of, act_as_at, account_of, entry_of, accounts_of, accounts_in, table_at, top_of, book_of}
-use Rattle.book_format.specs.Trees.{HoldsText, HoldsBytes, HoldsNumber, HoldsOption, IsMechTree, IsHotpTree, IsLastStep, IsTotpTree, IsTokenTree, AreNames, IsNameList, HoldsNames, IsAccountTree, AreAccountTrees, HoldsAccounts, IsBookTree}
+use Rattle.book_format.specs.Reading.{text_of, integer_of, number_of, bytes_within, bytes_of, mech_of, hash_named, hash_of, optional, last_of, drift_of, hotp_of, totp_of, kind_of, token_of, are_texts, item_count, name_of, names_in, names_of, act_as_of, act_as_at, account_of, entry_of, accounts_of, top_of, book_of}
+use Rattle.book_format.specs.Trees.{HoldsText, HoldsBytes, HoldsNumber, HoldsOption, IsMechTree, IsHotpTree, IsLastStep, IsTotpTree, IsTokenTree, AreNames, IsNameList, HoldsNames, IsAccountTree, AreAccountTrees, IsBookTree}
 use Rattle.book_format.specs.declared.account.MechKeys.{MechKeys}
 use Rattle.book_format.specs.declared.fault.BookWhy.{BookWhy}
 

@@ -1,5 +1,5 @@
 -- What is read stands in the tree.
-use Rattle.std.proofs.Common.{◌≡◌, ◌≤◌, ◌+◌, ◌&&◌, nat_le, ◌==◌, nat_abs, ℤ, pos, negsuc, ℕ, List, [], ◌∷◌, length, map, codes, Bool, true, false, Option, Some, None, ok_or, Result, Ok, Err, refl, sym, ap, subst, ◌∙◌, arith, inl, inr}
+use Rattle.std.proofs.Common.{◌≡◌, ◌≤◌, ◌+◌, ◌&&◌, nat_le, ◌==◌, nat_abs, ℤ, pos, negsuc, ℕ, List, [], ◌∷◌, length, map, codes, true, Option, Some, None, ok_or, Result, Ok, Err, refl, sym, ap, subst, ◌∙◌, arith, inl, inr}
 use Rattle.std.specs.Option.{option_and_then, unwrap_or}
 use Rattle.std.proofs.lemmas.Bool.{cases_Bool, and_parts}
 use Rattle.std.proofs.lemmas.Bool.Decides.{nat_tests}
@@ -8,7 +8,7 @@ use Rattle.std.specs.Str.{bytes_eq}
 use Rattle.std.proofs.lemmas.Slice.Eq.{bytes_eq-Decides}
 use Rattle.arrayvec.specs.ArrayVec.{ArrayVec}
 use Rattle.hex.specs.Hex.{decode_of}
-use Rattle.toml.specs.Data.{Data, string, integer, table, array, Items, no_items, item, Members, no_members, member, get_member, as_str, as_integer, as_array, as_table}
+use Rattle.toml.specs.Data.{Data, string, integer, table, array, Items, no_items, item, Members, no_members, member, get_member, as_str, as_integer, as_array}
 use Rattle.toml.specs.View.{items_of}
 use Rattle.scram_text.specs.Class.{IsPlainName, is_plain}
 use Rattle.otp_core.specs.declared.hash.OtpHash.{OtpHash}
@@ -19,11 +19,10 @@ use Rattle.otp_core.specs.declared.token.kinds.HotpFields.{HotpFields}
 use Rattle.otp_core.specs.declared.token.kinds.TotpFields.{TotpFields}
 use Rattle.book_format.specs.Account.{AccountFields, AreKeys, IsAccount}
 use Rattle.book_format.specs.Book.{BookFields, AreAccounts, IsBook}
-use Rattle.book_format.specs.Keys.{top_keys, account_keys, mech_keys, hotp_keys, totp_keys, hash_name, is_among, has_only}
-use Rattle.book_format.specs.Reading.{◌>>=◌, demand, table_of, known_keys, text_of, integer_of, number_within, number_of, bytes_in, bytes_within, bytes_of, mech_of, hash_named, hash_of, optional, last_of, drift_of, hotp_of, totp_of, kind_of, token_of, are_texts, item_count, name_of, names_in, names_of, act_as_of, act_as_at, account_of, entry_of, in_account, at_top, accounts_of, accounts_in, is_one, TopFields, table_at, top_of, book_of}
+use Rattle.book_format.specs.Keys.{top_keys, account_keys, mech_keys, hotp_keys, totp_keys, hash_name, is_among}
+use Rattle.book_format.specs.Reading.{demand, table_of, known_keys, text_of, integer_of, number_within, number_of, bytes_in, bytes_within, bytes_of, mech_of, hash_named, hash_of, optional, last_of, drift_of, hotp_of, totp_of, kind_of, token_of, are_texts, item_count, name_of, names_in, names_of, act_as_of, act_as_at, account_of, entry_of, in_account, at_top, accounts_of, accounts_in, is_one, TopFields, table_at, top_of, book_of}
 use Rattle.book_format.specs.Trees.{HoldsText, HoldsBytes, HoldsNumber, HoldsOption, IsMechTree, IsHotpTree, IsLastStep, IsTotpTree, IsTokenTree, AreNames, IsNameList, HoldsNames, IsAccountTree, AreAccountTrees, HoldsAccounts, IsBookTree}
 use Rattle.book_format.specs.declared.account.MechKeys.{MechKeys}
-use Rattle.book_format.specs.declared.fault.BookFault.{BookFault}
 use Rattle.book_format.specs.declared.fault.BookWhy.{BookWhy}
 use Rattle.book_format.specs.declared.fault.BookWhy.TheVariants.{Key, Format, Name, Salt, Count, KeyLength, Token}
 use Rattle.book_format.proofs.AsTrees.{count_again}

@@ -1,8 +1,8 @@
 -- Lists of texts and of names.
-use Rattle.std.proofs.Common.{◌≡◌, ◌<◌, ◌≤◌, ◌+◌, nat_le, le-leb, ℕ, List, [], ◌∷◌, ◌++◌, length, Bool, true, false, Result, Ok, Err, refl, ap, append_assoc, arith}
+use Rattle.std.proofs.Common.{◌≡◌, ◌<◌, ◌≤◌, nat_le, le-leb, ℕ, List, [], ◌∷◌, ◌++◌, length, true, false, Result, Ok, Err, refl, append_assoc, arith}
 use Rattle.std.proofs.lemmas.Bool.Decides.{nat_tests}
 use Rattle.toml.specs.Data.{Items}
-use Rattle.toml.specs.View.{view, items_view}
+use Rattle.toml.specs.View.{items_view}
 use Rattle.toml.specs.declared.value.Value.{Value}
 use Rattle.book_format.specs.Reading.{are_texts, item_count, names_in, names_of, ◌>>=◌}
 use Rattle.book_format.specs.declared.fault.BookWhy.TheVariants.{Key, Name}

@@ -1,5 +1,5 @@
 -- What an account book holds, and the ranges of it.
-use Rattle.std.specs.Prelude.{ℕ, ◌≤◌, ◌≡◌, List, [], ◌∷◌, length}
+use Rattle.std.specs.Prelude.{ℕ, ◌≤◌, List, [], ◌∷◌}
 use Rattle.book_format.specs.Account.{AccountFields, IsAccount}
 
 -- a book: what decoys are made of, and the accounts by their names, in byte order of the names

@@ -1,4 +1,4 @@
-use Rattle.std.proofs.Common.{◌≡◌, ◌+◌, ◌++◌, ◌∷◌, [], ℕ, List, length, Ok, Result, ap, sym, subst, ◌∙◌, append_assoc, arith, nat_cmp, string_bytes}
+use Rattle.std.proofs.Common.{◌≡◌, ◌+◌, ◌++◌, ◌∷◌, [], ℕ, List, Ok, Result, ap, sym, subst, ◌∙◌, append_assoc, arith, nat_cmp, string_bytes}
 use Rattle.std.specs.BTreeMap.{insert_entry}
 use Rattle.std.specs.Cmp.Lexicographic.{slice_cmp}
 use Rattle.std.specs.List.Sorted.{IsStrictlySortedBy}
@@ -10,7 +10,7 @@ use Rattle.toml.proofs.Views.{Entry}
 use Rattle.book_format.specs.Reading.{accounts_of, entry_of, ◌>>=◌}
 use Rattle.book_format.specs.declared.fault.BookFault.{BookFault}
 use Rattle.book_format.proofs.Binds.{on_ok}
-use Rattle.book_format.proofs.Entries.{Named, HaveKeys, HaveKeys-last, inserted_last}
+use Rattle.book_format.proofs.Entries.{Named, HaveKeys-last, inserted_last}
 use Rattle.book_format.proofs.Found.{entry_name}
 use Rattle.book_format.proofs.Lists.{moved}
 use Rattle.book_format.proofs.accounts.accounts_of.Goals as goal

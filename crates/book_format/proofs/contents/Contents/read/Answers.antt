@@ -1,11 +1,10 @@
-use Rattle.std.proofs.Common.{◌≡◌, ◌⊎◌, List, ℕ, Result, Ok, Err, inl, inr, sym, ap, ◌∙◌}
+use Rattle.std.proofs.Common.{◌≡◌, ◌⊎◌, List, ℕ, Result, Ok, Err, inl, inr, sym, ◌∙◌}
 use Rattle.std.specs.Result.{IfOk, IfErr}
 use Rattle.book_format.specs.Book.{BookFields}
 use Rattle.book_format.specs.Reading.{book_in, GivesFault}
 use Rattle.book_format.specs.Trees.{IsBookText}
 use Rattle.book_format.specs.declared.fault.BookFault.{BookFault}
 use Rattle.book_format.specs.declared.fault.BookWhy.TheVariants.{NoMemory}
-use Rattle.book_format.proofs.Binds.{ok_same}
 use Rattle.book_format.proofs.Whole.{text_found, text_held}
 use Rattle.book_format.proofs.contents.Contents.read.Goals as goal
 
