@@ -1,0 +1,36 @@
+-- What a store of the book's text promises of one save.
+use Rattle.std.specs.Prelude.{ℕ, ◌≡◌, ◌+◌, ◌⊎◌, true, false, Bool, List}
+use Rattle.std.specs.declared.result.Result.{Result}
+use Rattle.std.specs.declared.result.Result.TheVariants.{Ok, Err}
+use Rattle.account_book.specs.declared.store.StoreFault.{StoreFault}
+
+-- what is known of a store: the text that it holds, the text that the last save was given, whether it has
+-- failed, and how many saves it has taken up
+pub record StoreFacts : Type 0 where
+  pub saved : List ℕ
+  pub asked : List ℕ
+  pub failed : Bool
+  pub saves : ℕ
+
+-- a store that had not failed takes up a save of this text
+pub record TakesUp (old : StoreFacts) (text : List ℕ) (new : StoreFacts) : Type 0 where
+  pub working : old.failed ≡ false
+  pub asked : new.asked ≡ text
+  pub counted : new.saves ≡ old.saves + 1
+
+-- a save that succeeds: the store holds the text
+pub record IsSaved (old : StoreFacts) (text : List ℕ) (new : StoreFacts) : Type 0 where
+  pub taken_up : TakesUp old text new
+  pub saved : new.saved ≡ text
+  pub working : new.failed ≡ false
+
+-- a save in which the store fails: it holds the text from before, or this one
+pub record IsLost (old : StoreFacts) (text : List ℕ) (new : StoreFacts) : Type 0 where
+  pub taken_up : TakesUp old text new
+  pub saved : (new.saved ≡ old.saved) ⊎ (new.saved ≡ text)
+  pub failed : new.failed ≡ true
+
+-- one save and its answer. A store that has failed answers Err, and stays as it is.
+abbrev pub Saves : StoreFacts → List ℕ → Result (Unit {0}) StoreFault → StoreFacts → Type 0
+Saves old text (Ok done) new = IsSaved old text new
+Saves old text (Err fault) new = ((old.failed ≡ true) × (new ≡ old)) ⊎ IsLost old text new

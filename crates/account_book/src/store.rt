@@ -1,0 +1,25 @@
+//! Where the text of a book is kept.
+ghost use Rattle.std.specs.Prelude.{string_bytes};
+ghost use Rattle.account_book.specs.Store.{StoreFacts, Saves};
+
+use thiserror::Error;
+
+/// A save failed, or the store had failed before.
+#[derive(Clone, Copy, Debug, PartialEq, Eq, Error)]
+#[error("the store of the book has failed")]
+pub struct StoreFault;
+
+/// A store of one text, that of a book.
+///
+/// Contracts know four facts of it: `saved`, the text that it holds; `asked`, the text that the last save
+/// was given; `failed`, whether it has failed; `saves`, how many saves it has taken up. A stop in the middle
+/// of a save leaves the text from before it or the new one, never another.
+pub trait BookStore {
+    ghost facts: { Self → StoreFacts };
+
+    /// Puts `text` in the place of the text that the store holds. After Ok it holds `text`. After Err it has
+    /// failed, and holds `text` or the text from before; then every later call is Err and changes nothing.
+    /// A store fails only where its device does so in that call, or where `saves` comes to 2^64 - 1.
+    fn save(&mut self, text: String) -> Result<(), StoreFault>
+        ensures { Saves (facts self.old) (string_bytes text) result (facts self.new) };
+}

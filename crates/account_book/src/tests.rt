@@ -1,0 +1,2 @@
+//! What each part does, by values from outside.
+mod store;
