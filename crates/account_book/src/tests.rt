@@ -1,2 +1,53 @@
-//! What each part does, by values from outside.
+//! What each call does, by values from outside: the published examples of RFC 5802, RFC 7677 and RFC 4226,
+//! and decoys' salts by Python's hmac.
+use crate::{Book, EnrolFault};
+use scram_text::{Password, PlainName, Salt};
+use std::process::Abort;
+use std::test::Fail;
+
+mod accounts;
+mod entries;
 mod store;
+mod tokens;
+
+// The bytes 0 to 31.
+const DECOY_KEY: [u8; 32] = [
+    0, 1, 2, 3, 4, 5, 6, 7, 8, 9, 10, 11, 12, 13, 14, 15, 16, 17, 18, 19, 20, 21, 22, 23, 24, 25,
+    26, 27, 28, 29, 30, 31,
+];
+
+// The salts of the examples of RFC 5802, section 5, and RFC 7677, section 3.
+const SALT_1: [u8; 12] = [
+    0x41, 0x25, 0xc2, 0x47, 0xe4, 0x3a, 0xb1, 0xe9, 0x3c, 0x6d, 0xff, 0x76,
+];
+
+const SALT_256: [u8; 16] = [
+    0x5b, 0x6d, 0x99, 0x68, 0x9d, 0x12, 0x35, 0x8e, 0xec, 0xa0, 0x4b, 0x14, 0x12, 0x36, 0xfa, 0x81,
+];
+
+fn name(rt: &impl Abort, bytes: &[u8]) -> PlainName {
+    PlainName::new(bytes).expect(rt, "a name")
+}
+
+// Enrols this name with the password and the salts of the examples.
+fn enrol(rt: &(impl Abort + AllocGlobal), book: &mut Book, bytes: &[u8]) -> Result<(), EnrolFault> {
+    let password = Password::new(b"pencil").expect(rt, "a password");
+    let salt1 = Salt::new(&SALT_1).expect(rt, "a salt");
+    let salt256 = Salt::new(&SALT_256).expect(rt, "a salt");
+    book.enrol(
+        rt.alloc(),
+        &name(rt, bytes),
+        &password,
+        &salt1,
+        &salt256,
+        4096,
+    )
+}
+
+// A book with the accounts `user` and `user2`.
+fn two_accounts(rt: &(impl Abort + AllocGlobal)) -> Result<Book, EnrolFault> {
+    let mut book = Book::new(rt.alloc(), DECOY_KEY, 5000);
+    enrol(rt, &mut book, b"user")?;
+    enrol(rt, &mut book, b"user2")?;
+    Ok(book)
+}

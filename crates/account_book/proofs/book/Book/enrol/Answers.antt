@@ -1,0 +1,17 @@
+use Rattle.std.proofs.Common.{◌≤◌, length, lit≤, sym, subst}
+use Rattle.book_format.specs.Account.{AreKeys}
+use Rattle.account_book.proofs.Kept.{all_inserted, for_some}
+use Rattle.account_book.proofs.book.Book.enrol.Goals as goal
+
+pub invariant_of-self-inside : goal.invariant_of-self-inside
+invariant_of-self-inside c =
+    record {
+      some_count = c.self-inside.invariant.some_count;
+      accounts = all_inserted c.insert.result _ _ _ _ _ c.insert.ensures.entries c.insert.ensures.err
+          c.self-inside.invariant.accounts
+          (record {
+            sha1 = for_some (AreKeys 20) _ c.made_keys.ensures.range;
+            sha256 = for_some (AreKeys 32) _ c.made_keys-2.ensures.range;
+            names = subst (λ names. length names ≤ 16) (sym c.new.ensures.items) (lit≤ tt);
+          });
+    }

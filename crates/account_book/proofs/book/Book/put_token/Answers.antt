@@ -1,0 +1,15 @@
+use Rattle.std.proofs.Common.{sym, subst, IfSome}
+use Rattle.book_format.specs.Account.{IsAccount}
+use Rattle.book_format.specs.Book.{AreAccounts}
+use Rattle.account_book.proofs.Kept.{token_put, all_set, found}
+use Rattle.account_book.proofs.book.Book.put_token.Goals as goal
+
+pub invariant_of-self-inside : goal.invariant_of-self-inside
+invariant_of-self-inside c =
+    let account = subst IsAccount (sym c.account.view_is)
+    (subst (λ o. IfSome o IsAccount) (sym c.in-Some.ensures.value) (found _ _ c.self-inside.invariant.accounts)) in
+    record {
+      some_count = c.self-inside.invariant.some_count;
+      accounts = subst AreAccounts (sym (c.get_mut.follows.holds _).0)
+          (all_set _ _ _ c.self-inside.invariant.accounts (token_put _ _ account));
+    }

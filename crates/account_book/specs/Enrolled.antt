@@ -1,0 +1,23 @@
+-- The account that a password is enrolled as.
+use Rattle.std.specs.Prelude.{ℕ, List, []}
+use Rattle.std.specs.declared.option.Option.TheVariants.{None, Some}
+use Rattle.mac_core.specs.declared.chosen.Mechanism.{Mechanism}
+use Rattle.mac_core.specs.declared.chosen.Mechanism.TheVariants.{ScramSha1, ScramSha256}
+use Rattle.scram_ends.specs.Entry.{password_keys}
+use Rattle.book_format.specs.Account.{AccountFields}
+use Rattle.book_format.specs.declared.account.MechKeys.{MechKeys}
+
+-- the keys of a password for a mechanism, with the salt and the count that they are made with
+abbrev pub keys_from : Mechanism → List ℕ → List ℕ → ℕ → MechKeys
+keys_from m password salt count =
+    let keys = password_keys m password salt count in
+    record { salt = salt; count = count; keys = record { stored = record { items = keys.stored }; server = record { items = keys.server } } }
+
+-- an account with the keys of a password for both mechanisms, which acts as no other name and has no token
+abbrev pub enrolled : List ℕ → List ℕ → List ℕ → ℕ → AccountFields
+enrolled password salt1 salt256 count = record {
+  sha1 = Some (keys_from ScramSha1 password salt1 count);
+  sha256 = Some (keys_from ScramSha256 password salt256 count);
+  act_as = [];
+  token = None;
+}

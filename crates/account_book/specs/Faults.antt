@@ -1,0 +1,9 @@
+-- The numbers of refusals to enrol.
+use Rattle.std.specs.Prelude.{ℕ}
+use Rattle.account_book.specs.declared.book.enrol.EnrolFault.{EnrolFault}
+use Rattle.account_book.specs.declared.book.enrol.EnrolFault.TheVariants.{NameTaken, NoMemory}
+
+-- the number of a refusal to enrol
+abbrev pub enrol_number : EnrolFault → ℕ
+enrol_number NameTaken = 50
+enrol_number NoMemory = 99

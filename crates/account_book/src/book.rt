@@ -1,0 +1,81 @@
+//! An account book: accounts by their names, and what decoys are made of.
+ghost use Rattle.std.specs.Prelude.{◌≡◌, ◌≤◌, [], length, is_some, option_copied, IfSome};
+ghost use Rattle.std.specs.FinMap as map;
+ghost use Rattle.book_format.specs.Account.{IsAccount};
+ghost use Rattle.account_book.specs.Accounts.{account_at, accounts_of, map_changed, with_act_as, with_changed, without_account};
+
+mod enrol;
+mod entry;
+mod tokens;
+
+use book_format::{Account, Contents};
+pub use enrol::EnrolFault;
+use scram_text::PlainName;
+use std::alloc::Global;
+use std::collections::BTreeMap;
+use std::marker::Model;
+
+/// An account book. Contracts see its accounts as a list of names, each with its account, in byte order of
+/// the names, and as a map from names to accounts.
+#[derive(Drop)]
+pub struct Book {
+    contents: Contents,
+}
+
+impl Model for Book {
+    ghost use Rattle.book_format.specs.Book.{BookFields};
+
+    ghost Value = { BookFields };
+
+    ghost view = { λ b. b.contents };
+}
+
+impl Book {
+    /// A book without accounts. The salts of its decoys are made of `decoy_key`, which nobody else may know,
+    /// and their iteration count is `decoy_count`, at least 1.
+    pub fn new(alloc: Global, decoy_key: [u8; 32], decoy_count: u32) -> Book
+        requires { 1 ≤ decoy_count }
+        ensures { result ≡ record { decoy_key = decoy_key; decoy_count = decoy_count; accounts = [] } }
+    {
+        let accounts = BTreeMap::new(alloc);
+        Book {
+            contents: Contents {
+                decoy_key,
+                decoy_count,
+                accounts,
+            },
+        }
+    }
+
+    /// The account of this name, or None where there is none.
+    pub fn account(&self, name: &PlainName) -> Option<&Account>
+        ensures value { option_copied result ≡ account_at self.now name.now }
+        ensures range { IfSome result (λ account. IsAccount account.now) }
+    {
+        self.contents.accounts.get(name)
+    }
+
+    /// Takes the account of this name out. It answers whether there was one; else nothing changes.
+    pub fn remove(&mut self, name: &PlainName) -> bool
+        ensures found { result ≡ is_some (account_at self.old name.now) }
+        ensures removed { self.new ≡ without_account self.old name.now }
+    {
+        self.contents.accounts.remove(name).is_some()
+    }
+
+    /// Lets the account of this name act as these names, at most 16, and no others but its own. It answers
+    /// whether there is such an account; else nothing changes.
+    pub fn set_act_as(&mut self, name: &PlainName, act_as: Vec<PlainName>) -> bool
+        requires { length act_as.items ≤ 16 }
+        ensures found { result ≡ is_some (account_at self.old name.now) }
+        ensures set { self.new ≡ with_changed self.old name.now (with_act_as act_as.items) }
+    {
+        match self.contents.accounts.get_mut(name) {
+            Some(account) => {
+                account.act_as = act_as;
+                true
+            }
+            None => false,
+        }
+    }
+}

@@ -1,0 +1,84 @@
+//! A new account, of a password.
+ghost use Rattle.std.specs.Prelude.{◌≡◌, ◌≤◌, None, IfErr, OnOk, OnErr, MatchOption};
+ghost use Rattle.mac_core.specs.Chosen.{length_by};
+ghost use Rattle.book_format.specs.Account.{AreKeys};
+ghost use Rattle.account_book.specs.Accounts.{account_at, with_account};
+ghost use Rattle.account_book.specs.Enrolled.{enrolled, keys_from};
+ghost use Rattle.account_book.specs.Faults.{enrol_number};
+
+use crate::book::Book;
+use book_format::{Account, MechKeys};
+use mac_core::Mechanism;
+use scram_text::{Password, PlainName, Salt};
+use std::alloc::Global;
+use thiserror::Error;
+
+/// Why an account is not enrolled.
+#[derive(Clone, Copy, Debug, PartialEq, Eq, Error)]
+pub enum EnrolFault {
+    /// There is an account of this name.
+    #[error("there is an account of this name")]
+    NameTaken = 50,
+
+    /// There is no memory for the account.
+    #[error("no memory for the account")]
+    NoMemory = 99,
+}
+
+impl EnrolFault {
+    /// The fault's number: 50 or 99.
+    pub fn number(&self) -> u16
+        ensures { result ≡ enrol_number self.now }
+    {
+        *self as u16
+    }
+}
+
+impl Book {
+    /// Adds an account of this name, with the keys of `password` for both mechanisms: those of SCRAM-SHA-1
+    /// under `salt1`, those of SCRAM-SHA-256 under `salt256`, and both under `count`, at least 1. It acts as
+    /// no other name and has no token. Refused are a name that has an account (50 NameTaken), and else only
+    /// want of memory (99 NoMemory); then nothing changes.
+    pub fn enrol(
+        &mut self,
+        alloc: Global,
+        name: &PlainName,
+        password: &Password,
+        salt1: &Salt,
+        salt256: &Salt,
+        count: u32,
+    ) -> Result<(), EnrolFault>
+        requires { 1 ≤ count }
+        ensures added { OnOk result (self.new ≡ with_account self.old name.now (enrolled password.now salt1.now salt256.now count)) }
+        ensures free { OnOk result (account_at self.old name.now ≡ None) }
+        ensures refused { IfErr result (λ fault. MatchOption (account_at self.old name.now)
+            (fault ≡ EnrolFault.NoMemory) (λ account. fault ≡ EnrolFault.NameTaken)) }
+        ensures err { OnErr result (self.new ≡ self.old) }
+    {
+        if self.contents.accounts.contains_key(name) {
+            return Err(EnrolFault::NameTaken);
+        }
+        let account = Account {
+            sha1: Some(made_keys(Mechanism::ScramSha1, password, salt1, count)),
+            sha256: Some(made_keys(Mechanism::ScramSha256, password, salt256, count)),
+            act_as: Vec::new(alloc),
+            token: None,
+        };
+        match self.contents.accounts.insert(name.copy(), account) {
+            Ok(_) => Ok(()),
+            Err(_) => Err(EnrolFault::NoMemory),
+        }
+    }
+}
+
+fn made_keys(mechanism: Mechanism, password: &Password, salt: &Salt, count: u32) -> MechKeys
+    requires { 1 ≤ count }
+    ensures value { result ≡ keys_from mechanism password.now salt.now count }
+    ensures range { AreKeys (length_by mechanism) result }
+{
+    MechKeys {
+        salt: salt.copy(),
+        count,
+        keys: mechanism.scram_keys(password.bytes(), salt.bytes(), count),
+    }
+}

@@ -1,0 +1,66 @@
+//! The tokens of accounts, and attempts to pass them.
+ghost use Rattle.std.specs.Prelude.{◌≡◌, None, Some, is_some, MatchOption};
+ghost use Rattle.otp_core.specs.Settings.{unlocked};
+ghost use Rattle.otp_core.specs.declared.token.answer.Reply.{Reply as TheReply};
+ghost use Rattle.account_book.specs.Accounts.{account_at, with_changed};
+ghost use Rattle.account_book.specs.Tokens.{IsAttempt, token_at, with_token};
+
+use crate::book::Book;
+use otp_core::{Moment, Reply, Token};
+use scram_text::PlainName;
+
+impl Book {
+    /// A second token like that of the account of this name, or None where there is no account of the name
+    /// or it has no token.
+    pub fn token(&self, name: &PlainName) -> Option<Token>
+        ensures { result ≡ token_at self.now name.now }
+    {
+        let account = self.account(name)?;
+        let token = account.token.as_ref()?;
+        Some(token.copy())
+    }
+
+    /// Gives the account of this name this token, in the place of any that it had. It answers whether there
+    /// is such an account; else nothing changes.
+    pub fn put_token(&mut self, name: &PlainName, token: Token) -> bool
+        ensures found { result ≡ is_some (account_at self.old name.now) }
+        ensures put { self.new ≡ with_changed self.old name.now (with_token token) }
+    {
+        match self.contents.accounts.get_mut(name) {
+            Some(account) => {
+                account.token = Some(token);
+                true
+            }
+            None => false,
+        }
+    }
+
+    /// Judges `text` as a code at `moment` by the token of the account of this name, as `Token::attempt`
+    /// does, and keeps the token as it is then. None where there is no account of the name or it has no
+    /// token; then nothing changes.
+    pub fn attempt(&mut self, name: &PlainName, moment: Moment, text: &[u8]) -> Option<Reply>
+        ensures { MatchOption (token_at self.old name.now)
+            ((result ≡ None) × (self.new ≡ self.old))
+            (λ token. (reply : TheReply) × (result ≡ Some reply)
+            × IsAttempt self.old name.now token moment text.now reply self.new) }
+    {
+        let mut token = self.token(name)?;
+        let reply = token.attempt(moment, text);
+        self.put_token(name, token);
+        Some(reply)
+    }
+
+    /// Sets the failures of the token of the account of this name to 0. It answers whether there is an
+    /// account of the name that has a token; else nothing changes.
+    pub fn unlock(&mut self, name: &PlainName) -> bool
+        ensures found { result ≡ is_some (token_at self.old name.now) }
+        ensures unlocked { MatchOption (token_at self.old name.now) (self.new ≡ self.old)
+            (λ token. self.new ≡ with_changed self.old name.now (with_token (unlocked token))) }
+    {
+        let Some(mut token) = self.token(name) else {
+            return false;
+        };
+        token.unlock();
+        self.put_token(name, token)
+    }
+}

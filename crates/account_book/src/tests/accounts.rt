@@ -1,0 +1,122 @@
+//! Accounts that come, change and go.
+use crate::tests::{DECOY_KEY, enrol, name, two_accounts};
+use crate::{Account, Book, EnrolFault, MechKeys};
+use scram_text::PlainName;
+use std::process::Abort;
+use std::test::Fail;
+
+fn is_same(rt: &impl AllocGlobal, bytes: &[u8], text: &str) -> Result<bool, Fail> {
+    Ok(hex::encode(rt.alloc(), bytes)?.as_str() == text)
+}
+
+fn has_keys(
+    rt: &impl AllocGlobal,
+    keys: Option<&MechKeys>,
+    salt: &str,
+    stored: &str,
+    server: &str,
+) -> Result<bool, Fail> {
+    let Some(keys) = keys else {
+        return Ok(false);
+    };
+    Ok(
+        keys.count == 4096
+            && is_same(rt, keys.salt.bytes(), salt)?
+            && is_same(rt, keys.keys.stored.as_slice(), stored)?
+            && is_same(rt, keys.keys.server.as_slice(), server)?,
+    )
+}
+
+// The keys of RFC 5802, section 5, and those of RFC 7677, section 3, by Python's hashlib, of which its
+// messages are made.
+fn is_published(rt: &impl AllocGlobal, account: Option<&Account>) -> Result<bool, Fail> {
+    let Some(account) = account else {
+        return Ok(false);
+    };
+    Ok(
+        account.act_as.is_empty()
+            && account.token.is_none()
+            && has_keys(
+                rt,
+                account.sha1.as_ref(),
+                "4125c247e43ab1e93c6dff76",
+                "e9d94660c39d65c38fbad91c358f14da0eef2bd6",
+                "0fe09258b3ac852ba502cc62ba903eaacdbf7d31",
+            )?
+            && has_keys(
+                rt,
+                account.sha256.as_ref(),
+                "5b6d99689d12358eeca04b141236fa81",
+                "586e5df283e6dceb5c3e791d8b8528ec191e664045ce971792e2e6b5bb13e2a6",
+                "c1f3cbc1c13a9d35a14c0990eed97629ea225863e566a4314ab99f3f00e5d9d5",
+            )?,
+    )
+}
+
+#[test]
+fn a_password_is_enrolled(rt: HostRuntime) -> Result<(), Fail> {
+    let mut book = Book::new(rt.alloc(), DECOY_KEY, 5000);
+    assert!(rt; book.account(&name(&rt, b"user")).is_none());
+    enrol(&rt, &mut book, b"user")?;
+    assert!(rt; is_published(&rt, book.account(&name(&rt, b"user")))?);
+    assert!(rt; book.account(&name(&rt, b"User")).is_none());
+    Ok(())
+}
+
+// A name that is taken keeps its account.
+#[test]
+fn a_name_is_taken(rt: HostRuntime) -> Result<(), Fail> {
+    let mut book = two_accounts(&rt)?;
+    book.set_act_as(
+        &name(&rt, b"user"),
+        vec![in rt.alloc(); name(&rt, b"root")]?,
+    );
+    let refused = enrol(&rt, &mut book, b"user");
+    assert_eq!(rt; refused, Err(EnrolFault::NameTaken));
+    assert_eq!(rt; acts_as(&book, &name(&rt, b"user")), Some(1));
+    Ok(())
+}
+
+fn acts_as(book: &Book, name: &PlainName) -> Option<usize> {
+    let account = book.account(name)?;
+    Some(account.act_as.len())
+}
+
+#[test]
+fn names_to_act_as(rt: HostRuntime) -> Result<(), Fail> {
+    let mut book = two_accounts(&rt)?;
+    let names = vec![in rt.alloc(); name(&rt, b"root"), name(&rt, b"user")]?;
+    assert!(rt; book.set_act_as(&name(&rt, b"user"), names));
+    assert_eq!(rt; acts_as(&book, &name(&rt, b"user")), Some(2));
+    assert_eq!(rt; acts_as(&book, &name(&rt, b"user2")), Some(0));
+    assert!(rt; !book.set_act_as(&name(&rt, b"nobody"), Vec::new(rt.alloc())));
+    assert!(rt; book.account(&name(&rt, b"nobody")).is_none());
+    Ok(())
+}
+
+#[test]
+fn an_account_is_removed(rt: HostRuntime) -> Result<(), Fail> {
+    let mut book = two_accounts(&rt)?;
+    assert!(rt; !book.remove(&name(&rt, b"nobody")));
+    assert!(rt; book.remove(&name(&rt, b"user")));
+    assert!(rt; book.account(&name(&rt, b"user")).is_none());
+    assert!(rt; is_published(&rt, book.account(&name(&rt, b"user2")))?);
+    assert!(rt; !book.remove(&name(&rt, b"user")));
+    Ok(())
+}
+
+#[test]
+fn refusals_to_enrol(rt: HostRuntime) -> Result<(), Fail> {
+    for (fault, number, text) in [
+        (
+            EnrolFault::NameTaken,
+            50,
+            "there is an account of this name",
+        ),
+        (EnrolFault::NoMemory, 99, "no memory for the account"),
+    ] {
+        assert_eq!(rt; fault.number(), number);
+        assert_eq!(rt; format!(in rt.alloc(); "{fault}")?.as_str(), text);
+    }
+    Ok(())
+}

@@ -1,0 +1,70 @@
+//! What a server sees of a name.
+use crate::tests::{name, two_accounts};
+use crate::{Book, KeysView, Mechanism};
+use std::process::Abort;
+use std::test::Fail;
+
+fn salt_of(rt: &impl AllocGlobal, view: &KeysView<'_>) -> Result<String, Fail> {
+    Ok(hex::encode(rt.alloc(), view.salt.bytes())?)
+}
+
+#[test]
+fn accounts_are_seen_by_mechanism(rt: HostRuntime) -> Result<(), Fail> {
+    let mut book = two_accounts(&rt)?;
+    book.set_act_as(
+        &name(&rt, b"user"),
+        vec![in rt.alloc(); name(&rt, b"root")]?,
+    );
+    for (mechanism, salt, len) in [
+        (Mechanism::ScramSha1, "4125c247e43ab1e93c6dff76", 20),
+        (
+            Mechanism::ScramSha256,
+            "5b6d99689d12358eeca04b141236fa81",
+            32,
+        ),
+    ] {
+        let view = book.view(&name(&rt, b"user"), mechanism);
+        assert_eq!(rt; salt_of(&rt, &view)?.as_str(), salt);
+        assert_eq!(rt; view.count, 4096);
+        assert_eq!(rt; view.act_as.len(), 1);
+        let keys = view.keys.expect(&rt, "keys");
+        assert_eq!(rt; keys.stored.len(), len);
+        assert_eq!(rt; keys.server.len(), len);
+    }
+    Ok(())
+}
+
+// Python's hmac: hmac.new(bytes(range(32)), mechanism + b"\0" + name, "sha256").digest()[:16].
+#[test]
+fn decoys(rt: HostRuntime) -> Result<(), Fail> {
+    let book = Book::new(rt.alloc(), crate::tests::DECOY_KEY, 5000);
+    for (mechanism, bytes, salt) in [
+        (
+            Mechanism::ScramSha1,
+            b"user".as_slice(),
+            "b494377b7299eeed4700f991507f4002",
+        ),
+        (
+            Mechanism::ScramSha1,
+            b"nobody",
+            "da98d14872b3ad3786e47adea5434d55",
+        ),
+        (
+            Mechanism::ScramSha256,
+            b"user",
+            "57d3c49acfeaccb6d42770aa9acc76de",
+        ),
+        (
+            Mechanism::ScramSha256,
+            b"nobody",
+            "46938b819ad2c580d082734cef4dd92d",
+        ),
+    ] {
+        let view = book.view(&name(&rt, bytes), mechanism);
+        assert_eq!(rt; salt_of(&rt, &view)?.as_str(), salt);
+        assert_eq!(rt; view.count, 5000);
+        assert!(rt; view.keys.is_none());
+        assert!(rt; view.act_as.is_empty());
+    }
+    Ok(())
+}

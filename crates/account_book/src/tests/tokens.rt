@@ -1,0 +1,103 @@
+//! Codes of RFC 4226, appendix D, by the tokens of accounts.
+use crate::tests::{name, two_accounts};
+use crate::{Book, Reply, Token};
+use otp_core::{Digits, Fields, HotpFields, Moment, OtpFault, Secret};
+use scram_text::PlainName;
+use std::process::Abort;
+use std::test::Fail;
+
+// A token of the RFC's secret that locks at three failures and looks three counters ahead.
+fn token() -> Result<Token, OtpFault> {
+    Token::hotp(HotpFields {
+        secret: Secret::new(b"12345678901234567890")?,
+        digits: Digits::new(6)?,
+        next: 0,
+        look_ahead: 3,
+        limit: 3,
+        failures: 0,
+    })
+}
+
+fn moment(rt: &impl Abort) -> Moment {
+    Moment::new(5).expect(rt, "a moment")
+}
+
+// A book whose accounts have such a token each.
+fn two_tokens(rt: &(impl Abort + AllocGlobal)) -> Result<Book, Fail> {
+    let mut book = two_accounts(rt)?;
+    assert!(rt; book.put_token(&name(rt, b"user"), token()?));
+    assert!(rt; book.put_token(&name(rt, b"user2"), token()?));
+    Ok(book)
+}
+
+// The next counter of the account's HOTP token, and its failures.
+fn state(book: &Book, name: &PlainName) -> Option<(u64, u64)> {
+    let token = book.token(name)?;
+    match token.fields() {
+        Fields::Hotp(fields) => Some((fields.next, fields.failures)),
+        Fields::Totp(_) => None,
+    }
+}
+
+#[test]
+fn attempts_are_kept(rt: HostRuntime) -> Result<(), Fail> {
+    let mut book = two_tokens(&rt)?;
+    let user = name(&rt, b"user");
+    for (text, reply, after) in [
+        (b"755224", Reply::Pass(0), (1, 0)),
+        (b"755224", Reply::Fail, (1, 1)),
+        (b"338314", Reply::Pass(4), (5, 0)),
+        (b"287922", Reply::Pass(6), (7, 0)),
+    ] {
+        assert_eq!(rt; book.attempt(&user, moment(&rt), text), Some(reply));
+        assert_eq!(rt; state(&book, &user), Some(after));
+    }
+    assert_eq!(rt; state(&book, &name(&rt, b"user2")), Some((0, 0)));
+    Ok(())
+}
+
+#[test]
+fn a_locked_account_is_unlocked(rt: HostRuntime) -> Result<(), Fail> {
+    let mut book = two_tokens(&rt)?;
+    let user = name(&rt, b"user");
+    for failures in [1, 2, 3] {
+        assert_eq!(rt;
+            book.attempt(&user, moment(&rt), b"000000"),
+            Some(Reply::Fail)
+        );
+        assert_eq!(rt; state(&book, &user), Some((0, failures)));
+    }
+    assert_eq!(rt;
+        book.attempt(&user, moment(&rt), b"755224"),
+        Some(Reply::Locked)
+    );
+    let other = name(&rt, b"user2");
+    assert_eq!(rt;
+        book.attempt(&other, moment(&rt), b"755224"),
+        Some(Reply::Pass(0))
+    );
+    assert!(rt; book.unlock(&user));
+    assert_eq!(rt; state(&book, &user), Some((0, 0)));
+    assert_eq!(rt; state(&book, &other), Some((1, 0)));
+    assert_eq!(rt;
+        book.attempt(&user, moment(&rt), b"755224"),
+        Some(Reply::Pass(0))
+    );
+    Ok(())
+}
+
+#[test]
+fn no_account_and_no_token(rt: HostRuntime) -> Result<(), Fail> {
+    let mut book = two_accounts(&rt)?;
+    let user = name(&rt, b"user");
+    let nobody = name(&rt, b"nobody");
+    assert!(rt; book.token(&user).is_none());
+    assert_eq!(rt; book.attempt(&user, moment(&rt), b"755224"), None);
+    assert!(rt; !book.unlock(&user));
+    assert!(rt; book.token(&nobody).is_none());
+    assert_eq!(rt; book.attempt(&nobody, moment(&rt), b"755224"), None);
+    assert!(rt; !book.unlock(&nobody));
+    assert!(rt; !book.put_token(&nobody, token()?));
+    assert!(rt; book.account(&nobody).is_none());
+    Ok(())
+}
