@@ -1,17 +1,16 @@
 -- The tokens of a book's accounts.
-use Rattle.std.specs.Prelude.{ℕ, ◌≡◌, List, ◌∷◌, option_map, option_and_then, Option}
+use Rattle.std.specs.Prelude.{ℕ, List, ◌∷◌, option_and_then, Option}
 use Rattle.std.specs.declared.option.Option.TheVariants.{Some}
 use Rattle.otp_core.specs.Attempt.{Attempt, attempt_of}
 use Rattle.otp_core.specs.Attempt.Said.{OneText}
 use Rattle.otp_core.specs.History.{IsAfter}
 use Rattle.otp_core.specs.Reply.{IsDue}
-use Rattle.otp_core.specs.Settings.{unlocked}
 use Rattle.otp_core.specs.State.{advanced}
 use Rattle.otp_core.specs.declared.token.answer.Reply.{Reply}
 use Rattle.otp_core.specs.declared.token.kinds.Fields.{Fields}
 use Rattle.book_format.specs.Account.{AccountFields}
 use Rattle.book_format.specs.Book.{BookFields}
-use Rattle.account_book.specs.Accounts.{account_at, with_changed}
+use Rattle.account_book.specs.Accounts.{account_at, IsChanged}
 
 -- the token of the account of this name
 abbrev pub token_at : BookFields → List ℕ → Option Fields
@@ -21,10 +20,6 @@ token_at book name = option_and_then (λ account. account.token) (account_at boo
 abbrev pub with_token : Fields → AccountFields → AccountFields
 with_token token account = record account { token = Some token }
 
--- an account whose token, where it has one, has no failures
-abbrev pub with_unlocked : AccountFields → AccountFields
-with_unlocked account = record account { token = option_map unlocked account.token }
-
 -- what an attempt does that is made on the token of the account of this name: for every start and history
 -- that lead to the token, the reply is the one due after them, and they lead, with this attempt added, to the
 -- token that the account has then
@@ -33,4 +28,4 @@ pub record IsAttempt (old : BookFields) (name : List ℕ) (token : Fields) (mome
   pub due : (start : Fields) (history : List Attempt) → IsAfter start history token → IsDue start history moment (OneText text) reply
   pub after : (start : Fields) (history : List Attempt) → IsAfter start history token
       → IsAfter start (attempt_of moment (OneText text) reply ∷ history) (advanced token moment reply)
-  pub kept : new ≡ with_changed old name (with_token (advanced token moment reply))
+  pub kept : IsChanged old name (with_token (advanced token moment reply)) new

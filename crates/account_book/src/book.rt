@@ -2,7 +2,7 @@
 ghost use Rattle.std.specs.Prelude.{◌≡◌, ◌≤◌, [], length, is_some, option_copied, IfSome};
 ghost use Rattle.std.specs.FinMap as map;
 ghost use Rattle.book_format.specs.Account.{IsAccount};
-ghost use Rattle.account_book.specs.Accounts.{account_at, accounts_of, map_changed, with_act_as, with_changed, without_account};
+ghost use Rattle.account_book.specs.Accounts.{account_at, accounts_of, with_act_as, IsChanged, IsRemoved};
 
 mod enrol;
 mod entry;
@@ -48,8 +48,10 @@ impl Book {
     }
 
     /// The account of this name, or None where there is none.
+    #[tactic(auto, using(crate::proofs::MapLemmas::map_found))]
     pub fn account(&self, name: &PlainName) -> Option<&Account>
         ensures value { option_copied result ≡ account_at self.now name.now }
+        ensures mapped { option_copied result ≡ map.get (accounts_of self.now) name.now }
         ensures range { IfSome result (λ account. IsAccount account.now) }
     {
         self.contents.accounts.get(name)
@@ -58,7 +60,7 @@ impl Book {
     /// Takes the account of this name out. It answers whether there was one; else nothing changes.
     pub fn remove(&mut self, name: &PlainName) -> bool
         ensures found { result ≡ is_some (account_at self.old name.now) }
-        ensures removed { self.new ≡ without_account self.old name.now }
+        ensures removed { IsRemoved self.old name.now self.new }
     {
         self.contents.accounts.remove(name).is_some()
     }
@@ -68,7 +70,7 @@ impl Book {
     pub fn set_act_as(&mut self, name: &PlainName, act_as: Vec<PlainName>) -> bool
         requires { length act_as.items ≤ 16 }
         ensures found { result ≡ is_some (account_at self.old name.now) }
-        ensures set { self.new ≡ with_changed self.old name.now (with_act_as act_as.items) }
+        ensures set { IsChanged self.old name.now (with_act_as act_as.items) self.new }
     {
         match self.contents.accounts.get_mut(name) {
             Some(account) => {

@@ -2,7 +2,7 @@
 ghost use Rattle.std.specs.Prelude.{◌≡◌, ◌≤◌, None, IfErr, OnOk, OnErr, MatchOption};
 ghost use Rattle.mac_core.specs.Chosen.{length_by};
 ghost use Rattle.book_format.specs.Account.{AreKeys};
-ghost use Rattle.account_book.specs.Accounts.{account_at, with_account};
+ghost use Rattle.account_book.specs.Accounts.{account_at, IsAdded};
 ghost use Rattle.account_book.specs.Enrolled.{enrolled, keys_from};
 ghost use Rattle.account_book.specs.Faults.{enrol_number};
 
@@ -49,7 +49,7 @@ impl Book {
         count: u32,
     ) -> Result<(), EnrolFault>
         requires { 1 ≤ count }
-        ensures added { OnOk result (self.new ≡ with_account self.old name.now (enrolled password.now salt1.now salt256.now count)) }
+        ensures added { OnOk result (IsAdded self.old name.now (enrolled password.now salt1.now salt256.now count) self.new) }
         ensures free { OnOk result (account_at self.old name.now ≡ None) }
         ensures refused { IfErr result (λ fault. MatchOption (account_at self.old name.now)
             (fault ≡ EnrolFault.NoMemory) (λ account. fault ≡ EnrolFault.NameTaken)) }

@@ -2,7 +2,7 @@
 ghost use Rattle.std.specs.Prelude.{◌≡◌, None, Some, is_some, MatchOption};
 ghost use Rattle.otp_core.specs.Settings.{unlocked};
 ghost use Rattle.otp_core.specs.declared.token.answer.Reply.{Reply as TheReply};
-ghost use Rattle.account_book.specs.Accounts.{account_at, with_changed};
+ghost use Rattle.account_book.specs.Accounts.{account_at, IsChanged};
 ghost use Rattle.account_book.specs.Tokens.{IsAttempt, token_at, with_token};
 
 use crate::book::Book;
@@ -24,7 +24,7 @@ impl Book {
     /// is such an account; else nothing changes.
     pub fn put_token(&mut self, name: &PlainName, token: Token) -> bool
         ensures found { result ≡ is_some (account_at self.old name.now) }
-        ensures put { self.new ≡ with_changed self.old name.now (with_token token) }
+        ensures put { IsChanged self.old name.now (with_token token) self.new }
     {
         match self.contents.accounts.get_mut(name) {
             Some(account) => {
@@ -55,7 +55,7 @@ impl Book {
     pub fn unlock(&mut self, name: &PlainName) -> bool
         ensures found { result ≡ is_some (token_at self.old name.now) }
         ensures unlocked { MatchOption (token_at self.old name.now) (self.new ≡ self.old)
-            (λ token. self.new ≡ with_changed self.old name.now (with_token (unlocked token))) }
+            (λ token. IsChanged self.old name.now (with_token (unlocked token)) self.new) }
     {
         let Some(mut token) = self.token(name) else {
             return false;

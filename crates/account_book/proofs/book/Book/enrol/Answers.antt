@@ -1,6 +1,7 @@
-use Rattle.std.proofs.Common.{◌≤◌, length, lit≤, sym, subst}
+use Rattle.std.proofs.Common.{rules, ◌≤◌, length, lit≤, sym, subst}
 use Rattle.book_format.specs.Account.{AreKeys}
-use Rattle.account_book.proofs.Kept.{all_inserted, for_some}
+use Rattle.account_book.proofs.RangeLemmas.{all_inserted, for_some}
+use Rattle.account_book.proofs.MapLemmas.{is_added}
 use Rattle.account_book.proofs.book.Book.enrol.Goals as goal
 
 pub invariant_of-self-inside : goal.invariant_of-self-inside
@@ -15,3 +16,6 @@ invariant_of-self-inside c =
             names = subst (λ names. length names ≤ 16) (sym c.new.ensures.items) (lit≤ tt);
           });
     }
+
+pub returns-in-Ok-clause-added : goal.returns-in-Ok-clause-added
+returns-in-Ok-clause-added c = is_added _ _ _ _ (search rules)

@@ -1,7 +1,8 @@
-use Rattle.std.proofs.Common.{sym, subst, IfSome}
+use Rattle.std.proofs.Common.{rules, sym, subst, IfSome}
 use Rattle.book_format.specs.Account.{IsAccount}
 use Rattle.book_format.specs.Book.{AreAccounts}
-use Rattle.account_book.proofs.Kept.{token_put, all_set, found}
+use Rattle.account_book.proofs.RangeLemmas.{token_put, all_set, found}
+use Rattle.account_book.proofs.MapLemmas.{is_changed}
 use Rattle.account_book.proofs.book.Book.put_token.Goals as goal
 
 pub invariant_of-self-inside : goal.invariant_of-self-inside
@@ -13,3 +14,9 @@ invariant_of-self-inside c =
       accounts = subst AreAccounts (sym (c.get_mut.follows.holds _).0)
           (all_set _ _ _ c.self-inside.invariant.accounts (token_put _ _ account));
     }
+
+pub returns-in-Some-clause-put : goal.returns-in-Some-clause-put
+returns-in-Some-clause-put c = is_changed _ _ _ _ (search rules)
+
+pub returns-in-None-clause-put : goal.returns-in-None-clause-put
+returns-in-None-clause-put c = is_changed _ _ _ _ (search rules)

@@ -1,6 +1,7 @@
-use Rattle.std.proofs.Common.{sym, subst}
+use Rattle.std.proofs.Common.{ap, ◌∙◌, sym, subst}
 use Rattle.book_format.specs.Book.{AreAccounts}
-use Rattle.account_book.proofs.Kept.{all_removed}
+use Rattle.account_book.proofs.RangeLemmas.{all_removed}
+use Rattle.account_book.proofs.MapLemmas.{is_removed}
 use Rattle.account_book.proofs.book.Book.remove.Goals as goal
 
 pub invariant_of-self-inside : goal.invariant_of-self-inside
@@ -9,3 +10,8 @@ invariant_of-self-inside c =
       some_count = c.self-inside.invariant.some_count;
       accounts = subst AreAccounts (sym c.remove.ensures.entries) (all_removed _ _ c.self-inside.invariant.accounts);
     }
+
+pub returns-clause-removed : goal.returns-clause-removed
+returns-clause-removed c =
+    is_removed _ _ _ _ (ap (λ book. book.contents) c.self-inside.view_is ∙ c.self.view_is)
+    c.remove.ensures.entries c.remove.ensures.updates.0

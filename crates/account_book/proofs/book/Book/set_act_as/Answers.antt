@@ -1,7 +1,8 @@
-use Rattle.std.proofs.Common.{sym, subst, IfSome}
+use Rattle.std.proofs.Common.{rules, sym, subst, IfSome}
 use Rattle.book_format.specs.Account.{IsAccount}
 use Rattle.book_format.specs.Book.{AreAccounts}
-use Rattle.account_book.proofs.Kept.{act_as_set, all_set, found}
+use Rattle.account_book.proofs.RangeLemmas.{act_as_set, all_set, found}
+use Rattle.account_book.proofs.MapLemmas.{is_changed}
 use Rattle.account_book.proofs.book.Book.set_act_as.Goals as goal
 
 pub invariant_of-self-inside : goal.invariant_of-self-inside
@@ -13,3 +14,9 @@ invariant_of-self-inside c =
       accounts = subst AreAccounts (sym (c.get_mut.follows.holds _).0)
           (all_set _ _ _ c.self-inside.invariant.accounts (act_as_set _ _ c.requires account));
     }
+
+pub returns-in-Some-clause-set : goal.returns-in-Some-clause-set
+returns-in-Some-clause-set c = is_changed _ _ _ _ (search rules)
+
+pub returns-in-None-clause-set : goal.returns-in-None-clause-set
+returns-in-None-clause-set c = is_changed _ _ _ _ (search rules)
