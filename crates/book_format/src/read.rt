@@ -1,5 +1,5 @@
 //! A book's text, read from the document down.
-ghost use Rattle.std.specs.Prelude.{◌≡◌, ◌⊎◌, IfOk, IfErr, option_map, Ok, Some, None, codes, length, option_and_then};
+ghost use Rattle.std.specs.Prelude.{◌≡◌, ◌⊎◌, IfOk, IfErr, IsErrAnd, option_map, Ok, Some, None, codes, length, option_and_then};
 ghost use Rattle.toml.specs.Data.{get_member, as_integer};
 ghost use Rattle.toml.specs.View.{table_view};
 ghost use Rattle.book_format.specs.Book.{BookFields};
@@ -33,7 +33,7 @@ impl Contents {
     /// keys come first, and then its keys in the order of the format. `NoMemory` may come at any place.
     pub fn read(alloc: Global, bytes: &[u8]) -> Result<Contents, BookFault>
         ensures found { IfOk result (λ c. IsBookText bytes.now c) }
-        ensures only { (c : BookFields) → IsBookText bytes.now c → (result ≡ Ok c) ⊎ IfErr result (λ f. f.why ≡ NoMemory) }
+        ensures only { (c : BookFields) → IsBookText bytes.now c → (result ≡ Ok c) ⊎ IsErrAnd result (λ f. f.why ≡ NoMemory) }
         ensures first_fault { IfErr result (λ f. (f.why ≡ NoMemory) ⊎ IsFirstFault bytes.now f) }
     {
         contents_of(alloc, bytes)

@@ -1,5 +1,5 @@
 use Rattle.std.proofs.Common.{◌≡◌, ◌⊎◌, List, ℕ, Result, Ok, Err, inl, inr, sym, ◌∙◌}
-use Rattle.std.specs.Result.{IfOk, IfErr}
+use Rattle.std.specs.Result.{IfOk, IsErrAnd}
 use Rattle.book_format.specs.Book.{BookFields}
 use Rattle.book_format.specs.Reading.{book_in, GivesFault}
 use Rattle.book_format.specs.Trees.{IsBookText}
@@ -13,7 +13,7 @@ found bytes (Ok book) h = text_found bytes book h
 found bytes (Err fault) h = tt
 
 only : (bytes : List ℕ) (r : Result BookFields BookFault) → GivesFault (λ b. b) r (book_in bytes) → (book : BookFields) → IsBookText bytes book
-    → (r ≡ Ok book) ⊎ IfErr r (λ f. f.why ≡ NoMemory)
+    → (r ≡ Ok book) ⊎ IsErrAnd r (λ f. f.why ≡ NoMemory)
 only bytes (Ok other) h book text = inl (sym h ∙ text_held bytes book text)
 only bytes (Err fault) (inl memory) book text = inr memory
 only bytes (Err fault) (inr read) book text =
