@@ -5,10 +5,14 @@
 #![tactic(auto)]
 
 mod asked;
+mod book_file;
 mod code;
 mod fault;
+mod file_store;
 mod input;
 mod keys;
+mod lock;
+mod place;
 mod run;
 #[cfg(test)]
 mod tests;

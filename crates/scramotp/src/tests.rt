@@ -1,4 +1,7 @@
 //! Tests of `run`: what the words, the input and the streams come to.
+mod faulty;
+mod store;
+
 use crate::run;
 use mac_core::{HSha256, mac};
 use std::io;

@@ -1,0 +1,69 @@
+//! The store of a book in a file.
+ghost use Rattle.std.specs.Prelude.{◌≡◌, ◌<◌, ◌+◌, ◌^◌, [], string_bytes, Some, None, false};
+ghost use Rattle.account_book.specs.Store.{StoreFacts};
+ghost use Rattle.std.specs.Option.{is_some, option_map, unwrap_or};
+
+use crate::book_file::BookFile;
+use crate::lock::Lockable;
+use account_book::{BookStore, StoreFault};
+use std::fs::Files;
+use std::time::Clock;
+
+/// A book's file as a store.
+#[derive(Drop)]
+pub struct FileStore<'a, R: Files> {
+    file: BookFile<'a, R>,
+
+    // The text that the file had, or was given last.
+    saved: String,
+
+    // The text of the save that failed.
+    failing: Option<String>,
+
+    saves: u64,
+
+    ghost room: { failing ≡ None → saves + 1 < 2 ^ 64 },
+}
+
+impl<'a, R: Files> FileStore<'a, R> {
+    /// The store over a book's file, which has this text.
+    pub fn new(file: BookFile<'a, R>, text: String) -> FileStore<'a, R>
+        ensures saved { result.saved ≡ text }
+        ensures working { result.failing ≡ None }
+        ensures saves { result.saves ≡ 0 }
+    {
+        FileStore {
+            file,
+            saved: text,
+            failing: None,
+            saves: 0,
+        }
+    }
+}
+
+impl<'a, R> BookStore for FileStore<'a, R>
+where
+    R: Files + Clock + AllocGlobal,
+    R::File: Lockable,
+{
+    ghost facts = { λ s. record {
+      saved = string_bytes s.saved;
+      asked = unwrap_or (option_map string_bytes s.failing) (string_bytes s.saved);
+      failed = is_some s.failing;
+      saves = s.saves;
+    } };
+
+    fn save(&mut self, text: String) -> Result<(), StoreFault> {
+        if self.failing.is_some() {
+            return Err(StoreFault);
+        }
+        self.saves += 1;
+        if self.saves < u64::MAX && self.file.replace(text.as_str()).is_ok() {
+            self.saved = text;
+            Ok(())
+        } else {
+            self.failing = Some(text);
+            Err(StoreFault)
+        }
+    }
+}
