@@ -18,6 +18,7 @@ test: kit
 	$(MAKE) build
 	python3 tests/vectors.py $(PROGRAM)
 	sh tests/process.sh $(PROGRAM)
+	python3 tests/books.py $(PROGRAM)
 
 build: kit $(PROGRAM)
 

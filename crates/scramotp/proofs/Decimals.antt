@@ -1,5 +1,5 @@
 -- Texts that `parse` reads and that begin bare are those that a number is printed as.
-use Rattle.std.proofs.Common.{◌≡◌, ◌≢◌, ◌<◌, ◌^◌, ℕ, zero, suc, List, Result, Ok, Err, IfSome, IfNone, arith, get_or, length, sym, refl}
+use Rattle.std.proofs.Common.{◌≡◌, ◌≢◌, ◌<◌, ◌^◌, ℕ, zero, suc, List, Result, Ok, Err, IfSome, IfNone, arith, sym, refl}
 use Rattle.std.specs.Fmt.{decimal}
 use Rattle.std.specs.Result.{result_ok}
 use Rattle.std.specs.Str.Parse.{AllDigits, ParsesUnsigned, digits_value}

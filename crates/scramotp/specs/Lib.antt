@@ -3,3 +3,4 @@ pub mod Fault
 pub mod Keys
 pub mod Number
 pub mod Options
+pub mod Verify

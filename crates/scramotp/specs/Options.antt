@@ -3,10 +3,13 @@ use Rattle.std.specs.Prelude.{ℕ, List, codes}
 use Rattle.otp_core.specs.declared.hash.OtpHash.{OtpHash}
 use Rattle.otp_core.specs.declared.hash.OtpHash.TheVariants.{Sha1, Sha256, Sha512}
 use Rattle.scramotp.specs.declared.value.Judged.{Judged}
-use Rattle.scramotp.specs.declared.value.Judged.TheVariants.{Mechanism, Salt, Count, Secret, Digits, Counter, Moment, Hash, T0, Step}
+use Rattle.scramotp.specs.declared.value.Judged.TheVariants.{Book, Name, Random, Mechanism, Salt, Count, Secret, Digits, Counter, Moment, Hash, T0, Step}
 
 -- an option's name, as on the command line without its hyphens and in the fault about its value
 abbrev pub option_name : Judged → List ℕ
+option_name Book = codes "book"
+option_name Name = codes "name"
+option_name Random = codes "random"
 option_name Mechanism = codes "mechanism"
 option_name Salt = codes "salt"
 option_name Count = codes "count"

@@ -5,7 +5,7 @@ use crate::lock::{HeldFolder, Lockable};
 use crate::place::Place;
 use std::fs::{Files, OpenFile, OpenOptions, Permissions};
 use std::io::{ErrorKind, Read, Write};
-use std::os::unix::fs::{OpenOptionsExt, PermissionsExt};
+use std::os::unix::fs::{MetadataExt, OpenOptionsExt, PermissionsExt, lchown};
 use std::time::Clock;
 use std::{fs, io};
 
@@ -57,7 +57,8 @@ where
     }
 
     /// Puts a file with this text in the place of the book, whole or not at all: a run that is stopped
-    /// leaves the old text or the new one. The mode stays, and a new book's is 0600.
+    /// leaves the old text or the new one. Owner, group and mode stay, or it is an error; a new book's mode
+    /// is 0600.
     pub fn replace(&self, text: &str) -> io::Result<()> {
         let replaced = self.write_next(text).and_then(|()| self.put_in_place());
         if replaced.is_err() {
@@ -73,24 +74,25 @@ where
             Err(error) if error.kind() == ErrorKind::NotFound => {}
             removed => removed?,
         }
-        let mode = self.mode()?;
         let mut file = OpenOptions::new()
             .write(true)
             .create_new(true)
             .mode(OWNER_ONLY)
             .open(self.rt, next)?;
-        file.set_permissions(Permissions::from_mode(mode))?;
+        self.keep_access(&file)?;
         file.write_all(text.as_bytes())?;
         file.sync_all()
     }
 
-    // Who may read and write the book's next file.
-    fn mode(&self) -> io::Result<u32> {
-        match fs::metadata(self.rt, self.place.book.as_str()) {
-            Ok(old) => Ok(old.permissions().mode() & ACCESS),
-            Err(error) if error.kind() == ErrorKind::NotFound => Ok(OWNER_ONLY),
-            Err(error) => Err(error),
-        }
+    // Gives the next file the owner, the group and the mode of the book, where there is one.
+    fn keep_access(&self, file: &R::File) -> io::Result<()> {
+        let old = match fs::metadata(self.rt, self.place.book.as_str()) {
+            Err(error) if error.kind() == ErrorKind::NotFound => return Ok(()),
+            old => old?,
+        };
+        let next = self.place.next.as_str();
+        lchown(self.rt, next, Some(old.uid()), Some(old.gid()))?;
+        file.set_permissions(Permissions::from_mode(old.mode() & ACCESS))
     }
 
     // Gives the next file the book's name.

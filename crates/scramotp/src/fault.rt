@@ -3,7 +3,10 @@ ghost use Rattle.std.specs.Prelude.{◌≡◌};
 ghost use Rattle.scramotp.specs.Fault.{status_of};
 
 use crate::value::Judged;
-use std::alloc::AllocError;
+use account_book::{BookFault, BookWhy};
+use std::alloc::{AllocError, Global};
+use std::io;
+use std::io::ErrorKind;
 use thiserror::Error;
 
 /// What ends a command other than by its answer.
@@ -25,6 +28,30 @@ pub enum Fault {
     #[error("before the first step")]
     BeforeFirstStep,
 
+    /// The book has an account of the name already.
+    #[error("name is taken")]
+    NameTaken,
+
+    /// The book has no account of the name.
+    #[error("no such account")]
+    NoSuchAccount,
+
+    /// The account has no token.
+    #[error("no token")]
+    NoToken,
+
+    /// The file is no account book; the number says why.
+    #[error("bad book: {0}")]
+    BadBook(u16),
+
+    /// The file of this name can't be read, has more bytes than a command reads, or another run holds it.
+    #[error("cannot read {0}")]
+    CannotRead(String),
+
+    /// The file of this name can't be written.
+    #[error("cannot write {0}")]
+    CannotWrite(String),
+
     /// Standard input failed, or has more bytes than a command reads.
     #[error("cannot read input")]
     CannotReadInput,
@@ -39,13 +66,41 @@ pub enum Fault {
 }
 
 impl Fault {
-    /// The exit status: 1 for what is refused, 2 for what the user can spell otherwise, 3 for streams and memory.
+    /// That the file at `path` can't be read, or NoMemory where that is why.
+    pub fn of_reading(alloc: Global, path: &str, error: &io::Error) -> Fault
+        ensures { status_of result ≡ 3 }
+    {
+        if error.kind() == ErrorKind::OutOfMemory {
+            return Fault::NoMemory;
+        }
+        match format!(in alloc; "{path}") {
+            Ok(path) => Fault::CannotRead(path),
+            Err(_) => Fault::NoMemory,
+        }
+    }
+
+    /// That the file at `path` can't be written.
+    pub fn of_writing(alloc: Global, path: &str) -> Fault
+        ensures { status_of result ≡ 3 }
+    {
+        match format!(in alloc; "{path}") {
+            Ok(path) => Fault::CannotWrite(path),
+            Err(_) => Fault::NoMemory,
+        }
+    }
+
+    /// The exit status: 1 for what is refused, 2 for what the user can spell otherwise, 3 for files, streams and memory.
     pub fn status(&self) -> u8
         ensures { result ≡ status_of self.now }
     {
         match self {
-            Fault::BeforeFirstStep => 1,
+            Fault::BeforeFirstStep
+            | Fault::NameTaken
+            | Fault::NoSuchAccount
+            | Fault::NoToken
+            | Fault::BadBook(_) => 1,
             Fault::BadValue(_) | Fault::BadPassword | Fault::NoCounterOrMoment => 2,
+            Fault::CannotRead(_) | Fault::CannotWrite(_) => 3,
             Fault::CannotReadInput | Fault::CannotWriteOutput | Fault::NoMemory => 3,
         }
     }
@@ -59,5 +114,14 @@ impl From<AllocError> for Fault {
 
     fn from(_error: AllocError) -> Fault {
         Fault::NoMemory
+    }
+}
+
+impl From<BookFault> for Fault {
+    fn from(fault: BookFault) -> Fault {
+        match fault.why {
+            BookWhy::NoMemory => Fault::NoMemory,
+            _ => Fault::BadBook(fault.number()),
+        }
     }
 }

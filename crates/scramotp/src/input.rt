@@ -1,6 +1,7 @@
 //! Standard input, as lines.
-ghost use Rattle.std.specs.Prelude.{◌≡◌, ◌≤◌, ◌⊎◌, vec_len, IfErr, IfOk, IfSome};
-ghost use Rattle.std.specs.Io.BufRead.{first_piece, strip_last};
+ghost use Rattle.std.specs.Prelude.{◌≡◌, ◌≤◌, ◌⊎◌, [], vec_len, IfErr, IfOk, IfSome, MatchOption};
+ghost use Rattle.std.specs.Io.BufRead.{first_piece, strip_last, take_through};
+ghost use Rattle.scramotp.specs.declared.input.TheConstants.{MOST_INPUT};
 
 use crate::fault::Fault;
 use std::alloc::Global;
@@ -19,6 +20,23 @@ fn without_lf(mut line: Vec<u8>) -> Vec<u8>
     line
 }
 
+// The bytes of `input` through its first LF, all where it has none. CannotReadInput where a read fails,
+// and where they are more than `most`.
+fn read_line<I: BufRead>(alloc: Global, input: &mut I, most: usize) -> Result<Vec<u8>, Fault>
+    requires { most ≤ MOST_INPUT }
+    ensures line { IfOk result (λ line. IfSome (I.remaining input.old) (λ bytes. line.items ≡ take_through 10 bytes)) }
+    ensures most { IfOk result (λ line. vec_len line ≤ most) }
+    ensures err { IfErr result (λ fault. (fault ≡ Fault.CannotReadInput) ⊎ (fault ≡ Fault.NoMemory)) }
+{
+    let mut limited = input.take(most as u64 + 1);
+    let mut line = Vec::new(alloc);
+    match limited.read_until(b'\n', &mut line) {
+        Ok(_) if line.len() <= most => Ok(line),
+        Err(error) if error.kind() == ErrorKind::OutOfMemory => Err(Fault::NoMemory),
+        _ => Err(Fault::CannotReadInput),
+    }
+}
+
 /// The first line of `input` without its LF, all of it where it has none. Nothing behind the line is
 /// looked at. CannotReadInput where a read fails, and where more than 16777216 bytes come before an
 /// LF or with it; NoMemory where memory runs out.
@@ -27,11 +45,40 @@ pub fn first_line<I: BufRead>(alloc: Global, input: &mut I) -> Result<Vec<u8>, F
     ensures most { IfOk result (λ line. vec_len line ≤ MOST_INPUT) }
     ensures err { IfErr result (λ fault. (fault ≡ Fault.CannotReadInput) ⊎ (fault ≡ Fault.NoMemory)) }
 {
-    let mut limited = input.take(MOST_INPUT as u64 + 1);
-    let mut line = Vec::new(alloc);
-    match limited.read_until(b'\n', &mut line) {
-        Ok(_) if line.len() <= MOST_INPUT => Ok(without_lf(line)),
-        Err(error) if error.kind() == ErrorKind::OutOfMemory => Err(Fault::NoMemory),
-        _ => Err(Fault::CannotReadInput),
+    Ok(without_lf(read_line(alloc, input, MOST_INPUT)?))
+}
+
+/// The lines of an input, of which a command reads 16777216 bytes at most.
+#[derive(Drop)]
+pub struct Lines<'a, I> {
+    input: &'a mut I,
+    left: usize,
+
+    ghost most: { left ≤ MOST_INPUT },
+}
+
+impl<'a, I: BufRead> Lines<'a, I> {
+    /// The lines of `input`.
+    pub fn new(input: &'a mut I) -> Lines<'a, I> {
+        Lines {
+            input,
+            left: MOST_INPUT,
+        }
+    }
+
+    /// The next line without its LF, or None at the end of the input; a last line without LF is one where
+    /// it has a byte. CannotReadInput where a read fails, and where the lines so far come to more than
+    /// 16777216 bytes; NoMemory where memory runs out.
+    pub fn next(&mut self, alloc: Global) -> Result<Option<Vec<u8>>, Fault>
+        ensures line { IfOk result (λ found. IfSome (I.remaining self.old.input.now)
+            (λ bytes. MatchOption found (bytes ≡ []) (λ line. line.items ≡ first_piece 10 bytes))) }
+        ensures err { IfErr result (λ fault. (fault ≡ Fault.CannotReadInput) ⊎ (fault ≡ Fault.NoMemory)) }
+    {
+        let line = read_line(alloc, self.input, self.left)?;
+        if line.is_empty() {
+            return Ok(None);
+        }
+        self.left -= line.len();
+        Ok(Some(without_lf(line)))
     }
 }

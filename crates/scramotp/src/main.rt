@@ -7,16 +7,21 @@
 mod asked;
 mod book_file;
 mod code;
+mod enrol;
 mod fault;
 mod file_store;
+mod held_book;
 mod input;
 mod keys;
 mod lock;
 mod place;
+mod random;
 mod run;
 #[cfg(test)]
 mod tests;
+mod unlock;
 mod value;
+mod verify;
 mod words;
 
 use crate::fault::Fault;

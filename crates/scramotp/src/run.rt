@@ -3,21 +3,28 @@ ghost use Rattle.std.specs.Prelude.{◌≡◌, ◌≤◌};
 ghost use Rattle.scramotp.specs.Fault.{status_of};
 
 use crate::fault::Fault;
-use crate::{code, keys, words};
+use crate::lock::Lockable;
+use crate::{code, enrol, keys, unlock, verify, words};
 use clap::ArgMatches;
 use clap::error::ErrorKind;
 use std::convert::AsStr;
+use std::fs::Files;
 use std::io::{BufRead, Write};
+use std::time::Clock;
+
+/// The status of a run whose every step was done, with an answer that refuses.
+const REFUSED: u8 = 1;
 
 /// The status of words that the program does not understand.
 pub const USAGE: u8 = 2;
 
 /// Runs the command that `words` name, the program's own name first, and gives the exit status: 0
-/// done, 1 refused or faulty, 2 usage, 3 input, output or memory. The answer, help and version go to
+/// done, 1 refused or faulty, 2 usage, 3 files, input, output or memory. The answer, help and version go to
 /// `output`, all else to `faults`; both are flushed.
 pub fn run<R, S, I, O, E>(rt: &R, words: &[S], input: &mut I, output: &mut O, faults: &mut E) -> u8
 where
-    R: AllocGlobal,
+    R: Files + Clock + AllocGlobal,
+    R::File: Lockable,
     S: AsStr,
     I: BufRead,
     O: Write,
@@ -30,7 +37,8 @@ where
     };
     match commands.try_get_matches_from(words) {
         Ok(matches) => match dispatch(rt, &matches, input, output) {
-            Ok(()) => 0,
+            Ok(true) => 0,
+            Ok(false) => REFUSED,
             Err(fault) => report(faults, fault),
         },
         Err(error) if error.kind() == ErrorKind::OutOfMemory => report(faults, Fault::NoMemory),
@@ -49,24 +57,31 @@ where
     }
 }
 
-// Runs the one command among the matches, and flushes what it printed.
+// Runs the one command among the matches, and flushes what it printed. The answer is false where a code
+// was refused.
 fn dispatch<R, I, O>(
     rt: &R,
     matches: &ArgMatches<'_>,
     input: &mut I,
     output: &mut O,
-) -> Result<(), Fault>
+) -> Result<bool, Fault>
 where
-    R: AllocGlobal,
+    R: Files + Clock + AllocGlobal,
+    R::File: Lockable,
     I: BufRead,
     O: Write,
 {
+    let mut accepted = true;
     match matches.subcommand() {
         Some(("keys", words)) => keys::keys(rt.alloc(), words, input, output)?,
+        Some(("enrol", words)) => enrol::enrol(rt, words, input, output)?,
         Some(("code", words)) => code::code(rt.alloc(), words, output)?,
+        Some(("verify", words)) => accepted = verify::verify(rt, words, input, output)?,
+        Some(("unlock", words)) => unlock::unlock(rt, words, output)?,
         _ => {}
     }
-    output.flush().map_err(|_| Fault::CannotWriteOutput)
+    output.flush().map_err(|_| Fault::CannotWriteOutput)?;
+    Ok(accepted)
 }
 
 // Prints a fault and gives its status.

@@ -1,13 +1,18 @@
 //! Tests of `run`: what the words, the input and the streams come to.
+mod books;
 mod faulty;
+mod folder;
 mod store;
 
+use crate::lock::Lockable;
 use crate::run;
 use mac_core::{HSha256, mac};
+use std::fs::Files;
 use std::io;
 use std::io::{BufReader, ErrorKind, Read, Write};
 use std::process::Abort;
 use std::test::Fail;
+use std::time::Clock;
 
 const SALT: &str = "4125c247e43ab1e93c6dff76";
 
@@ -80,7 +85,11 @@ fn keys<'a>(mechanism: &'a str, salt: &'a str, count: &'a str) -> [&'a str; 8] {
 }
 
 // Runs the words on the input, and compares status, output and faults.
-fn check(rt: &(impl Abort + AllocGlobal), words: &[&str], input: &[u8], want: (u8, &str, &str)) {
+fn check<R>(rt: &R, words: &[&str], input: &[u8], want: (u8, &str, &str))
+where
+    R: Abort + Files + Clock + AllocGlobal,
+    R::File: Lockable,
+{
     let alloc = rt.alloc();
     let mut output = Vec::new(alloc);
     let mut faults = Vec::new(alloc);
@@ -269,13 +278,19 @@ fn bad_codes(rt: HostRuntime) {
 }
 
 // Runs `code` with a secret and more words.
-fn run_code<'a, R: AllocGlobal, O: Write, E: Write>(
+fn run_code<'a, R, O, E>(
     rt: &R,
     secret: &'a str,
     words: &[&'a str],
     output: &mut O,
     faults: &mut E,
-) -> u8 {
+) -> u8
+where
+    R: Files + Clock + AllocGlobal,
+    R::File: Lockable,
+    O: Write,
+    E: Write,
+{
     let mut all: Vec<&'a str> = Vec::new(rt.alloc());
     let front: [&'a str; 4] = ["scramotp", "code", "--secret", secret];
     if all.extend_from_slice(&front).is_err() || all.extend_from_slice(words).is_err() {
@@ -285,12 +300,11 @@ fn run_code<'a, R: AllocGlobal, O: Write, E: Write>(
 }
 
 // Runs `code`, and compares status, output and faults.
-fn check_code<'a>(
-    rt: &(impl Abort + AllocGlobal),
-    secret: &'a str,
-    words: &[&'a str],
-    want: (u8, &str, &str),
-) {
+fn check_code<'a, R>(rt: &R, secret: &'a str, words: &[&'a str], want: (u8, &str, &str))
+where
+    R: Abort + Files + Clock + AllocGlobal,
+    R::File: Lockable,
+{
     let mut output = Vec::new(rt.alloc());
     let mut faults = Vec::new(rt.alloc());
     let status = run_code(rt, secret, words, &mut output, &mut faults);
@@ -358,8 +372,11 @@ fn help_and_version(rt: HostRuntime) {
             &["scramotp", "--help"],
             &[
                 "Usage: scramotp <COMMAND>",
-                "  keys  Prints ",
-                "  code  Prints ",
+                "  keys    Prints ",
+                "  enrol   Adds ",
+                "  code    Prints ",
+                "  verify  Judges ",
+                "  unlock  Lets ",
                 "Exit status:",
             ],
         ),

@@ -3,7 +3,7 @@ ghost use Rattle.std.specs.Prelude.{◌≡◌, ◌≢◌, ◌≤◌, ◌<◌, �
 ghost use Rattle.std.specs.Fmt.{decimal};
 ghost use Rattle.hex.specs.Hex.{decode_of};
 ghost use Rattle.mac_core.specs.Chosen.{name_of};
-ghost use Rattle.scram_text.specs.Class.{IsSalt};
+ghost use Rattle.scram_text.specs.Class.{IsPlainName, IsSalt};
 ghost use Rattle.otp_core.specs.Secret.{IsSecretLength, IsMoment};
 ghost use Rattle.scramotp.specs.Number.{IsBare};
 ghost use Rattle.scramotp.specs.Options.{option_name, hash_name};
@@ -12,16 +12,25 @@ use crate::fault::Fault;
 use clap::ArgMatches;
 use mac_core::Mechanism;
 use otp_core::{Digits, Moment, OtpHash, Secret};
-use scram_text::Salt;
+use scram_text::{PlainName, Salt};
 use std::alloc::Global;
 use std::fmt;
 
 /// The last second that a moment may be, in the year 9999.
 const LAST_MOMENT: u64 = 253_402_300_799;
 
-/// An option whose value the program judges by itself.
+/// An option whose value the program judges or takes as it is.
 #[derive(Clone, Copy, Debug)]
 pub enum Judged {
+    /// `--book`
+    Book,
+
+    /// `--name`
+    Name,
+
+    /// `--random`
+    Random,
+
     /// `--mechanism`
     Mechanism,
 
@@ -59,6 +68,9 @@ impl Judged {
         ensures { result.now ≡ option_name self.now }
     {
         match self {
+            Judged::Book => "book",
+            Judged::Name => "name",
+            Judged::Random => "random",
             Judged::Mechanism => "mechanism",
             Judged::Salt => "salt",
             Judged::Count => "count",
@@ -174,6 +186,18 @@ pub fn moment(option: Judged, text: &str) -> Result<Moment, Fault>
             Ok(moment)
         }
         Err(fault) => Err(fault),
+    }
+}
+
+/// The account name of this text, 1 to 255 bytes from space to tilde. BadValue for any other text.
+pub fn name(text: &str) -> Result<PlainName, Fault>
+    ensures ok { IfOk result (λ name. name ≡ text.now) }
+    ensures err { IfErr result (λ fault. (fault ≡ Fault.BadValue Judged.Name)
+        × (IsPlainName text.now → ⊥)) }
+{
+    match PlainName::new(text.as_bytes()) {
+        Some(name) => Ok(name),
+        None => Err(Fault::BadValue(Judged::Name)),
     }
 }
 

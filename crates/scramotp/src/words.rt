@@ -3,7 +3,7 @@ use clap::{Arg, ArgAction, Command};
 use std::alloc::{AllocError, Global};
 
 const STATUSES: &str =
-    "Exit status: 0 done, 1 refused or faulty, 2 usage, 3 input, output or memory.";
+    "Exit status: 0 done, 1 refused or faulty, 2 usage, 3 files, input, output or memory.";
 
 const KEYS_EXAMPLE: &str =
     "The password is the first line of standard input, 1 to 1024 bytes from space to tilde.
@@ -19,6 +19,29 @@ Examples:
   scramotp code --secret 3132333435363738393031323334353637383930 --counter 0
   scramotp code --secret 3132333435363738393031323334353637383930 --digits 8 --moment 59";
 
+const ENROL_EXAMPLE: &str =
+    "The password is the first line of standard input, 1 to 1024 bytes from space to tilde. The book is
+made, readable by its owner alone, where the file is not there. The account gets keys for
+SCRAM-SHA-1 and SCRAM-SHA-256.
+
+Example:
+  scramotp enrol --book book.toml --name user < password.txt";
+
+const VERIFY_EXAMPLE: &str =
+    "Each line of standard input is an attempt. Its reply is printed once the book is saved: PASS, the
+moment and the counter that passed, or FAIL or LOCKED and the moment. The book's folder is locked
+until the input ends; other runs wait for it, up to 30 seconds. Exit status 0 means that every
+reply was PASS.
+
+Example:
+  scramotp verify --book book.toml --name user --moment \"$(date +%s)\"";
+
+const UNLOCK_EXAMPLE: &str =
+    "A token is locked once as many codes in a row have failed as its limit says.
+
+Example:
+  scramotp unlock --book book.toml --name user";
+
 // An option that takes one value.
 fn option<'a>(alloc: Global, name: &'a str, value: &'a str, help: &'a str) -> Arg<'a> {
     Arg::new(alloc, name)
@@ -33,6 +56,19 @@ fn required<'a>(alloc: Global, name: &'a str, value: &'a str, help: &'a str) -> 
     option(alloc, name, value, help).required(true)
 }
 
+fn book<'a>(alloc: Global) -> Arg<'a> {
+    required(alloc, "book", "FILE", "The account book")
+}
+
+fn name<'a>(alloc: Global) -> Arg<'a> {
+    required(
+        alloc,
+        "name",
+        "NAME",
+        "The account's name, 1 to 255 bytes from space to tilde",
+    )
+}
+
 fn keys<'a>(alloc: Global) -> Result<Command<'a>, AllocError> {
     Command::new(alloc, "keys")
         .about("Prints the stored key and the server key of a password")
@@ -45,6 +81,18 @@ fn keys<'a>(alloc: Global) -> Result<Command<'a>, AllocError> {
             "The salt, 1 to 64 bytes in hexadecimal",
         ))?
         .arg(required(alloc, "count", "N", "The iteration count, 1 to 4294967295"))
+}
+
+fn enrol<'a>(alloc: Global) -> Result<Command<'a>, AllocError> {
+    let count = option(alloc, "count", "N", "The iteration count, 1 to 4294967295");
+    let random = option(alloc, "random", "FILE", "Where random bytes are read");
+    Command::new(alloc, "enrol")
+        .about("Adds an account with a password to a book")
+        .after_help(ENROL_EXAMPLE)
+        .arg(book(alloc))?
+        .arg(name(alloc))?
+        .arg(count.default_value("4096"))?
+        .arg(random.default_value("/dev/urandom"))
 }
 
 fn code<'a>(alloc: Global) -> Result<Command<'a>, AllocError> {
@@ -89,15 +137,40 @@ fn code<'a>(alloc: Global) -> Result<Command<'a>, AllocError> {
         .arg(step.default_value("30"))
 }
 
+fn verify<'a>(alloc: Global) -> Result<Command<'a>, AllocError> {
+    Command::new(alloc, "verify")
+        .about("Judges one-time codes by an account's token")
+        .after_help(VERIFY_EXAMPLE)
+        .arg(book(alloc))?
+        .arg(name(alloc))?
+        .arg(required(
+            alloc,
+            "moment",
+            "SECONDS",
+            "The moment of the codes, in seconds since 1970",
+        ))
+}
+
+fn unlock<'a>(alloc: Global) -> Result<Command<'a>, AllocError> {
+    Command::new(alloc, "unlock")
+        .about("Lets a locked token take codes again")
+        .after_help(UNLOCK_EXAMPLE)
+        .arg(book(alloc))?
+        .arg(name(alloc))
+}
+
 /// The program's commands and their options.
 pub fn scramotp<'a>(alloc: Global) -> Result<Command<'a>, AllocError> {
     Command::new(alloc, "scramotp")
         .bin_name("scramotp")?
         .version("0.1.0")
-        .about("SCRAM keys and one-time codes")
+        .about("SCRAM keys, one-time codes, and a book of accounts that have them")
         .after_help(STATUSES)
         .subcommand_required(true)
         .disable_help_subcommand(true)
         .subcommand(keys(alloc)?)?
-        .subcommand(code(alloc)?)
+        .subcommand(enrol(alloc)?)?
+        .subcommand(code(alloc)?)?
+        .subcommand(verify(alloc)?)?
+        .subcommand(unlock(alloc)?)
 }

@@ -176,6 +176,11 @@ impl<'a> Files for Faulty<'a> {
         self.turns.turn()?;
         self.rt.canonicalize(alloc, path)
     }
+
+    fn lchown(&self, path: &str, uid: Option<u32>, gid: Option<u32>) -> io::Result<()> {
+        self.turns.turn()?;
+        self.rt.lchown(path, uid, gid)
+    }
 }
 
 impl Clock for Faulty<'_> {

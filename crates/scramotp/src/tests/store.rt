@@ -1,35 +1,23 @@
 //! Tests of a book's file and its store, on files of a folder of their own.
 use super::faulty::{Faulty, Turns};
+use super::folder;
+use super::folder::has;
 use crate::book_file::BookFile;
 use crate::file_store::FileStore;
 use account_book::{BookStore, StoreFault};
+use std::fs;
 use std::fs::{File, OpenFile, Permissions};
 use std::io::ErrorKind;
 use std::os::unix::fs::{PermissionsExt, symlink};
 use std::test::Fail;
-use std::{env, fs, process};
-
-// A new folder for the test of this name.
-fn folder(rt: &HostRuntime, test: &str) -> Result<String, Fail> {
-    let temp = env::temp_dir(rt)?;
-    let id = process::id(rt.process());
-    let folder = format!(in rt.alloc(); "{}/scramotp-{test}-{id}", temp.as_str())?;
-    fs::create_dir(rt, folder.as_str())?;
-    Ok(folder)
-}
 
 fn text(rt: &HostRuntime, text: &str) -> Result<String, Fail> {
     Ok(format!(in rt.alloc(); "{text}")?)
 }
 
-// Whether the file has this text.
-fn has(rt: &HostRuntime, path: &str, text: &str) -> bool {
-    fs::read(rt, path).is_ok_and(|bytes| bytes.as_slice() == text.as_bytes())
-}
-
 #[test]
 fn a_new_book_is_its_owners(rt: HostRuntime) -> Result<(), Fail> {
-    let folder = folder(&rt, "new")?;
+    let folder = folder::make(&rt, "new")?;
     let book = format!(in rt.alloc(); "{folder}/book")?;
     let file = BookFile::hold(&rt, book.as_str())?;
     assert!(rt; file.read()?.is_none());
@@ -52,7 +40,7 @@ fn a_new_book_is_its_owners(rt: HostRuntime) -> Result<(), Fail> {
 // Each name of a book is the same book, and a link in the place of the next text is not followed.
 #[test]
 fn links(rt: HostRuntime) -> Result<(), Fail> {
-    let folder = folder(&rt, "links")?;
+    let folder = folder::make(&rt, "links")?;
     let book = format!(in rt.alloc(); "{folder}/book")?;
     let next = format!(in rt.alloc(); "{folder}/book.new")?;
     let other = format!(in rt.alloc(); "{folder}/other")?;
@@ -74,7 +62,7 @@ fn links(rt: HostRuntime) -> Result<(), Fail> {
 
 #[test]
 fn paths_that_name_no_file(rt: HostRuntime) -> Result<(), Fail> {
-    let folder = folder(&rt, "paths")?;
+    let folder = folder::make(&rt, "paths")?;
     let missing = format!(in rt.alloc(); "{folder}/missing/book")?;
     for path in ["", "/", "..", missing.as_str()] {
         let held = BookFile::hold(&rt, path).and_then(|file| file.read());
@@ -86,7 +74,7 @@ fn paths_that_name_no_file(rt: HostRuntime) -> Result<(), Fail> {
 // While one run holds a book, another waits for it, here with pauses that take no time.
 #[test]
 fn one_run_at_a_time(rt: HostRuntime) -> Result<(), Fail> {
-    let folder = folder(&rt, "lock")?;
+    let folder = folder::make(&rt, "lock")?;
     let book = format!(in rt.alloc(); "{folder}/book")?;
     let turns = Turns::new(0);
     let hasty = Faulty {
@@ -106,7 +94,7 @@ fn one_run_at_a_time(rt: HostRuntime) -> Result<(), Fail> {
 
 #[test]
 fn the_longest_book(rt: HostRuntime) -> Result<(), Fail> {
-    let folder = folder(&rt, "longest")?;
+    let folder = folder::make(&rt, "longest")?;
     let book = format!(in rt.alloc(); "{folder}/book")?;
     let file = File::create(&rt, book.as_str())?;
     file.set_len(16_777_216)?;
@@ -125,7 +113,7 @@ fn the_longest_book(rt: HostRuntime) -> Result<(), Fail> {
 // has failed stays failed.
 #[test]
 fn each_call_fails_in_turn(rt: HostRuntime) -> Result<(), Fail> {
-    let folder = folder(&rt, "turns")?;
+    let folder = folder::make(&rt, "turns")?;
     let book = format!(in rt.alloc(); "{folder}/book")?;
     let mut saved_at_last = false;
     for failing in 1..40u32 {

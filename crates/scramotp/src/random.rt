@@ -1,0 +1,38 @@
+//! The file that random bytes come from.
+use crate::fault::Fault;
+use std::alloc::Global;
+use std::fs;
+use std::fs::Files;
+use std::io::Read;
+
+/// An open file of random bytes.
+#[derive(Drop)]
+pub struct Random<'a, F> {
+    alloc: Global,
+    path: &'a str,
+    file: F,
+}
+
+impl<'a, F: Read + Drop> Random<'a, F> {
+    /// Opens the file at `path`. Faults: CannotRead and NoMemory.
+    pub fn open<R: Files<File = F> + AllocGlobal>(
+        rt: &R,
+        path: &'a str,
+    ) -> Result<Random<'a, F>, Fault> {
+        let alloc = rt.alloc();
+        match fs::open(rt, path) {
+            Ok(file) => Ok(Random { alloc, path, file }),
+            Err(error) => Err(Fault::of_reading(alloc, path, &error)),
+        }
+    }
+
+    /// The file's next bytes. CannotRead where it has fewer, and where a read fails; NoMemory where memory
+    /// runs out.
+    pub fn bytes<const N: usize>(&mut self) -> Result<[u8; N], Fault> {
+        let mut bytes = [0u8; N];
+        match self.file.read_exact(&mut bytes) {
+            Ok(()) => Ok(bytes),
+            Err(error) => Err(Fault::of_reading(self.alloc, self.path, &error)),
+        }
+    }
+}

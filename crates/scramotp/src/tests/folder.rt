@@ -1,0 +1,17 @@
+//! A folder of a test's own.
+use std::test::Fail;
+use std::{env, fs, process};
+
+/// Makes a new folder for the test of this name, and gives its path.
+pub fn make(rt: &HostRuntime, test: &str) -> Result<String, Fail> {
+    let temp = env::temp_dir(rt)?;
+    let id = process::id(rt.process());
+    let folder = format!(in rt.alloc(); "{}/scramotp-{test}-{id}", temp.as_str())?;
+    fs::create_dir(rt, folder.as_str())?;
+    Ok(folder)
+}
+
+/// Whether the file has this text.
+pub fn has(rt: &HostRuntime, path: &str, text: &str) -> bool {
+    fs::read(rt, path).is_ok_and(|bytes| bytes.as_slice() == text.as_bytes())
+}

@@ -1,0 +1,24 @@
+//! The command `unlock`: a token takes attempts again.
+use crate::fault::Fault;
+use crate::lock::Lockable;
+use crate::value::Judged;
+use crate::{held_book, value};
+use clap::ArgMatches;
+use std::fs::Files;
+use std::io::Write;
+use std::time::Clock;
+
+/// Judges the options in their order, holds and reads the book, sets the failures of the account's token
+/// to 0, and saves the book, also where they were 0. Faults: BadValue, CannotRead, BadBook, NoSuchAccount,
+/// NoToken and CannotWrite, in this order, CannotWriteOutput and NoMemory.
+pub fn unlock<R, O>(rt: &R, words: &ArgMatches<'_>, output: &mut O) -> Result<(), Fault>
+where
+    R: Files + Clock + AllocGlobal,
+    R::File: Lockable,
+    O: Write,
+{
+    let name = value::name(value::given(words, Judged::Name))?;
+    let mut held = held_book::open(rt, value::given(words, Judged::Book))?;
+    held.unlock(rt.alloc(), &name)?;
+    writeln!(output, "unlocked {}", name.text()).map_err(|_| Fault::CannotWriteOutput)
+}

@@ -1,0 +1,89 @@
+//! The command `verify`: each input line judged as a one-time code.
+ghost use Rattle.std.specs.Prelude.{◌≡◌, IfOk, string_bytes};
+ghost use Rattle.scramotp.specs.Verify.{printed_reply};
+
+use crate::fault::Fault;
+use crate::held_book::HeldBook;
+use crate::input::Lines;
+use crate::lock::Lockable;
+use crate::value::Judged;
+use crate::{held_book, value};
+use account_book::{BookStore, Reply};
+use clap::ArgMatches;
+use otp_core::Moment;
+use scram_text::PlainName;
+use std::alloc::Global;
+use std::fs::Files;
+use std::io::{BufRead, Write};
+use std::time::Clock;
+
+/// Judges the options in their order, holds and reads the book, and answers each input line, with whether
+/// all were right. Faults: BadValue, CannotRead, BadBook, NoSuchAccount and NoToken, in this order, then of
+/// each line CannotReadInput, CannotWrite and CannotWriteOutput, and NoMemory.
+pub fn verify<R, I, O>(
+    rt: &R,
+    words: &ArgMatches<'_>,
+    input: &mut I,
+    output: &mut O,
+) -> Result<bool, Fault>
+where
+    R: Files + Clock + AllocGlobal,
+    R::File: Lockable,
+    I: BufRead,
+    O: Write,
+{
+    let alloc = rt.alloc();
+    let name = value::name(value::given(words, Judged::Name))?;
+    let moment = value::moment(Judged::Moment, value::given(words, Judged::Moment))?;
+    let mut held = held_book::open(rt, value::given(words, Judged::Book))?;
+    held.check_token(&name)?;
+    answer_lines(alloc, &mut held, &name, moment, input, output)
+}
+
+// Answers each line. What a line changes is saved before its reply is printed.
+fn answer_lines<S: BookStore, I: BufRead, O: Write>(
+    alloc: Global,
+    held: &mut HeldBook<'_, S>,
+    name: &PlainName,
+    moment: Moment,
+    input: &mut I,
+    output: &mut O,
+) -> Result<bool, Fault> {
+    let mut lines = Lines::new(input);
+    let mut all_passed = true;
+    for _ in 0..u64::MAX {
+        let Some(line) = lines.next(alloc)? else {
+            break;
+        };
+        let reply = held.attempt(alloc, name, moment, line.as_slice())?;
+        print_reply(alloc, moment, reply, output)?;
+        all_passed = all_passed && matches!(reply, Reply::Pass(_));
+    }
+    Ok(all_passed)
+}
+
+// Prints a reply at once.
+fn print_reply<O: Write>(
+    alloc: Global,
+    moment: Moment,
+    reply: Reply,
+    output: &mut O,
+) -> Result<(), Fault> {
+    let text = reply_text(alloc, moment, reply)?;
+    output
+        .write_all(text.as_bytes())
+        .and_then(|()| output.flush())
+        .map_err(|_| Fault::CannotWriteOutput)
+}
+
+// The line that is printed for a reply.
+fn reply_text(alloc: Global, moment: Moment, reply: Reply) -> Result<String, Fault>
+    ensures { IfOk result (λ text. string_bytes text ≡ printed_reply reply moment) }
+{
+    let seconds = moment.seconds();
+    Ok(match reply {
+        Reply::Pass(counter) => format!(in alloc; "PASS {seconds} {counter}\n")?,
+        Reply::Fail => format!(in alloc; "FAIL {seconds}\n")?,
+        Reply::Locked => format!(in alloc; "LOCKED {seconds}\n")?,
+    })
+}

@@ -1,0 +1,179 @@
+#!/usr/bin/env python3
+"""What only processes show of the commands on an account book: runs at the same time, runs that are
+killed, links, modes, a folder that can't be written, a lock that another run keeps.
+
+Usage: books.py PROGRAM
+"""
+import fcntl
+import hmac
+import os
+import random
+import re
+import subprocess
+import sys
+import tempfile
+import time
+
+PROGRAM = os.path.abspath(sys.argv[1])
+SECRET = "3132333435363738393031323334353637383930"
+BOOK = f"""format = 1
+decoy_key = "000102030405060708090a0b0c0d0e0f101112131415161718191a1b1c1d1e1f"
+decoy_count = 4096
+
+[accounts.user]
+
+[accounts.user.token]
+kind = "hotp"
+secret = "{SECRET}"
+digits = 6
+next = 0
+look_ahead = 3
+limit = 100
+failures = 0
+"""
+# RFC 4226, appendix D
+FIRST_CODE = "755224"
+
+
+def write(path):
+    with open(path, "w") as file:
+        file.write(BOOK)
+
+
+def field(path, name):
+    """A number of the book's token."""
+    with open(path) as file:
+        return int(re.search(rf"^{name} = (\d+)$", file.read(), re.M).group(1))
+
+
+def verify_words(path):
+    return [PROGRAM, "verify", "--book", path, "--name", "user", "--moment", "5"]
+
+
+def verify(path, text):
+    return subprocess.run(verify_words(path), input=text, capture_output=True, text=True)
+
+
+def start(path, text):
+    run = subprocess.Popen(verify_words(path), stdin=subprocess.PIPE, stdout=subprocess.PIPE, stderr=subprocess.PIPE, text=True)
+    run.stdin.write(text)
+    run.stdin.close()
+    return run
+
+
+def code(counter):
+    """A code as RFC 4226, section 5.3, has it."""
+    tag = hmac.digest(bytes.fromhex(SECRET), counter.to_bytes(8, "big"), "sha1")
+    at = tag[19] & 15
+    return f"{(int.from_bytes(tag[at:at + 4], 'big') & 0x7FFFFFFF) % 10**6:06}"
+
+
+def twenty_at_once(folder):
+    """One code passes once, whichever of the book's two names a run has."""
+    book, link = os.path.join(folder, "book"), os.path.join(folder, "link")
+    os.symlink("book", link)
+    for _ in range(5):
+        write(book)
+        runs = [start([book, link][n % 2], FIRST_CODE) for n in range(20)]
+        printed = [run.stdout.read() for run in runs]
+        statuses = sorted(run.wait() for run in runs)
+        assert sorted(printed) == ["FAIL 5\n"] * 19 + ["PASS 5 0\n"], printed
+        assert statuses == [0] + [1] * 19, statuses
+        assert (field(book, "next"), field(book, "failures")) == (1, 19)
+        assert os.path.islink(link)
+        assert sorted(os.listdir(folder)) == ["book", "link"]
+
+
+def killed_at_any_moment(folder):
+    """The book always reads, what was told as passed is spent, and no counter passes twice."""
+    book = os.path.join(folder, "book")
+    write(book)
+    codes = [code(counter) for counter in range(2500)]
+    passed = []
+    for _ in range(200):
+        at = field(book, "next")
+        run = start(book, "\n".join(codes[max(at - 2, 0) : at + 10]) + "\n")
+        time.sleep(random.uniform(0, 0.06))
+        run.kill()
+        told = [int(counter) for counter in re.findall(r"^PASS 5 (\d+)$", run.stdout.read(), re.M)]
+        run.wait()
+        passed += told
+        assert all(counter < field(book, "next") for counter in told)
+        again = verify(book, "")
+        assert (again.returncode, again.stderr) == (0, ""), again.stderr
+    assert len(passed) == len(set(passed)) > 0, passed
+    write_again = verify(book, codes[field(book, "next")])
+    assert write_again.returncode == 0, write_again
+    assert os.listdir(folder) == ["book"]
+
+
+def modes(folder):
+    """A new book is its owner's alone, whatever the mask; a rewritten one keeps its mode."""
+    book = os.path.join(folder, "book")
+    for mask in [0o000, 0o022, 0o077]:
+        old = os.umask(mask)
+        words = [PROGRAM, "enrol", "--book", book, "--name", "user", "--count", "1"]
+        subprocess.run(words, input="pencil\n", capture_output=True, text=True, check=True)
+        os.umask(old)
+        assert os.stat(book).st_mode & 0o7777 == 0o600
+        os.remove(book)
+    write(book)
+    os.chmod(book, 0o644)
+    verify(book, FIRST_CODE)
+    assert os.stat(book).st_mode & 0o7777 == 0o644
+
+
+def unwritable(folder):
+    """A save that can't be made leaves the old book, and nothing is printed."""
+    book = os.path.join(folder, "book")
+    write(book)
+    os.mkdir(book + ".new")
+    run = verify(book, FIRST_CODE)
+    assert (run.returncode, run.stdout, run.stderr) == (3, "", f"scramotp: cannot write {book}\n"), run
+    with open(book) as file:
+        assert file.read() == BOOK
+    os.rmdir(book + ".new")
+    assert verify(book, FIRST_CODE).stdout == "PASS 5 0\n"
+
+
+def locked_by_another(folder):
+    """A run waits for 30 seconds, and goes on at once where the lock comes free."""
+    book = os.path.join(folder, "book")
+    write(book)
+    lock = os.open(folder, os.O_RDONLY)
+    fcntl.flock(lock, fcntl.LOCK_EX)
+    begun = time.monotonic()
+    run = verify(book, FIRST_CODE)
+    waited = time.monotonic() - begun
+    assert (run.returncode, run.stdout, run.stderr) == (3, "", f"scramotp: cannot read {book}\n"), run
+    assert 29 < waited < 60, waited
+    run = start(book, FIRST_CODE)
+    time.sleep(0.5)
+    assert run.poll() is None
+    os.close(lock)
+    assert run.stdout.read() == "PASS 5 0\n"
+    assert run.wait() == 0
+
+
+def full_output(folder):
+    """A code is spent before anyone is told of it."""
+    book = os.path.join(folder, "book")
+    write(book)
+    with open("/dev/full", "w") as full:
+        run = subprocess.run(verify_words(book), input=FIRST_CODE, stdout=full, stderr=subprocess.PIPE, text=True)
+    assert (run.returncode, run.stderr) == (3, "scramotp: cannot write output\n"), run
+    assert field(book, "next") == 1
+
+
+TESTS = [twenty_at_once, killed_at_any_moment, modes, unwritable, locked_by_another, full_output]
+
+failed = 0
+for test in TESTS:
+    with tempfile.TemporaryDirectory() as scratch:
+        try:
+            test(scratch)
+        except AssertionError as fault:
+            failed += 1
+            print(f"{test.__name__}: line {fault.__traceback__.tb_next.tb_lineno}: {fault}", file=sys.stderr)
+print(f"books.py: {len(TESTS) - failed} passed, {failed} failed", file=sys.stderr)
+sys.exit(failed != 0)
