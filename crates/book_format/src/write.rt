@@ -25,9 +25,9 @@ use toml::ser::Error;
 use toml::{Table, Value};
 
 impl Contents {
-    /// The book's text. It has every key that has a value, in byte order and in one table for each
-    /// account, mechanism and token, and bytes in lower-case hexadecimal. `AllocError` comes only
-    /// where memory is refused.
+    /// The book's text, which `read` reads as these contents. It has each key that has a value, in
+    /// byte order of the keys, with bytes in lower-case hexadecimal; `act_as` stands there also where
+    /// it is empty. `AllocError` comes only where memory is refused.
     pub fn write(&self, alloc: Global) -> Result<String, AllocError>
         ensures stands { IfOk result (λ s. IsBookText (string_bytes s) self.now) }
         ensures text { IfOk result (λ s. IsDocumentText false (book_tree self.now) (string_bytes s)) }
@@ -58,6 +58,7 @@ fn book_table(alloc: Global, book: &Contents) -> Result<Table, AllocError>
     Ok(table)
 }
 
+// Puts the decoy key, whose length its type says.
 fn put_decoy_key(alloc: Global, table: &mut Table, key: &[u8; 32]) -> Result<(), AllocError>
     ensures tree { OnOk result (table_view table.new
         ≡ put_member (codes "decoy_key") (hex_tree key.now) (table_view table.old)) }

@@ -47,7 +47,7 @@ pub(super) fn put_number(
     put(alloc, table, key, Value::Integer(number))
 }
 
-/// Puts an iteration count at a key.
+/// Puts an iteration count at a key. Its type says how great it can be.
 pub(super) fn put_count(
     alloc: Global,
     table: &mut Table,
@@ -60,7 +60,7 @@ pub(super) fn put_count(
     put(alloc, table, key, Value::Integer(i64::from(count)))
 }
 
-/// Puts bytes at a key, in lower-case hexadecimal.
+/// Puts bytes at a key, in lower-case hexadecimal, which gives them back.
 pub(super) fn put_hex(
     alloc: Global,
     table: &mut Table,
