@@ -6,6 +6,7 @@ ghost use Rattle.account_book.specs.Accounts.{account_at, accounts_of, with_act_
 
 mod enrol;
 mod entry;
+mod text;
 mod tokens;
 
 use book_format::{Account, Contents};

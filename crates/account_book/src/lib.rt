@@ -1,13 +1,31 @@
-//! An account book, and where its text is kept.
+//! An account book: accounts by their names, each with SCRAM keys, names to act as and a token, and
+//! where the book's text is kept.
+//!
+//! `Book::read` and `Book::write` know its text, `Book::enrol` adds an account, `Book::view` says what a
+//! SCRAM server keeps of a name, and `Book::attempt` judges a code. A name without keys is seen as a decoy.
+//! Each call's contract says which account changes and how; every other stays as it was.
+//!
+//! ```rust
+//! use account_book::Book;
+//! use scram_text::{Password, PlainName, Salt};
+//!
+//! let mut book = Book::new(alloc, [7; 32], 4096);
+//! let name = PlainName::new(b"user").ok_or("a name")?;
+//! let password = Password::new(b"pencil").ok_or("a password")?;
+//! let salt = Salt::new(b"0123456789abcdef").ok_or("a salt")?;
+//! book.enrol(alloc, &name, &password, &salt, &salt, 4096)?;
+//! let text = book.write(alloc)?;
+//! ```
 #![tactic(auto)]
 
 mod book;
+pub mod laws;
 mod store;
 #[cfg(test)]
 mod tests;
 
 pub use book::{Book, EnrolFault};
-pub use book_format::{Account, MechKeys};
+pub use book_format::{Account, BookFault, BookWhy, MechKeys};
 pub use mac_core::Mechanism;
 pub use otp_core::{Reply, Token};
 pub use scram_ends::KeysView;

@@ -8,6 +8,7 @@ use std::test::Fail;
 mod accounts;
 mod entries;
 mod store;
+mod text;
 mod tokens;
 
 // The bytes 0 to 31.

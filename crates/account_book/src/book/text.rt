@@ -1,0 +1,39 @@
+//! A book's text, a TOML document.
+ghost use Rattle.std.specs.Prelude.{◌≡◌, ◌⊎◌, false, Ok, IfOk, IfErr, IsErrAnd, string_bytes};
+ghost use Rattle.toml.specs.Text.{IsDocumentText};
+ghost use Rattle.book_format.specs.Book.{BookFields};
+ghost use Rattle.book_format.specs.Reading.{IsFirstFault};
+ghost use Rattle.book_format.specs.Trees.{IsBookText};
+ghost use Rattle.book_format.specs.Written.{book_tree};
+ghost use Rattle.book_format.specs.declared.fault.BookWhy.TheVariants.{NoMemory};
+
+use crate::book::Book;
+use book_format::{BookFault, Contents};
+use std::alloc::{AllocError, Global};
+
+impl Book {
+    /// The book that `bytes` are the text of, or the first fault (60 to 67): of the document, of `format`,
+    /// of the document's keys, then of account by account in byte order of names. In each table unknown
+    /// keys come first, and then its keys in the order of the format. 99 NoMemory may come at any place.
+    pub fn read(alloc: Global, bytes: &[u8]) -> Result<Book, BookFault>
+        ensures found { IfOk result (λ book. IsBookText bytes.now book) }
+        ensures only { (book : BookFields) → IsBookText bytes.now book
+            → (result ≡ Ok book) ⊎ IsErrAnd result (λ fault. fault.why ≡ NoMemory) }
+        ensures first_fault { IfErr result (λ fault. (fault.why ≡ NoMemory) ⊎ IsFirstFault bytes.now fault) }
+    {
+        match Contents::read(alloc, bytes) {
+            Ok(contents) => Ok(Book { contents }),
+            Err(fault) => Err(fault),
+        }
+    }
+
+    /// The book's text, which `Book::read` reads as the same book, want of memory aside. It has every key
+    /// that has a value, one table for each account, mechanism and token, and bytes in lower-case
+    /// hexadecimal. `AllocError` comes only where memory is refused.
+    pub fn write(&self, alloc: Global) -> Result<String, AllocError>
+        ensures stands { IfOk result (λ text. IsBookText (string_bytes text) self.now) }
+        ensures text { IfOk result (λ text. IsDocumentText false (book_tree self.now) (string_bytes text)) }
+    {
+        self.contents.write(alloc)
+    }
+}

@@ -1,0 +1,21 @@
+//! What follows from the contracts of a book's calls.
+ghost use Rattle.std.specs.Prelude.{◌≡◌, IfOk};
+
+use crate::book::Book;
+use book_format::BookWhy;
+use std::alloc::{AllocError, Global};
+
+/// Each book reads what it writes as itself, and only memory can be wanting. It answers the book that is
+/// read.
+pub fn written_is_read(alloc: Global, book: &Book) -> Result<Book, AllocError>
+    ensures { IfOk result (λ read. read ≡ book.now) }
+{
+    let text = book.write(alloc)?;
+    match Book::read(alloc, text.as_bytes()) {
+        Ok(read) => Ok(read),
+        Err(fault) => match fault.why {
+            BookWhy::NoMemory => Err(AllocError),
+            _ => unreachable!(),
+        },
+    }
+}
