@@ -165,7 +165,17 @@ def full_output(folder):
     assert field(book, "next") == 1
 
 
-TESTS = [twenty_at_once, killed_at_any_moment, modes, unwritable, locked_by_another, full_output]
+def input_limit(folder):
+    """All lines together may have 16777216 bytes; what was printed before them stands."""
+    book = os.path.join(folder, "book")
+    write(book)
+    run = verify(book, "x\n" + "a" * 16777214)
+    assert (run.returncode, run.stdout, run.stderr) == (1, "FAIL 5\nFAIL 5\n", ""), run.stderr
+    run = verify(book, "x\n" + "a" * 16777215)
+    assert (run.returncode, run.stdout, run.stderr) == (3, "FAIL 5\n", "scramotp: cannot read input\n"), run.stderr
+
+
+TESTS = [twenty_at_once, killed_at_any_moment, modes, unwritable, locked_by_another, full_output, input_limit]
 
 failed = 0
 for test in TESTS:

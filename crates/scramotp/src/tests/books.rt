@@ -103,17 +103,14 @@ impl<'a> Desk<'a> {
     }
 
     // Runs `verify` for `user`, and compares status and output; there are no faults.
-    fn verify<R>(&self, rt: &R, moment: &str, input: &str, want: (u8, &str)) -> Result<(), Fail>
+    fn verify<R>(&self, rt: &R, moment: &str, input: &str, want: (u8, &str))
     where
         R: Abort + Files + Clock + AllocGlobal,
         R::File: Lockable,
     {
-        let mut words = Vec::new(rt.alloc());
-        words.extend_from_slice(&self.words("verify", "user"))?;
-        words.extend_from_slice(&["--moment", moment])?;
+        let words = with_option(self.book.as_str(), "verify", "user", "--moment", moment);
         let (status, output) = want;
-        super::check(rt, words.as_slice(), input.as_bytes(), (status, output, ""));
-        Ok(())
+        super::check(rt, &words, input.as_bytes(), (status, output, ""));
     }
 
     // Whether the book's text has this line.
@@ -127,18 +124,31 @@ impl<'a> Desk<'a> {
     }
 }
 
+// The words of a command on a book and a name, with one option more.
+fn with_option<'a>(
+    book: &'a str,
+    command: &'a str,
+    name: &'a str,
+    option: &'a str,
+    value: &'a str,
+) -> [&'a str; 8] {
+    [
+        "scramotp", command, "--book", book, "--name", name, option, value,
+    ]
+}
+
 #[test]
 fn hotp_codes(rt: HostRuntime) -> Result<(), Fail> {
     let desk = Desk::new(&rt, "hotp", &[USER, HOTP])?;
     let input = "755224\n755224\n338314\n359152\n162583\n755224x\n";
     let output = "PASS 5 0\nFAIL 5\nPASS 5 4\nFAIL 5\nPASS 5 7\nFAIL 5\n";
-    desk.verify(&rt, "5", input, (1, output))?;
+    desk.verify(&rt, "5", input, (1, output));
     assert!(rt; desk.has("next = 8\n")?);
     assert!(rt; desk.has("failures = 1\n")?);
-    desk.verify(&rt, "5", "755224", (1, "FAIL 5\n"))?;
-    desk.verify(&rt, "5", "399871", (0, "PASS 5 8\n"))?;
-    desk.verify(&rt, "5", "", (0, ""))?;
-    desk.verify(&rt, "5", "\n", (1, "FAIL 5\n"))?;
+    desk.verify(&rt, "5", "755224", (1, "FAIL 5\n"));
+    desk.verify(&rt, "5", "399871", (0, "PASS 5 8\n"));
+    desk.verify(&rt, "5", "", (0, ""));
+    desk.verify(&rt, "5", "\n", (1, "FAIL 5\n"));
     desk.remove()
 }
 
@@ -147,10 +157,10 @@ fn totp_codes(rt: HostRuntime) -> Result<(), Fail> {
     let desk = Desk::new(&rt, "totp", &[USER, TOTP])?;
     let input = "14050471\n07081804\n";
     let output = "PASS 1111111109 37037037\nFAIL 1111111109\n";
-    desk.verify(&rt, "1111111109", input, (1, output))?;
+    desk.verify(&rt, "1111111109", input, (1, output));
     desk.put(&[USER, TOTP])?;
-    desk.verify(&rt, "59", "94287082", (0, "PASS 59 1\n"))?;
-    desk.verify(&rt, "59", "94287082", (1, "FAIL 59\n"))?;
+    desk.verify(&rt, "59", "94287082", (0, "PASS 59 1\n"));
+    desk.verify(&rt, "59", "94287082", (1, "FAIL 59\n"));
     desk.remove()
 }
 
@@ -163,15 +173,15 @@ fn locked_tokens(rt: HostRuntime) -> Result<(), Fail> {
         "3",
         "000000\n111111\n755224\n",
         (1, "FAIL 3\nFAIL 3\nLOCKED 3\n"),
-    )?;
+    );
     super::check(&rt, &unlock, b"", (0, "unlocked user\n", ""));
-    desk.verify(&rt, "3", "755224", (0, "PASS 3 0\n"))?;
+    desk.verify(&rt, "3", "755224", (0, "PASS 3 0\n"));
     desk.put(&[USER, HOTP])?;
     let input = "755224\n000000\n000000\n000000\n";
-    desk.verify(&rt, "5", input, (1, "PASS 5 0\nFAIL 5\nFAIL 5\nFAIL 5\n"))?;
-    desk.verify(&rt, "5", "287082", (1, "LOCKED 5\n"))?;
+    desk.verify(&rt, "5", input, (1, "PASS 5 0\nFAIL 5\nFAIL 5\nFAIL 5\n"));
+    desk.verify(&rt, "5", "287082", (1, "LOCKED 5\n"));
     super::check(&rt, &unlock, b"", (0, "unlocked user\n", ""));
-    desk.verify(&rt, "5", "755224", (1, "FAIL 5\n"))?;
+    desk.verify(&rt, "5", "755224", (1, "FAIL 5\n"));
     desk.remove()
 }
 
@@ -185,15 +195,9 @@ fn enrolling(rt: HostRuntime) -> Result<(), Fail> {
         *byte = i as u8;
     }
     fs::write(&rt, random.as_str(), bytes.as_slice())?;
-    let mut words = Vec::new(rt.alloc());
-    words.extend_from_slice(&desk.words("enrol", "user"))?;
-    words.extend_from_slice(&["--random", random.as_str()])?;
-    super::check(
-        &rt,
-        words.as_slice(),
-        b"pencil\n",
-        (0, "enrolled user\n", ""),
-    );
+    let book = desk.book.as_str();
+    let words = with_option(book, "enrol", "user", "--random", random.as_str());
+    super::check(&rt, &words, b"pencil\n", (0, "enrolled user\n", ""));
     for line in [
         "decoy_key = \"000102030405060708090a0b0c0d0e0f101112131415161718191a1b1c1d1e1f\"\n",
         "decoy_count = 4096\n",
@@ -207,16 +211,9 @@ fn enrolling(rt: HostRuntime) -> Result<(), Fail> {
         assert!(rt; desk.has(line)?, "{line}");
     }
     let taken = (1, "", "scramotp: name is taken\n");
-    super::check(&rt, words.as_slice(), b"pencil\n", taken);
-    let mut words = Vec::new(rt.alloc());
-    words.extend_from_slice(&desk.words("verify", "user"))?;
-    words.extend_from_slice(&["--moment", "5"])?;
-    super::check(
-        &rt,
-        words.as_slice(),
-        b"755224\n",
-        (1, "", "scramotp: no token\n"),
-    );
+    super::check(&rt, &words, b"pencil\n", taken);
+    let words = with_option(book, "verify", "user", "--moment", "5");
+    super::check(&rt, &words, b"755224\n", (1, "", "scramotp: no token\n"));
     assert_eq!(rt; fs::read_dir(&rt, desk.folder.as_str())?.count(), 2);
     desk.remove()
 }
@@ -227,26 +224,20 @@ fn short_random_files(rt: HostRuntime) -> Result<(), Fail> {
     let desk = Desk::empty(&rt, "random")?;
     let random = format!(in rt.alloc(); "{}/random", desk.folder)?;
     let fault = format!(in rt.alloc(); "scramotp: cannot read {random}\n")?;
-    let mut words = Vec::new(rt.alloc());
-    words.extend_from_slice(&desk.words("enrol", "other"))?;
-    words.extend_from_slice(&["--count", "1", "--random", random.as_str()])?;
+    let book = desk.book.as_str();
+    let words = with_option(book, "enrol", "other", "--random", random.as_str());
     let want = (3, "", fault.as_str());
-    super::check(&rt, words.as_slice(), b"pencil", want);
+    super::check(&rt, &words, b"pencil", want);
     for (length, book_there) in [(0, false), (63, false), (31, true)] {
         if book_there {
             desk.put(&[USER])?;
         }
         fs::write(&rt, random.as_str(), &[7u8; 64][..length])?;
-        super::check(&rt, words.as_slice(), b"pencil", want);
+        super::check(&rt, &words, b"pencil", want);
         assert_eq!(rt; fs::read(&rt, desk.book.as_str()).is_ok(), book_there);
     }
     fs::write(&rt, random.as_str(), &[7u8; 32][..])?;
-    super::check(
-        &rt,
-        words.as_slice(),
-        b"pencil",
-        (0, "enrolled other\n", ""),
-    );
+    super::check(&rt, &words, b"pencil", (0, "enrolled other\n", ""));
     desk.remove()
 }
 
@@ -289,9 +280,7 @@ fn faulty_books(rt: HostRuntime) -> Result<(), Fail> {
 #[test]
 fn verify_with_each_call_failing(rt: HostRuntime) -> Result<(), Fail> {
     let desk = Desk::empty(&rt, "failing")?;
-    let mut words = Vec::new(rt.alloc());
-    words.extend_from_slice(&desk.words("verify", "user"))?;
-    words.extend_from_slice(&["--moment", "5"])?;
+    let words = with_option(desk.book.as_str(), "verify", "user", "--moment", "5");
     let mut passed_at_last = false;
     for failing in 1..60u32 {
         desk.put(&[USER, HOTP])?;
@@ -303,13 +292,7 @@ fn verify_with_each_call_failing(rt: HostRuntime) -> Result<(), Fail> {
         let mut output = Vec::new(rt.alloc());
         let mut faults = Vec::new(rt.alloc());
         let mut input = b"755224".as_slice();
-        let status = run::run(
-            &faulty,
-            words.as_slice(),
-            &mut input,
-            &mut output,
-            &mut faults,
-        );
+        let status = run::run(&faulty, &words, &mut input, &mut output, &mut faults);
         if output.is_empty() {
             assert_eq!(rt; status, 3, "{failing}");
             assert!(rt;
