@@ -1,0 +1,5 @@
+pub mod PayloadLemmas
+pub mod WordLemmas
+pub mod LineLemmas
+pub mod DecisionLemmas
+pub mod CutLemmas

@@ -1,0 +1,5 @@
+use Rattle.log_grammar.proofs.CutLemmas.{cut_somehow}
+use Rattle.log_grammar.proofs.laws.are_cut.Goals as goal
+
+pub returns : goal.returns
+returns c = cut_somehow

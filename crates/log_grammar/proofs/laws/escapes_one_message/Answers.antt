@@ -1,0 +1,5 @@
+use Rattle.log_grammar.proofs.PayloadLemmas.{escaped_once}
+use Rattle.log_grammar.proofs.laws.escapes_one_message.Goals as goal
+
+pub returns : goal.returns
+returns c = escaped_once

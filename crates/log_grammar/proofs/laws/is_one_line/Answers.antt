@@ -1,0 +1,5 @@
+use Rattle.log_grammar.proofs.LineLemmas.{one_line}
+use Rattle.log_grammar.proofs.laws.is_one_line.Goals as goal
+
+pub returns : goal.returns
+returns c = one_line

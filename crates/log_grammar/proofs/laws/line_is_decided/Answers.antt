@@ -1,0 +1,5 @@
+use Rattle.log_grammar.proofs.DecisionLemmas.{line_decided}
+use Rattle.log_grammar.proofs.laws.line_is_decided.Goals as goal
+
+pub returns : goal.returns
+returns c = line_decided
