@@ -3,3 +3,11 @@ pub mod WordLemmas
 pub mod LineLemmas
 pub mod DecisionLemmas
 pub mod CutLemmas
+pub mod SessionParts
+pub mod Growth
+pub mod Shortening
+pub mod LogSteps
+pub mod Snoc
+pub mod Readings
+pub mod AccountLemmas
+pub mod FrontLemmas

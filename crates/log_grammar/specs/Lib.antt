@@ -2,4 +2,10 @@ pub mod Payload
 pub mod Words
 pub mod Lines
 pub mod Bytes
+pub mod Sessions
+pub mod Demands
+pub mod Places
+pub mod Steps
+pub mod Histories
+pub mod Clean
 pub mod Laws

@@ -1,6 +1,8 @@
-//! Laws of lines, for proofs that stand on this crate: each is what a function ensures that does
+//! Laws of lines and logs, for proofs that stand on this crate: each is what a function ensures that does
 //! nothing.
-ghost use Rattle.log_grammar.specs.Laws.{EscapesOneMessage, IsOneLine, IsOneLogLine, LineIsDecided, LogLineIsDecided, AreCut, AreCutOneWay};
+ghost use Rattle.log_grammar.specs.Laws.{EscapesOneMessage, IsOneLine, IsOneLogLine, LineIsDecided, LogLineIsDecided, AreCut, AreCutOneWay, GoesOnByALine, GoesOnByNoOther, HasOneReading, FrontsBeginWithFronts, CleanLogsAreFronts, EachAccountHasItsHistory};
+
+use scram_text::laws::{has_one_client_first, spells_one_name};
 
 /// A spelling is that of one message: who reads a line knows which bytes were sent.
 pub fn escapes_one_message()
@@ -35,4 +37,39 @@ pub fn are_cut()
 /// Bytes are cut into lines in one way.
 pub fn are_cut_one_way()
     ensures { AreCutOneWay }
+{}
+
+/// Behind a place where a line may stand, with the reply that is due where it is one, a log goes on
+/// with it.
+pub fn goes_on_by_a_line()
+    ensures { GoesOnByALine }
+{}
+
+/// A log goes on in no other way: what ends with a line has a place before it where the line may
+/// stand.
+pub fn goes_on_by_no_other()
+    ensures { GoesOnByNoOther }
+{}
+
+/// The place behind a log's lines, and what was told in them, follow from the lines.
+pub fn has_one_reading()
+    ensures { HasOneReading }
+{
+    has_one_client_first();
+    spells_one_name();
+}
+
+/// The first lines of a front are a front.
+pub fn fronts_begin_with_fronts()
+    ensures { FrontsBeginWithFronts }
+{}
+
+/// A clean log is a front, so that each of its first lines ends a front.
+pub fn clean_logs_are_fronts()
+    ensures { CleanLogsAreFronts }
+{}
+
+/// The replies of a log are due exactly where those of each account are due to it alone.
+pub fn each_account_has_its_history()
+    ensures { EachAccountHasItsHistory }
 {}

@@ -1,0 +1,6 @@
+use Rattle.log_grammar.specs.Demands.{demands}
+use Rattle.log_grammar.proofs.FrontLemmas.{stood_before}
+use Rattle.log_grammar.proofs.laws.goes_on_by_no_other.Goals as goal
+
+pub returns : goal.returns
+returns c = stood_before

@@ -1,0 +1,25 @@
+-- What was told of one account alone.
+use Rattle.std.specs.Prelude.{ℕ, ◌≡◌, List, reverse}
+use Rattle.std.specs.List.{AllByRecursion}
+use Rattle.std.specs.declared.option.Option.{Option}
+use Rattle.std.specs.declared.option.Option.TheVariants.{None, Some}
+use Rattle.otp_core.specs.History.{IsLegal}
+use Rattle.otp_core.specs.declared.token.answer.Reply.{Reply}
+use Rattle.otp_core.specs.declared.token.kinds.Fields.{Fields}
+use Rattle.log_grammar.specs.Sessions.{Told}
+use Rattle.log_grammar.specs.Demands.{attempts_of}
+
+-- where it is told of this account, there was no reply, since it has no token
+abbrev pub HasNoReply : List ℕ → Told → Type 0
+HasNoReply account t = t.account ≡ account → t.reply ≡ None
+
+-- where it is told of this account, there was a reply
+abbrev pub HasReply : List ℕ → Told → Type 0
+HasReply account t = t.account ≡ account → (reply : Reply) × (t.reply ≡ Some reply)
+
+-- of an account without a token each code is told to have no reply; of one with a token each has one, and
+-- its attempts, in their order, are a legal history of the token
+abbrev pub IsHistory : Option Fields → List ℕ → List Told → Type 0
+IsHistory None account told = AllByRecursion (HasNoReply account) told
+IsHistory (Some token) account told =
+    AllByRecursion (HasReply account) told × IsLegal token (attempts_of account (reverse told))
