@@ -11,3 +11,4 @@ pub mod Snoc
 pub mod Readings
 pub mod AccountLemmas
 pub mod FrontLemmas
+pub mod WhyLemmas

@@ -126,7 +126,7 @@ read_once d one (suc n) log p q told other short (inr s) (inr r) =
     let same = last_same a.lines b.lines a.line b.line (sym a.same ∙ b.same) in
     let shorter : length a.lines ≤ n = omega (arith, short, ap length a.same, length-last a.lines a.line) in
     let earlier = read_once d one n a.lines a.at b.at a.tells b.tells shorter a.begins
-        (subst (λ (l : List LogLine). Begins d l b.at b.tells) (sym same.0) b.begins) in
+    (subst (λ (l : List LogLine). Begins d l b.at b.tells) (sym same.0) b.begins) in
     let moved = subst (λ (x : LogLine). Goes d a.at x q) (sym same.1) (subst (λ (r : Place). Goes d r b.line q) (sym earlier.0) b.goes) in
     (goes_once d one a.at a.line p q a.goes moved, a.all ∙ told_same a.tells b.tells a.at b.at a.line b.line earlier.1 earlier.0 same.1 ∙ sym b.all)
 

@@ -8,4 +8,5 @@ pub mod Places
 pub mod Steps
 pub mod Histories
 pub mod Clean
+pub mod Why
 pub mod Laws

@@ -1,7 +1,9 @@
 //! Laws of lines and logs, for proofs that stand on this crate: each is what a function ensures that does
 //! nothing.
-ghost use Rattle.log_grammar.specs.Laws.{EscapesOneMessage, IsOneLine, IsOneLogLine, LineIsDecided, LogLineIsDecided, AreCut, AreCutOneWay, GoesOnByALine, GoesOnByNoOther, HasOneReading, FrontsBeginWithFronts, CleanLogsAreFronts, EachAccountHasItsHistory};
+ghost use Rattle.log_grammar.specs.Laws.{EscapesOneMessage, IsOneLine, IsOneLogLine, LineIsDecided, LogLineIsDecided, AreCut, AreCutOneWay, GoesOnByALine, GoesOnByNoOther, HasOneReading, FrontsBeginWithFronts, CleanLogsAreFronts, EachAccountHasItsHistory, HasOneFaultLine, HasOneWhy};
 
+use otp_core::laws::only_one_reply_is_due;
+use scram_ends::laws::at_most_one_verdict_is_due;
 use scram_text::laws::{has_one_client_first, spells_one_name};
 
 /// A spelling is that of one message: who reads a line knows which bytes were sent.
@@ -73,3 +75,18 @@ pub fn clean_logs_are_fronts()
 pub fn each_account_has_its_history()
     ensures { EachAccountHasItsHistory }
 {}
+
+/// Bytes have one fault line at most.
+pub fn has_one_fault_line()
+    ensures { HasOneFaultLine }
+{}
+
+/// There is one reason why a line is at fault.
+pub fn has_one_why()
+    ensures { HasOneWhy }
+{
+    has_one_client_first();
+    spells_one_name();
+    at_most_one_verdict_is_due();
+    only_one_reply_is_due();
+}
