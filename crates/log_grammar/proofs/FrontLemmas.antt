@@ -1,5 +1,5 @@
 -- Fronts and clean logs, from their lines to their bytes.
-use Rattle.std.proofs.Common.{◌≡◌, ◌⊎◌, inl, inr, ℕ, zero, suc, List, [], ◌∷◌, ◌++◌, length, reverse, take, drop, refl, sym, ◌∙◌, ap, subst, append-nil, arith}
+use Rattle.std.proofs.Common.{◌≡◌, inl, inr, ℕ, zero, suc, List, [], ◌∷◌, ◌++◌, length, reverse, take, drop, refl, sym, ◌∙◌, subst, append-nil, arith}
 use Rattle.std.specs.List.{AllByRecursion, AllZip}
 use Rattle.std.proofs.lemmas.List.{take-append-drop}
 use Rattle.scram_text.specs.Laws.{SpellsOneName, HasOneClientFirst}
@@ -10,7 +10,7 @@ use Rattle.log_grammar.specs.Bytes.{LacksLf, ended_by_lf, IsCut}
 use Rattle.log_grammar.specs.Sessions.{Told}
 use Rattle.log_grammar.specs.Demands.{Accounts, demands, AreReplies}
 use Rattle.log_grammar.specs.Places.{Place}
-use Rattle.log_grammar.specs.Clean.{Begins, AreLines, IsFront, IsClean}
+use Rattle.log_grammar.specs.Clean.{Begins, IsFront, IsClean}
 use Rattle.log_grammar.specs.Steps.{Goes, told_at}
 use Rattle.log_grammar.specs.Laws.{StoodBefore}
 use Rattle.log_grammar.proofs.Snoc.{some_last, last_same}

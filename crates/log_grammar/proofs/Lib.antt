@@ -12,3 +12,5 @@ pub mod Readings
 pub mod AccountLemmas
 pub mod FrontLemmas
 pub mod WhyLemmas
+pub mod Aside
+pub mod ClassLemmas

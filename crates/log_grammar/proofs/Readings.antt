@@ -1,13 +1,13 @@
 -- A log is read in one way: its place and what was told in it follow from its lines. What it begins with is
 -- what a log may begin with.
-use Rattle.std.proofs.Common.{◌≡◌, ◌⊎◌, inl, inr, ℕ, zero, suc, ◌≤◌, List, [], ◌∷◌, ◌++◌, length, refl, sym, ◌∙◌, ap, subst, arith, append_assoc, append-nil}
+use Rattle.std.proofs.Common.{◌≡◌, inl, inr, ℕ, zero, suc, ◌≤◌, List, [], ◌∷◌, ◌++◌, length, sym, ◌∙◌, ap, subst, arith, append_assoc, append-nil}
 use Rattle.log_grammar.specs.Lines.{LogLine, header, said, heard, bad, gone, ended, mechs, cont, accepts, refuses, replies, halt, auth, auth_with, resp, abort, code}
 use Rattle.log_grammar.specs.Sessions.{Told}
 use Rattle.log_grammar.specs.Demands.{Demands}
 use Rattle.log_grammar.specs.Places.{Place, before_all, between, offered, asks_bare, waits_first, got_first, waits_final, got_final, waits_code, got_code, leaving, over, halted}
 use Rattle.log_grammar.specs.Steps.{Quits, FromOffered, FromInvitation, FromWaitsFirst, FromFirst, FromWaitsFinal, FromFinal, FromWaitsCode, FromCode, FromLeaving, FromBetween, FromOver, FromStart, Goes, told_at}
-use Rattle.log_grammar.specs.Clean.{Spells, Begins}
-use Rattle.log_grammar.proofs.LogSteps.{Before, before_last}
+use Rattle.log_grammar.specs.Clean.{Begins}
+use Rattle.log_grammar.proofs.LogSteps.{before_last}
 use Rattle.log_grammar.proofs.Snoc.{some_last, last_same, with_last, length-last}
 
 -- a challenge is one account's

@@ -1,6 +1,6 @@
 //! Laws of lines and logs, for proofs that stand on this crate: each is what a function ensures that does
 //! nothing.
-ghost use Rattle.log_grammar.specs.Laws.{EscapesOneMessage, IsOneLine, IsOneLogLine, LineIsDecided, LogLineIsDecided, AreCut, AreCutOneWay, GoesOnByALine, GoesOnByNoOther, HasOneReading, FrontsBeginWithFronts, CleanLogsAreFronts, EachAccountHasItsHistory, HasOneFaultLine, HasOneWhy};
+ghost use Rattle.log_grammar.specs.Laws.{EscapesOneMessage, IsOneLine, IsOneLogLine, LineIsDecided, LogLineIsDecided, AreCut, AreCutOneWay, GoesOnByALine, GoesOnByNoOther, HasOneReading, FrontsBeginWithFronts, CleanLogsAreFronts, EachAccountHasItsHistory, HasOneFaultLine, HasOneWhy, ClassesFollowThePlace};
 
 use otp_core::laws::only_one_reply_is_due;
 use scram_ends::laws::at_most_one_verdict_is_due;
@@ -81,7 +81,7 @@ pub fn has_one_fault_line()
     ensures { HasOneFaultLine }
 {}
 
-/// There is one reason why a line is at fault.
+/// There is at most one reason why a line is at fault.
 pub fn has_one_why()
     ensures { HasOneWhy }
 {
@@ -90,3 +90,8 @@ pub fn has_one_why()
     at_most_one_verdict_is_due();
     only_one_reply_is_due();
 }
+
+/// The classes of lines that are due behind a log's lines, demands aside, are those of its place.
+pub fn classes_follow_the_place()
+    ensures { ClassesFollowThePlace }
+{}

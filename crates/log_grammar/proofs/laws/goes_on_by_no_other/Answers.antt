@@ -1,4 +1,3 @@
-use Rattle.log_grammar.specs.Demands.{demands}
 use Rattle.log_grammar.proofs.FrontLemmas.{stood_before}
 use Rattle.log_grammar.proofs.laws.goes_on_by_no_other.Goals as goal
 

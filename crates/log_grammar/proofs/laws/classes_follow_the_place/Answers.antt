@@ -1,0 +1,5 @@
+use Rattle.log_grammar.proofs.ClassLemmas.{classes_due}
+use Rattle.log_grammar.proofs.laws.classes_follow_the_place.Goals as goal
+
+pub returns : goal.returns
+returns c = classes_due
