@@ -2,7 +2,7 @@
 # make test     the gate: every proof, every test, every run from nothing, then tests of the built program
 # make build    leaves the program at $(PROGRAM)
 # make install  copies it to $(DESTDIR)$(PREFIX)/bin
-# make bench    compares speeds with OpenSSL, with Python's re and base64, and with oathtool
+# make bench    compares speeds with OpenSSL, with Python's re, base64, hmac and tomllib, and with oathtool
 PREFIX ?= /usr/local
 DESTDIR ?=
 PROGRAM = crates/scramotp/out/scramotp
@@ -35,6 +35,7 @@ bench: build
 	python3 bench/keys.py $(PROGRAM)
 	python3 bench/messages.py crates/bench/out/bench
 	python3 bench/verdicts.py crates/bench/out/bench
+	python3 bench/books.py $(PROGRAM)
 
 clean:
 	rm -rf crates/*/out
