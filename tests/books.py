@@ -9,10 +9,12 @@ import hmac
 import os
 import random
 import re
+import select
 import subprocess
 import sys
 import tempfile
 import time
+import tomllib
 
 PROGRAM = os.path.abspath(sys.argv[1])
 SECRET = "3132333435363738393031323334353637383930"
@@ -175,7 +177,74 @@ def input_limit(folder):
     assert (run.returncode, run.stdout, run.stderr) == (3, "FAIL 5\n", "scramotp: cannot read input\n"), run.stderr
 
 
-TESTS = [twenty_at_once, killed_at_any_moment, modes, unwritable, locked_by_another, full_output, input_limit]
+def each_line(folder):
+    """Each line is a code as it stands, whatever came before, and one that is refused shows in the status."""
+    book = os.path.join(folder, "book")
+    for text, status, printed in [
+        (f"000000\n{FIRST_CODE}\n", 1, "FAIL 5\nPASS 5 0\n"),
+        (f"{FIRST_CODE}\n000000", 1, "PASS 5 0\nFAIL 5\n"),
+        (f"{FIRST_CODE}\r\n", 1, "FAIL 5\n"),
+        (f"\n{FIRST_CODE}\n", 1, "FAIL 5\nPASS 5 0\n"),
+        (f"{FIRST_CODE}\n", 0, "PASS 5 0\n"),
+        ("", 0, ""),
+    ]:
+        write(book)
+        run = verify(book, text)
+        assert (run.returncode, run.stdout, run.stderr) == (status, printed, ""), (text, run)
+
+
+def no_token(folder):
+    """An account without a token is refused before any input."""
+    book = os.path.join(folder, "book")
+    with open(book, "w") as file:
+        file.write(BOOK[: BOOK.index("[accounts.user.token]")])
+    for text in ["", FIRST_CODE]:
+        run = verify(book, text)
+        assert (run.returncode, run.stdout, run.stderr) == (1, "", "scramotp: no token\n"), run
+
+
+def told_at_once(folder):
+    """A reply is told while the input is still open."""
+    book = os.path.join(folder, "book")
+    write(book)
+    run = subprocess.Popen(verify_words(book), stdin=subprocess.PIPE, stdout=subprocess.PIPE)
+    run.stdin.write(FIRST_CODE.encode() + b"\n")
+    run.stdin.flush()
+    ready, _, _ = select.select([run.stdout], [], [], 20)
+    told = os.read(run.stdout.fileno(), 100) if ready else None
+    run.stdin.close()
+    assert (told, run.wait()) == (b"PASS 5 0\n", 0), told
+    run.stdout.close()
+
+
+def random_bytes(folder):
+    """A new book takes 32 bytes for its decoys, then 16 for each salt, SHA-1's first; an old one the salts."""
+    book, file = os.path.join(folder, "book"), os.path.join(folder, "random")
+    with open(file, "wb") as out:
+        out.write(bytes(range(64)))
+    for name in ["one", "two"]:
+        words = [PROGRAM, "enrol", "--book", book, "--name", name, "--count", "1", "--random", file]
+        subprocess.run(words, input="pencil\n", capture_output=True, text=True, check=True)
+    with open(book, "rb") as text:
+        made = tomllib.load(text)
+    salts = [[made["accounts"][name][table]["salt"] for table in ["sha1", "sha256"]] for name in ["one", "two"]]
+    assert made["decoy_key"] == bytes(range(32)).hex(), made
+    assert salts == [[bytes(range(at, at + 16)).hex() for at in pair] for pair in [(32, 48), (0, 16)]], salts
+
+
+TESTS = [
+    twenty_at_once,
+    killed_at_any_moment,
+    modes,
+    unwritable,
+    locked_by_another,
+    full_output,
+    input_limit,
+    each_line,
+    no_token,
+    told_at_once,
+    random_bytes,
+]
 
 failed = 0
 for test in TESTS:

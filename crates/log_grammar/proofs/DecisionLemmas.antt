@@ -39,7 +39,7 @@ same_cons x y xs ys head tail = cc
 heads_same : (x y : ℕ) (xs ys : List ℕ) → x ∷ xs ≡ y ∷ ys → (x ≡ y) × (xs ≡ ys)
 heads_same x y xs ys same = (cc, cc)
 
-decided_same : (xs ys : List ℕ) → Decided (xs ≡ ys)
+pub decided_same : (xs ys : List ℕ) → Decided (xs ≡ ys)
 decided_same [] [] = inl refl
 decided_same [] (y ∷ ys) = inr (λ same. cc same)
 decided_same (x ∷ xs) [] = inr (λ same. cc same)

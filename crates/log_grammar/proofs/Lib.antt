@@ -14,3 +14,8 @@ pub mod FrontLemmas
 pub mod WhyLemmas
 pub mod Aside
 pub mod ClassLemmas
+pub mod TextBytes
+pub mod Openings
+pub mod Completions
+pub mod FaultLemmas
+pub mod ExampleLemmas

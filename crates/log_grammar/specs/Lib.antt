@@ -9,4 +9,6 @@ pub mod Steps
 pub mod Histories
 pub mod Clean
 pub mod Why
+pub mod Counts
+pub mod Examples
 pub mod Laws

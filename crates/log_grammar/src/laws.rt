@@ -1,10 +1,12 @@
 //! Laws of lines and logs, for proofs that stand on this crate: each is what a function ensures that does
 //! nothing.
-ghost use Rattle.log_grammar.specs.Laws.{EscapesOneMessage, IsOneLine, IsOneLogLine, LineIsDecided, LogLineIsDecided, AreCut, AreCutOneWay, GoesOnByALine, GoesOnByNoOther, HasOneReading, FrontsBeginWithFronts, CleanLogsAreFronts, EachAccountHasItsHistory, HasOneFaultLine, HasOneWhy, ClassesFollowThePlace};
+ghost use Rattle.log_grammar.specs.Laws.{EscapesOneMessage, IsOneLine, IsOneLogLine, LineIsDecided, LogLineIsDecided, AreCut, AreCutOneWay, GoesOnByALine, GoesOnByNoOther, HasOneReading, FrontsBeginWithFronts, CleanLogsAreFronts, EachAccountHasItsHistory, HasOneFaultLine, HasOneWhy, ClassesFollowThePlace, FrontsBeginClean};
 
 use otp_core::laws::only_one_reply_is_due;
-use scram_ends::laws::at_most_one_verdict_is_due;
-use scram_text::laws::{has_one_client_first, spells_one_name};
+use scram_ends::laws::{at_most_one_verdict_is_due, some_verdict_is_due};
+use scram_text::laws::{
+    client_first_is_decided, has_one_client_first, name_is_decided, spells_one_name,
+};
 
 /// A spelling is that of one message: who reads a line knows which bytes were sent.
 pub fn escapes_one_message()
@@ -95,3 +97,14 @@ pub fn has_one_why()
 pub fn classes_follow_the_place()
     ensures { ClassesFollowThePlace }
 {}
+
+/// Each front begins a clean log, where a challenge can be written for each account and decoy: what the
+/// lines of a log may be up to some line can always be brought to an end.
+pub fn fronts_begin_clean()
+    ensures { FrontsBeginClean }
+{
+    has_one_client_first();
+    client_first_is_decided();
+    name_is_decided();
+    some_verdict_is_due();
+}

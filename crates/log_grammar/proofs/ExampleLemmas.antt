@@ -1,0 +1,282 @@
+-- The small logs, line by line.
+use Rattle.std.proofs.Common.{◌≡◌, inl, inr, ℕ, List, [], ◌∷◌, ◌++◌, reverse, take, get_or, refl, sym, ap, subst, arith}
+use Rattle.std.specs.Prelude.{codes}
+use Rattle.std.specs.List.{AllZip}
+use Rattle.mac_core.specs.declared.chosen.Mechanism.{Mechanism}
+use Rattle.mac_core.specs.declared.chosen.Mechanism.TheVariants.{ScramSha1, ScramSha256}
+use Rattle.scram_text.specs.Laws.{SpellsOneName, HasOneClientFirst}
+use Rattle.scram_text.specs.Messages.{ClientFirstParts, header_text, client_first_text, bare_text}
+use Rattle.scram_text.specs.Parts.{authz_text}
+use Rattle.log_grammar.specs.Words.{IsMechName}
+use Rattle.log_grammar.specs.Lines.{LogLine, header, said, heard, bad, gone, ended, mechs, cont, refuses, halt, auth, auth_with, abort, IsLogLine}
+use Rattle.log_grammar.specs.Bytes.{LacksLf, ended_by_lf}
+use Rattle.log_grammar.specs.Sessions.{Told}
+use Rattle.log_grammar.specs.Demands.{Accounts, demands, IsOffered, AreReplies}
+use Rattle.log_grammar.specs.Places.{Place, before_all, between, offered, asks_bare, waits_first, got_first, leaving, over, halted, MayEnd}
+use Rattle.log_grammar.specs.Steps.{Goes, told_at}
+use Rattle.log_grammar.specs.Clean.{Begins, IsFront, IsClean}
+use Rattle.log_grammar.specs.Why.{is_cut, no_line, out_of_order, other_mechs, other_challenge, other_outcome, refused_with, LineClass, IsClassDue, IsDueAt, IsWhy}
+use Rattle.log_grammar.specs.Examples.{first_text, offer_text, first_alone, one_session, bare_no}
+use Rattle.log_grammar.proofs.CutLemmas.{cut_one_way}
+use Rattle.log_grammar.proofs.LogSteps.{goes_on}
+use Rattle.log_grammar.proofs.ClassLemmas.{classes_due}
+use Rattle.log_grammar.proofs.Completions.{spelled, pairs-append, each-append}
+use Rattle.log_grammar.proofs.FaultLemmas.{Lead, is_clean, cut_why, line_why}
+use Rattle.log_grammar.proofs.WhyLemmas.{lines_once}
+
+-- the texts of lines
+names : List ℕ
+names = codes "SCRAM-SHA-256 SCRAM-SHA-1"
+
+is_sha_256 : IsMechName (codes "SCRAM-SHA-256")
+is_sha_256 = record { at_least = omega arith; at_most = omega arith; each = refl }
+
+is_sha_1 : IsMechName (codes "SCRAM-SHA-1")
+is_sha_1 = record { at_least = omega arith; at_most = omega arith; each = refl }
+
+is_header : IsLogLine first_text header
+is_header = record { spelled = refl; ranges = tt; short = omega arith }
+
+is_offer : IsLogLine offer_text (said (mechs (codes "SCRAM-SHA-256 SCRAM-SHA-1")))
+is_offer = record { spelled = refl; ranges = (is_sha_256, (is_sha_1, tt)); short = omega arith }
+
+is_other_offer : IsLogLine (codes "S MECHS SCRAM-SHA-1") (said (mechs (codes "SCRAM-SHA-1")))
+is_other_offer = record { spelled = refl; ranges = (is_sha_1, tt); short = omega arith }
+
+is_abort : IsLogLine (codes "C ABORT") (heard abort)
+is_abort = record { spelled = refl; ranges = tt; short = omega arith }
+
+is_bad : IsLogLine (codes "C BAD") bad
+is_bad = record { spelled = refl; ranges = tt; short = omega arith }
+
+is_gone : IsLogLine (codes "C GONE") gone
+is_gone = record { spelled = refl; ranges = tt; short = omega arith }
+
+is_no : IsLogLine (codes "S NO :") (said (refuses []))
+is_no = record { spelled = refl; ranges = tt; short = omega arith }
+
+is_cont : IsLogLine (codes "S CONT :") (said (cont []))
+is_cont = record { spelled = refl; ranges = tt; short = omega arith }
+
+is_end : IsLogLine (codes "E") ended
+is_end = record { spelled = refl; ranges = tt; short = omega arith }
+
+is_halt : IsLogLine (codes "S HALT") (said halt)
+is_halt = record { spelled = refl; ranges = tt; short = omega arith }
+
+is_plain_auth : IsLogLine (codes "C AUTH PLAIN") (heard (auth (codes "PLAIN")))
+is_plain_auth = record { spelled = refl; ranges = record { at_least = omega arith; at_most = omega arith; each = refl }; short = omega arith }
+
+is_auth : IsLogLine (codes "C AUTH SCRAM-SHA-1") (heard (auth (codes "SCRAM-SHA-1")))
+is_auth = record { spelled = refl; ranges = is_sha_1; short = omega arith }
+
+is_auth_with : IsLogLine (codes "C AUTH SCRAM-SHA-1 :") (heard (auth_with (codes "SCRAM-SHA-1") []))
+is_auth_with = record { spelled = refl; ranges = (is_sha_1, tt); short = omega arith }
+
+-- one line more
+lead_on : (accounts : Accounts) (texts : List (List ℕ)) (lines : List LogLine) (place : Place) (told : List Told) (text : List ℕ) (line : LogLine) (next : Place)
+    → Lead accounts texts lines place told → IsLogLine text line → LacksLf text → Goes (demands accounts) place line next
+    → AreReplies (demands accounts) (reverse told) (told_at place line)
+    → Lead accounts (texts ++ text ∷ []) (lines ++ line ∷ []) next (told ++ told_at place line)
+lead_on accounts texts lines place told text line next l is lacks goes due = record {
+  are = pairs-append texts (text ∷ []) lines (line ∷ []) l.are (is, tt);
+  lack = each-append texts (text ∷ []) l.lack (lacks, tt);
+  begins = goes_on (demands accounts) lines place told line next l.begins goes due;
+}
+
+start : (accounts : Accounts) → Lead accounts [] [] before_all []
+start accounts = record { are = tt; lack = tt; begins = inl (refl, refl, refl) }
+
+lead_first : (accounts : Accounts) → Lead accounts (first_text ∷ []) (header ∷ []) between []
+lead_first accounts = lead_on accounts [] [] before_all [] first_text header between (start accounts) is_header refl refl tt
+
+lead_offer : (accounts : Accounts) → Lead accounts (first_text ∷ offer_text ∷ []) (header ∷ said (mechs (codes "SCRAM-SHA-256 SCRAM-SHA-1")) ∷ []) offered []
+lead_offer accounts = lead_on accounts _ _ between [] offer_text _ offered (lead_first accounts) is_offer refl (refl, refl) tt
+
+-- a log whose lines lead to a place where it may end is clean
+clean_by : (accounts : Accounts) (texts : List (List ℕ)) (lines : List LogLine) (place : Place) (told : List Told) → Lead accounts texts lines place told
+    → MayEnd place → IsClean accounts (ended_by_lf texts)
+clean_by accounts texts lines place told l ends = is_clean accounts texts lines place told l.are l.lack (spelled accounts lines place told l.begins ends) ends
+
+pub first_is_clean : (accounts : Accounts) → IsClean accounts first_alone
+first_is_clean accounts = clean_by accounts _ _ between [] (lead_first accounts) tt
+
+-- `S NO` and the end, behind a place where the server may refuse
+closed : (accounts : Accounts) (texts : List (List ℕ)) (lines : List LogLine) (place : Place) → Lead accounts texts lines place []
+    → Goes (demands accounts) place (said (refuses [])) over → told_at place (said (refuses [])) ≡ []
+    → IsClean accounts (ended_by_lf ((texts ++ codes "S NO :" ∷ []) ++ codes "E" ∷ []))
+closed accounts texts lines place l goes silent =
+    let due = subst (λ (t : List Told). AreReplies (demands accounts) [] t) (sym silent) tt in
+    let refusal = lead_on accounts texts lines place [] (codes "S NO :") (said (refuses [])) over l is_no refl goes due in
+    let same = subst (λ (t : List Told). Lead accounts (texts ++ codes "S NO :" ∷ []) (lines ++ said (refuses []) ∷ []) over t) silent refusal in
+    clean_by accounts _ _ between [] (lead_on accounts _ _ over [] (codes "E") ended between same is_end refl refl tt) tt
+
+pub aborted_is_clean : (accounts : Accounts) → IsClean accounts (one_session (codes "C ABORT" ∷ bare_no))
+aborted_is_clean accounts =
+    closed accounts _ _ leaving (lead_on accounts _ _ offered [] (codes "C ABORT") (heard abort) leaving (lead_offer accounts) is_abort refl refl tt) (refl, refl) refl
+
+pub bad_is_clean : (accounts : Accounts) → IsClean accounts (one_session (codes "C BAD" ∷ bare_no))
+bad_is_clean accounts =
+    closed accounts _ _ leaving (lead_on accounts _ _ offered [] (codes "C BAD") bad leaving (lead_offer accounts) is_bad refl refl tt) (refl, refl) refl
+
+pub gone_is_clean : (accounts : Accounts) → IsClean accounts (one_session (codes "C GONE" ∷ codes "E" ∷ []))
+gone_is_clean accounts =
+    let left = lead_on accounts _ _ offered [] (codes "C GONE") gone over (lead_offer accounts) is_gone refl refl tt in
+    clean_by accounts _ _ between [] (lead_on accounts _ _ over [] (codes "E") ended between left is_end refl refl tt) tt
+
+-- PLAIN is not offered
+plain_not_offered : (m : Mechanism) → IsOffered (codes "PLAIN") m → ⊥
+plain_not_offered ScramSha1 is = let wrong : 80 ≡ 83 = ap (λ (l : List ℕ). get_or l 0 0) is in absurd (omega (arith, wrong))
+plain_not_offered ScramSha256 is = let wrong : 80 ≡ 83 = ap (λ (l : List ℕ). get_or l 0 0) is in absurd (omega (arith, wrong))
+
+lead_plain : (accounts : Accounts)
+    → Lead accounts (first_text ∷ offer_text ∷ codes "C AUTH PLAIN" ∷ []) (header ∷ said (mechs (codes "SCRAM-SHA-256 SCRAM-SHA-1")) ∷ heard (auth (codes "PLAIN")) ∷ []) (asks_bare (codes "PLAIN")) []
+lead_plain accounts = lead_on accounts _ _ offered [] (codes "C AUTH PLAIN") (heard (auth (codes "PLAIN"))) (asks_bare (codes "PLAIN")) (lead_offer accounts) is_plain_auth refl refl tt
+
+pub not_offered_is_clean : (accounts : Accounts) → IsClean accounts (one_session (codes "C AUTH PLAIN" ∷ bare_no))
+not_offered_is_clean accounts = closed accounts _ _ (asks_bare (codes "PLAIN")) (lead_plain accounts) ((plain_not_offered, refl), refl) refl
+
+-- the empty message is no client-first
+some_text : (flag behind rest : List ℕ) → [] ≡ (flag ++ 44 ∷ behind) ++ rest → ⊥
+some_text [] behind rest e = cc e
+some_text (c ∷ flag) behind rest e = cc e
+
+no_message : (p : ClientFirstParts) → [] ≡ client_first_text p → ⊥
+unfolding client_first_text header_text
+no_message p e = some_text p.flag (authz_text p.authz ++ 44 ∷ []) (bare_text p) e
+
+pub refused_is_clean : (accounts : Accounts) → IsClean accounts (one_session (codes "C AUTH SCRAM-SHA-1 :" ∷ bare_no))
+refused_is_clean accounts =
+    let got = got_first (codes "SCRAM-SHA-1") [] in
+    closed accounts _ _ got
+    (lead_on accounts _ _ offered [] (codes "C AUTH SCRAM-SHA-1 :") (heard (auth_with (codes "SCRAM-SHA-1") [])) got (lead_offer accounts) is_auth_with refl refl tt)
+    ((λ name l. no_message l.parts l.is_first.spelled, refl), refl) refl
+
+lead_auth : (accounts : Accounts)
+    → Lead accounts (first_text ∷ offer_text ∷ codes "C AUTH SCRAM-SHA-1" ∷ []) (header ∷ said (mechs (codes "SCRAM-SHA-256 SCRAM-SHA-1")) ∷ heard (auth (codes "SCRAM-SHA-1")) ∷ []) (asks_bare (codes "SCRAM-SHA-1")) []
+lead_auth accounts = lead_on accounts _ _ offered [] (codes "C AUTH SCRAM-SHA-1") (heard (auth (codes "SCRAM-SHA-1"))) (asks_bare (codes "SCRAM-SHA-1")) (lead_offer accounts) is_auth refl refl tt
+
+pub invited_is_clean : (accounts : Accounts) → IsClean accounts (one_session (codes "C AUTH SCRAM-SHA-1" ∷ codes "S CONT :" ∷ codes "C GONE" ∷ codes "E" ∷ []))
+invited_is_clean accounts =
+    let waits = waits_first (codes "SCRAM-SHA-1") in
+    let invited = lead_on accounts _ _ (asks_bare (codes "SCRAM-SHA-1")) [] (codes "S CONT :") (said (cont [])) waits (lead_auth accounts) is_cont refl (((ScramSha1, refl), refl), refl) tt in
+    let left = lead_on accounts _ _ waits [] (codes "C GONE") gone over invited is_gone refl refl tt in
+    clean_by accounts _ _ between [] (lead_on accounts _ _ over [] (codes "E") ended between left is_end refl refl tt) tt
+
+-- logs at fault
+pub empty_is_cut : HasOneClientFirst → SpellsOneName → (accounts : Accounts) → IsWhy accounts [] 1 is_cut
+empty_is_cut parts once accounts = cut_why parts once accounts [] [] before_all [] (start accounts) (λ h. h)
+
+pub offer_is_cut : HasOneClientFirst → SpellsOneName → (accounts : Accounts) → IsWhy accounts (one_session []) 3 is_cut
+offer_is_cut parts once accounts = cut_why parts once accounts _ _ offered [] (lead_offer accounts) (λ h. h)
+
+lead_abort : (accounts : Accounts)
+    → Lead accounts (first_text ∷ offer_text ∷ codes "C ABORT" ∷ []) (header ∷ said (mechs (codes "SCRAM-SHA-256 SCRAM-SHA-1")) ∷ heard abort ∷ []) leaving []
+lead_abort accounts = lead_on accounts _ _ offered [] (codes "C ABORT") (heard abort) leaving (lead_offer accounts) is_abort refl refl tt
+
+pub abort_is_cut : HasOneClientFirst → SpellsOneName → (accounts : Accounts) → IsWhy accounts (one_session (codes "C ABORT" ∷ [])) 4 is_cut
+abort_is_cut parts once accounts = cut_why parts once accounts _ _ leaving [] (lead_abort accounts) (λ h. h)
+
+pub no_is_cut : HasOneClientFirst → SpellsOneName → (accounts : Accounts) → IsWhy accounts (one_session (codes "C ABORT" ∷ codes "S NO :" ∷ [])) 5 is_cut
+no_is_cut parts once accounts =
+    cut_why parts once accounts _ _ over [] (lead_on accounts _ _ leaving [] (codes "S NO :") (said (refuses [])) over (lead_abort accounts) is_no refl (refl, refl) tt) (λ h. h)
+
+-- a class that is not due
+not_due : (accounts : Accounts) (lines : List LogLine) (place : Place) (class : LineClass) → Begins (demands accounts) lines place [] → (IsDueAt place class → ⊥)
+    → IsClassDue lines class → ⊥
+not_due accounts lines place class begins none due = none ((classes_due accounts lines place [] class begins).0 due)
+
+pub abort_is_early : HasOneClientFirst → SpellsOneName → (accounts : Accounts) → IsWhy accounts (ended_by_lf (first_text ∷ codes "C ABORT" ∷ [])) 2 out_of_order
+abort_is_early parts once accounts =
+    let l = lead_first accounts in
+    line_why parts once accounts (first_text ∷ []) header [] between [] (codes "C ABORT") (heard abort) out_of_order l is_abort refl (λ next h. h)
+    (inl (not_due accounts (header ∷ []) between _ l.begins (λ is. cc is), refl))
+
+pub halt_is_early : HasOneClientFirst → SpellsOneName → (accounts : Accounts) → IsWhy accounts (one_session (codes "S HALT" ∷ [])) 3 out_of_order
+halt_is_early parts once accounts =
+    let l = lead_offer accounts in
+    line_why parts once accounts (first_text ∷ offer_text ∷ []) header _ offered [] (codes "S HALT") (said halt) out_of_order l is_halt refl (λ next h. h)
+    (inl (
+      not_due accounts _ offered _ l.begins (λ is. elim is [
+        | inl one ↦ cc one
+        | inr quits ↦ elim quits [ inl two ↦ cc two | inr more ↦ elim more [ inl three ↦ cc three | inr four ↦ cc four ] ]
+      ]),
+      refl,
+    ))
+
+-- a class that is due
+is_due : (accounts : Accounts) (lines : List LogLine) (place : Place) (class : LineClass) → Begins (demands accounts) lines place [] → IsDueAt place class
+    → IsClassDue lines class
+is_due accounts lines place class begins is = (classes_due accounts lines place [] class begins).1 is
+
+other_names : codes "SCRAM-SHA-1" ≡ codes "SCRAM-SHA-256 SCRAM-SHA-1" → ⊥
+other_names e = let wrong : 49 ≡ 50 = ap (λ (l : List ℕ). get_or l 10 0) e in omega (arith, wrong)
+
+pub other_offer_why : HasOneClientFirst → SpellsOneName → (accounts : Accounts)
+    → IsWhy accounts (ended_by_lf (first_text ∷ codes "S MECHS SCRAM-SHA-1" ∷ [])) 2 other_mechs
+other_offer_why parts once accounts =
+    let l = lead_first accounts in
+    line_why parts once accounts (first_text ∷ []) header [] between [] (codes "S MECHS SCRAM-SHA-1") (said (mechs (codes "SCRAM-SHA-1"))) other_mechs
+    l is_other_offer refl (λ next h. other_names h.0)
+    (inr (is_due accounts (header ∷ []) between _ l.begins refl, between, [], l.begins, refl))
+
+pub invited_why : HasOneClientFirst → SpellsOneName → (accounts : Accounts)
+    → IsWhy accounts (one_session (codes "C AUTH PLAIN" ∷ codes "S CONT :" ∷ [])) 4 (other_outcome (refused_with []))
+invited_why parts once accounts =
+    let l = lead_plain accounts in
+    let at = asks_bare (codes "PLAIN") in
+    line_why parts once accounts (first_text ∷ offer_text ∷ codes "C AUTH PLAIN" ∷ []) header _ at [] (codes "S CONT :") (said (cont [])) (other_outcome (refused_with []))
+    l is_cont refl (λ next h. plain_not_offered h.0.0.0 h.0.0.1)
+    (inr (is_due accounts _ at _ l.begins refl, at, [], l.begins, inr (plain_not_offered, refl)))
+
+pub turned_away_why : HasOneClientFirst → SpellsOneName → (accounts : Accounts)
+    → IsWhy accounts (one_session (codes "C AUTH SCRAM-SHA-1" ∷ codes "S NO :" ∷ [])) 4 other_challenge
+turned_away_why parts once accounts =
+    let l = lead_auth accounts in
+    let at = asks_bare (codes "SCRAM-SHA-1") in
+    line_why parts once accounts (first_text ∷ offer_text ∷ codes "C AUTH SCRAM-SHA-1" ∷ []) header _ at [] (codes "S NO :") (said (refuses [])) other_challenge
+    l is_no refl (λ next h. h.0.0 ScramSha1 refl)
+    (inr (is_due accounts _ at _ l.begins refl, at, [], l.begins, inl ((ScramSha1, refl), refl)))
+
+-- nothing is due behind a halt
+pub none_behind_halt : (accounts : Accounts) (log : List LogLine) (told : List Told) (class : LineClass) → Begins (demands accounts) log halted told
+    → IsClassDue log class → ⊥
+none_behind_halt accounts log told class begins due = (classes_due accounts log halted told class begins).0 due
+
+-- a log begins with its first line
+no_log : (accounts : Accounts) (place : Place) (told : List Told) → Begins (demands accounts) (ended ∷ []) place told → ⊥
+no_log accounts place told (inl nothing) = cc nothing.0
+no_log accounts place told (inr s) = cc s.lines
+
+text_differs : codes "E" ≡ first_text → ⊥
+text_differs e = let wrong : 69 ≡ 83 = ap (λ (l : List ℕ). get_or l 0 0) e in omega (arith, wrong)
+
+-- no line is a front
+front_of_none : (accounts : Accounts) (j : ℕ) → j ≡ 0 → IsFront accounts (ended_by_lf (take j (codes "E" ∷ [])))
+front_of_none accounts j none = subst (λ (n : ℕ). IsFront accounts (ended_by_lf (take n (codes "E" ∷ [])))) (sym none)
+    ([], before_all, [], ([], record { joined = refl; lines = tt; behind = refl }, tt), inl (refl, refl, refl))
+
+-- `E` alone is none
+first_wrong : (accounts : Accounts) → IsFront accounts (ended_by_lf (codes "E" ∷ [])) → ⊥
+first_wrong accounts (lines, place, told, (texts, cut, are), begins) =
+    let same = (cut_one_way (ended_by_lf (codes "E" ∷ [])) texts (codes "E" ∷ []) [] [] cut (record { joined = refl; lines = (refl, tt); behind = refl })).0 in
+    let read = lines_once (codes "E" ∷ []) lines (ended ∷ []) (subst (λ (ts : List (List ℕ)). AllZip IsLogLine ts lines) same are) (is_end, tt) in
+    no_log accounts place told (subst (λ (ls : List LogLine). Begins (demands accounts) ls place told) read begins)
+
+pub end_is_no_line : (accounts : Accounts) → IsWhy accounts (ended_by_lf (codes "E" ∷ [])) 1 no_line
+end_is_no_line accounts = record {
+  fault = record {
+    texts = codes "E" ∷ [];
+    rest = [];
+    cut = record { joined = refl; lines = (refl, tt); behind = refl };
+    below = λ j less few. front_of_none accounts j (omega (arith, less));
+    within = λ few front. first_wrong accounts front;
+    past = omega arith;
+    unclean = λ last clean. omega (arith, last);
+  };
+  before = 0;
+  this = refl;
+  lines = [];
+  read = tt;
+  wrong = inl (text_differs, refl);
+}

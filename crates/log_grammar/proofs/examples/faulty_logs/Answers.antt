@@ -1,0 +1,20 @@
+use Rattle.log_grammar.proofs.ExampleLemmas.{end_is_no_line, abort_is_early, halt_is_early, other_offer_why, invited_why, turned_away_why}
+use Rattle.log_grammar.proofs.examples.faulty_logs.Goals as goal
+
+pub returns-clause-first : goal.returns-clause-first
+returns-clause-first c = end_is_no_line
+
+pub returns-clause-order : goal.returns-clause-order
+returns-clause-order c = abort_is_early c.has_one_client_first.ensures c.spells_one_name.ensures
+
+pub returns-clause-halt : goal.returns-clause-halt
+returns-clause-halt c = halt_is_early c.has_one_client_first.ensures c.spells_one_name.ensures
+
+pub returns-clause-mechs : goal.returns-clause-mechs
+returns-clause-mechs c = other_offer_why c.has_one_client_first.ensures c.spells_one_name.ensures
+
+pub returns-clause-outcome : goal.returns-clause-outcome
+returns-clause-outcome c = invited_why c.has_one_client_first.ensures c.spells_one_name.ensures
+
+pub returns-clause-challenge : goal.returns-clause-challenge
+returns-clause-challenge c = turned_away_why c.has_one_client_first.ensures c.spells_one_name.ensures

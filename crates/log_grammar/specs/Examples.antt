@@ -1,0 +1,22 @@
+-- Small logs, by the texts of their lines.
+use Rattle.std.specs.Prelude.{ℕ, List, [], ◌∷◌, codes}
+use Rattle.log_grammar.specs.Bytes.{ended_by_lf}
+
+-- the first line, and the first of each session
+abbrev pub first_text : List ℕ
+first_text = codes "SCRAMLOG 1"
+
+abbrev pub offer_text : List ℕ
+offer_text = codes "S MECHS SCRAM-SHA-256 SCRAM-SHA-1"
+
+-- the first line alone
+abbrev pub first_alone : List ℕ
+first_alone = ended_by_lf (first_text ∷ [])
+
+-- a log of one session, by the lines behind its first
+abbrev pub one_session : List (List ℕ) → List ℕ
+one_session texts = ended_by_lf (first_text ∷ offer_text ∷ texts)
+
+-- `S NO` with nothing behind its colon, and the end of the session
+abbrev pub bare_no : List (List ℕ)
+bare_no = codes "S NO :" ∷ codes "E" ∷ []
