@@ -1,65 +1,19 @@
 -- Whether a text is a line is decided: by the only line that it can be.
-use Rattle.std.proofs.Common.{◌≡◌, ◌⊎◌, inl, inr, ℕ, suc, ◌≤◌, ◌<◌, Bool, true, List, [], ◌∷◌, length, refl, sym, ◌∙◌, ap, arith, subst}
-use Rattle.std.specs.List.{list_all, AllByRecursion, slice_split}
+use Rattle.std.proofs.Common.{◌≡◌, ◌⊎◌, inl, inr, ℕ, suc, ◌≤◌, ◌<◌, List, [], ◌∷◌, length, sym, ◌∙◌, ap, subst}
+use Rattle.std.specs.List.{AllByRecursion, slice_split}
 use Rattle.std.specs.declared.option.Option.{Option}
 use Rattle.std.specs.declared.option.Option.TheVariants.{None, Some}
-use Rattle.std.proofs.lemmas.Bool.{cases_Bool, cases_lt, both_ways}
-use Rattle.std.proofs.lemmas.Bool.Decides.{eqb_tells}
-use Rattle.scram_text.specs.Class.{IsRunOf}
+use Rattle.scram_text.proofs.DecisionLemmas.{Decided, decided_by, decided_both, decided_le, decided_same, run_decided}
 use Rattle.otp_core.specs.declared.token.answer.Reply.{Reply}
 use Rattle.otp_core.specs.declared.token.answer.Reply.TheVariants.{Pass, Fail, Locked}
 use Rattle.log_grammar.specs.Payload.{IsMessage}
 use Rattle.log_grammar.specs.Words.{is_mech_char, is_code_char, is_space, IsMechName}
-use Rattle.log_grammar.specs.Lines.{ServerLine, mechs, cont, accepts, refuses, replies, halt, ClientLine, auth, auth_with, resp, abort, code, Line, from_server, from_client, LogLine, header, said, heard, bad, gone, ended, line_text, log_text, IsReplyInRange, IsServerInRange, IsClientInRange, IsInRange, IsLogInRange, IsLine, IsLogLine, IsNoLogLine}
+use Rattle.log_grammar.specs.Lines.{ServerLine, mechs, cont, accepts, refuses, replies, halt, ClientLine, auth, auth_with, resp, abort, code, Line, from_server, from_client, LogLine, header, said, heard, bad, gone, ended, line_text, log_text, IsReplyInRange, IsServerInRange, IsClientInRange, IsLineInRange, IsLogInRange, IsLine, IsLogLine, IsNoLogLine}
 use Rattle.log_grammar.proofs.LineLemmas.{line_in, line_back, log_line_in, log_line_back}
-
--- a fact holds, or it does not
-abbrev pub Decided : Type 0 → Type 0
-Decided P = P ⊎ (P → ⊥)
-
--- what has the same ground is decided with it
-decided_by : (P Q : Type 0) → (P → Q) → (Q → P) → Decided P → Decided Q
-decided_by P Q there back d = elim d [ inl p ↦ inl (there p) | inr none ↦ inr (λ q. none (back q)) ]
-
-decided_both : (P Q : Type 0) → Decided P → Decided Q → Decided (P × Q)
-decided_both P Q d e = elim d [
-  | inl p ↦ elim e [ inl q ↦ inl (p, q) | inr none ↦ inr (λ both. none both.1) ]
-  | inr none ↦ inr (λ both. none both.0)
-]
-
-decided_test : (test : Bool) → Decided (test ≡ true)
-decided_test test = elim (cases_Bool test) [ inl passes ↦ inl passes | inr fails ↦ inr (λ passes. both_ways test fails passes) ]
-
-decided_le : (m n : ℕ) → Decided (m ≤ n)
-decided_le m n = elim (cases_lt n m) [ inl over ↦ inr (λ h. omega (arith, over, h)) | inr within ↦ inl within ]
-
-same_cons : (x y : ℕ) (xs ys : List ℕ) → x ≡ y → xs ≡ ys → x ∷ xs ≡ y ∷ ys
-same_cons x y xs ys head tail = cc
-
-heads_same : (x y : ℕ) (xs ys : List ℕ) → x ∷ xs ≡ y ∷ ys → (x ≡ y) × (xs ≡ ys)
-heads_same x y xs ys same = (cc, cc)
-
-pub decided_same : (xs ys : List ℕ) → Decided (xs ≡ ys)
-decided_same [] [] = inl refl
-decided_same [] (y ∷ ys) = inr (λ same. cc same)
-decided_same (x ∷ xs) [] = inr (λ same. cc same)
-decided_same (x ∷ xs) (y ∷ ys) = elim (eqb_tells x y) [
-  | inl head ↦ elim (decided_same xs ys) [
-    | inl tail ↦ inl (same_cons x y xs ys head.1 tail)
-    | inr other ↦ inr (λ same. other (heads_same x y xs ys same).1)
-  ]
-  | inr other ↦ inr (λ same. other.1 (heads_same x y xs ys same).0)
-]
 
 decided_each : {X : Type 0} (P : X → Type 0) → ((x : X) → Decided (P x)) → (xs : List X) → Decided (AllByRecursion P xs)
 decided_each P each [] = inl tt
 decided_each P each (x ∷ xs) = decided_both (P x) (AllByRecursion P xs) (each x) (decided_each P each xs)
-
-run_decided : (test : ℕ → Bool) (most : ℕ) (bytes : List ℕ) → Decided (IsRunOf test most bytes)
-run_decided test most bytes =
-    decided_by ((1 ≤ length bytes) × ((length bytes ≤ most) × (list_all test bytes ≡ true))) (IsRunOf test most bytes)
-    (λ h. record { at_least = h.0; at_most = h.1.0; each = h.1.1 }) (λ r. (r.at_least, (r.at_most, r.each)))
-    (decided_both _ _ (decided_le 1 (length bytes)) (decided_both _ _ (decided_le (length bytes) most) (decided_test (list_all test bytes))))
 
 message_decided : (message : List ℕ) → Decided (IsMessage message)
 message_decided message = decided_each (λ c. c < 256) (λ c. decided_le (suc c) 256) message
@@ -88,7 +42,7 @@ client_decided (resp message) = message_decided message
 client_decided abort = inl tt
 client_decided (code text) = run_decided is_code_char 16 text
 
-ranges_decided : (line : Line) → Decided (IsInRange line)
+ranges_decided : (line : Line) → Decided (IsLineInRange line)
 ranges_decided (from_server line) = server_decided line
 ranges_decided (from_client line) = client_decided line
 
@@ -109,7 +63,7 @@ is_read_of_log text line is = subst (IsLogLine text) (sym (ap log_line_in is.spe
 
 this_decided : (text : List ℕ) (line : Line) → Decided (IsLine text line)
 this_decided text line =
-    decided_by ((text ≡ line_text line) × (IsInRange line × (length text ≤ 6200))) (IsLine text line)
+    decided_by ((text ≡ line_text line) × (IsLineInRange line × (length text ≤ 6200))) (IsLine text line)
     (λ h. record { spelled = h.0; ranges = h.1.0; short = h.1.1 }) (λ r. (r.spelled, (r.ranges, r.short)))
     (decided_both _ _ (decided_same text (line_text line)) (decided_both _ _ (ranges_decided line) (decided_le (length text) 6200)))
 

@@ -11,7 +11,7 @@ use Rattle.log_grammar.specs.Words.{IsMechName}
 use Rattle.log_grammar.specs.Lines.{LogLine, header, said, heard, bad, gone, ended, mechs, cont, refuses, halt, auth, auth_with, abort, IsLogLine}
 use Rattle.log_grammar.specs.Bytes.{LacksLf, ended_by_lf}
 use Rattle.log_grammar.specs.Sessions.{Told}
-use Rattle.log_grammar.specs.Demands.{Accounts, demands, IsOffered, AreReplies}
+use Rattle.log_grammar.specs.Demands.{Accounts, demands, NamesMechanism, AreReplies}
 use Rattle.log_grammar.specs.Places.{Place, before_all, between, offered, asks_bare, waits_first, got_first, leaving, over, halted, MayEnd}
 use Rattle.log_grammar.specs.Steps.{Goes, told_at}
 use Rattle.log_grammar.specs.Clean.{Begins, IsFront, IsClean}
@@ -125,7 +125,7 @@ gone_is_clean accounts =
     clean_by accounts _ _ between [] (lead_on accounts _ _ over [] (codes "E") ended between left is_end refl refl tt) tt
 
 -- PLAIN is not offered
-plain_not_offered : (m : Mechanism) → IsOffered (codes "PLAIN") m → ⊥
+plain_not_offered : (m : Mechanism) → NamesMechanism (codes "PLAIN") m → ⊥
 plain_not_offered ScramSha1 is = let wrong : 80 ≡ 83 = ap (λ (l : List ℕ). get_or l 0 0) is in absurd (omega (arith, wrong))
 plain_not_offered ScramSha256 is = let wrong : 80 ≡ 83 = ap (λ (l : List ℕ). get_or l 0 0) is in absurd (omega (arith, wrong))
 

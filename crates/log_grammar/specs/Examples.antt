@@ -2,10 +2,11 @@
 use Rattle.std.specs.Prelude.{ℕ, List, [], ◌∷◌, codes}
 use Rattle.log_grammar.specs.Bytes.{ended_by_lf}
 
--- the first line, and the first of each session
+-- the first line
 abbrev pub first_text : List ℕ
 first_text = codes "SCRAMLOG 1"
 
+-- the first line of a session
 abbrev pub offer_text : List ℕ
 offer_text = codes "S MECHS SCRAM-SHA-256 SCRAM-SHA-1"
 
