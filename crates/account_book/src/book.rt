@@ -2,6 +2,7 @@
 ghost use Rattle.std.specs.Prelude.{◌≡◌, ◌≤◌, [], length, is_some, option_copied, IfSome};
 ghost use Rattle.std.specs.FinMap as map;
 ghost use Rattle.book_format.specs.Account.{IsAccount};
+ghost use Rattle.book_format.specs.Book.{IsBook};
 ghost use Rattle.account_book.specs.Accounts.{account_at, accounts_of, with_act_as, IsChanged, IsRemoved};
 
 mod enrol;
@@ -46,6 +47,13 @@ impl Book {
                 accounts,
             },
         }
+    }
+
+    /// Each book is in its ranges: a law, for those who see the book's value alone.
+    pub(crate) fn is_in_range(&self)
+        ensures { IsBook self.now }
+    {
+        let _ = &self.contents.decoy_count;
     }
 
     /// The account of this name, or None where there is none.

@@ -1,9 +1,18 @@
 //! What follows from the contracts of a book's calls.
 ghost use Rattle.std.specs.Prelude.{◌≡◌, IfOk};
+ghost use Rattle.book_format.specs.Book.{IsBook};
 
 use crate::book::Book;
 use book_format::BookWhy;
 use std::alloc::{AllocError, Global};
+
+/// Each book is in its ranges: its salts and iteration counts are those that a challenge can show (RFC 5802,
+/// section 7), and its keys are values of their hash functions.
+pub fn books_are_in_range(book: &Book)
+    ensures { IsBook book.now }
+{
+    book.is_in_range();
+}
 
 /// Each book reads what it writes as itself, and only memory can be wanting. It answers the book that is
 /// read.

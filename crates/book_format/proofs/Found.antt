@@ -7,6 +7,7 @@ use Rattle.std.specs.List.{list_all}
 use Rattle.std.specs.Str.{bytes_eq}
 use Rattle.std.proofs.lemmas.Slice.Eq.{bytes_eq-Decides}
 use Rattle.arrayvec.specs.ArrayVec.{ArrayVec}
+use Rattle.hex.proofs.HexLemmas.{decode_of-ok}
 use Rattle.hex.specs.Hex.{decode_of}
 use Rattle.toml.specs.Data.{Data, string, integer, table, array, Items, no_items, item, Members, no_members, member, get_member, as_str, as_integer, as_array}
 use Rattle.toml.specs.View.{items_of}
@@ -405,7 +406,10 @@ keys_in_range len key None ms h keys is = absurd (cc is)
 keys_in_range len key (Some held) ms h keys is =
     let tree = h.2 in
     subst (λ k. AreKeys len k) (some_same held keys is) (record {
+      salt = record { at_least = tree.salt.enough; at_most = tree.salt.few };
+      salt_bytes = (decode_of-ok tree.salt.text held.salt tree.salt.value).3;
       some_count = tree.count.enough;
+      most_count = tree.count.few;
       stored = omega (arith, tree.stored.enough, tree.stored.few);
       server = omega (arith, tree.server.enough, tree.server.few);
     })
@@ -436,4 +440,4 @@ held_in_range key accounts ms (inr h) = accounts_in_range h.0 accounts h.2
 
 -- the book of a tree is in its ranges
 pub in_range : (ms : Members) (book : BookFields) → IsBookTree ms book → IsBook book
-in_range ms book h = record { some_count = h.decoy_count.enough; accounts = held_in_range (codes "accounts") book.accounts ms h.accounts }
+in_range ms book h = record { some_count = h.decoy_count.enough; most_count = h.decoy_count.few; accounts = held_in_range (codes "accounts") book.accounts ms h.accounts }

@@ -3,7 +3,7 @@ use Rattle.std.proofs.Common.{◌≡◌, inr, ◌∙◌, ℕ, ◌≤◌, ◌-◌
 use Rattle.std.specs.Option.{ForSome}
 use Rattle.hex.specs.Hex.{decode_of, encode_lower}
 use Rattle.toml.specs.Data.{Members, get_member}
-use Rattle.scram_text.specs.Class.{IsPlainName, IsSalt}
+use Rattle.scram_text.specs.Class.{IsPlainName}
 use Rattle.otp_core.specs.Secret.{IsSecretLength, IsDigitCount, IsMoment}
 use Rattle.otp_core.specs.Settings.{IsHotpInRange, IsTotpInRange}
 use Rattle.otp_core.specs.declared.token.kinds.HotpFields.{HotpFields}
@@ -29,15 +29,15 @@ pub holds_number : (key : List ℕ) (least most n : ℕ) (ms : Members) → get_
     → least ≤ n → n ≤ most → HoldsNumber key least most n ms
 holds_number key least most n ms there enough few = record { there = there; enough = enough; few = few }
 
-pub mech_stands : (len : ℕ) (keys : MechKeys) → AreKeys len keys → IsSalt keys.salt → keys.count ≤ 4294967295 → ComesBack keys.salt
+pub mech_stands : (len : ℕ) (keys : MechKeys) → AreKeys len keys → ComesBack keys.salt
     → ComesBack keys.keys.stored.items → ComesBack keys.keys.server.items → IsMechTree len (mech_tree keys) keys
 unfolding mech_tree has_only
-mech_stands len keys fits salt count salt_back stored_back server_back = record {
+mech_stands len keys fits salt_back stored_back server_back = record {
   members = _;
   is_table = refl;
   known = refl;
-  salt = holds_bytes (codes "salt") 1 64 keys.salt _ refl salt_back salt.at_least salt.at_most;
-  count = holds_number (codes "count") 1 4294967295 keys.count _ refl fits.some_count count;
+  salt = holds_bytes (codes "salt") 1 64 keys.salt _ refl salt_back fits.salt.at_least fits.salt.at_most;
+  count = holds_number (codes "count") 1 4294967295 keys.count _ refl fits.some_count fits.most_count;
   stored = holds_bytes (codes "stored") len len keys.keys.stored.items _ refl stored_back (omega (arith, fits.stored)) (omega (arith, fits.stored));
   server = holds_bytes (codes "server") len len keys.keys.server.items _ refl server_back (omega (arith, fits.server)) (omega (arith, fits.server));
 }
@@ -121,14 +121,14 @@ unfolding accounts_tree
 accounts_stand [] e h plain tree = (refl, plain, tree, tt)
 accounts_stand (first ∷ done) e h plain tree = (h.0, h.1, h.2, accounts_stand done e h.3 plain tree)
 
-pub book_stands : (b : BookFields) → IsBook b → length b.decoy_key ≡ 32 → b.decoy_count ≤ 4294967295 → ComesBack b.decoy_key
+pub book_stands : (b : BookFields) → IsBook b → length b.decoy_key ≡ 32 → ComesBack b.decoy_key
     → AreAccountTrees (accounts_tree b.accounts) b.accounts → IsBookTree (book_tree b) b
 unfolding book_tree has_only
-book_stands b fits key count back accounts = record {
+book_stands b fits key back accounts = record {
   format = refl;
   known = refl;
   decoy_key = holds_bytes (codes "decoy_key") 32 32 b.decoy_key _ refl back (omega (arith, key)) (omega (arith, key));
-  decoy_count = holds_number (codes "decoy_count") 1 4294967295 b.decoy_count _ refl fits.some_count count;
+  decoy_count = holds_number (codes "decoy_count") 1 4294967295 b.decoy_count _ refl fits.some_count fits.most_count;
   accounts = inr (accounts_tree b.accounts, refl, accounts);
 }
 

@@ -1,6 +1,8 @@
 -- What is kept of an account, and the ranges of it.
 use Rattle.std.specs.Prelude.{ℕ, ◌≤◌, ◌≡◌, List, length, Option}
 use Rattle.std.specs.Option.{ForSome}
+use Rattle.hex.specs.Hex.{IsBytes}
+use Rattle.scram_text.specs.Class.{IsSalt}
 use Rattle.book_format.specs.declared.account.MechKeys.{MechKeys}
 use Rattle.otp_core.specs.declared.token.kinds.Fields.{Fields}
 
@@ -11,13 +13,17 @@ pub record AccountFields : Type 0 where
   pub act_as : List (List ℕ)
   pub token : Option Fields
 
--- keys that are values of a hash function of so many bytes, and an iteration count
+-- keys that are values of a hash function of so many bytes, with a salt and an iteration count in the ranges
+-- that a challenge can show (RFC 5802, section 7)
 pub record AreKeys (len : ℕ) (keys : MechKeys) : Type 0 where
+  pub salt : IsSalt keys.salt
+  pub salt_bytes : IsBytes keys.salt
   pub some_count : 1 ≤ keys.count
+  pub most_count : keys.count ≤ 4294967295
   pub stored : length keys.keys.stored.items ≡ len
   pub server : length keys.keys.server.items ≡ len
 
--- an account is in its ranges; names, salts and tokens have ranges of their own
+-- an account is in its ranges; names and tokens have ranges of their own
 pub record IsAccount (account : AccountFields) : Type 0 where
   pub sha1 : ForSome account.sha1 (AreKeys 20)
   pub sha256 : ForSome account.sha256 (AreKeys 32)

@@ -16,4 +16,5 @@ AreAccounts (entry ∷ entries) = IsAccount entry.1 × AreAccounts entries
 -- a book is in its ranges. The decoy key has 32 bytes by its type, and the names ascend in any map.
 pub record IsBook (book : BookFields) : Type 0 where
   pub some_count : 1 ≤ book.decoy_count
+  pub most_count : book.decoy_count ≤ 4294967295
   pub accounts : AreAccounts book.accounts

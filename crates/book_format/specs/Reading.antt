@@ -1,5 +1,6 @@
 -- How a book's text is read, with the first fault where it is none: what is missing or of another type
--- in a table comes behind its unknown keys, key by key in the order of the format.
+-- in a table comes behind its unknown keys, key by key in the order of the format. Of the document `format`, and
+-- of a token `kind`, comes before the unknown keys.
 use Rattle.std.specs.Prelude.{ℕ, ◌+◌, ◌-◌, ◌^◌, ◌≡◌, ◌⊎◌, ◌==◌, ◌&&◌, nat_le, ℤ, pos, negsuc, nat_abs, Bool, true, false, if◌then◌else◌, List, [], ◌∷◌, length, codes, Option, Some, None, is_some, option_and_then, ok_or, Result, Ok, Err, MatchResult}
 use Rattle.std.specs.List.{list_all}
 use Rattle.std.specs.Str.{is_utf8, bytes_eq}

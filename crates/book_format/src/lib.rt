@@ -2,8 +2,8 @@
 //!
 //! `Contents::read` takes a text exactly where it is that of a book, and else answers the first fault:
 //! of the document, of its own keys, then of account by account in byte order of names. In each table
-//! unknown keys come first, then its keys in the order below. `Contents::write` gives a text that is
-//! that of the book.
+//! unknown keys come first, then its keys in the order below; but `format`, and the `kind` of a token, come
+//! before the unknown keys. `Contents::write` gives a text that is that of the book.
 //!
 //! | Table | Keys |
 //! |---|---|

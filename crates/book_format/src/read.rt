@@ -30,7 +30,8 @@ struct Top<'a> {
 impl Contents {
     /// The contents that `bytes` are the text of, or the first fault: of the document, of `format`, of
     /// the document's keys, then of account by account in byte order of names. In each table unknown
-    /// keys come first, and then its keys in the order of the format. `NoMemory` may come at any place.
+    /// keys come first, and then its keys in the order of the format; of a token, `kind` comes before
+    /// both. `NoMemory` may come at any place.
     pub fn read(alloc: Global, bytes: &[u8]) -> Result<Contents, BookFault>
         ensures found { IfOk result (λ c. IsBookText bytes.now c) }
         ensures only { (c : BookFields) → IsBookText bytes.now c → (result ≡ Ok c) ⊎ IsErrAnd result (λ f. f.why ≡ NoMemory) }

@@ -12,7 +12,7 @@ use Rattle.log_grammar.specs.Lines.{LogLine, header, said, heard, bad, gone, end
 use Rattle.log_grammar.specs.Bytes.{LacksLf, ended_by_lf}
 use Rattle.log_grammar.specs.Sessions.{Told}
 use Rattle.log_grammar.specs.Demands.{Accounts, demands, NamesMechanism, AreReplies}
-use Rattle.log_grammar.specs.Places.{Place, before_all, between, offered, asks_bare, waits_first, got_first, leaving, over, halted, MayEnd}
+use Rattle.log_grammar.specs.Places.{Place, before_all, between, offered, asks_bare, waits_first, got_first, leaving, over, MayEnd}
 use Rattle.log_grammar.specs.Steps.{Goes, told_at}
 use Rattle.log_grammar.specs.Clean.{Begins, IsFront, IsClean}
 use Rattle.log_grammar.specs.Why.{is_cut, no_line, out_of_order, other_mechs, other_challenge, other_outcome, refused_with, LineClass, IsClassDue, IsDueAt, IsWhy}
@@ -119,10 +119,13 @@ pub bad_is_clean : (accounts : Accounts) → IsClean accounts (one_session (code
 bad_is_clean accounts =
     closed accounts _ _ leaving (lead_on accounts _ _ offered [] (codes "C BAD") bad leaving (lead_offer accounts) is_bad refl refl tt) (refl, refl) refl
 
+lead_gone : (accounts : Accounts)
+    → Lead accounts (first_text ∷ offer_text ∷ codes "C GONE" ∷ []) (header ∷ said (mechs (codes "SCRAM-SHA-256 SCRAM-SHA-1")) ∷ gone ∷ []) over []
+lead_gone accounts = lead_on accounts _ _ offered [] (codes "C GONE") gone over (lead_offer accounts) is_gone refl refl tt
+
 pub gone_is_clean : (accounts : Accounts) → IsClean accounts (one_session (codes "C GONE" ∷ codes "E" ∷ []))
 gone_is_clean accounts =
-    let left = lead_on accounts _ _ offered [] (codes "C GONE") gone over (lead_offer accounts) is_gone refl refl tt in
-    clean_by accounts _ _ between [] (lead_on accounts _ _ over [] (codes "E") ended between left is_end refl refl tt) tt
+    clean_by accounts _ _ between [] (lead_on accounts _ _ over [] (codes "E") ended between (lead_gone accounts) is_end refl refl tt) tt
 
 -- PLAIN is not offered
 plain_not_offered : (m : Mechanism) → NamesMechanism (codes "PLAIN") m → ⊥
@@ -156,11 +159,17 @@ lead_auth : (accounts : Accounts)
     → Lead accounts (first_text ∷ offer_text ∷ codes "C AUTH SCRAM-SHA-1" ∷ []) (header ∷ said (mechs (codes "SCRAM-SHA-256 SCRAM-SHA-1")) ∷ heard (auth (codes "SCRAM-SHA-1")) ∷ []) (asks_bare (codes "SCRAM-SHA-1")) []
 lead_auth accounts = lead_on accounts _ _ offered [] (codes "C AUTH SCRAM-SHA-1") (heard (auth (codes "SCRAM-SHA-1"))) (asks_bare (codes "SCRAM-SHA-1")) (lead_offer accounts) is_auth refl refl tt
 
+lead_invited : (accounts : Accounts)
+    → Lead accounts (first_text ∷ offer_text ∷ codes "C AUTH SCRAM-SHA-1" ∷ codes "S CONT :" ∷ [])
+    (header ∷ said (mechs (codes "SCRAM-SHA-256 SCRAM-SHA-1")) ∷ heard (auth (codes "SCRAM-SHA-1")) ∷ said (cont []) ∷ []) (waits_first (codes "SCRAM-SHA-1")) []
+lead_invited accounts =
+    lead_on accounts _ _ (asks_bare (codes "SCRAM-SHA-1")) [] (codes "S CONT :") (said (cont [])) (waits_first (codes "SCRAM-SHA-1"))
+    (lead_auth accounts) is_cont refl (((ScramSha1, refl), refl), refl) tt
+
 pub invited_is_clean : (accounts : Accounts) → IsClean accounts (one_session (codes "C AUTH SCRAM-SHA-1" ∷ codes "S CONT :" ∷ codes "C GONE" ∷ codes "E" ∷ []))
 invited_is_clean accounts =
     let waits = waits_first (codes "SCRAM-SHA-1") in
-    let invited = lead_on accounts _ _ (asks_bare (codes "SCRAM-SHA-1")) [] (codes "S CONT :") (said (cont [])) waits (lead_auth accounts) is_cont refl (((ScramSha1, refl), refl), refl) tt in
-    let left = lead_on accounts _ _ waits [] (codes "C GONE") gone over invited is_gone refl refl tt in
+    let left = lead_on accounts _ _ waits [] (codes "C GONE") gone over (lead_invited accounts) is_gone refl refl tt in
     clean_by accounts _ _ between [] (lead_on accounts _ _ over [] (codes "E") ended between left is_end refl refl tt) tt
 
 -- logs at fault
@@ -169,6 +178,16 @@ empty_is_cut parts once accounts = cut_why parts once accounts [] [] before_all 
 
 pub offer_is_cut : HasOneClientFirst → SpellsOneName → (accounts : Accounts) → IsWhy accounts (one_session []) 3 is_cut
 offer_is_cut parts once accounts = cut_why parts once accounts _ _ offered [] (lead_offer accounts) (λ h. h)
+
+pub gone_is_cut : HasOneClientFirst → SpellsOneName → (accounts : Accounts) → IsWhy accounts (one_session (codes "C GONE" ∷ [])) 4 is_cut
+gone_is_cut parts once accounts = cut_why parts once accounts _ _ over [] (lead_gone accounts) (λ h. h)
+
+pub auth_is_cut : HasOneClientFirst → SpellsOneName → (accounts : Accounts) → IsWhy accounts (one_session (codes "C AUTH SCRAM-SHA-1" ∷ [])) 4 is_cut
+auth_is_cut parts once accounts = cut_why parts once accounts _ _ (asks_bare (codes "SCRAM-SHA-1")) [] (lead_auth accounts) (λ h. h)
+
+pub invited_is_cut : HasOneClientFirst → SpellsOneName → (accounts : Accounts)
+    → IsWhy accounts (one_session (codes "C AUTH SCRAM-SHA-1" ∷ codes "S CONT :" ∷ [])) 5 is_cut
+invited_is_cut parts once accounts = cut_why parts once accounts _ _ (waits_first (codes "SCRAM-SHA-1")) [] (lead_invited accounts) (λ h. h)
 
 lead_abort : (accounts : Accounts)
     → Lead accounts (first_text ∷ offer_text ∷ codes "C ABORT" ∷ []) (header ∷ said (mechs (codes "SCRAM-SHA-256 SCRAM-SHA-1")) ∷ heard abort ∷ []) leaving []
@@ -204,6 +223,13 @@ halt_is_early parts once accounts =
       refl,
     ))
 
+-- a session that begins where `E` is due
+pub end_is_missing : HasOneClientFirst → SpellsOneName → (accounts : Accounts) → IsWhy accounts (one_session (codes "C GONE" ∷ offer_text ∷ [])) 4 out_of_order
+end_is_missing parts once accounts =
+    let l = lead_gone accounts in
+    line_why parts once accounts (first_text ∷ offer_text ∷ codes "C GONE" ∷ []) header _ over [] offer_text _ out_of_order l is_offer refl (λ next h. h)
+    (inl (not_due accounts _ over _ l.begins (λ is. cc is), refl))
+
 -- a class that is due
 is_due : (accounts : Accounts) (lines : List LogLine) (place : Place) (class : LineClass) → Begins (demands accounts) lines place [] → IsDueAt place class
     → IsClassDue lines class
@@ -237,11 +263,6 @@ turned_away_why parts once accounts =
     line_why parts once accounts (first_text ∷ offer_text ∷ codes "C AUTH SCRAM-SHA-1" ∷ []) header _ at [] (codes "S NO :") (said (refuses [])) other_challenge
     l is_no refl (λ next h. h.0.0 ScramSha1 refl)
     (inr (is_due accounts _ at _ l.begins refl, at, [], l.begins, inl ((ScramSha1, refl), refl)))
-
--- nothing is due behind a halt
-pub none_behind_halt : (accounts : Accounts) (log : List LogLine) (told : List Told) (class : LineClass) → Begins (demands accounts) log halted told
-    → IsClassDue log class → ⊥
-none_behind_halt accounts log told class begins due = (classes_due accounts log halted told class begins).0 due
 
 -- a log begins with its first line
 no_log : (accounts : Accounts) (place : Place) (told : List Told) → Begins (demands accounts) (ended ∷ []) place told → ⊥

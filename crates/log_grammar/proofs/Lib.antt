@@ -19,3 +19,6 @@ pub mod Openings
 pub mod Completions
 pub mod FaultLemmas
 pub mod ExampleLemmas
+pub mod BookLemmas
+pub mod EdgeLemmas
+pub mod CountLemmas

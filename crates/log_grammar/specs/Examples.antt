@@ -1,6 +1,8 @@
 -- Small logs, by the texts of their lines.
 use Rattle.std.specs.Prelude.{ℕ, List, [], ◌∷◌, codes}
-use Rattle.log_grammar.specs.Bytes.{ended_by_lf}
+use Rattle.std.specs.List.{AllByRecursion, AllZip}
+use Rattle.log_grammar.specs.Bytes.{LacksLf, ended_by_lf}
+use Rattle.log_grammar.specs.Lines.{LogLine, IsLogLine}
 
 -- the first line
 abbrev pub first_text : List ℕ
@@ -21,3 +23,7 @@ one_session texts = ended_by_lf (first_text ∷ offer_text ∷ texts)
 -- `S NO` with nothing behind its colon, and the end of the session
 abbrev pub bare_no : List (List ℕ)
 bare_no = codes "S NO :" ∷ codes "E" ∷ []
+
+-- texts that are these lines, with no LF in them
+abbrev pub AreWhole : List (List ℕ) → List LogLine → Type 0
+AreWhole texts log = AllZip IsLogLine texts log × AllByRecursion LacksLf texts

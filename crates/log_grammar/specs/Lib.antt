@@ -4,6 +4,7 @@ pub mod Lines
 pub mod Bytes
 pub mod Sessions
 pub mod Demands
+pub mod Books
 pub mod Places
 pub mod Steps
 pub mod Histories

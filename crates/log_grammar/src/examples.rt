@@ -1,15 +1,18 @@
 //! Small logs, judged by the definitions: what is clean, and where a log is at fault and why. Each is a
-//! theorem, at lines that need no hash. Behind the first line stands one session.
-ghost use Rattle.std.specs.Prelude.{ℕ, List, [], ◌∷◌, codes};
-ghost use Rattle.log_grammar.specs.Lines.{LogLine};
-ghost use Rattle.log_grammar.specs.Bytes.{ended_by_lf};
-ghost use Rattle.log_grammar.specs.Sessions.{Told};
+//! theorem, at lines that need no hash.
+ghost use Rattle.std.specs.Prelude.{ℕ, ◌≡◌, ◌≤◌, ◌+◌, List, [], ◌∷◌, ◌++◌, length, codes, flat_map, Some};
+ghost use Rattle.otp_core.specs.declared.token.answer.Reply.TheVariants.{Pass, Fail};
+ghost use Rattle.log_grammar.specs.Lines.{LogLine, header, said, heard, gone, ended, mechs, cont, accepts, replies, auth_with, resp, code, IsLogLine};
+ghost use Rattle.log_grammar.specs.Bytes.{LacksLf, ended_by_lf};
+ghost use Rattle.log_grammar.specs.Counts.{counts_of};
+ghost use Rattle.log_grammar.specs.Sessions.{Told, Session, session_lines};
 ghost use Rattle.log_grammar.specs.Demands.{Accounts, demands};
 ghost use Rattle.log_grammar.specs.Places.{halted};
 ghost use Rattle.log_grammar.specs.Clean.{Begins, IsClean};
 ghost use Rattle.log_grammar.specs.Why.{LineClass, IsClassDue, IsWhy, is_cut, no_line, out_of_order, other_mechs, other_challenge, other_outcome, refused_with};
-ghost use Rattle.log_grammar.specs.Examples.{first_text, first_alone, one_session, bare_no};
+ghost use Rattle.log_grammar.specs.Examples.{first_text, offer_text, first_alone, one_session, bare_no, AreWhole};
 
+use crate::laws::classes_follow_the_place;
 use scram_text::laws::{has_one_client_first, spells_one_name};
 
 /// Clean are the first line alone; sessions that the client ends by `ABORT`, by a line that was not due, or
@@ -26,22 +29,27 @@ pub fn clean_logs()
         (one_session (codes "C AUTH SCRAM-SHA-1" ∷ codes "S CONT :" ∷ codes "C GONE" ∷ codes "E" ∷ [])) }
 {}
 
-/// Cut are the empty log, and a session behind each of its lines but the last.
+/// Cut are the empty log, and sessions behind each of their lines but the last.
 pub fn cut_logs()
     ensures empty { (accounts : Accounts) → IsWhy accounts [] 1 is_cut }
     ensures offer { (accounts : Accounts) → IsWhy accounts (one_session []) 3 is_cut }
     ensures abort { (accounts : Accounts) → IsWhy accounts (one_session (codes "C ABORT" ∷ [])) 4 is_cut }
     ensures end { (accounts : Accounts) → IsWhy accounts (one_session (codes "C ABORT" ∷ codes "S NO :" ∷ [])) 5 is_cut }
+    ensures gone { (accounts : Accounts) → IsWhy accounts (one_session (codes "C GONE" ∷ [])) 4 is_cut }
+    ensures auth { (accounts : Accounts) → IsWhy accounts (one_session (codes "C AUTH SCRAM-SHA-1" ∷ [])) 4 is_cut }
+    ensures invited { (accounts : Accounts) → IsWhy accounts
+        (one_session (codes "C AUTH SCRAM-SHA-1" ∷ codes "S CONT :" ∷ [])) 5 is_cut }
 {
     has_one_client_first();
     spells_one_name();
 }
 
-/// At fault are another first line, a line whose class is not due, other names of mechanisms, a challenge
-/// where none is due, and none where one is.
+/// At fault are another first line; a line whose class is not due, as a session that begins where `E` is due;
+/// other names of mechanisms; a challenge where none is due, and none where one is.
 pub fn faulty_logs()
     ensures first { (accounts : Accounts) → IsWhy accounts (ended_by_lf (codes "E" ∷ [])) 1 no_line }
     ensures order { (accounts : Accounts) → IsWhy accounts (ended_by_lf (first_text ∷ codes "C ABORT" ∷ [])) 2 out_of_order }
+    ensures end { (accounts : Accounts) → IsWhy accounts (one_session (codes "C GONE" ∷ offer_text ∷ [])) 4 out_of_order }
     ensures halt { (accounts : Accounts) → IsWhy accounts (one_session (codes "S HALT" ∷ [])) 3 out_of_order }
     ensures mechs { (accounts : Accounts) → IsWhy accounts
         (ended_by_lf (first_text ∷ codes "S MECHS SCRAM-SHA-1" ∷ [])) 2 other_mechs }
@@ -54,8 +62,36 @@ pub fn faulty_logs()
     spells_one_name();
 }
 
-/// Behind a halt nothing is due: whatever line follows is at fault.
+/// A log that ends with a halt is clean, and whatever line follows one is at fault: nothing is due behind it.
 pub fn halt_is_last()
-    ensures { (accounts : Accounts) (log : List LogLine) (told : List Told) (class : LineClass)
+    ensures clean { (accounts : Accounts) (texts : List (List ℕ)) (log : List LogLine) (told : List Told)
+        → AreWhole texts log → Begins (demands accounts) log halted told → IsClean accounts (ended_by_lf texts) }
+    ensures none { (accounts : Accounts) (log : List LogLine) (told : List Told) (class : LineClass)
         → Begins (demands accounts) log halted told → IsClassDue log class → ⊥ }
+    ensures more { (accounts : Accounts) (texts : List (List ℕ)) (log : List LogLine) (told : List Told)
+        (text : List ℕ) (line : LogLine) → AreWhole (texts ++ text ∷ []) (log ++ line ∷ [])
+        → Begins (demands accounts) log halted told
+        → IsWhy accounts (ended_by_lf (texts ++ text ∷ [])) (length texts + 1) out_of_order }
+{
+    has_one_client_first();
+    spells_one_name();
+    classes_follow_the_place();
+}
+
+/// Bytes without an LF are a log that is cut, up to the 6202 bytes that a line may have, and then no line.
+pub fn lines_end_with_lf()
+    ensures short { (accounts : Accounts) (rest : List ℕ) → LacksLf rest → length rest ≤ 6202 → IsWhy accounts rest 1 is_cut }
+    ensures long { (accounts : Accounts) (rest : List ℕ) → LacksLf rest → 6203 ≤ length rest → IsWhy accounts rest 1 no_line }
+{}
+
+/// Each session is counted once, by its first line; an accepted login and a code that passed each by its line,
+/// and a code that failed by none.
+pub fn counted_logs()
+    ensures sessions { (sessions : List Session)
+        → (counts_of (header ∷ flat_map session_lines sessions)).sessions ≡ length sessions }
+    ensures each { (names first challenge last message text : List ℕ) (moment counter : ℕ)
+        → counts_of (header ∷ said (mechs names) ∷ heard (auth_with names first) ∷ said (cont challenge)
+        ∷ heard (resp last) ∷ said (accepts message) ∷ heard (code text) ∷ said (replies moment (Some (Pass counter)))
+        ∷ heard (code text) ∷ said (replies moment (Some Fail)) ∷ gone ∷ ended ∷ [])
+        ≡ record { sessions = 1; accepted = 1; passed = 1 } }
 {}

@@ -1,5 +1,6 @@
 //! A new account, of a password.
 ghost use Rattle.std.specs.Prelude.{◌≡◌, ◌≤◌, None, IfErr, OnOk, OnErr, MatchOption};
+ghost use Rattle.hex.specs.Hex.{IsBytes};
 ghost use Rattle.mac_core.specs.Chosen.{length_by};
 ghost use Rattle.book_format.specs.Account.{AreKeys};
 ghost use Rattle.account_book.specs.Accounts.{account_at, IsAdded};
@@ -76,9 +77,18 @@ fn made_keys(mechanism: Mechanism, password: &Password, salt: &Salt, count: u32)
     ensures value { result ≡ keys_from mechanism password.now salt.now count }
     ensures range { AreKeys (length_by mechanism) result }
 {
+    let bytes = salt.bytes();
+    are_bytes(bytes);
     MechKeys {
         salt: salt.copy(),
         count,
-        keys: mechanism.scram_keys(password.bytes(), salt.bytes(), count),
+        keys: mechanism.scram_keys(password.bytes(), bytes, count),
     }
+}
+
+// A slice of bytes has bytes.
+fn are_bytes(bytes: &[u8])
+    ensures { IsBytes bytes.now }
+{
+    let _ = bytes;
 }

@@ -14,7 +14,8 @@ use std::alloc::{AllocError, Global};
 impl Book {
     /// The book that `bytes` are the text of, or the first fault (60 to 67): of the document, of `format`,
     /// of the document's keys, then of account by account in byte order of names. In each table unknown
-    /// keys come first, and then its keys in the order of the format. 99 NoMemory may come at any place.
+    /// keys come first, and then its keys in the order of the format; of a token, `kind` comes before
+    /// both. 99 NoMemory may come at any place.
     pub fn read(alloc: Global, bytes: &[u8]) -> Result<Book, BookFault>
         ensures found { IfOk result (λ book. IsBookText bytes.now book) }
         ensures only { (book : BookFields) → IsBookText bytes.now book

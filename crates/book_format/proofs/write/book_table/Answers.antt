@@ -7,4 +7,4 @@ use Rattle.book_format.proofs.write.book_table.Goals as goal
 pub returns-clause-stands : goal.returns-clause-stands
 returns-clause-stands c =
     subst (λ b. IsBookTree (book_tree b) b) c.book.view_is
-    (book_stands _ c.book.invariant c.put_decoy_key.ensures.len c.put_count.ensures.few c.put_decoy_key.ensures.back c.in_ok-accounts_table.ensures.stands)
+    (book_stands _ c.book.invariant c.put_decoy_key.ensures.len c.put_decoy_key.ensures.back c.in_ok-accounts_table.ensures.stands)

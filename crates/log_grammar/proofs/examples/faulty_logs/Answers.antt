@@ -1,4 +1,4 @@
-use Rattle.log_grammar.proofs.ExampleLemmas.{end_is_no_line, abort_is_early, halt_is_early, other_offer_why, invited_why, turned_away_why}
+use Rattle.log_grammar.proofs.ExampleLemmas.{end_is_no_line, end_is_missing, abort_is_early, halt_is_early, other_offer_why, invited_why, turned_away_why}
 use Rattle.log_grammar.proofs.examples.faulty_logs.Goals as goal
 
 pub returns-clause-first : goal.returns-clause-first
@@ -18,3 +18,6 @@ returns-clause-outcome c = invited_why c.has_one_client_first.ensures c.spells_o
 
 pub returns-clause-challenge : goal.returns-clause-challenge
 returns-clause-challenge c = turned_away_why c.has_one_client_first.ensures c.spells_one_name.ensures
+
+pub returns-clause-end : goal.returns-clause-end
+returns-clause-end c = end_is_missing c.has_one_client_first.ensures c.spells_one_name.ensures

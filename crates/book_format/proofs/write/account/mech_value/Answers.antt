@@ -4,5 +4,5 @@ use Rattle.book_format.proofs.write.account.mech_value.Goals as goal
 
 pub returns-clause-stands : goal.returns-clause-stands
 returns-clause-stands c = λ len fits.
-    mech_stands len c.args.keys.now fits c.bytes.ensures.fits c.put_count.ensures.few (subst ComesBack c.bytes.ensures.value c.put_hex.ensures.back)
+    mech_stands len c.args.keys.now fits (subst ComesBack c.bytes.ensures.value c.put_hex.ensures.back)
     (subst ComesBack c.as_slice.ensures.value c.put_hex-2.ensures.back) (subst ComesBack c.as_slice-2.ensures.value c.put_hex-3.ensures.back)

@@ -1,0 +1,14 @@
+use Rattle.std.proofs.Common.{◌∙◌, arith, sym, subst}
+use Rattle.hex.specs.Hex.{IsBytes}
+use Rattle.scram_text.specs.Class.{IsSalt}
+use Rattle.account_book.proofs.book.enrol.made_keys.Goals as goal
+
+pub returns-clause-range : goal.returns-clause-range
+returns-clause-range c = record {
+  salt = subst IsSalt (sym c.copy.ensures) c.bytes-bytes.ensures.fits;
+  salt_bytes = subst IsBytes (c.bytes-bytes.ensures.value ∙ sym c.copy.ensures) c.are_bytes.ensures;
+  some_count = c.requires;
+  most_count = omega (arith, c.ranges.count.fits);
+  stored = c.scram_keys.ensures.stored_len;
+  server = c.scram_keys.ensures.server_len;
+}

@@ -1,0 +1,14 @@
+use Rattle.std.proofs.Common.{inl, inr, ℕ, List, [], length, sym, subst, arith}
+use Rattle.std.proofs.lemmas.Bool.{cases_lt}
+use Rattle.log_grammar.specs.Bytes.{IsCut}
+use Rattle.log_grammar.proofs.consequences.clean_logs_have_no_fault.Goals as goal
+
+pub returns : goal.returns
+returns c = λ accounts bytes k clean fault.
+    let (lines, place, told, are, spells, ends) = clean in
+    let same = c.are_cut_one_way.ensures bytes are.0 fault.texts [] fault.rest are.1 fault.cut in
+    let cut = subst (λ (rest : List ℕ). IsCut bytes fault.texts rest) (sym same.1) fault.cut in
+    elim (cases_lt (length fault.texts) k) [
+      | inl behind ↦ fault.unclean (omega (arith, behind, fault.past)) clean
+      | inr within ↦ fault.within within (c.first_lines_of_clean_logs_are_fronts.ensures accounts bytes fault.texts k clean cut)
+    ]

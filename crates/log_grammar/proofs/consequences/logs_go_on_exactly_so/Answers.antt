@@ -1,0 +1,34 @@
+use Rattle.std.proofs.Common.{◌≡◌, List, ◌++◌, [], ◌∷◌, reverse, sym, subst}
+use Rattle.log_grammar.specs.Lines.{LogLine}
+use Rattle.log_grammar.specs.Sessions.{Told}
+use Rattle.log_grammar.specs.Demands.{Accounts, demands, AreReplies}
+use Rattle.log_grammar.specs.Places.{Place}
+use Rattle.log_grammar.specs.Steps.{Goes, told_at}
+use Rattle.log_grammar.specs.Clean.{Begins}
+use Rattle.log_grammar.specs.Laws.{GoesOnByALine, StoodBefore}
+use Rattle.log_grammar.proofs.consequences.logs_go_on_exactly_so.Goals as goal
+
+abbrev Stands : Accounts → Place → List Told → LogLine → Place → List Told → Type 0
+Stands accounts place told line next all =
+    Goes (demands accounts) place line next × AreReplies (demands accounts) (reverse told) (told_at place line) × (all ≡ told ++ told_at place line)
+
+there : (accounts : Accounts) (log : List LogLine) (place : Place) (told : List Told) (line : LogLine) (next : Place) (all : List Told)
+    → (s : StoodBefore accounts log line next all) → s.place ≡ place → s.told ≡ told → Stands accounts place told line next all
+there accounts log place told line next all s at also =
+    subst (λ (t : List Told). Stands accounts place t line next all) also
+    (subst (λ (p : Place). Stands accounts p s.told line next all) at (s.goes, s.due, s.tells))
+
+back : GoesOnByALine → (accounts : Accounts) (log : List LogLine) (place : Place) (told : List Told) (line : LogLine) (next : Place) (all : List Told)
+    → Begins (demands accounts) log place told → Stands accounts place told line next all → Begins (demands accounts) (log ++ line ∷ []) next all
+back on accounts log place told line next all begins stands =
+    subst (λ (t : List Told). Begins (demands accounts) (log ++ line ∷ []) next t) (sym stands.2)
+    (on accounts log place told line next begins stands.0 stands.1)
+
+pub returns : goal.returns
+returns c = λ accounts log place told line next all begins. (
+  λ longer.
+      let s = c.goes_on_by_no_other.ensures accounts log line next all longer in
+      let same = c.has_one_reading.ensures accounts log s.place place s.told told s.begins begins in
+      there accounts log place told line next all s same.0 same.1,
+  λ stands. back c.goes_on_by_a_line.ensures accounts log place told line next all begins stands,
+)

@@ -1,0 +1,9 @@
+use Rattle.std.proofs.Common.{refl}
+use Rattle.log_grammar.proofs.CountLemmas.{sessions_counted}
+use Rattle.log_grammar.proofs.examples.counted_logs.Goals as goal
+
+pub returns-clause-sessions : goal.returns-clause-sessions
+returns-clause-sessions c = sessions_counted
+
+pub returns-clause-each : goal.returns-clause-each
+returns-clause-each c = λ names first challenge last message text moment counter. refl

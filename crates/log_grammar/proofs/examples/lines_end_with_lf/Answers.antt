@@ -1,0 +1,8 @@
+use Rattle.log_grammar.proofs.EdgeLemmas.{short_is_cut, long_is_no_line}
+use Rattle.log_grammar.proofs.examples.lines_end_with_lf.Goals as goal
+
+pub returns-clause-short : goal.returns-clause-short
+returns-clause-short c = short_is_cut
+
+pub returns-clause-long : goal.returns-clause-long
+returns-clause-long c = long_is_no_line

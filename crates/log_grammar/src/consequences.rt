@@ -1,0 +1,98 @@
+//! What follows from the laws together, in the words of those who use them.
+ghost use Rattle.std.specs.Prelude.{ℕ, ◌≡◌, ◌⊎◌, ◌↔◌, List, [], ◌∷◌, ◌++◌, reverse, take, None};
+ghost use Rattle.std.specs.List.{AllByRecursion};
+ghost use Rattle.otp_core.specs.Secret.{IsMoment};
+ghost use Rattle.log_grammar.specs.Payload.{IsMessage};
+ghost use Rattle.log_grammar.specs.Lines.{Line, LogLine, client_text, resp, IsLine, IsLogLine, IsNoLogLine};
+ghost use Rattle.log_grammar.specs.Bytes.{ended_by_lf, IsCut};
+ghost use Rattle.log_grammar.specs.Sessions.{Told};
+ghost use Rattle.log_grammar.specs.Demands.{Accounts, demands, AreReplies};
+ghost use Rattle.log_grammar.specs.Histories.{HasNoReply};
+ghost use Rattle.log_grammar.specs.Places.{Place};
+ghost use Rattle.log_grammar.specs.Steps.{Goes, told_at};
+ghost use Rattle.log_grammar.specs.Clean.{Begins, IsFront, IsClean, IsFaultLine};
+ghost use Rattle.log_grammar.specs.Why.{Why, IsWhy};
+
+use crate::laws::{
+    are_cut, are_cut_one_way, clean_logs_are_fronts, each_account_has_its_history,
+    escapes_one_message, fronts_begin_with_fronts, goes_on_by_a_line, goes_on_by_no_other,
+    has_one_fault_line, has_one_reading, has_one_why, is_one_line, is_one_log_line,
+    line_is_decided, log_line_is_decided,
+};
+
+/// Each text is one line of the protocol or none, and one line of a log or none.
+pub fn each_text_is_one_line_or_none()
+    ensures protocol { (text : List ℕ) → ((line : Line) × IsLine text line × ((other : Line) → IsLine text other → other ≡ line))
+        ⊎ ((line : Line) → IsLine text line → ⊥) }
+    ensures log { (text : List ℕ)
+        → ((line : LogLine) × IsLogLine text line × ((other : LogLine) → IsLogLine text other → other ≡ line)) ⊎ IsNoLogLine text }
+{
+    is_one_line();
+    line_is_decided();
+    is_one_log_line();
+    log_line_is_decided();
+}
+
+/// All bytes are cut into lines in exactly one way.
+pub fn bytes_are_cut_in_one_way()
+    ensures { (bytes : List ℕ) → (texts : List (List ℕ)) × (rest : List ℕ) × IsCut bytes texts rest
+        × ((others : List (List ℕ)) (other : List ℕ) → IsCut bytes others other → (others ≡ texts) × (other ≡ rest)) }
+{
+    are_cut();
+    are_cut_one_way();
+}
+
+/// A line bears one message: no two that a client may send are spelled alike.
+pub fn lines_bear_one_message()
+    ensures { (one other : List ℕ) → IsMessage one → IsMessage other → client_text (resp one) ≡ client_text (resp other) → one ≡ other }
+{
+    escapes_one_message();
+}
+
+/// What a log begins with goes on by a line exactly where the line may stand behind its place, with the reply
+/// that is due where it is one: what a reader and a writer of a log have to decide at each line.
+pub fn logs_go_on_exactly_so()
+    ensures { (accounts : Accounts) (log : List LogLine) (place : Place) (told : List Told) (line : LogLine) (next : Place) (all : List Told)
+        → Begins (demands accounts) log place told
+        → Begins (demands accounts) (log ++ line ∷ []) next all
+        ↔ (Goes (demands accounts) place line next × AreReplies (demands accounts) (reverse told) (told_at place line)
+        × (all ≡ told ++ told_at place line)) }
+{
+    goes_on_by_a_line();
+    goes_on_by_no_other();
+    has_one_reading();
+}
+
+/// The first lines of a clean log are a front.
+pub fn first_lines_of_clean_logs_are_fronts()
+    ensures { (accounts : Accounts) (bytes : List ℕ) (texts : List (List ℕ)) (k : ℕ)
+        → IsClean accounts bytes → IsCut bytes texts [] → IsFront accounts (ended_by_lf (take k texts)) }
+{
+    clean_logs_are_fronts();
+    fronts_begin_with_fronts();
+}
+
+/// A clean log has no line at fault, so that no log is both.
+pub fn clean_logs_have_no_fault()
+    ensures { (accounts : Accounts) (bytes : List ℕ) (k : ℕ) → IsClean accounts bytes → IsFaultLine accounts bytes k → ⊥ }
+{
+    are_cut_one_way();
+    first_lines_of_clean_logs_are_fronts();
+}
+
+/// A log has one judgement: two that name a line and a reason are the same.
+pub fn logs_have_one_judgement()
+    ensures { (accounts : Accounts) (bytes : List ℕ) (k j : ℕ) (why other : Why)
+        → IsWhy accounts bytes k why → IsWhy accounts bytes j other → (k ≡ j) × (why ≡ other) }
+{
+    has_one_fault_line();
+    has_one_why();
+}
+
+/// To each code of an account without a token it is said that it has none, whatever others were told.
+pub fn no_reply_without_a_token()
+    ensures { (accounts : Accounts) (told : List Told) (account : List ℕ) → AllByRecursion (λ t. IsMoment t.moment) told
+        → AreReplies (demands accounts) [] told → accounts.token account ≡ None → AllByRecursion (HasNoReply account) told }
+{
+    each_account_has_its_history();
+}
