@@ -19,6 +19,7 @@ test: kit
 	python3 tests/vectors.py $(PROGRAM)
 	sh tests/process.sh $(PROGRAM)
 	python3 tests/books.py $(PROGRAM)
+	python3 tests/book_faults.py $(PROGRAM)
 
 build: kit $(PROGRAM)
 

@@ -1,0 +1,72 @@
+#!/usr/bin/env python3
+"""Compares what the built program says of account books, faulty ones for the most part, with a table.
+
+Usage: book_faults.py PROGRAM
+
+Beside this file, each row of book_faults.csv is a book: a file of book_faults/, in which `old` stands once
+and gets `new` in its place, and then `old2` gets `new2`. `\\n`, `\\\\` and `\\xNN` are written as in Python. The
+row's answer is a fault's number, as docs/FORMATS.md has it, or what `unlock` says of the account `user` in a
+book that it reads. A book is judged before a name is looked up, and one that is refused is left as it is.
+Exits at the first row that differs.
+"""
+import csv
+import pathlib
+import subprocess
+import sys
+import tempfile
+
+BOOKS = pathlib.Path(__file__).with_name("book_faults")
+TABLE = pathlib.Path(__file__).with_name("book_faults.csv")
+NUMBERS = {str(number) for number in range(60, 68)}
+
+
+def spelled(text):
+    """The bytes that a cell of the table spells."""
+    return text.encode("latin-1").decode("unicode_escape").encode("latin-1")
+
+
+def edited(row):
+    """The book of a row."""
+    book = (BOOKS / row["base"]).with_suffix(".toml").read_bytes()
+    for old, new in [(row["old"], row["new"]), (row["old2"], row["new2"])]:
+        if old:
+            if book.count(spelled(old)) != 1:
+                sys.exit(f"{TABLE.name}: {row}: what is replaced does not stand there once")
+            book = book.replace(spelled(old), spelled(new))
+    return book
+
+
+def due(answer):
+    """The status, the output and the faults of `unlock` where this is the answer."""
+    if answer == "unlocked user":
+        return 0, b"unlocked user\n", b""
+    fault = f"bad book: {answer}" if answer in NUMBERS else answer
+    return 1, b"", f"scramotp: {fault}\n".encode()
+
+
+def check(program, path, row):
+    """Runs a row; None where all is as it should be, else what the program did."""
+    book = edited(row)
+    path.write_bytes(book)
+    done = subprocess.run([program, "unlock", "--book", path, "--name", "user"], capture_output=True)
+    if (done.returncode, done.stdout, done.stderr) != due(row["answer"]):
+        return done
+    if done.returncode != 0 and path.read_bytes() != book:
+        return "the book has changed"
+    return None
+
+
+def main():
+    with open(TABLE, newline="", encoding="ascii") as table:
+        rows = list(csv.DictReader(table))
+    with tempfile.TemporaryDirectory() as folder:
+        for line, row in enumerate(rows, 2):
+            fault = check(sys.argv[1], pathlib.Path(folder, "book"), row)
+            if fault:
+                sys.exit(f"{TABLE.name}: line {line}: {row}: {fault}")
+    if not NUMBERS <= {row["answer"] for row in rows}:
+        sys.exit(f"{TABLE.name}: a number from 60 to 67 has no row")
+    print(f"{TABLE.name}: {len(rows)} rows as they should be")
+
+
+main()
