@@ -20,6 +20,7 @@ test: kit
 	sh tests/process.sh $(PROGRAM)
 	python3 tests/books.py $(PROGRAM)
 	python3 tests/book_faults.py $(PROGRAM)
+	python3 tests/book_commands.py $(PROGRAM)
 
 build: kit $(PROGRAM)
 

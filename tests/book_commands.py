@@ -1,0 +1,395 @@
+#!/usr/bin/env python3
+"""What the commands on an account book say, in which order they look, and what they leave behind.
+
+Usage: book_commands.py PROGRAM
+
+As root, runs the program as nobody where permissions have to count. Takes the 30 seconds for which runs
+wait for a lock. Exits at the first difference.
+"""
+import concurrent.futures
+import fcntl
+import json
+import os
+import pathlib
+import pwd
+import shutil
+import subprocess
+import sys
+import tempfile
+import tomllib
+
+# A copy of the program that nobody can run, wherever the program is.
+COPY = tempfile.TemporaryDirectory()
+os.chmod(COPY.name, 0o755)
+PROGRAM = shutil.copy(sys.argv[1], COPY.name)
+
+ROOT = os.geteuid() == 0
+NOBODY = pwd.getpwnam("nobody")
+AS_NOBODY = {"user": NOBODY.pw_uid, "group": NOBODY.pw_gid, "extra_groups": []} if ROOT else {}
+
+TOP = f"""format = 1
+decoy_key = "{bytes(range(32)).hex()}"
+decoy_count = 4096
+"""
+
+# The token of an account, and its first codes (RFC 4226, appendix D).
+TOKEN = """
+[accounts.{}.token]
+kind = "hotp"
+secret = "3132333435363738393031323334353637383930"
+digits = 6
+next = 0
+look_ahead = 3
+limit = 3
+failures = {}
+"""
+CODES = ["755224", "287082"]
+
+BARE = "\n[accounts.bare]\n"
+BOOK = TOP + TOKEN.format("user", 0) + BARE
+LOCKED = TOP + TOKEN.format("user", 3) + BARE
+
+# Each command's options beside the book, its input and its answer, where all is as it should be.
+GOOD = {
+    "enrol": ({"name": "new", "count": "1"}, "pencil\n", "enrolled new\n"),
+    "verify": ({"name": "user", "moment": "5"}, CODES[0], "PASS 5 0\n"),
+    "unlock": ({"name": "user"}, "", "unlocked user\n"),
+}
+
+# The most bytes of a book.
+MOST = 16777216
+
+
+def run(command, options, text="", **how):
+    """Runs a command. A text is its input, a number the open file that is its input."""
+    words = [f"--{name}={value}" for name, value in options.items()]
+    given = {"stdin": text} if isinstance(text, int) else {"input": text}
+    streams = {"stdout": subprocess.PIPE, "stderr": subprocess.PIPE, "text": True, **given, **how}
+    return subprocess.run([PROGRAM, command, *words], **streams)
+
+
+def well(command, book, **how):
+    """Runs a command on a book, with all else as it should be."""
+    options, text, _ = GOOD[command]
+    return run(command, {"book": book, **options}, text, **how)
+
+
+def same(what, got, want):
+    if got != want:
+        sys.exit(f"book_commands.py: {what}: {got!r}, not {want!r}")
+
+
+def says(what, done, status, output, fault=""):
+    """Compares what a run answered. A fault is given without its beginning."""
+    faults = f"scramotp: {fault}\n" if fault else ""
+    same(what, (done.returncode, done.stdout, done.stderr), (status, output, faults))
+
+
+def succeeds(command, book, **how):
+    says(command, well(command, book, **how), 0, GOOD[command][2])
+
+
+def put(path, text=BOOK):
+    pathlib.Path(path).write_text(text)
+    return path
+
+
+def read(path):
+    with open(path, "rb") as book:
+        return tomllib.load(book)
+
+
+def token(path, name="user"):
+    return read(path)["accounts"][name]["token"]
+
+
+def access(path):
+    found = os.stat(path)
+    return found.st_mode, found.st_uid, found.st_gid
+
+
+def seen(path):
+    """What shows that a file was written or replaced."""
+    found = os.stat(path)
+    return found.st_ino, found.st_mtime_ns, access(path), pathlib.Path(path).read_bytes()
+
+
+def climb(command, options, text, rungs):
+    """Runs a command that has many faults, and mends the one that it answers: each rung is an answer (status,
+    output, fault) and what is mended behind it, which is options, another input, or a call."""
+    for answer, mended in rungs:
+        says(f"{command} {options}", run(command, options, text), *answer)
+        if isinstance(mended, dict):
+            options = {**options, **mended}
+        elif callable(mended):
+            mended()
+        else:
+            text = mended
+
+
+def order_of_enrol(folder):
+    """The options, the password, the book, the random file, and only then whether the name is taken."""
+    book, random = os.path.join(folder, "book"), pathlib.Path(folder, "random")
+    random.write_bytes(bytes(31))
+    climb("enrol", {"random": random, "count": "0", "name": "", "book": book}, "", [
+        ((2, "", "bad value for --name"), {"name": "user"}),
+        ((2, "", "bad value for --count"), {"count": "1"}),
+        ((2, "", "bad password"), lambda: put(book, "")),
+        ((2, "", "bad password"), "pencil"),
+        ((1, "", "bad book: 61"), lambda: put(book)),
+        ((3, "", f"cannot read {random}"), lambda: random.write_bytes(bytes(32))),
+        ((1, "", "name is taken"), {"name": "new"}),
+        ((0, "enrolled new\n"), ""),
+    ])
+
+
+def order_of_a_new_book(folder):
+    """A bad password, or a random file of less than 64 bytes, makes no book."""
+    book, random = os.path.join(folder, "book"), pathlib.Path(folder, "random")
+    climb("enrol", {"random": random, "name": "user", "count": "1", "book": book}, "\n", [
+        ((2, "", "bad password"), "pencil"),
+        ((3, "", f"cannot read {random}"), lambda: random.write_bytes(bytes(63))),
+        ((3, "", f"cannot read {random}"), lambda: same("folder", os.listdir(folder), ["random"])),
+        ((3, "", f"cannot read {random}"), lambda: random.write_bytes(bytes(64))),
+        ((0, "enrolled user\n"), ""),
+    ])
+
+
+def order_of_verify(folder):
+    """The options, the book, the account, its token, and only then the input, which can't be read here."""
+    book = os.path.join(folder, "book")
+    unreadable = os.open(folder, os.O_RDONLY)
+    climb("verify", {"moment": "x", "name": "", "book": book}, unreadable, [
+        ((2, "", "bad value for --name"), {"name": "nobody"}),
+        ((2, "", "bad value for --moment"), {"moment": "5"}),
+        ((3, "", f"cannot read {book}"), lambda: put(book, "format = 2")),
+        ((1, "", "bad book: 61"), lambda: put(book)),
+        ((1, "", "no such account"), {"name": "bare"}),
+        ((1, "", "no token"), {"name": "user"}),
+        ((3, "", "cannot read input"), CODES[0]),
+        ((0, "PASS 5 0\n"), ""),
+    ])
+    os.close(unreadable)
+
+
+def order_of_unlock(folder):
+    """The name, the book, the account, its token."""
+    book = os.path.join(folder, "book")
+    climb("unlock", {"name": "", "book": book}, "", [
+        ((2, "", "bad value for --name"), {"name": "nobody"}),
+        ((3, "", f"cannot read {book}"), lambda: put(book, "format = 2")),
+        ((1, "", "bad book: 61"), lambda: put(book)),
+        ((1, "", "no such account"), {"name": "bare"}),
+        ((1, "", "no token"), {"name": "user"}),
+        ((0, "unlocked user\n"), ""),
+    ])
+
+
+def bad_values(folder):
+    """Each value that an option refuses, beside a book that is none."""
+    book = put(os.path.join(folder, "book"), "")
+    numbers = ["", "-1", "+1", "01", "1 ", "1.0", "1e3", "0x1", "one", "18446744073709551616"]
+    bad = [("enrol", "count", value) for value in [*numbers, "0", "4294967296"]]
+    bad += [("verify", "moment", value) for value in [*numbers, "253402300800"]]
+    for name in ["", "n" * 256, "a\tb", "a\x7f", "\u00e9"]:
+        bad += [(command, "name", name) for command in GOOD]
+    for command, option, value in bad:
+        options, text, _ = GOOD[command]
+        done = run(command, {"book": book, **options, option: value}, text)
+        says(f"{command} --{option}={value!r}", done, 2, "", f"bad value for --{option}")
+
+
+def values_at_their_limits(folder):
+    """As many rounds as the greatest count asks for would take long, so there the password is a bad one."""
+    book = put(os.path.join(folder, "book"))
+    done = run("enrol", {"book": book, "name": "n" * 255, "count": "4294967295"}, "")
+    says("the greatest count", done, 2, "", "bad password")
+    for counter, moment in enumerate(["0", "253402300799"]):
+        done = run("verify", {"book": book, "name": "user", "moment": moment}, CODES[counter])
+        says(f"moment {moment}", done, 0, f"PASS {moment} {counter}\n")
+
+
+def no_file(folder):
+    """No book is at a folder's name, behind a link to nothing, in a folder that is not there, or at no name."""
+    inner, link = os.path.join(folder, "inner"), os.path.join(folder, "link")
+    os.mkdir(inner)
+    os.symlink("nothing", link)
+    nowhere = [os.path.join(folder, "no", name) for name in ["book", ".."]]
+    for command in GOOD:
+        for book in [inner, link, *nowhere, ""]:
+            says(f"{command} on {book}", well(command, book), 3, "", f"cannot read {book}")
+    same("folder", sorted(os.listdir(folder)), ["inner", "link"])
+
+
+def unreadable(folder):
+    """A book that may not be read, and one in a folder that may not."""
+    book = put(os.path.join(folder, "book"))
+    for path, mode in [(book, 0o000), (folder, 0o311)]:
+        before = os.stat(path).st_mode
+        os.chmod(path, mode)
+        for command in GOOD:
+            says(f"{command}: {path}", well(command, book, **AS_NOBODY), 3, "", f"cannot read {book}")
+        os.chmod(path, before)
+    same("the book", pathlib.Path(book).read_text(), BOOK)
+
+
+def longest(folder):
+    """A book of 16777216 bytes is read, and none that has one more."""
+    book = os.path.join(folder, "book")
+    for command in GOOD:
+        text = BOOK + "#" * (MOST - len(BOOK))
+        put(book, text + "#")
+        says(f"{command} on one byte more", well(command, book), 3, "", f"cannot read {book}")
+        put(book, text)
+        succeeds(command, book)
+
+
+def unwritable(folder):
+    """Where the folder may not be written the old book stays, and nobody is told of a change."""
+    book, new = put(os.path.join(folder, "book")), os.path.join(folder, "new")
+    if ROOT:
+        for path in [book, folder]:
+            os.chown(path, NOBODY.pw_uid, NOBODY.pw_gid)
+    before = seen(book)
+    os.chmod(folder, 0o555)
+    for command in GOOD:
+        says(command, well(command, book, **AS_NOBODY), 3, "", f"cannot write {book}")
+    says("a new book", well("enrol", new, **AS_NOBODY), 3, "", f"cannot write {new}")
+    same("the book", seen(book), before)
+    same("the folder", os.listdir(folder), ["book"])
+    os.chmod(folder, 0o755)
+    for command in GOOD:
+        succeeds(command, book, **AS_NOBODY)
+
+
+def full_output(folder):
+    """What a reply tells is saved before it; where it can't be told, nothing more is judged."""
+    book = put(os.path.join(folder, "book"), LOCKED)
+    with open("/dev/full", "w") as full:
+        for command in ["unlock", "enrol"]:
+            says(command, well(command, book, stdout=full), 3, None, "cannot write output")
+        options = {"book": book, **GOOD["verify"][0]}
+        done = run("verify", options, "\n".join(CODES), stdout=full)
+        says("verify", done, 3, None, "cannot write output")
+    same("accounts", sorted(read(book)["accounts"]), ["bare", "new", "user"])
+    same("the token", (token(book)["next"], token(book)["failures"]), (1, 0))
+
+
+def unsaved(folder):
+    """LOCKED saves nothing, nor what is refused, nor an empty input."""
+    book = put(os.path.join(folder, "book"), LOCKED)
+    before = seen(book)
+    user, bare = {"book": book, **GOOD["verify"][0]}, {"book": book, "name": "bare"}
+    says("a locked token", run("verify", user, "\n".join(CODES)), 1, "LOCKED 5\nLOCKED 5\n")
+    says("no input", run("verify", user), 0, "")
+    says("no token", run("unlock", bare), 1, "", "no token")
+    says("a name that is taken", run("enrol", bare, "pencil"), 1, "", "name is taken")
+    same("the book", seen(book), before)
+
+
+def unlocked(folder):
+    """`unlock` saves always, also where no code has failed."""
+    book = put(os.path.join(folder, "book"), LOCKED)
+    for _ in range(2):
+        before = seen(book)
+        succeeds("unlock", book)
+        same("failures", token(book)["failures"], 0)
+        same("whether the file is another", seen(book)[0] != before[0], True)
+
+
+def owner(folder):
+    """A book keeps its owner, its group and its mode, or it is not saved. Only root can try this."""
+    book = put(os.path.join(folder, "book"))
+    os.chown(book, 1234, 4321)
+    os.chmod(book, 0o640)
+    before = access(book)
+    for command in GOOD:
+        succeeds(command, book)
+        same(f"access behind {command}", access(book), before)
+    put(book)
+    os.chmod(book, 0o666)
+    os.chmod(folder, 0o777)
+    before = seen(book)
+    for command in GOOD:
+        says(command, well(command, book, **AS_NOBODY), 3, "", f"cannot write {book}")
+    same("another's book", seen(book), before)
+    same("the folder", os.listdir(folder), ["book"])
+
+
+# Names that TOML takes bare, has to quote, has to escape, or could take for something else.
+NAMES = [
+    *" !\"#$%&'()*+,-./09:;<=>?@AZ[\\]^_`az{|}~",
+    *["a.b", "a b", " a ", "it's", 'say "a"', "''", '""', "'''", '"""', '\'"\\', "C:\\mail", "\\n", "\\u0041"],
+    *["# a", "a = b", "'a' = 1", "[a]", "[[a]]", "{ a = 1 }", "a, b", "user@example.org", "-x", "--help"],
+    *["true", "1", "-1", "1.5", "inf", "1979-05-27", "format", "accounts", "token", "n" * 255],
+]
+
+
+def names(folder):
+    """Each name stands in the book as it was given, and is found there, also where a person's hand quoted it."""
+    book = put(os.path.join(folder, "book"), TOP)
+    for name in NAMES:
+        options = {"book": book, "name": name}
+        says(f"unlock of {name!r}", run("unlock", options), 1, "", "no such account")
+        says(f"enrol of {name!r}", run("enrol", {**options, "count": "1"}, "pencil"), 0, f"enrolled {name}\n")
+        says(f"unlock of {name!r}", run("unlock", options), 1, "", "no token")
+    same("names", list(read(book)["accounts"]), sorted(NAMES))
+    with open(book, "a") as text:
+        text.writelines(TOKEN.format(json.dumps(name), 0) for name in NAMES)
+    for name in NAMES:
+        done = run("verify", {"book": book, "name": name, "moment": "5"}, CODES[0])
+        says(f"verify of {name!r}", done, 0, "PASS 5 0\n")
+    same("names", list(read(book)["accounts"]), sorted(NAMES))
+    same("counters", {token(book, name)["next"] for name in NAMES}, {1})
+
+
+def start_waiting(folder, beside):
+    """Holds the folder, and starts each command in it, `enrol` also on a new book."""
+    book, new = put(os.path.join(folder, "book")), os.path.join(folder, "new")
+    fcntl.flock(os.open(folder, os.O_RDONLY), fcntl.LOCK_EX)
+    runs = [*[(command, book) for command in GOOD], ("enrol", new)]
+    return [(command, path, beside.submit(well, command, path)) for command, path in runs]
+
+
+def end_waiting(folder, started):
+    """Those that waited in vain leave the book as it was, and no further file."""
+    for command, path, running in started:
+        says(f"{command} in a held folder", running.result(), 3, "", f"cannot read {path}")
+    same("the held folder", os.listdir(folder), ["book"])
+    same("the book", pathlib.Path(folder, "book").read_text(), BOOK)
+
+
+TESTS = [
+    order_of_enrol,
+    order_of_a_new_book,
+    order_of_verify,
+    order_of_unlock,
+    bad_values,
+    values_at_their_limits,
+    no_file,
+    unreadable,
+    longest,
+    unwritable,
+    full_output,
+    unsaved,
+    unlocked,
+    names,
+]
+if ROOT:
+    TESTS.append(owner)
+else:
+    print("book_commands.py: not root, so owners and groups are not tested")
+
+
+def main():
+    with tempfile.TemporaryDirectory() as held, concurrent.futures.ThreadPoolExecutor() as beside:
+        started = start_waiting(held, beside)
+        for test in TESTS:
+            with tempfile.TemporaryDirectory() as folder:
+                os.chmod(folder, 0o755)
+                test(folder)
+        end_waiting(held, started)
+    print(f"book_commands.py: {len(TESTS) + 1} passed")
+
+
+main()
