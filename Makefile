@@ -37,7 +37,7 @@ bench: build
 	python3 bench/keys.py $(PROGRAM)
 	python3 bench/messages.py crates/bench/out/bench
 	python3 bench/verdicts.py crates/bench/out/bench
-	python3 bench/books.py $(PROGRAM)
+	python3 bench/books.py $(PROGRAM) crates/bench/out/bench
 
 clean:
 	rm -rf crates/*/out

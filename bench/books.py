@@ -1,11 +1,12 @@
 #!/usr/bin/env python3
-"""Times the program on a book of 1000 accounts beside Python's tomllib reading the same text.
+"""Times a book of 1000 accounts: its reading alone, and runs of the program, beside Python's tomllib on the same text.
 
-Usage: books.py PROGRAM
+Usage: books.py PROGRAM BENCH
 
-Each account has keys for both mechanisms, and one has a token. `verify` with no input starts, takes hold of
-the book, reads it and ends; with one code it also judges the code, writes the book and puts it in the
-place of the old one, synced. tomllib reads the text alone, in a process that has begun. Best of several turns.
+BENCH is the built crate bench. Each account has keys for both mechanisms, and one has a token. `Book::read`
+and `tomllib.loads` each make a book, or a dict, of the text in memory and drop it, without the time of a
+start. `verify` with no input starts, takes hold of the book, reads it and ends; with one code it also judges
+the code, writes the book and puts it in the place of the old one, synced. Wall time, best of several turns.
 """
 import hashlib
 import os
@@ -16,7 +17,8 @@ import time
 import tomllib
 
 ACCOUNTS = 1000
-TURNS = 7
+TURNS = 20
+READINGS = 5  # a turn
 SECRET = b"12345678901234567890"
 CODE = "755224"  # RFC 4226, appendix D: counter 0
 
@@ -54,8 +56,7 @@ secret = "{SECRET.hex()}"
     return "".join(parts)
 
 
-def verify(program, book, given, want):
-    words = [program, "verify", "--book", book, "--name", "user0500", "--moment", "5"]
+def seconds(words, given, want):
     begun = time.perf_counter()
     done = subprocess.run(words, input=given, capture_output=True, text=True)
     taken = time.perf_counter() - begun
@@ -66,25 +67,39 @@ def verify(program, book, given, want):
 
 def by_tomllib(content):
     begun = time.perf_counter()
-    tomllib.loads(content)
-    return time.perf_counter() - begun
+    for _ in range(READINGS):
+        tomllib.loads(content)
+    return (time.perf_counter() - begun) / READINGS
 
 
-def main():
-    program, content = sys.argv[1], text()
-    read, judged, python = [], [], []
+def times(program, bench, content):
+    """The best seconds of a run of bench that reads the file alone and of one that reads the book too, of verify
+    with no code and with one, and of tomllib."""
+    turns = []
     with tempfile.TemporaryDirectory() as folder:
         book = os.path.join(folder, "book.toml")
+        verify = [program, "verify", "--book", book, "--name", "user0500", "--moment", "5"]
         for _ in range(TURNS):
             with open(book, "w") as file:
                 file.write(content)
-            read.append(verify(program, book, "", ""))
-            judged.append(verify(program, book, CODE + "\n", "PASS 5 0\n"))
-            python.append(by_tomllib(content))
-    print(
-        f"book of {ACCOUNTS} accounts, {len(content)} bytes: verify with no code {min(read) * 1000:.1f} ms, "
-        f"with one code {min(judged) * 1000:.1f} ms; tomllib alone {min(python) * 1000:.1f} ms"
-    )
+            turns.append((
+                seconds([bench, "book", "0", book], "", "book 0 of 0\n"),
+                seconds([bench, "book", str(READINGS), book], "", f"book {READINGS} of {READINGS}\n"),
+                seconds(verify, "", ""),
+                seconds(verify, CODE + "\n", "PASS 5 0\n"),
+                by_tomllib(content),
+            ))
+    return [min(column) for column in zip(*turns)]
+
+
+def main():
+    program, bench = sys.argv[1:]
+    content = text()
+    start, read, held, judged, python = times(program, bench, content)
+    ours = (read - start) / READINGS
+    print(f"book of {ACCOUNTS} accounts, {len(content)} bytes; ratios to tomllib.loads, {python * 1000:.1f} ms:")
+    for what, taken in (("Book::read", ours), ("verify with no code", held), ("verify with one code", judged)):
+        print(f"{what}: {taken * 1000:.1f} ms, ratio {taken / python:.2f}")
 
 
 main()

@@ -3,11 +3,14 @@
 //! `bench KIND COUNT TEXT` reads the message TEXT of that kind COUNT times, and prints how often it was
 //! read; `bench hotp COUNT SECRET` makes the codes of the counters below COUNT, and prints the last;
 //! `bench verdict COUNT TEXT` judges TEXT COUNT times as the client-final message of RFC 7677's example,
-//! and prints how often it was accepted.
+//! and prints how often it was accepted; `bench book COUNT FILE` reads the bytes of FILE once and the
+//! account book of them COUNT times, and prints how often they were one, as `book 20 of 20`.
 #![tactic(auto)]
 
+mod book;
 mod login;
 
+use crate::book::print_readings;
 use crate::login::print_verdicts;
 use mac_core::{HSha1, Prepared};
 use otp_core::{Digits, Secret, hotp_with};
@@ -62,6 +65,7 @@ fn main(rt: HostRuntime) -> io::Result<ExitCode> {
     match kind.as_str() {
         "hotp" => print_codes(&rt, text.as_bytes(), count)?,
         "verdict" => print_verdicts(&rt, text.as_bytes(), count)?,
+        "book" => print_readings(&rt, text.as_str(), count)?,
         kind => println!(rt; "{kind} {}", readings(kind, text.as_bytes(), count))?,
     }
     Ok(ExitCode::SUCCESS)
