@@ -1,12 +1,11 @@
 //! The command `enrol`: a new account, of a password.
 use crate::fault::Fault;
-use crate::file_store::FileStore;
 use crate::held_book::{Found, HeldBook};
-use crate::lock::Lockable;
 use crate::random::Random;
 use crate::value::Judged;
 use crate::{held_book, input, value};
 use account_book::Book;
+use book_file::{FileStore, Lockable};
 use clap::ArgMatches;
 use scram_text::{Password, Salt};
 use std::fs::Files;

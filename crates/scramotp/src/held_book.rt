@@ -6,11 +6,9 @@ ghost use Rattle.account_book.specs.Accounts.{account_at, IsAdded, IsChanged};
 ghost use Rattle.account_book.specs.Enrolled.{enrolled};
 ghost use Rattle.account_book.specs.Tokens.{IsAttempt, token_at, with_token};
 
-use crate::book_file::BookFile;
 use crate::fault::Fault;
-use crate::file_store::FileStore;
-use crate::lock::Lockable;
 use account_book::{Book, BookStore, BookWhy, EnrolFault, Reply};
+use book_file::{BookFile, FileStore, Lockable};
 use otp_core::Moment;
 use scram_text::{Password, PlainName, Salt};
 use std::alloc::Global;
@@ -60,13 +58,16 @@ where
 }
 
 // The book of this text, which is that of the file.
-fn read_text<'a, 'r, R: Files>(
+fn read_text<'a, 'r, R>(
     alloc: Global,
     file: BookFile<'r, R>,
     text: String,
     path: &'a str,
 ) -> Result<HeldBook<'a, FileStore<'r, R>>, Fault>
-    ensures { IfOk result (λ held. IsBookText (string_bytes held.store.saved) held.book) }
+where
+    R: Files + Clock + AllocGlobal,
+    R::File: Lockable,
+    ensures { IfOk result (λ held. IsBookText (⟦<FileStore<'r, R> as BookStore>⟧.facts held.store).saved held.book) }
 {
     let book = Book::read(alloc, text.as_bytes())?;
     let store = FileStore::new(file, text);

@@ -5,16 +5,12 @@
 #![tactic(auto)]
 
 mod asked;
-mod book_file;
 mod code;
 mod enrol;
 mod fault;
-mod file_store;
 mod held_book;
 mod input;
 mod keys;
-mod lock;
-mod place;
 mod random;
 mod run;
 #[cfg(test)]

@@ -3,8 +3,8 @@ ghost use Rattle.std.specs.Prelude.{◌≡◌, ◌≤◌};
 ghost use Rattle.scramotp.specs.Fault.{status_of};
 
 use crate::fault::Fault;
-use crate::lock::Lockable;
 use crate::{code, enrol, keys, unlock, verify, words};
+use book_file::Lockable;
 use clap::ArgMatches;
 use clap::error::ErrorKind;
 use std::convert::AsStr;

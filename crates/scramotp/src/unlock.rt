@@ -1,8 +1,8 @@
 //! The command `unlock`: a token takes attempts again.
 use crate::fault::Fault;
-use crate::lock::Lockable;
 use crate::value::Judged;
 use crate::{held_book, value};
+use book_file::Lockable;
 use clap::ArgMatches;
 use std::fs::Files;
 use std::io::Write;

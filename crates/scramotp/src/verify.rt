@@ -1,14 +1,14 @@
 //! The command `verify`: each input line judged as a one-time code.
-ghost use Rattle.std.specs.Prelude.{◌≡◌, IfOk, string_bytes};
-ghost use Rattle.scramotp.specs.Verify.{printed_reply};
+ghost use Rattle.std.specs.Prelude.{◌≡◌, ◌&&◌, IfOk, string_bytes};
+ghost use Rattle.scramotp.specs.Verify.{is_pass, printed_reply};
 
 use crate::fault::Fault;
 use crate::held_book::HeldBook;
 use crate::input::Lines;
-use crate::lock::Lockable;
 use crate::value::Judged;
 use crate::{held_book, value};
 use account_book::{BookStore, Reply};
+use book_file::Lockable;
 use clap::ArgMatches;
 use otp_core::Moment;
 use scram_text::PlainName;
@@ -57,9 +57,16 @@ fn answer_lines<S: BookStore, I: BufRead, O: Write>(
         };
         let reply = held.attempt(alloc, name, moment, line.as_slice())?;
         print_reply(alloc, moment, reply, output)?;
-        all_passed = all_passed && matches!(reply, Reply::Pass(_));
+        all_passed = and_passed(all_passed, reply);
     }
     Ok(all_passed)
+}
+
+// Whether each reply so far is a pass, and this one too.
+fn and_passed(so_far: bool, reply: Reply) -> bool
+    ensures { result ≡ (so_far && is_pass reply) }
+{
+    so_far && matches!(reply, Reply::Pass(_))
 }
 
 // Prints a reply at once.

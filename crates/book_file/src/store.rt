@@ -3,7 +3,7 @@ ghost use Rattle.std.specs.Prelude.{◌≡◌, ◌<◌, ◌+◌, ◌^◌, [], st
 ghost use Rattle.account_book.specs.Store.{StoreFacts};
 ghost use Rattle.std.specs.Option.{is_some, option_map, unwrap_or};
 
-use crate::book_file::BookFile;
+use crate::file::BookFile;
 use crate::lock::Lockable;
 use account_book::{BookStore, StoreFault};
 use std::fs::Files;
@@ -25,12 +25,15 @@ pub struct FileStore<'a, R: Files> {
     ghost room: { failing ≡ None → saves + 1 < 2 ^ 64 },
 }
 
-impl<'a, R: Files> FileStore<'a, R> {
+impl<'a, R> FileStore<'a, R>
+where
+    R: Files + Clock + AllocGlobal,
+    R::File: Lockable,
+{
     /// The store over a book's file, which has this text.
     pub fn new(file: BookFile<'a, R>, text: String) -> FileStore<'a, R>
-        ensures saved { result.saved ≡ text }
-        ensures working { result.failing ≡ None }
-        ensures saves { result.saves ≡ 0 }
+        ensures { ⟦<FileStore<'a, R> as BookStore>⟧.facts result
+            ≡ record { saved = string_bytes text; asked = string_bytes text; failed = false; saves = 0 } }
     {
         FileStore {
             file,

@@ -1,15 +1,33 @@
 //! Tests of a book's file and its store, on files of a folder of their own.
-use super::faulty::{Faulty, Turns};
-use super::folder;
-use super::folder::has;
-use crate::book_file::BookFile;
-use crate::file_store::FileStore;
+mod folder;
+
+use crate::faulty::{Calls, Faulty};
+use crate::{BookFile, FileStore};
 use account_book::{BookStore, StoreFault};
+use folder::has;
 use std::fs;
 use std::fs::{File, OpenFile, Permissions};
 use std::io::ErrorKind;
 use std::os::unix::fs::{PermissionsExt, symlink};
 use std::test::Fail;
+
+// What a run that reads a book and saves it once asks of the file system, each with the end of its path.
+const READ_AND_SAVED: [(&str, &str); 14] = [
+    ("canonicalize", "/book"),
+    ("open_file", ""),
+    ("try_hold", ""),
+    ("open_file", "/book"),
+    ("read", "/book"),
+    ("remove_file", "/book.new"),
+    ("open_file", "/book.new"),
+    ("metadata", "/book"),
+    ("lchown", "/book.new"),
+    ("set_permissions", "/book.new"),
+    ("write", "/book.new"),
+    ("sync_all", "/book.new"),
+    ("rename", "/book.new"),
+    ("sync_all", ""),
+];
 
 fn text(rt: &HostRuntime, text: &str) -> Result<String, Fail> {
     Ok(format!(in rt.alloc(); "{text}")?)
@@ -76,10 +94,10 @@ fn paths_that_name_no_file(rt: HostRuntime) -> Result<(), Fail> {
 fn one_run_at_a_time(rt: HostRuntime) -> Result<(), Fail> {
     let folder = folder::make(&rt, "lock")?;
     let book = format!(in rt.alloc(); "{folder}/book")?;
-    let turns = Turns::new(0);
+    let calls = Calls::new(rt.alloc(), 0);
     let hasty = Faulty {
         rt: &rt,
-        turns: &turns,
+        calls: &calls,
     };
     let first = BookFile::hold(&rt, book.as_str())?;
     let second = BookFile::hold(&hasty, book.as_str()).map(|_| ());
@@ -109,6 +127,30 @@ fn the_longest_book(rt: HostRuntime) -> Result<(), Fail> {
     Ok(fs::remove_dir_all(&rt, folder.as_str())?)
 }
 
+// The folder is locked once, before the book is read. A new text is on its device before it has the book's name,
+// and the name is on its device before the save ends.
+#[test]
+fn the_order_of_calls(rt: HostRuntime) -> Result<(), Fail> {
+    let folder = folder::make(&rt, "order")?;
+    let book = format!(in rt.alloc(); "{folder}/book")?;
+    fs::write(&rt, book.as_str(), "old")?;
+    let calls = Calls::new(rt.alloc(), 0);
+    let noting = Faulty {
+        rt: &rt,
+        calls: &calls,
+    };
+    let file = BookFile::hold(&noting, book.as_str())?;
+    assert!(rt; file.read()?.is_some());
+    let mut store = FileStore::new(file, text(&rt, "old")?);
+    assert!(rt; store.save(text(&rt, "new")?).is_ok());
+    let mut wanted = String::new(rt.alloc());
+    for (call, end) in READ_AND_SAVED {
+        wanted.push_str(format!(in rt.alloc(); "{call} {folder}{end}\n")?.as_str())?;
+    }
+    assert!(rt; calls.were(wanted.as_str()));
+    Ok(fs::remove_dir_all(&rt, folder.as_str())?)
+}
+
 // Whichever call of the file system fails, the book has its old text or the new one, and a store that
 // has failed stays failed.
 #[test]
@@ -118,10 +160,10 @@ fn each_call_fails_in_turn(rt: HostRuntime) -> Result<(), Fail> {
     let mut saved_at_last = false;
     for failing in 1..40u32 {
         fs::write(&rt, book.as_str(), "old")?;
-        let turns = Turns::new(failing);
+        let calls = Calls::new(rt.alloc(), failing);
         let faulty = Faulty {
             rt: &rt,
-            turns: &turns,
+            calls: &calls,
         };
         let Ok(file) = BookFile::hold(&faulty, book.as_str()) else {
             assert!(rt; has(&rt, book.as_str(), "old"), "{failing}");
@@ -131,7 +173,7 @@ fn each_call_fails_in_turn(rt: HostRuntime) -> Result<(), Fail> {
         let saved = store.save(text(&rt, "new")?);
         if saved.is_ok() {
             assert!(rt; has(&rt, book.as_str(), "new"), "{failing}");
-            saved_at_last = !turns.are_over();
+            saved_at_last = !calls.are_over();
             if saved_at_last {
                 break;
             }

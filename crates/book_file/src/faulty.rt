@@ -1,24 +1,33 @@
-//! A runtime in which one call to the file system fails, and pauses take no time.
+//! For tests of what works on files: a runtime that notes each call to the file system and fails at one of
+//! them. Pauses take no time.
 use crate::lock::Lockable;
 use std::alloc::{Alloc, Allocator, Global};
-use std::cell::Cell;
+use std::cell::{Cell, RefCell};
 use std::fs::{File, Files, Metadata, OpenFile, OpenOptions, Permissions};
 use std::io;
 use std::io::{ErrorKind, Read, Seek, SeekFrom, Write};
 use std::path::PathBuf;
 use std::time::{Clock, Duration};
 
-/// The calls until one fails: 1 where the next one does, 0 where none will.
+/// The calls that were made, and the one that is to fail.
 #[derive(Drop)]
-pub struct Turns {
+pub struct Calls {
+    // The calls until one fails: 1 where the next one does, 0 where none will.
     left: Cell<u32>,
+
+    alloc: Global,
+
+    // A line for each call, with the path that it is for; calls that are alike in a row have one line.
+    noted: RefCell<String>,
 }
 
-impl Turns {
+impl Calls {
     /// The call of this number fails, from 1 on, and no other; none where it is 0.
-    pub fn new(failing: u32) -> Turns {
-        Turns {
+    pub fn new(alloc: Global, failing: u32) -> Calls {
+        Calls {
             left: Cell::new(failing),
+            alloc,
+            noted: RefCell::new(String::new(alloc)),
         }
     }
 
@@ -27,7 +36,23 @@ impl Turns {
         self.left.get() == 0
     }
 
-    fn turn(&self) -> io::Result<()> {
+    /// Whether the calls were these: a line for each, its name and its path, where calls that are alike in a row
+    /// have one line.
+    pub fn were(&self, calls: &str) -> bool {
+        match self.noted.try_borrow() {
+            Ok(noted) => noted.as_str() == calls,
+            Err(_) => false,
+        }
+    }
+
+    // Notes a call, and fails where it is the one that is to fail.
+    fn make(&self, call: &str, path: &str) -> io::Result<()> {
+        if let Ok(mut noted) = self.noted.try_borrow_mut() {
+            let line = format!(in self.alloc; "{call} {path}\n")?;
+            if !noted.ends_with(line.as_str()) {
+                noted.push_str(line.as_str())?;
+            }
+        }
         let left = self.left.get();
         self.left.set(left.saturating_sub(1));
         if left == 1 {
@@ -44,73 +69,74 @@ pub struct Faulty<'a> {
     /// The runtime that does the work.
     pub rt: &'a HostRuntime,
 
-    /// Which call fails.
-    pub turns: &'a Turns,
+    /// What is noted, and which call fails.
+    pub calls: &'a Calls,
 }
 
 /// An open file of such a runtime.
 #[derive(Drop)]
 pub struct FaultyFile<'a> {
     file: File,
-    turns: &'a Turns,
+    path: String,
+    calls: &'a Calls,
 }
 
 impl Read for FaultyFile<'_> {
     fn read(&mut self, buf: &mut [u8]) -> io::Result<usize> {
-        self.turns.turn()?;
+        self.calls.make("read", self.path.as_str())?;
         self.file.read(buf)
     }
 }
 
 impl Write for FaultyFile<'_> {
     fn write(&mut self, buf: &[u8]) -> io::Result<usize> {
-        self.turns.turn()?;
+        self.calls.make("write", self.path.as_str())?;
         self.file.write(buf)
     }
 
     fn flush(&mut self) -> io::Result<()> {
-        self.turns.turn()?;
+        self.calls.make("flush", self.path.as_str())?;
         self.file.flush()
     }
 }
 
 impl Seek for FaultyFile<'_> {
     fn seek(&mut self, to: SeekFrom) -> io::Result<u64> {
-        self.turns.turn()?;
+        self.calls.make("seek", self.path.as_str())?;
         self.file.seek(to)
     }
 }
 
 impl OpenFile for FaultyFile<'_> {
     fn metadata(&self) -> io::Result<Metadata> {
-        self.turns.turn()?;
+        self.calls.make("metadata", self.path.as_str())?;
         self.file.metadata()
     }
 
     fn set_len(&self, size: u64) -> io::Result<()> {
-        self.turns.turn()?;
+        self.calls.make("set_len", self.path.as_str())?;
         self.file.set_len(size)
     }
 
     fn sync_all(&self) -> io::Result<()> {
-        self.turns.turn()?;
+        self.calls.make("sync_all", self.path.as_str())?;
         self.file.sync_all()
     }
 
     fn sync_data(&self) -> io::Result<()> {
-        self.turns.turn()?;
+        self.calls.make("sync_data", self.path.as_str())?;
         self.file.sync_data()
     }
 
     fn set_permissions(&self, permissions: Permissions) -> io::Result<()> {
-        self.turns.turn()?;
+        self.calls.make("set_permissions", self.path.as_str())?;
         self.file.set_permissions(permissions)
     }
 }
 
 impl Lockable for FaultyFile<'_> {
     fn try_hold(&self) -> io::Result<bool> {
-        self.turns.turn()?;
+        self.calls.make("try_hold", self.path.as_str())?;
         self.file.try_hold()
     }
 }
@@ -121,64 +147,65 @@ impl<'a> Files for Faulty<'a> {
     type Dir = <HostRuntime as Files>::Dir;
 
     fn open_file(&self, how: &OpenOptions, path: &str) -> io::Result<FaultyFile<'a>> {
-        self.turns.turn()?;
+        self.calls.make("open_file", path)?;
         let file = self.rt.open_file(how, path)?;
-        let turns = self.turns;
-        Ok(FaultyFile { file, turns })
+        let path = format!(in self.alloc(); "{path}")?;
+        let calls = self.calls;
+        Ok(FaultyFile { file, path, calls })
     }
 
     fn open_dir(&self, path: &str) -> io::Result<<HostRuntime as Files>::Dir> {
-        self.turns.turn()?;
+        self.calls.make("open_dir", path)?;
         self.rt.open_dir(path)
     }
 
     fn metadata(&self, path: &str) -> io::Result<Metadata> {
-        self.turns.turn()?;
+        self.calls.make("metadata", path)?;
         Files::metadata(self.rt, path)
     }
 
     fn symlink_metadata(&self, path: &str) -> io::Result<Metadata> {
-        self.turns.turn()?;
+        self.calls.make("symlink_metadata", path)?;
         self.rt.symlink_metadata(path)
     }
 
     fn copy(&self, from: &str, to: &str) -> io::Result<u64> {
-        self.turns.turn()?;
+        self.calls.make("copy", from)?;
         self.rt.copy(from, to)
     }
 
     fn rename(&self, from: &str, to: &str) -> io::Result<()> {
-        self.turns.turn()?;
+        self.calls.make("rename", from)?;
         self.rt.rename(from, to)
     }
 
     fn remove_file(&self, path: &str) -> io::Result<()> {
-        self.turns.turn()?;
+        self.calls.make("remove_file", path)?;
         self.rt.remove_file(path)
     }
 
     fn create_dir(&self, path: &str) -> io::Result<()> {
-        self.turns.turn()?;
+        self.calls.make("create_dir", path)?;
         self.rt.create_dir(path)
     }
 
     fn remove_dir(&self, path: &str) -> io::Result<()> {
-        self.turns.turn()?;
+        self.calls.make("remove_dir", path)?;
         self.rt.remove_dir(path)
     }
 
     fn remove_dir_all<B: Allocator>(&self, alloc: B, path: &str) -> io::Result<()> {
-        self.turns.turn()?;
+        self.calls.make("remove_dir_all", path)?;
         self.rt.remove_dir_all(alloc, path)
     }
 
     fn canonicalize<B: Allocator>(&self, alloc: B, path: &str) -> io::Result<PathBuf<B>> {
-        self.turns.turn()?;
+        self.calls.make("canonicalize", path)?;
         self.rt.canonicalize(alloc, path)
     }
 
     fn lchown(&self, path: &str, uid: Option<u32>, gid: Option<u32>) -> io::Result<()> {
-        self.turns.turn()?;
+        self.calls.make("lchown", path)?;
         self.rt.lchown(path, uid, gid)
     }
 }

@@ -4,9 +4,9 @@ use std::{env, fs, process};
 
 /// Makes a new folder for the test of this name, and gives its path.
 pub fn make(rt: &HostRuntime, test: &str) -> Result<String, Fail> {
-    let temp = env::temp_dir(rt)?;
+    let temp = fs::canonicalize(rt, env::temp_dir(rt)?.as_str())?;
     let id = process::id(rt.process());
-    let folder = format!(in rt.alloc(); "{}/scramotp-{test}-{id}", temp.as_str())?;
+    let folder = format!(in rt.alloc(); "{}/book-file-{test}-{id}", temp.as_str())?;
     fs::create_dir(rt, folder.as_str())?;
     Ok(folder)
 }
