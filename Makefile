@@ -17,6 +17,7 @@ test: kit
 	rt ci
 	$(MAKE) build
 	python3 tests/vectors.py $(PROGRAM)
+	python3 tests/commands.py $(PROGRAM)
 	sh tests/process.sh $(PROGRAM)
 	python3 tests/books.py $(PROGRAM)
 	python3 tests/book_faults.py $(PROGRAM)

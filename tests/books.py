@@ -1,15 +1,17 @@
 #!/usr/bin/env python3
 """What only processes show of the commands on an account book: runs at the same time, runs that are
-killed, links, modes, a folder that can't be written, a lock that another run keeps.
+killed, links, modes, a folder that can't be written, a lock that another run keeps, which files it opens.
 
 Usage: books.py PROGRAM
 """
+import ctypes
 import fcntl
 import hmac
 import os
 import random
 import re
 import select
+import struct
 import subprocess
 import sys
 import tempfile
@@ -119,10 +121,12 @@ def modes(folder):
         os.umask(old)
         assert os.stat(book).st_mode & 0o7777 == 0o600
         os.remove(book)
-    write(book)
-    os.chmod(book, 0o644)
-    verify(book, FIRST_CODE)
-    assert os.stat(book).st_mode & 0o7777 == 0o644
+    for mode in [0o640, 0o604, 0o400]:
+        write(book)
+        os.chmod(book, mode)
+        assert verify(book, FIRST_CODE).stdout == "PASS 5 0\n"
+        assert os.stat(book).st_mode & 0o7777 == mode
+        os.remove(book)
 
 
 def unwritable(folder):
@@ -155,6 +159,26 @@ def locked_by_another(folder):
     os.close(lock)
     assert run.stdout.read() == "PASS 5 0\n"
     assert run.wait() == 0
+
+
+def one_lock(folder):
+    """The folder is opened once, to lock it, before the book is; it is closed behind the last save."""
+    book = os.path.join(folder, "book")
+    write(book)
+    kinds = {0x20: "open", 0x08: "close", 0x10: "close", 0x80: "take its place"}
+    libc = ctypes.CDLL(None)
+    told = libc.inotify_init()
+    assert libc.inotify_add_watch(told, folder.encode(), sum(kinds)) >= 0
+    assert verify(book, f"{FIRST_CODE}\n{code(1)}\n").stdout == "PASS 5 0\nPASS 5 1\n"
+    data, at, events = os.read(told, 65536), 0, []
+    while at < len(data):
+        _, mask, _, length = struct.unpack_from("iIII", data, at)
+        events.append((kinds[mask & 0xFF], data[at + 16 : at + 16 + length].rstrip(b"\0").decode()))
+        at += 16 + length
+    os.close(told)
+    read = [("open", "book"), ("close", "book")]
+    saved = [("open", "book.new"), ("close", "book.new"), ("take its place", "book")]
+    assert events == [("open", ""), *read, *saved, *saved, ("close", "")], events
 
 
 def full_output(folder):
@@ -238,6 +262,7 @@ TESTS = [
     modes,
     unwritable,
     locked_by_another,
+    one_lock,
     full_output,
     input_limit,
     each_line,

@@ -1,0 +1,367 @@
+#!/usr/bin/env python3
+"""What the built program prints and with which status it ends, case by case, and what it writes into a book.
+
+Usage: commands.py PROGRAM
+"""
+import os
+import subprocess
+import sys
+import tempfile
+import tomllib
+from hashlib import pbkdf2_hmac, sha1, sha256
+from hmac import digest
+
+PROGRAM = os.path.abspath(sys.argv[1])
+SALT = "4125c247e43ab1e93c6dff76"
+SECRET = "3132333435363738393031323334353637383930"
+LONGER = "3132333435363738393031323334353637383930313233343536373839303132"
+# 64 bytes
+LONGEST = "00112233445566778899aabbccddeeff00112233445566778899AABBCCDDEEFF" * 2
+# RFC 5802, section 5
+KEYS_OF_PENCIL = "stored=e9d94660c39d65c38fbad91c358f14da0eef2bd6\nserver=0fe09258b3ac852ba502cc62ba903eaacdbf7d31\n"
+
+USER = """format = 1
+decoy_key = "000102030405060708090a0b0c0d0e0f101112131415161718191a1b1c1d1e1f"
+decoy_count = 4096
+
+[accounts.user]
+"""
+
+
+def hotp(look_ahead, limit):
+    """A HOTP token for `user`, with the secret of RFC 4226's appendix D."""
+    return f"""[accounts.user.token]
+kind = "hotp"
+secret = "{SECRET}"
+digits = 6
+next = 0
+look_ahead = {look_ahead}
+limit = {limit}
+failures = 0
+"""
+
+
+# A TOTP token for `user`, with the secret of RFC 6238's appendix B.
+TOTP = f"""[accounts.user.token]
+kind = "totp"
+hash = "sha1"
+secret = "{SECRET}"
+digits = 8
+t0 = 0
+step = 30
+back = 0
+ahead = 1
+max_drift = 1
+drift = 0
+limit = 3
+failures = 0
+"""
+
+
+def check(words, text, status, printed="", fault=""):
+    """Runs the program, and compares status, output and fault; a fault of its own is given without its beginning."""
+    run = subprocess.run([PROGRAM, *words], input=text if isinstance(text, bytes) else text.encode(), capture_output=True)
+    faults = f"scramotp: {fault}\n" if fault else ""
+    got = (run.returncode, run.stdout.decode(), run.stderr.decode())
+    assert got == (status, printed, faults), (words, text[:100], got)
+
+
+def check_usage(words, begin):
+    """The same where the words are faulty: `begin` is how the fault begins."""
+    run = subprocess.run([PROGRAM, *words], input=b"pencil\n", capture_output=True, text=False)
+    assert (run.returncode, run.stdout) == (2, b""), (words, run)
+    assert run.stderr.decode().startswith(begin), (words, run)
+
+
+def keys(mechanism, salt, count):
+    return ["keys", "--mechanism", mechanism, "--salt", salt, "--count", count]
+
+
+def write(path, *parts):
+    with open(path, "w") as file:
+        file.write("".join(parts))
+
+
+def token(path):
+    with open(path, "rb") as file:
+        return tomllib.load(file)["accounts"]["user"]["token"]
+
+
+def on(book, command, name="user", *more):
+    return [command, "--book", book, "--name", name, *more]
+
+
+def verify(book, moment, text, status, printed):
+    check(on(book, "verify", "user", "--moment", moment), text, status, printed)
+
+
+def passwords(folder):
+    """The first line is the password: 1 to 1024 bytes from space to tilde."""
+    words = keys("SCRAM-SHA-1", SALT, "4096")
+    for text in [b"pencil\n", b"pencil", b"pencil\nanother\n", b"pencil\n\x7f", b"pencil\n\xff"]:
+        check(words, text, 0, KEYS_OF_PENCIL)
+    for text in ["", "\n", "\npencil\n", "pen\x7fcil\n", "pen\tcil\n", "pencil\r\n", "p\xe9ncil\n", "a" * 1025]:
+        check(words, text, 2, fault="bad password")
+
+
+def key_lines(name, password, salt, count):
+    """The two lines of `keys`, by Python's own Hi and HMAC (RFC 5802, section 3)."""
+    hash = {"SCRAM-SHA-1": sha1, "SCRAM-SHA-256": sha256}[name]
+    salted = pbkdf2_hmac(hash().name, password, salt, count)
+    stored = hash(digest(salted, b"Client Key", hash)).hexdigest()
+    return f"stored={stored}\nserver={digest(salted, b'Server Key', hash).hex()}\n"
+
+
+def values_at_their_limits(folder):
+    """The longest password and salts, the least count; of the greatest count only that it is one."""
+    for mechanism in ["SCRAM-SHA-1", "SCRAM-SHA-256"]:
+        for salt, count in [("00", 1), (LONGEST, 2)]:
+            printed = key_lines(mechanism, b"a" * 1024, bytes.fromhex(salt), count)
+            check(keys(mechanism, salt, str(count)), "a" * 1024, 0, printed)
+        check(keys(mechanism, "00", "4294967295"), "", 2, fault="bad password")
+
+
+def bad_values(folder):
+    """Options are judged in the order mechanism, salt, count, before the password."""
+    for mechanism, salt, count, option in [
+        ("SCRAM-SHA-512", SALT, "4096", "mechanism"),
+        ("scram-sha-1", "", "0", "mechanism"),
+        ("", SALT, "4096", "mechanism"),
+        ("SCRAM-SHA-1", "", "4096", "salt"),
+        ("SCRAM-SHA-1", "4", "0", "salt"),
+        ("SCRAM-SHA-1", "4x", "4096", "salt"),
+        ("SCRAM-SHA-1", "0x41", "4096", "salt"),
+        ("SCRAM-SHA-1", "41 25", "4096", "salt"),
+        ("SCRAM-SHA-1", LONGEST + "00", "4096", "salt"),
+        ("SCRAM-SHA-1", SALT, "", "count"),
+        ("SCRAM-SHA-1", SALT, "0", "count"),
+        ("SCRAM-SHA-1", SALT, "04096", "count"),
+        ("SCRAM-SHA-1", SALT, "+4096", "count"),
+        ("SCRAM-SHA-1", SALT, "4096 ", "count"),
+        ("SCRAM-SHA-1", SALT, "4_096", "count"),
+        ("SCRAM-SHA-1", SALT, "4294967296", "count"),
+        ("SCRAM-SHA-1", SALT, "18446744073709551617", "count"),
+    ]:
+        check(keys(mechanism, salt, count), "", 2, fault=f"bad value for --{option}")
+
+
+def codes(folder):
+    """RFC 4226, appendix D, and RFC 6238, appendix B."""
+    for secret, words, printed in [
+        (SECRET, "--counter 0", "755224"),
+        (SECRET, "--counter 9 --hash sha512 --moment 59", "520489"),
+        (SECRET, "--digits 8 --moment 59", "94287082"),
+        (SECRET, "--digits 8 --moment 20000000000", "65353130"),
+        (SECRET, "--digits 8 --moment 69 --t0 10", "94287082"),
+        (SECRET, "--digits 8 --moment 119 --step 60", "94287082"),
+        (LONGER, "--digits 8 --moment 1111111109 --hash sha256", "68084774"),
+    ]:
+        check(["code", "--secret", secret, *words.split()], "", 0, printed + "\n")
+
+
+def bad_codes(folder):
+    """Options are judged in the order secret, digits, counter, moment, hash, t0, step, and then looked at."""
+    for secret, words, status, fault in [
+        (SECRET, "", 2, "needs --counter or --moment"),
+        (SECRET, "--moment 5 --t0 10", 1, "before the first step"),
+        ("313233343536373839", "--digits 9", 2, "bad value for --secret"),
+        (SECRET, "--digits 9 --counter x", 2, "bad value for --digits"),
+        (SECRET, "--digits 5", 2, "bad value for --digits"),
+        (SECRET, "--digits 06", 2, "bad value for --digits"),
+        (SECRET, "--counter 9223372036854775807 --moment x", 2, "bad value for --counter"),
+        (SECRET, "--counter=-1", 2, "bad value for --counter"),
+        (SECRET, "--moment 253402300800 --hash md5", 2, "bad value for --moment"),
+        (SECRET, "--hash SHA1 --t0 x", 2, "bad value for --hash"),
+        (SECRET, "--t0 253402300800 --step 0", 2, "bad value for --t0"),
+        (SECRET, "--step 0", 2, "bad value for --step"),
+        (SECRET, "--step 3601", 2, "bad value for --step"),
+        (SECRET, "--counter 1 --step 0", 2, "bad value for --step"),
+    ]:
+        check(["code", "--secret", secret, *words.split()], "", status, fault=fault)
+
+
+def usage(folder):
+    """Words that name no command or option, or not all of them."""
+    for words, begin in [
+        ("", "error: 'scramotp' requires a subcommand but one was not provided"),
+        ("audit", "error: unrecognized subcommand 'audit'"),
+        ("help", "error: unrecognized subcommand 'help'"),
+        (
+            "keys --salt 00 --count 1",
+            "error: the following required arguments were not provided:\n  --mechanism <NAME>",
+        ),
+        ("keys --salt 00 --salt 01", "error: the argument '--salt <HEX>' cannot be used multiple times"),
+        ("keys --rounds 1", "error: unexpected argument '--rounds' found"),
+        (f"code --secret {SECRET} --counter -1", "error: unexpected argument '-1' found"),
+    ]:
+        check_usage(words.split(), begin)
+
+
+def help_and_version(folder):
+    check(["--version"], "", 0, "scramotp 0.1.0\n")
+    for words, parts in [
+        (
+            ["--help"],
+            [
+                "Usage: scramotp <COMMAND>",
+                "  keys    Prints ",
+                "  enrol   Adds ",
+                "  code    Prints ",
+                "  verify  Judges ",
+                "  unlock  Lets ",
+                "Exit status:",
+            ],
+        ),
+        (
+            ["keys", "--help"],
+            ["--mechanism <NAME>  SCRAM-SHA-1", "--salt <HEX> ", "--count <N> ", "Example:\n  echo pencil |"],
+        ),
+    ]:
+        run = subprocess.run([PROGRAM, *words], capture_output=True, text=True)
+        assert (run.returncode, run.stderr) == (0, ""), run
+        assert all(part in run.stdout for part in parts), run.stdout
+
+
+def input_limit(folder):
+    """The first line may have 16777216 bytes, and is then a bad password."""
+    words = keys("SCRAM-SHA-1", SALT, "1")
+    check(words, b"a" * 16777216, 2, fault="bad password")
+    check(words, b"a" * 16777217, 3, fault="cannot read input")
+
+
+def server_signature(folder):
+    """The server key signs the messages of RFC 7677's example, section 3, as the RFC prints it."""
+    auth_message = (
+        b"n=user,r=rOprNGfwEbeRWgbNEkqO,"
+        b"r=rOprNGfwEbeRWgbNEkqO%hvYDpWUa2RaTCAfuxFIlj)hNlF$k0,s=W22ZaJ0SNY7soEsUEjb6gQ==,i=4096,"
+        b"c=biws,r=rOprNGfwEbeRWgbNEkqO%hvYDpWUa2RaTCAfuxFIlj)hNlF$k0"
+    )
+    words = keys("SCRAM-SHA-256", "5b6d99689d12358eeca04b141236fa81", "4096")
+    run = subprocess.run([PROGRAM, *words], input="pencil\n", capture_output=True, text=True, check=True)
+    stored, server = run.stdout.splitlines()
+    assert stored.startswith("stored=") and server.startswith("server="), run
+    signature = digest(bytes.fromhex(server.removeprefix("server=")), auth_message, sha256).hex()
+    assert signature == "eabae24d1062db75a9451ff0b6ea7e98c8546549ff741e672d3251b2397de46e", signature
+
+
+def hotp_codes(folder):
+    """Codes of RFC 4226, appendix D: each passes once, in order, at most three counters ahead."""
+    book = os.path.join(folder, "book")
+    write(book, USER, hotp(3, 3))
+    text = "755224\n755224\n338314\n359152\n162583\n755224x\n"
+    verify(book, "5", text, 1, "PASS 5 0\nFAIL 5\nPASS 5 4\nFAIL 5\nPASS 5 7\nFAIL 5\n")
+    assert (token(book)["next"], token(book)["failures"]) == (8, 1), token(book)
+    verify(book, "5", "755224", 1, "FAIL 5\n")
+    verify(book, "5", "399871", 0, "PASS 5 8\n")
+    verify(book, "5", "", 0, "")
+    verify(book, "5", "\n", 1, "FAIL 5\n")
+
+
+def totp_codes(folder):
+    """Codes of RFC 6238, appendix B: one of the next step passes, and then none of the step before."""
+    book = os.path.join(folder, "book")
+    write(book, USER, TOTP)
+    verify(book, "1111111109", "14050471\n07081804\n", 1, "PASS 1111111109 37037037\nFAIL 1111111109\n")
+    write(book, USER, TOTP)
+    verify(book, "59", "94287082", 0, "PASS 59 1\n")
+    verify(book, "59", "94287082", 1, "FAIL 59\n")
+
+
+def locked_tokens(folder):
+    """A locked token takes no code until it is unlocked, and a code that has passed never again."""
+    book = os.path.join(folder, "book")
+    write(book, USER, hotp(0, 2))
+    verify(book, "3", "000000\n111111\n755224\n", 1, "FAIL 3\nFAIL 3\nLOCKED 3\n")
+    check(on(book, "unlock"), "", 0, "unlocked user\n")
+    verify(book, "3", "755224", 0, "PASS 3 0\n")
+    write(book, USER, hotp(3, 3))
+    verify(book, "5", "755224\n000000\n000000\n000000\n", 1, "PASS 5 0\nFAIL 5\nFAIL 5\nFAIL 5\n")
+    verify(book, "5", "287082", 1, "LOCKED 5\n")
+    check(on(book, "unlock"), "", 0, "unlocked user\n")
+    verify(book, "5", "755224", 1, "FAIL 5\n")
+
+
+def enrolling(folder):
+    """A new book, its account's keys for both mechanisms, and a name that is taken."""
+    book, file = os.path.join(folder, "book"), os.path.join(folder, "random")
+    with open(file, "wb") as out:
+        out.write(bytes(range(64)))
+    words = on(book, "enrol", "user", "--random", file)
+    check(words, "pencil\n", 0, "enrolled user\n")
+    with open(book, "rb") as text:
+        made = tomllib.load(text)
+    assert (made["decoy_key"], made["decoy_count"]) == (bytes(range(32)).hex(), 4096), made
+    for mechanism, table, at in [("SCRAM-SHA-1", "sha1", 32), ("SCRAM-SHA-256", "sha256", 48)]:
+        salt, found = bytes(range(at, at + 16)), made["accounts"]["user"][table]
+        assert (found["salt"], found["count"]) == (salt.hex(), 4096), made
+        lines = f"stored={found['stored']}\nserver={found['server']}\n"
+        assert lines == key_lines(mechanism, b"pencil", salt, 4096), made
+    check(words, "pencil\n", 1, fault="name is taken")
+    check(on(book, "verify", "user", "--moment", "5"), "755224\n", 1, fault="no token")
+    assert sorted(os.listdir(folder)) == ["book", "random"]
+
+
+def short_random_files(folder):
+    """A new book takes 64 random bytes, and one that is there 32."""
+    book, file = os.path.join(folder, "book"), os.path.join(folder, "random")
+    words, fault = on(book, "enrol", "other", "--random", file), f"cannot read {file}"
+    check(words, "pencil", 3, fault=fault)
+    for length, book_there in [(0, False), (63, False), (31, True)]:
+        if book_there:
+            write(book, USER)
+        write(file, "a" * length)
+        check(words, "pencil", 3, fault=fault)
+        assert os.path.exists(book) == book_there
+    write(file, "a" * 32)
+    check(words, "pencil", 0, "enrolled other\n")
+
+
+def faulty_books(folder):
+    """What each command says of a book, in the order in which it looks."""
+    book = os.path.join(folder, "book")
+    check(on(book, "unlock"), "", 3, fault=f"cannot read {book}")
+    for text, fault in [
+        ("", "bad book: 61"),
+        (USER + "]", "bad book: 60"),
+        (USER + "name = 1", "bad book: 62"),
+        (USER, "no token"),
+    ]:
+        write(book, text)
+        check(on(book, "unlock"), "", 1, fault=fault)
+    with open(book, "wb") as out:
+        out.write(b"\xff")
+    check(on(book, "unlock"), "", 1, fault="bad book: 60")
+    write(book, USER, hotp(3, 3))
+    check(on(book, "unlock", "nobody"), "", 1, fault="no such account")
+    check(on(book, "unlock", ""), "", 2, fault="bad value for --name")
+    check(on(book, "enrol"), "", 2, fault="bad password")
+
+
+TESTS = [
+    passwords,
+    values_at_their_limits,
+    bad_values,
+    codes,
+    bad_codes,
+    usage,
+    help_and_version,
+    input_limit,
+    server_signature,
+    hotp_codes,
+    totp_codes,
+    locked_tokens,
+    enrolling,
+    short_random_files,
+    faulty_books,
+]
+
+failed = 0
+for test in TESTS:
+    with tempfile.TemporaryDirectory() as scratch:
+        try:
+            test(scratch)
+        except AssertionError as fault:
+            failed += 1
+            print(f"{test.__name__}: line {fault.__traceback__.tb_next.tb_lineno}: {fault}", file=sys.stderr)
+print(f"commands.py: {len(TESTS) - failed} passed, {failed} failed", file=sys.stderr)
+sys.exit(failed != 0)
