@@ -1,10 +1,8 @@
 -- Fronts and clean logs, from their lines to their bytes.
-use Rattle.std.proofs.Common.{◌≡◌, inl, inr, ℕ, zero, suc, List, [], ◌∷◌, ◌++◌, length, reverse, take, drop, refl, sym, ◌∙◌, subst, append-nil, arith}
+use Rattle.std.proofs.Common.{◌≡◌, inl, inr, ℕ, zero, suc, List, [], ◌∷◌, ◌++◌, length, reverse, take, drop, refl, sym, subst, append-nil, arith}
 use Rattle.std.specs.List.{AllByRecursion, AllZip}
 use Rattle.std.proofs.lemmas.List.{take-append-drop}
 use Rattle.scram_text.specs.Laws.{SpellsOneName, HasOneClientFirst}
-use Rattle.scram_text.specs.Name.{SpellsName}
-use Rattle.scram_text.specs.Messages.{ClientFirstParts}
 use Rattle.log_grammar.specs.Lines.{LogLine, IsLogLine}
 use Rattle.log_grammar.specs.Bytes.{LacksLf, ended_by_lf, IsCut}
 use Rattle.log_grammar.specs.Sessions.{Told}
@@ -17,13 +15,12 @@ use Rattle.log_grammar.proofs.Snoc.{some_last, last_same}
 use Rattle.log_grammar.proofs.LogSteps.{before_last}
 use Rattle.log_grammar.proofs.CutLemmas.{cut_one_way}
 use Rattle.log_grammar.proofs.Readings.{OneAccount, read_once, front_of}
+use Rattle.log_grammar.proofs.Openings.{one_name, login_of}
 
 -- a challenge is that of one account: the client-first message has one name
 pub one_account : HasOneClientFirst → SpellsOneName → (accounts : Accounts) → OneAccount (demands accounts)
 one_account parts names accounts m first account other text a b =
-    let same = parts first a.opening.first b.opening.first a.opens.is_first b.opens.is_first in
-    let also = subst (λ (p : ClientFirstParts). SpellsName b.opening.name p.name) (sym same) b.opens.taken_up.is_name.spelled in
-    sym a.of_name ∙ names a.opening.name b.opening.name a.opening.first.name a.opens.taken_up.is_name.spelled also ∙ b.of_name
+    one_name parts names m first account other (login_of accounts m first account text a) (login_of accounts m first other text b)
 
 pub one_reading : HasOneClientFirst → SpellsOneName → (accounts : Accounts) (log : List LogLine) (place other : Place) (told also : List Told)
     → Begins (demands accounts) log place told → Begins (demands accounts) log other also → (place ≡ other) × (told ≡ also)

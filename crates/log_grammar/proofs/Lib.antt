@@ -16,6 +16,7 @@ pub mod Aside
 pub mod ClassLemmas
 pub mod TextBytes
 pub mod Openings
+pub mod Opened
 pub mod Completions
 pub mod FaultLemmas
 pub mod ExampleLemmas
