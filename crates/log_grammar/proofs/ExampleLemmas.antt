@@ -1,7 +1,6 @@
 -- The small logs, line by line.
-use Rattle.std.proofs.Common.{◌≡◌, inl, inr, ℕ, List, [], ◌∷◌, ◌++◌, reverse, take, get_or, refl, sym, ap, subst, arith}
+use Rattle.std.proofs.Common.{◌≡◌, inl, inr, ℕ, ◌+◌, List, [], ◌∷◌, ◌++◌, length, get_or, refl, sym, ap, subst, arith}
 use Rattle.std.specs.Prelude.{codes}
-use Rattle.std.specs.List.{AllZip}
 use Rattle.mac_core.specs.declared.chosen.Mechanism.{Mechanism}
 use Rattle.mac_core.specs.declared.chosen.Mechanism.TheVariants.{ScramSha1, ScramSha256}
 use Rattle.scram_text.specs.Laws.{SpellsOneName, HasOneClientFirst}
@@ -14,15 +13,13 @@ use Rattle.log_grammar.specs.Sessions.{Told}
 use Rattle.log_grammar.specs.Demands.{Accounts, demands, NamesMechanism, AreReplies}
 use Rattle.log_grammar.specs.Places.{Place, before_all, between, offered, asks_bare, waits_first, got_first, leaving, over, MayEnd}
 use Rattle.log_grammar.specs.Steps.{Goes, told_at}
-use Rattle.log_grammar.specs.Clean.{Begins, IsFront, IsClean}
-use Rattle.log_grammar.specs.Why.{is_cut, no_line, out_of_order, other_mechs, other_challenge, other_outcome, refused_with, LineClass, IsClassDue, IsDueAt, IsWhy}
+use Rattle.log_grammar.specs.Clean.{Begins, IsClean}
+use Rattle.log_grammar.specs.Why.{Why, is_cut, no_line, out_of_order, other_mechs, other_challenge, other_outcome, refused_with, LineClass, IsClassDue, IsDueAt, IsMisplaced, IsWhy}
 use Rattle.log_grammar.specs.Examples.{first_text, offer_text, first_alone, one_session, bare_no}
-use Rattle.log_grammar.proofs.CutLemmas.{cut_one_way}
-use Rattle.log_grammar.proofs.LogSteps.{goes_on}
 use Rattle.log_grammar.proofs.ClassLemmas.{classes_due}
-use Rattle.log_grammar.proofs.Completions.{spelled, pairs-append, each-append}
-use Rattle.log_grammar.proofs.FaultLemmas.{Lead, is_clean, cut_why, line_why}
-use Rattle.log_grammar.proofs.WhyLemmas.{lines_once}
+use Rattle.log_grammar.proofs.Completions.{each-append}
+use Rattle.log_grammar.proofs.Standings.{Follows}
+use Rattle.log_grammar.proofs.FaultLemmas.{Lead, start, lead_on, clean_at, whole, not_at_end, end_why, text_why, front_starts, line_why}
 
 -- the texts of lines
 names : List ℕ
@@ -73,30 +70,16 @@ is_auth = record { spelled = refl; ranges = is_sha_1; short = omega arith }
 is_auth_with : IsLogLine (codes "C AUTH SCRAM-SHA-1 :") (heard (auth_with (codes "SCRAM-SHA-1") []))
 is_auth_with = record { spelled = refl; ranges = (is_sha_1, tt); short = omega arith }
 
--- one line more
-lead_on : (accounts : Accounts) (texts : List (List ℕ)) (lines : List LogLine) (place : Place) (told : List Told) (text : List ℕ) (line : LogLine) (next : Place)
-    → Lead accounts texts lines place told → IsLogLine text line → LacksLf text → Goes (demands accounts) place line next
-    → AreReplies (demands accounts) (reverse told) (told_at place line)
-    → Lead accounts (texts ++ text ∷ []) (lines ++ line ∷ []) next (told ++ told_at place line)
-lead_on accounts texts lines place told text line next l is lacks goes due = record {
-  are = pairs-append texts (text ∷ []) lines (line ∷ []) l.are (is, tt);
-  lack = each-append texts (text ∷ []) l.lack (lacks, tt);
-  begins = goes_on (demands accounts) lines place told line next l.begins goes due;
-}
-
-start : (accounts : Accounts) → Lead accounts [] [] before_all []
-start accounts = record { are = tt; lack = tt; begins = inl (refl, refl, refl) }
-
 lead_first : (accounts : Accounts) → Lead accounts (first_text ∷ []) (header ∷ []) between []
 lead_first accounts = lead_on accounts [] [] before_all [] first_text header between (start accounts) is_header refl refl tt
 
 lead_offer : (accounts : Accounts) → Lead accounts (first_text ∷ offer_text ∷ []) (header ∷ said (mechs (codes "SCRAM-SHA-256 SCRAM-SHA-1")) ∷ []) offered []
 lead_offer accounts = lead_on accounts _ _ between [] offer_text _ offered (lead_first accounts) is_offer refl (refl, refl) tt
 
--- a log whose lines lead to a place where it may end is clean
+-- whole lines that lead to a place where a log may end are clean
 clean_by : (accounts : Accounts) (texts : List (List ℕ)) (lines : List LogLine) (place : Place) (told : List Told) → Lead accounts texts lines place told
     → MayEnd place → IsClean accounts (ended_by_lf texts)
-clean_by accounts texts lines place told l ends = is_clean accounts texts lines place told l.are l.lack (spelled accounts lines place told l.begins ends) ends
+clean_by accounts texts lines place told l ends = clean_at accounts (ended_by_lf texts) texts lines place told (whole texts l.lack) l ends
 
 pub first_is_clean : (accounts : Accounts) → IsClean accounts first_alone
 first_is_clean accounts = clean_by accounts _ _ between [] (lead_first accounts) tt
@@ -172,6 +155,23 @@ invited_is_clean accounts =
     let left = lead_on accounts _ _ waits [] (codes "C GONE") gone over (lead_invited accounts) is_gone refl refl tt in
     clean_by accounts _ _ between [] (lead_on accounts _ _ over [] (codes "E") ended between left is_end refl refl tt) tt
 
+-- whole lines that end where no log may are cut
+cut_why : HasOneClientFirst → SpellsOneName → (accounts : Accounts) (texts : List (List ℕ)) (lines : List LogLine) (place : Place) (told : List Told)
+    → Lead accounts texts lines place told → (MayEnd place → ⊥) → IsWhy accounts (ended_by_lf texts) (length texts + 1) is_cut
+cut_why parts once accounts texts lines place told l unended =
+    let cut = whole texts l.lack in
+    let unclean = not_at_end parts once accounts (ended_by_lf texts) texts lines place told cut l unended in
+    end_why accounts (ended_by_lf texts) texts [] lines place told is_cut cut l unclean (inl (omega arith, refl))
+
+-- the last of whole lines, which may not stand there, is at fault
+last_why : HasOneClientFirst → SpellsOneName → (accounts : Accounts) (texts : List (List ℕ)) (first : LogLine) (lines : List LogLine) (place : Place) (told : List Told)
+    (text : List ℕ) (line : LogLine) (why : Why) → Lead accounts texts (first ∷ lines) place told → IsLogLine text line → LacksLf text
+    → (Follows accounts place told line → ⊥) → IsMisplaced accounts (first ∷ lines) line why
+    → IsWhy accounts (ended_by_lf (texts ++ text ∷ [])) (length texts + 1) why
+last_why parts once accounts texts first lines place told text line why l is lacks stuck misplaced =
+    let cut = whole (texts ++ text ∷ []) (each-append texts (text ∷ []) l.lack (lacks, tt)) in
+    line_why parts once accounts (ended_by_lf (texts ++ text ∷ [])) texts text [] [] first lines place told line why cut l is stuck misplaced
+
 -- logs at fault
 pub empty_is_cut : HasOneClientFirst → SpellsOneName → (accounts : Accounts) → IsWhy accounts [] 1 is_cut
 empty_is_cut parts once accounts = cut_why parts once accounts [] [] before_all [] (start accounts) (λ h. h)
@@ -208,13 +208,13 @@ not_due accounts lines place class begins none due = none ((classes_due accounts
 pub abort_is_early : HasOneClientFirst → SpellsOneName → (accounts : Accounts) → IsWhy accounts (ended_by_lf (first_text ∷ codes "C ABORT" ∷ [])) 2 out_of_order
 abort_is_early parts once accounts =
     let l = lead_first accounts in
-    line_why parts once accounts (first_text ∷ []) header [] between [] (codes "C ABORT") (heard abort) out_of_order l is_abort refl (λ next h. h)
+    last_why parts once accounts (first_text ∷ []) header [] between [] (codes "C ABORT") (heard abort) out_of_order l is_abort refl (λ f. f.goes)
     (inl (not_due accounts (header ∷ []) between _ l.begins (λ is. cc is), refl))
 
 pub halt_is_early : HasOneClientFirst → SpellsOneName → (accounts : Accounts) → IsWhy accounts (one_session (codes "S HALT" ∷ [])) 3 out_of_order
 halt_is_early parts once accounts =
     let l = lead_offer accounts in
-    line_why parts once accounts (first_text ∷ offer_text ∷ []) header _ offered [] (codes "S HALT") (said halt) out_of_order l is_halt refl (λ next h. h)
+    last_why parts once accounts (first_text ∷ offer_text ∷ []) header _ offered [] (codes "S HALT") (said halt) out_of_order l is_halt refl (λ f. f.goes)
     (inl (
       not_due accounts _ offered _ l.begins (λ is. elim is [
         | inl one ↦ cc one
@@ -242,8 +242,8 @@ pub other_offer_why : HasOneClientFirst → SpellsOneName → (accounts : Accoun
     → IsWhy accounts (ended_by_lf (first_text ∷ codes "S MECHS SCRAM-SHA-1" ∷ [])) 2 other_mechs
 other_offer_why parts once accounts =
     let l = lead_first accounts in
-    line_why parts once accounts (first_text ∷ []) header [] between [] (codes "S MECHS SCRAM-SHA-1") (said (mechs (codes "SCRAM-SHA-1"))) other_mechs
-    l is_other_offer refl (λ next h. other_names h.0)
+    last_why parts once accounts (first_text ∷ []) header [] between [] (codes "S MECHS SCRAM-SHA-1") (said (mechs (codes "SCRAM-SHA-1"))) other_mechs
+    l is_other_offer refl (λ f. other_names f.goes.0)
     (inr (is_due accounts (header ∷ []) between _ l.begins refl, between, [], l.begins, refl))
 
 pub invited_why : HasOneClientFirst → SpellsOneName → (accounts : Accounts)
@@ -251,8 +251,8 @@ pub invited_why : HasOneClientFirst → SpellsOneName → (accounts : Accounts)
 invited_why parts once accounts =
     let l = lead_plain accounts in
     let at = asks_bare (codes "PLAIN") in
-    line_why parts once accounts (first_text ∷ offer_text ∷ codes "C AUTH PLAIN" ∷ []) header _ at [] (codes "S CONT :") (said (cont [])) (other_outcome (refused_with []))
-    l is_cont refl (λ next h. plain_not_offered h.0.0.0 h.0.0.1)
+    last_why parts once accounts (first_text ∷ offer_text ∷ codes "C AUTH PLAIN" ∷ []) header _ at [] (codes "S CONT :") (said (cont [])) (other_outcome (refused_with []))
+    l is_cont refl (λ f. plain_not_offered f.goes.0.0.0 f.goes.0.0.1)
     (inr (is_due accounts _ at _ l.begins refl, at, [], l.begins, inr (plain_not_offered, refl)))
 
 pub turned_away_why : HasOneClientFirst → SpellsOneName → (accounts : Accounts)
@@ -260,44 +260,15 @@ pub turned_away_why : HasOneClientFirst → SpellsOneName → (accounts : Accoun
 turned_away_why parts once accounts =
     let l = lead_auth accounts in
     let at = asks_bare (codes "SCRAM-SHA-1") in
-    line_why parts once accounts (first_text ∷ offer_text ∷ codes "C AUTH SCRAM-SHA-1" ∷ []) header _ at [] (codes "S NO :") (said (refuses [])) other_challenge
-    l is_no refl (λ next h. h.0.0 ScramSha1 refl)
+    last_why parts once accounts (first_text ∷ offer_text ∷ codes "C AUTH SCRAM-SHA-1" ∷ []) header _ at [] (codes "S NO :") (said (refuses [])) other_challenge
+    l is_no refl (λ f. f.goes.0.0 ScramSha1 refl)
     (inr (is_due accounts _ at _ l.begins refl, at, [], l.begins, inl ((ScramSha1, refl), refl)))
 
--- a log begins with its first line
-no_log : (accounts : Accounts) (place : Place) (told : List Told) → Begins (demands accounts) (ended ∷ []) place told → ⊥
-no_log accounts place told (inl nothing) = cc nothing.0
-no_log accounts place told (inr s) = cc s.lines
 
 text_differs : codes "E" ≡ first_text → ⊥
 text_differs e = let wrong : 69 ≡ 83 = ap (λ (l : List ℕ). get_or l 0 0) e in omega (arith, wrong)
 
--- no line is a front
-front_of_none : (accounts : Accounts) (j : ℕ) → j ≡ 0 → IsFront accounts (ended_by_lf (take j (codes "E" ∷ [])))
-front_of_none accounts j none = subst (λ (n : ℕ). IsFront accounts (ended_by_lf (take n (codes "E" ∷ [])))) (sym none)
-    ([], before_all, [], ([], record { joined = refl; lines = tt; behind = refl }, tt), inl (refl, refl, refl))
-
--- `E` alone is none
-first_wrong : (accounts : Accounts) → IsFront accounts (ended_by_lf (codes "E" ∷ [])) → ⊥
-first_wrong accounts (lines, place, told, (texts, cut, are), begins) =
-    let same = (cut_one_way (ended_by_lf (codes "E" ∷ [])) texts (codes "E" ∷ []) [] [] cut (record { joined = refl; lines = (refl, tt); behind = refl })).0 in
-    let read = lines_once (codes "E" ∷ []) lines (ended ∷ []) (subst (λ (ts : List (List ℕ)). AllZip IsLogLine ts lines) same are) (is_end, tt) in
-    no_log accounts place told (subst (λ (ls : List LogLine). Begins (demands accounts) ls place told) read begins)
-
 pub end_is_no_line : (accounts : Accounts) → IsWhy accounts (ended_by_lf (codes "E" ∷ [])) 1 no_line
-end_is_no_line accounts = record {
-  fault = record {
-    texts = codes "E" ∷ [];
-    rest = [];
-    cut = record { joined = refl; lines = (refl, tt); behind = refl };
-    below = λ j less few. front_of_none accounts j (omega (arith, less));
-    within = λ few front. first_wrong accounts front;
-    past = omega arith;
-    unclean = λ last clean. omega (arith, last);
-  };
-  before = 0;
-  this = refl;
-  lines = [];
-  read = tt;
-  wrong = inl (text_differs, refl);
-}
+end_is_no_line accounts =
+    text_why accounts (ended_by_lf (codes "E" ∷ [])) [] (codes "E") [] [] [] before_all [] no_line (whole (codes "E" ∷ []) (refl, tt)) (start accounts)
+    (λ front. text_differs (front_starts accounts (codes "E") refl front)) (inl (text_differs, refl))

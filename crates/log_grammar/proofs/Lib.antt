@@ -18,7 +18,10 @@ pub mod TextBytes
 pub mod Openings
 pub mod Opened
 pub mod Completions
+pub mod Demanded
+pub mod Standings
 pub mod FaultLemmas
+pub mod JudgedLogs
 pub mod ExampleLemmas
 pub mod BookLemmas
 pub mod EdgeLemmas

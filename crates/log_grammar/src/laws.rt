@@ -1,11 +1,12 @@
 //! Laws of lines and logs, for proofs that stand on this crate: each is what a function ensures that does
 //! nothing.
-ghost use Rattle.log_grammar.specs.Laws.{EscapesOneMessage, IsOneLine, IsOneLogLine, LineIsDecided, LogLineIsDecided, AreCut, AreCutOneWay, GoesOnByALine, GoesOnByNoOther, HasOneReading, FrontsBeginWithFronts, CleanLogsAreFronts, EachAccountHasItsHistory, HasOneFaultLine, HasOneWhy, ClassesFollowThePlace, FrontsBeginClean};
+ghost use Rattle.log_grammar.specs.Laws.{EscapesOneMessage, IsOneLine, IsOneLogLine, LineIsDecided, LogLineIsDecided, AreCut, AreCutOneWay, GoesOnByALine, GoesOnByNoOther, HasOneReading, FrontsBeginWithFronts, CleanLogsAreFronts, EachAccountHasItsHistory, HasOneFaultLine, HasOneWhy, EachLogIsJudged, ClassesFollowThePlace, FrontsBeginClean};
 
-use otp_core::laws::only_one_reply_is_due;
+use otp_core::laws::{only_one_reply_is_due, some_reply_is_due};
 use scram_ends::laws::{at_most_one_verdict_is_due, some_verdict_is_due};
 use scram_text::laws::{
-    client_first_is_decided, has_one_client_first, name_is_decided, spells_one_name,
+    client_first_is_decided, has_one_client_first, has_one_server_final, has_one_server_first,
+    name_is_decided, server_final_is_decided, server_first_is_decided, spells_one_name,
 };
 
 /// A spelling is that of one message: who reads a line knows which bytes were sent.
@@ -91,6 +92,25 @@ pub fn has_one_why()
     spells_one_name();
     at_most_one_verdict_is_due();
     only_one_reply_is_due();
+}
+
+/// Each list of bytes is a clean log, or has a line at fault and a reason for it: an audit has an answer
+/// for whatever it reads.
+pub fn each_log_is_judged()
+    ensures { EachLogIsJudged }
+{
+    has_one_client_first();
+    client_first_is_decided();
+    spells_one_name();
+    name_is_decided();
+    has_one_server_first();
+    server_first_is_decided();
+    has_one_server_final();
+    server_final_is_decided();
+    at_most_one_verdict_is_due();
+    some_verdict_is_due();
+    only_one_reply_is_due();
+    some_reply_is_due();
 }
 
 /// The classes of lines that are due behind a log's lines, demands aside, are those of its place.
