@@ -1,5 +1,5 @@
 -- Logs that end with a halt, and bytes without an LF.
-use Rattle.std.proofs.Common.{◌≡◌, ◌≤◌, ◌+◌, inl, inr, ℕ, List, [], ◌∷◌, ◌++◌, length, take, refl, sym, arith, subst}
+use Rattle.std.proofs.Common.{◌≤◌, ◌+◌, inl, inr, ℕ, List, [], ◌∷◌, ◌++◌, length, refl, subst}
 use Rattle.std.specs.List.{AllByRecursion, AllZip}
 use Rattle.scram_text.specs.Laws.{SpellsOneName, HasOneClientFirst}
 use Rattle.log_grammar.specs.Lines.{LogLine, IsLogLine}
@@ -7,13 +7,13 @@ use Rattle.log_grammar.specs.Bytes.{LacksLf, ended_by_lf, IsCut}
 use Rattle.log_grammar.specs.Sessions.{Told}
 use Rattle.log_grammar.specs.Demands.{Accounts, demands}
 use Rattle.log_grammar.specs.Places.{Place, before_all, halted}
-use Rattle.log_grammar.specs.Clean.{Spells, Begins, IsFront, IsClean, IsFaultLine}
+use Rattle.log_grammar.specs.Clean.{Spells, Begins, IsClean}
 use Rattle.log_grammar.specs.Why.{Why, is_cut, no_line, out_of_order, class_of, LineClass, IsClassDue, IsWrongNext, IsWhy}
 use Rattle.log_grammar.specs.Laws.{ClassesFollowThePlace}
 use Rattle.log_grammar.specs.Examples.{AreWhole}
 use Rattle.log_grammar.proofs.CutLemmas.{cut_one_way}
-use Rattle.log_grammar.proofs.Completions.{spelled}
-use Rattle.log_grammar.proofs.FaultLemmas.{is_clean, line_why}
+use Rattle.log_grammar.proofs.FaultLemmas.{start, end_why}
+use Rattle.log_grammar.proofs.ExampleLemmas.{clean_by, last_why}
 
 -- what ends with one more is not empty in front of it, or that one stands alone
 parts : {A B : Type 0} (P : A → B → Type 0) (xs : List A) (x : A) (ys : List B) (y : B) → AllZip P (xs ++ x ∷ []) (ys ++ y ∷ [])
@@ -32,7 +32,7 @@ each P (a ∷ xs) x h = let more = each P xs x h.1 in ((h.0, more.0), more.1)
 pub halted_is_clean : (accounts : Accounts) (texts : List (List ℕ)) (log : List LogLine) (told : List Told) → AreWhole texts log
     → Begins (demands accounts) log halted told → IsClean accounts (ended_by_lf texts)
 halted_is_clean accounts texts log told whole begins =
-    is_clean accounts texts log halted told whole.0 whole.1 (spelled accounts log halted told begins tt) tt
+    clean_by accounts texts log halted told (record { are = whole.0; lack = whole.1; begins = begins }) tt
 
 no_halt : (accounts : Accounts) (told : List Told) → Begins (demands accounts) [] halted told → ⊥
 no_halt accounts told (inl none) = cc none.1
@@ -49,8 +49,8 @@ more_behind_halt once names classes accounts texts [] told text line whole begin
 more_behind_halt once names classes accounts texts (first ∷ log) told text line whole begins =
     let read = parts IsLogLine texts text (first ∷ log) line whole.0 in
     let lacks = each LacksLf texts text whole.1 in
-    line_why once names accounts texts first log halted told text line out_of_order (record { are = read.0; lack = lacks.0; begins = begins })
-    read.1 lacks.1 (λ next h. h) (inl (none_behind_halt classes accounts (first ∷ log) told (class_of line) begins, refl))
+    last_why once names accounts texts first log halted told text line out_of_order (record { are = read.0; lack = lacks.0; begins = begins })
+    read.1 lacks.1 (λ f. f.goes) (inl (none_behind_halt classes accounts (first ∷ log) told (class_of line) begins, refl))
 
 -- bytes without an LF are no lines
 alone : (rest : List ℕ) → LacksLf rest → IsCut rest [] rest
@@ -65,23 +65,9 @@ unclean accounts rest lacks (lines, place, told, (texts, cut, are), spells, ends
     let same = (cut_one_way rest texts [] [] rest cut (alone rest lacks)).0 in
     no_lines accounts lines place told (subst (λ (ts : List (List ℕ)). AllZip IsLogLine ts lines) same are) spells
 
-front_of_none : (accounts : Accounts) (j : ℕ) → j ≡ 0 → IsFront accounts (ended_by_lf (take j []))
-front_of_none accounts j none = subst (λ (n : ℕ). IsFront accounts (ended_by_lf (take n []))) (sym none)
-    ([], before_all, [], ([], record { joined = refl; lines = tt; behind = refl }, tt), inl (refl, refl, refl))
-
-abbrev fault : (accounts : Accounts) (rest : List ℕ) → LacksLf rest → IsFaultLine accounts rest 1
-fault accounts rest lacks = record {
-  texts = [];
-  rest = rest;
-  cut = alone rest lacks;
-  below = λ j less few. front_of_none accounts j (omega (arith, few));
-  within = λ few front. omega (arith, few);
-  past = omega arith;
-  unclean = λ last clean. unclean accounts rest lacks clean;
-}
-
 at_once : (accounts : Accounts) (rest : List ℕ) (why : Why) → LacksLf rest → IsWrongNext accounts [] [] rest why → IsWhy accounts rest 1 why
-at_once accounts rest why lacks wrong = record { fault = fault accounts rest lacks; before = 0; this = refl; lines = []; read = tt; wrong = wrong }
+at_once accounts rest why lacks wrong =
+    end_why accounts rest [] rest [] before_all [] why (alone rest lacks) (start accounts) (unclean accounts rest lacks) wrong
 
 pub short_is_cut : (accounts : Accounts) (rest : List ℕ) → LacksLf rest → length rest ≤ 6202 → IsWhy accounts rest 1 is_cut
 short_is_cut accounts rest lacks short = at_once accounts rest is_cut lacks (inl (short, refl))

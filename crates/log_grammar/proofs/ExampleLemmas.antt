@@ -77,7 +77,7 @@ lead_offer : (accounts : Accounts) → Lead accounts (first_text ∷ offer_text 
 lead_offer accounts = lead_on accounts _ _ between [] offer_text _ offered (lead_first accounts) is_offer refl (refl, refl) tt
 
 -- whole lines that lead to a place where a log may end are clean
-clean_by : (accounts : Accounts) (texts : List (List ℕ)) (lines : List LogLine) (place : Place) (told : List Told) → Lead accounts texts lines place told
+pub clean_by : (accounts : Accounts) (texts : List (List ℕ)) (lines : List LogLine) (place : Place) (told : List Told) → Lead accounts texts lines place told
     → MayEnd place → IsClean accounts (ended_by_lf texts)
 clean_by accounts texts lines place told l ends = clean_at accounts (ended_by_lf texts) texts lines place told (whole texts l.lack) l ends
 
@@ -164,7 +164,7 @@ cut_why parts once accounts texts lines place told l unended =
     end_why accounts (ended_by_lf texts) texts [] lines place told is_cut cut l unclean (inl (omega arith, refl))
 
 -- the last of whole lines, which may not stand there, is at fault
-last_why : HasOneClientFirst → SpellsOneName → (accounts : Accounts) (texts : List (List ℕ)) (first : LogLine) (lines : List LogLine) (place : Place) (told : List Told)
+pub last_why : HasOneClientFirst → SpellsOneName → (accounts : Accounts) (texts : List (List ℕ)) (first : LogLine) (lines : List LogLine) (place : Place) (told : List Told)
     (text : List ℕ) (line : LogLine) (why : Why) → Lead accounts texts (first ∷ lines) place told → IsLogLine text line → LacksLf text
     → (Follows accounts place told line → ⊥) → IsMisplaced accounts (first ∷ lines) line why
     → IsWhy accounts (ended_by_lf (texts ++ text ∷ [])) (length texts + 1) why
@@ -227,7 +227,7 @@ halt_is_early parts once accounts =
 pub end_is_missing : HasOneClientFirst → SpellsOneName → (accounts : Accounts) → IsWhy accounts (one_session (codes "C GONE" ∷ offer_text ∷ [])) 4 out_of_order
 end_is_missing parts once accounts =
     let l = lead_gone accounts in
-    line_why parts once accounts (first_text ∷ offer_text ∷ codes "C GONE" ∷ []) header _ over [] offer_text _ out_of_order l is_offer refl (λ next h. h)
+    last_why parts once accounts (first_text ∷ offer_text ∷ codes "C GONE" ∷ []) header _ over [] offer_text _ out_of_order l is_offer refl (λ f. f.goes)
     (inl (not_due accounts _ over _ l.begins (λ is. cc is), refl))
 
 -- a class that is due
@@ -263,7 +263,6 @@ turned_away_why parts once accounts =
     last_why parts once accounts (first_text ∷ offer_text ∷ codes "C AUTH SCRAM-SHA-1" ∷ []) header _ at [] (codes "S NO :") (said (refuses [])) other_challenge
     l is_no refl (λ f. f.goes.0.0 ScramSha1 refl)
     (inr (is_due accounts _ at _ l.begins refl, at, [], l.begins, inl ((ScramSha1, refl), refl)))
-
 
 text_differs : codes "E" ≡ first_text → ⊥
 text_differs e = let wrong : 69 ≡ 83 = ap (λ (l : List ℕ). get_or l 0 0) e in omega (arith, wrong)
