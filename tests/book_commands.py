@@ -343,6 +343,21 @@ def names(folder):
     same("counters", {token(book, name)["next"] for name in NAMES}, {1})
 
 
+def hard_links(folder):
+    """A file of two names can't be read as a book: a save would leave the old text under one of them."""
+    book, other = put(os.path.join(folder, "book")), os.path.join(folder, "other")
+    os.link(book, other)
+    before = seen(book)
+    for command in GOOD:
+        for path in [book, other]:
+            says(f"{command} on a file of two names", well(command, path), 3, "", f"cannot read {path}")
+    same("both names", (seen(book), seen(other)), (before, before))
+    same("the folder", sorted(os.listdir(folder)), ["book", "other"])
+    os.remove(other)
+    for command in GOOD:
+        succeeds(command, book)
+
+
 def start_waiting(folder, beside):
     """Holds the folder, and starts each command in it, `enrol` also on a new book."""
     book, new = put(os.path.join(folder, "book")), os.path.join(folder, "new")
@@ -374,6 +389,7 @@ TESTS = [
     unsaved,
     unlocked,
     names,
+    hard_links,
 ]
 if ROOT:
     TESTS.append(owner)

@@ -3,7 +3,7 @@ ghost use Rattle.std.specs.Prelude.{◌≤◌, IfOk, IfSome, vec_len};
 
 use crate::lock::{HeldFolder, Lockable};
 use crate::place::Place;
-use std::fs::{Files, OpenFile, OpenOptions, Permissions};
+use std::fs::{Files, Metadata, OpenFile, OpenOptions, Permissions};
 use std::io::{ErrorKind, Read, Write};
 use std::os::unix::fs::{MetadataExt, OpenOptionsExt, PermissionsExt, lchown};
 use std::time::Clock;
@@ -39,14 +39,18 @@ where
         Ok(BookFile { rt, place, folder })
     }
 
-    /// The file's bytes, or None where there is no file. FileTooLarge where they are more than 16777216.
+    /// The file's bytes, or None where there is no file. FileTooLarge where they are more than 16777216;
+    /// InvalidInput where something else than a file is there, or a file that has another name too, at which
+    /// a save would leave the old text.
     pub fn read(&self) -> io::Result<Option<Vec<u8>>>
         ensures most { IfOk result (λ found. IfSome found (λ bytes. vec_len bytes ≤ MOST_BOOK)) }
     {
-        let file = match fs::open(self.rt, self.place.book.as_str()) {
+        let book = self.place.book.as_str();
+        match fs::metadata(self.rt, book) {
             Err(error) if error.kind() == ErrorKind::NotFound => return Ok(None),
-            file => file?,
-        };
+            found => check_single(&found?)?,
+        }
+        let file = fs::open(self.rt, book)?;
         let mut bytes = Vec::new(self.rt.alloc());
         file.take(MOST_BOOK as u64 + 1).read_to_end(&mut bytes)?;
         if bytes.len() <= MOST_BOOK {
@@ -99,5 +103,14 @@ where
     fn put_in_place(&self) -> io::Result<()> {
         fs::rename(self.rt, self.place.next.as_str(), self.place.book.as_str())?;
         self.folder.sync()
+    }
+}
+
+// Refuses what is no file, and a file that has more names than one.
+fn check_single(found: &Metadata) -> io::Result<()> {
+    if found.is_file() && found.nlink() == 1 {
+        Ok(())
+    } else {
+        Err(io::Error::from(ErrorKind::InvalidInput))
     }
 }

@@ -12,10 +12,11 @@ use std::os::unix::fs::{PermissionsExt, symlink};
 use std::test::Fail;
 
 // What a run that reads a book and saves it once asks of the file system, each with the end of its path.
-const READ_AND_SAVED: [(&str, &str); 14] = [
+const READ_AND_SAVED: [(&str, &str); 15] = [
     ("canonicalize", "/book"),
     ("open_file", ""),
     ("try_hold", ""),
+    ("metadata", "/book"),
     ("open_file", "/book"),
     ("read", "/book"),
     ("remove_file", "/book.new"),
