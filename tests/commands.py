@@ -60,7 +60,8 @@ failures = 0
 
 def check(words, text, status, printed="", fault=""):
     """Runs the program, and compares status, output and fault; a fault of its own is given without its beginning."""
-    run = subprocess.run([PROGRAM, *words], input=text if isinstance(text, bytes) else text.encode(), capture_output=True)
+    data = text if isinstance(text, bytes) else text.encode()
+    run = subprocess.run([PROGRAM, *words], input=data, capture_output=True)
     faults = f"scramotp: {fault}\n" if fault else ""
     got = (run.returncode, run.stdout.decode(), run.stderr.decode())
     assert got == (status, printed, faults), (words, text[:100], got)
@@ -68,9 +69,9 @@ def check(words, text, status, printed="", fault=""):
 
 def check_usage(words, begin):
     """The same where the words are faulty: `begin` is how the fault begins."""
-    run = subprocess.run([PROGRAM, *words], input=b"pencil\n", capture_output=True, text=False)
-    assert (run.returncode, run.stdout) == (2, b""), (words, run)
-    assert run.stderr.decode().startswith(begin), (words, run)
+    run = subprocess.run([PROGRAM, *words], input="pencil\n", capture_output=True, text=True)
+    assert (run.returncode, run.stdout) == (2, ""), (words, run)
+    assert run.stderr.startswith(begin), (words, run)
 
 
 def keys(mechanism, salt, count):

@@ -3,10 +3,10 @@ ghost use Rattle.std.specs.Prelude.{◌≡◌, IfErr, IfOk};
 ghost use Rattle.scramotp.specs.Code.{IsCodeOf, IsTooEarly};
 
 use crate::asked::{Asked, Steps};
-use crate::fault::Fault;
-use crate::value;
-use crate::value::Judged;
+use crate::words::{given, optional};
 use clap::ArgMatches;
+use command_line::value::Judged;
+use command_line::{Fault, value};
 use otp_core::{Code, Digits, OtpHash, Secret, step};
 use std::alloc::Global;
 use std::io::Write;
@@ -33,22 +33,17 @@ fn answer(secret: &Secret, digits: Digits, asked: &Asked) -> Result<Code, Fault>
 
 // Judges the options that say which code, in their order.
 fn judge(words: &ArgMatches<'_>) -> Result<Asked, Fault> {
-    let counter = match value::optional(words, Judged::Counter) {
+    let counter = match optional(words, Judged::Counter) {
         Some(text) => Some(value::within(Judged::Counter, text, 0, MOST_COUNTER)?),
         None => None,
     };
-    let moment = match value::optional(words, Judged::Moment) {
+    let moment = match optional(words, Judged::Moment) {
         Some(text) => Some(value::moment(Judged::Moment, text)?),
         None => None,
     };
-    let hash = value::hash(value::given(words, Judged::Hash))?;
-    let t0 = value::moment(Judged::T0, value::given(words, Judged::T0))?;
-    let step = value::within(
-        Judged::Step,
-        value::given(words, Judged::Step),
-        1,
-        MOST_STEP,
-    )?;
+    let hash = value::hash(given(words, Judged::Hash))?;
+    let t0 = value::moment(Judged::T0, given(words, Judged::T0))?;
+    let step = value::within(Judged::Step, given(words, Judged::Step), 1, MOST_STEP)?;
     match (counter, moment) {
         (Some(counter), _) => Ok(Asked::Hotp(counter)),
         (None, Some(moment)) => Ok(Asked::Totp(Steps {
@@ -64,8 +59,8 @@ fn judge(words: &ArgMatches<'_>) -> Result<Asked, Fault> {
 /// Judges the options in their order and prints the code. Faults: BadValue, NoCounterOrMoment,
 /// BeforeFirstStep, CannotWriteOutput and NoMemory.
 pub fn code<O: Write>(alloc: Global, words: &ArgMatches<'_>, output: &mut O) -> Result<(), Fault> {
-    let secret = value::secret(alloc, value::given(words, Judged::Secret))?;
-    let digits = value::digits(value::given(words, Judged::Digits))?;
+    let secret = value::secret(alloc, given(words, Judged::Secret))?;
+    let digits = value::digits(given(words, Judged::Digits))?;
     let code = answer(&secret, digits, &judge(words)?)?;
     writeln!(output, "{}", code.text()).map_err(|_| Fault::CannotWriteOutput)
 }

@@ -1,12 +1,13 @@
 //! The command `enrol`: a new account, of a password.
-use crate::fault::Fault;
 use crate::held_book::{Found, HeldBook};
 use crate::random::Random;
-use crate::value::Judged;
-use crate::{held_book, input, value};
+use crate::words::given;
+use crate::{held_book, input};
 use account_book::Book;
 use book_file::{FileStore, Lockable};
 use clap::ArgMatches;
+use command_line::value::Judged;
+use command_line::{Fault, value};
 use scram_text::{Password, Salt};
 use std::fs::Files;
 use std::io::{BufRead, Write};
@@ -32,8 +33,8 @@ where
     O: Write,
 {
     let alloc = rt.alloc();
-    let name = value::name(value::given(words, Judged::Name))?;
-    let count = value::count(value::given(words, Judged::Count))?;
+    let name = value::name(given(words, Judged::Name))?;
+    let count = value::count(given(words, Judged::Count))?;
     let line = input::first_line(alloc, input)?;
     let Some(password) = Password::new(line.as_slice()) else {
         return Err(Fault::BadPassword);
@@ -54,9 +55,9 @@ where
     R: Files + Clock + AllocGlobal,
     R::File: Lockable,
 {
-    let path = value::given(words, Judged::Book);
+    let path = given(words, Judged::Book);
     let found = held_book::find(rt, path)?;
-    let mut random = Random::open(rt, value::given(words, Judged::Random))?;
+    let mut random = Random::open(rt, given(words, Judged::Random))?;
     let held = match found {
         Found::Book(held) => held,
         Found::Nothing(file) => {

@@ -6,9 +6,9 @@ ghost use Rattle.account_book.specs.Accounts.{account_at, IsAdded, IsChanged};
 ghost use Rattle.account_book.specs.Enrolled.{enrolled};
 ghost use Rattle.account_book.specs.Tokens.{IsAttempt, token_at, with_token};
 
-use crate::fault::Fault;
 use account_book::{Book, BookStore, BookWhy, EnrolFault, Reply};
 use book_file::{BookFile, FileStore, Lockable};
+use command_line::Fault;
 use otp_core::Moment;
 use scram_text::{Password, PlainName, Salt};
 use std::alloc::Global;

@@ -3,7 +3,7 @@ ghost use Rattle.std.specs.Prelude.{◌≡◌, ◌≤◌, ◌⊎◌, [], vec_len
 ghost use Rattle.std.specs.Io.BufRead.{first_piece, strip_last, take_through};
 ghost use Rattle.scramotp.specs.declared.input.TheConstants.{MOST_INPUT};
 
-use crate::fault::Fault;
+use command_line::Fault;
 use std::alloc::Global;
 use std::io::{BufRead, ErrorKind, Read};
 

@@ -4,10 +4,11 @@ ghost use Rattle.std.specs.Io.BufRead.{first_piece};
 ghost use Rattle.scram_text.specs.Class.{IsPassword};
 ghost use Rattle.scramotp.specs.Keys.{printed_keys};
 
-use crate::fault::Fault;
-use crate::value::Judged;
-use crate::{input, value};
+use crate::input;
+use crate::words::given;
 use clap::ArgMatches;
+use command_line::value::Judged;
+use command_line::{Fault, value};
 use mac_core::Mechanism;
 use scram_text::{Password, Salt};
 use std::alloc::Global;
@@ -67,8 +68,8 @@ pub fn keys<I: BufRead, O: Write>(
     input: &mut I,
     output: &mut O,
 ) -> Result<(), Fault> {
-    let mechanism = value::mechanism(value::given(words, Judged::Mechanism))?;
-    let salt = value::salt(alloc, value::given(words, Judged::Salt))?;
-    let count = value::count(value::given(words, Judged::Count))?;
+    let mechanism = value::mechanism(given(words, Judged::Mechanism))?;
+    let salt = value::salt(alloc, given(words, Judged::Salt))?;
+    let count = value::count(given(words, Judged::Count))?;
     print_keys(alloc, mechanism, &salt, count, input, output)
 }

@@ -7,7 +7,6 @@
 mod asked;
 mod code;
 mod enrol;
-mod fault;
 mod held_book;
 mod input;
 mod keys;
@@ -16,11 +15,10 @@ mod run;
 #[cfg(test)]
 mod tests;
 mod unlock;
-mod value;
 mod verify;
 mod words;
 
-use crate::fault::Fault;
+use command_line::Fault;
 use std::io::{BufReader, BufWriter, ErrorKind, Lock};
 use std::process::ExitCode;
 use std::{env, io};

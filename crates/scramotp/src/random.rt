@@ -1,5 +1,5 @@
 //! The file that random bytes come from.
-use crate::fault::Fault;
+use command_line::Fault;
 use std::alloc::Global;
 use std::fs;
 use std::fs::Files;

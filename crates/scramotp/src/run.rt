@@ -1,12 +1,12 @@
 //! One run of the program over words and streams.
 ghost use Rattle.std.specs.Prelude.{◌≡◌, ◌≤◌};
-ghost use Rattle.scramotp.specs.Fault.{status_of};
+ghost use Rattle.command_line.specs.Fault.{status_of};
 
-use crate::fault::Fault;
 use crate::{code, enrol, keys, unlock, verify, words};
 use book_file::Lockable;
 use clap::ArgMatches;
 use clap::error::ErrorKind;
+use command_line::Fault;
 use std::convert::AsStr;
 use std::fs::Files;
 use std::io::{BufRead, Write};

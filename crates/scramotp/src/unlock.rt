@@ -1,9 +1,10 @@
 //! The command `unlock`: a token takes attempts again.
-use crate::fault::Fault;
-use crate::value::Judged;
-use crate::{held_book, value};
+use crate::held_book;
+use crate::words::given;
 use book_file::Lockable;
 use clap::ArgMatches;
+use command_line::value::Judged;
+use command_line::{Fault, value};
 use std::fs::Files;
 use std::io::Write;
 use std::time::Clock;
@@ -17,8 +18,8 @@ where
     R::File: Lockable,
     O: Write,
 {
-    let name = value::name(value::given(words, Judged::Name))?;
-    let mut held = held_book::open(rt, value::given(words, Judged::Book))?;
+    let name = value::name(given(words, Judged::Name))?;
+    let mut held = held_book::open(rt, given(words, Judged::Book))?;
     held.unlock(rt.alloc(), &name)?;
     writeln!(output, "unlocked {}", name.text()).map_err(|_| Fault::CannotWriteOutput)
 }

@@ -2,14 +2,15 @@
 ghost use Rattle.std.specs.Prelude.{◌≡◌, ◌&&◌, IfOk, string_bytes};
 ghost use Rattle.scramotp.specs.Verify.{is_pass, printed_reply};
 
-use crate::fault::Fault;
+use crate::held_book;
 use crate::held_book::HeldBook;
 use crate::input::Lines;
-use crate::value::Judged;
-use crate::{held_book, value};
+use crate::words::given;
 use account_book::{BookStore, Reply};
 use book_file::Lockable;
 use clap::ArgMatches;
+use command_line::value::Judged;
+use command_line::{Fault, value};
 use otp_core::Moment;
 use scram_text::PlainName;
 use std::alloc::Global;
@@ -33,9 +34,9 @@ where
     O: Write,
 {
     let alloc = rt.alloc();
-    let name = value::name(value::given(words, Judged::Name))?;
-    let moment = value::moment(Judged::Moment, value::given(words, Judged::Moment))?;
-    let mut held = held_book::open(rt, value::given(words, Judged::Book))?;
+    let name = value::name(given(words, Judged::Name))?;
+    let moment = value::moment(Judged::Moment, given(words, Judged::Moment))?;
+    let mut held = held_book::open(rt, given(words, Judged::Book))?;
     held.check_token(&name)?;
     answer_lines(alloc, &mut held, &name, moment, input, output)
 }

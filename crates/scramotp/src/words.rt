@@ -1,5 +1,6 @@
 //! The command words, as `clap` reads them.
-use clap::{Arg, ArgAction, Command};
+use clap::{Arg, ArgAction, ArgMatches, Command};
+use command_line::value::Judged;
 use std::alloc::{AllocError, Global};
 
 const STATUSES: &str =
@@ -173,4 +174,15 @@ pub fn scramotp<'a>(alloc: Global) -> Result<Command<'a>, AllocError> {
         .subcommand(code(alloc)?)?
         .subcommand(verify(alloc)?)?
         .subcommand(unlock(alloc)?)
+}
+
+/// What the words give for an option, its default included, or None where it is not there.
+pub fn optional<'a>(words: &ArgMatches<'a>, option: Judged) -> Option<&'a str> {
+    let name = option.name();
+    words.get_str(name)
+}
+
+/// What the words give for an option that is required or has a default.
+pub fn given<'a>(words: &ArgMatches<'a>, option: Judged) -> &'a str {
+    optional(words, option).unwrap_or("")
 }

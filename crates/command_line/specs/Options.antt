@@ -2,8 +2,8 @@
 use Rattle.std.specs.Prelude.{ℕ, List, codes}
 use Rattle.otp_core.specs.declared.hash.OtpHash.{OtpHash}
 use Rattle.otp_core.specs.declared.hash.OtpHash.TheVariants.{Sha1, Sha256, Sha512}
-use Rattle.scramotp.specs.declared.value.Judged.{Judged}
-use Rattle.scramotp.specs.declared.value.Judged.TheVariants.{Book, Name, Random, Mechanism, Salt, Count, Secret, Digits, Counter, Moment, Hash, T0, Step}
+use Rattle.command_line.specs.declared.value.Judged.{Judged}
+use Rattle.command_line.specs.declared.value.Judged.TheVariants.{Book, Name, Random, Mechanism, Salt, Count, Secret, Digits, Counter, Moment, Hash, T0, Step}
 
 -- an option's name, as on the command line without its hyphens and in the fault about its value
 abbrev pub option_name : Judged → List ℕ

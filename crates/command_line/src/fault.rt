@@ -1,9 +1,9 @@
 //! Why a command ends without its answer: the text for standard error, and the exit status.
 ghost use Rattle.std.specs.Prelude.{◌≡◌};
-ghost use Rattle.scramotp.specs.Fault.{status_of};
+ghost use Rattle.command_line.specs.Fault.{status_of};
 
 use crate::value::Judged;
-use account_book::{BookFault, BookWhy};
+use book_format::{BookFault, BookWhy};
 use std::alloc::{AllocError, Global};
 use std::io;
 use std::io::ErrorKind;
@@ -108,7 +108,7 @@ impl Fault {
 
 impl From<AllocError> for Fault {
     ghost use Rattle.std.specs.Prelude.{◌≡◌};
-    ghost use Rattle.scramotp.specs.declared.fault.Fault.TheVariants.{NoMemory};
+    ghost use Rattle.command_line.specs.declared.fault.Fault.TheVariants.{NoMemory};
 
     ghost from_gives = { λ _ fault. fault ≡ NoMemory };
 

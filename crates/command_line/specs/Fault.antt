@@ -1,7 +1,7 @@
 -- How a command ends without its answer.
 use Rattle.std.specs.Prelude.{ℕ}
-use Rattle.scramotp.specs.declared.fault.Fault.{Fault}
-use Rattle.scramotp.specs.declared.fault.Fault.TheVariants.{BadValue, BadPassword, NoCounterOrMoment, BeforeFirstStep, NameTaken, NoSuchAccount, NoToken, BadBook, CannotRead, CannotWrite, CannotReadInput, CannotWriteOutput, NoMemory}
+use Rattle.command_line.specs.declared.fault.Fault.{Fault}
+use Rattle.command_line.specs.declared.fault.Fault.TheVariants.{BadValue, BadPassword, NoCounterOrMoment, BeforeFirstStep, NameTaken, NoSuchAccount, NoToken, BadBook, CannotRead, CannotWrite, CannotReadInput, CannotWriteOutput, NoMemory}
 
 -- the exit status: 1 for what is refused, 2 for what the user can spell otherwise, 3 for files, streams and memory
 abbrev pub status_of : Fault → ℕ

@@ -1,7 +1,7 @@
 use Rattle.std.proofs.Common.{◌≡◌, true, false, sym, ◌∙◌}
-use Rattle.scramotp.specs.Number.{IsBare}
-use Rattle.scramotp.proofs.Decimals.{bare_decimal, decimal_from_bare, no_decimal_from_err}
-use Rattle.scramotp.proofs.value.number.Goals as goal
+use Rattle.command_line.specs.Number.{IsBare}
+use Rattle.command_line.proofs.Decimals.{bare_decimal, decimal_from_bare, no_decimal_from_err}
+use Rattle.command_line.proofs.value.number.Goals as goal
 
 pub returns-then-is_bare-clause-some : goal.returns-then-is_bare-clause-some
 returns-then-is_bare-clause-some c =

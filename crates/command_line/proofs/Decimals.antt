@@ -5,7 +5,7 @@ use Rattle.std.specs.Result.{result_ok}
 use Rattle.std.specs.Str.Parse.{AllDigits, ParsesUnsigned, digits_value}
 use Rattle.std.proofs.lemmas.Fmt.{decimal-digits_value, decimal_digit, first_decimal, parse-decimal}
 use Rattle.std.proofs.lemmas.Str.Parse.{IsNumeralModel, numerals_by_value, parse_plain, tells_digits}
-use Rattle.scramotp.specs.Number.{IsBare}
+use Rattle.command_line.specs.Number.{IsBare}
 
 -- the words of std for digits and their value
 own : IsNumeralModel (AllDigits 10) (digits_value 10)

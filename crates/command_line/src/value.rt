@@ -5,11 +5,10 @@ ghost use Rattle.hex.specs.Hex.{decode_of};
 ghost use Rattle.mac_core.specs.Chosen.{name_of};
 ghost use Rattle.scram_text.specs.Class.{IsPlainName, IsSalt};
 ghost use Rattle.otp_core.specs.Secret.{IsSecretLength, IsMoment};
-ghost use Rattle.scramotp.specs.Number.{IsBare};
-ghost use Rattle.scramotp.specs.Options.{option_name, hash_name};
+ghost use Rattle.command_line.specs.Number.{IsBare};
+ghost use Rattle.command_line.specs.Options.{option_name, hash_name};
 
 use crate::fault::Fault;
-use clap::ArgMatches;
 use mac_core::Mechanism;
 use otp_core::{Digits, Moment, OtpHash, Secret};
 use scram_text::{PlainName, Salt};
@@ -87,24 +86,13 @@ impl Judged {
 
 impl fmt::Display for Judged {
     ghost use Rattle.std.specs.Prelude.{Some};
-    ghost use Rattle.scramotp.specs.Options.{option_name};
+    ghost use Rattle.command_line.specs.Options.{option_name};
 
     ghost output = { λ option. Some (option_name option) };
 
     fn fmt<W: fmt::Write>(&self, f: &mut fmt::Formatter<W>) -> fmt::Result {
         f.write_str(self.name())
     }
-}
-
-/// What the words give for an option, its default included, or None where it is not there.
-pub fn optional<'a>(words: &ArgMatches<'a>, option: Judged) -> Option<&'a str> {
-    let name = option.name();
-    words.get_str(name)
-}
-
-/// What the words give for an option that is required or has a default.
-pub fn given<'a>(words: &ArgMatches<'a>, option: Judged) -> &'a str {
-    optional(words, option).unwrap_or("")
 }
 
 // Whether neither a plus nor a needless zero stands in front of the digits.

@@ -1,0 +1,18 @@
+//! What stands behind a command on the command line: the values of options, judged, and the faults that end a
+//! command without its answer, with their texts and exit statuses.
+//!
+//! ```rust
+//! use command_line::Fault;
+//! use command_line::value;
+//! use command_line::value::Judged;
+//!
+//! assert!(rt; value::within(Judged::Step, "30", 1, 3600).is_ok_and(|step| step == 30));
+//! let fault: Fault = value::name("").err().ok_or("a name of no byte")?;
+//! assert_eq!(rt; fault.status(), 2);
+//! ```
+#![tactic(auto)]
+
+mod fault;
+pub mod value;
+
+pub use fault::Fault;
