@@ -4,7 +4,7 @@ use std::io::ErrorKind;
 use std::path::Path;
 use std::{fs, io};
 
-/// The paths of a book, with links followed: all names of one book have the same.
+/// The paths of a book, with symbolic links followed: a book and the links to it have the same.
 #[derive(Drop)]
 pub struct Place {
     /// The book's file.
