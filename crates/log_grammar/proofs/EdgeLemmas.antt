@@ -12,8 +12,7 @@ use Rattle.log_grammar.specs.Why.{Why, is_cut, no_line, out_of_order, class_of, 
 use Rattle.log_grammar.specs.Laws.{ClassesFollowThePlace}
 use Rattle.log_grammar.specs.Examples.{AreWhole}
 use Rattle.log_grammar.proofs.CutLemmas.{cut_one_way}
-use Rattle.log_grammar.proofs.FaultLemmas.{start, end_why}
-use Rattle.log_grammar.proofs.ExampleLemmas.{clean_by, last_why}
+use Rattle.log_grammar.proofs.FaultLemmas.{start, whole, clean_at, end_why, last_why}
 
 -- what ends with one more is not empty in front of it, or that one stands alone
 parts : {A B : Type 0} (P : A → B → Type 0) (xs : List A) (x : A) (ys : List B) (y : B) → AllZip P (xs ++ x ∷ []) (ys ++ y ∷ [])
@@ -31,8 +30,8 @@ each P (a ∷ xs) x h = let more = each P xs x h.1 in ((h.0, more.0), more.1)
 
 pub halted_is_clean : (accounts : Accounts) (texts : List (List ℕ)) (log : List LogLine) (told : List Told) → AreWhole texts log
     → Begins (demands accounts) log halted told → IsClean accounts (ended_by_lf texts)
-halted_is_clean accounts texts log told whole begins =
-    clean_by accounts texts log halted told (record { are = whole.0; lack = whole.1; begins = begins }) tt
+halted_is_clean accounts texts log told are begins =
+    clean_at accounts (ended_by_lf texts) texts log halted told (whole texts are.1) (record { are = are.0; lack = are.1; begins = begins }) tt
 
 no_halt : (accounts : Accounts) (told : List Told) → Begins (demands accounts) [] halted told → ⊥
 no_halt accounts told (inl none) = cc none.1
@@ -66,8 +65,7 @@ unclean accounts rest lacks (lines, place, told, (texts, cut, are), spells, ends
     no_lines accounts lines place told (subst (λ (ts : List (List ℕ)). AllZip IsLogLine ts lines) same are) spells
 
 at_once : (accounts : Accounts) (rest : List ℕ) (why : Why) → LacksLf rest → IsWrongNext accounts [] [] rest why → IsWhy accounts rest 1 why
-at_once accounts rest why lacks wrong =
-    end_why accounts rest [] rest [] before_all [] why (alone rest lacks) (start accounts) (unclean accounts rest lacks) wrong
+at_once accounts rest why lacks wrong = end_why accounts rest [] rest [] before_all [] why (alone rest lacks) (start accounts) (unclean accounts rest lacks) wrong
 
 pub short_is_cut : (accounts : Accounts) (rest : List ℕ) → LacksLf rest → length rest ≤ 6202 → IsWhy accounts rest 1 is_cut
 short_is_cut accounts rest lacks short = at_once accounts rest is_cut lacks (inl (short, refl))

@@ -8,18 +8,16 @@ use Rattle.scram_text.specs.Messages.{ClientFirstParts, header_text, client_firs
 use Rattle.scram_text.specs.Parts.{authz_text}
 use Rattle.log_grammar.specs.Words.{IsMechName}
 use Rattle.log_grammar.specs.Lines.{LogLine, header, said, heard, bad, gone, ended, mechs, cont, refuses, halt, auth, auth_with, abort, IsLogLine}
-use Rattle.log_grammar.specs.Bytes.{LacksLf, ended_by_lf}
+use Rattle.log_grammar.specs.Bytes.{ended_by_lf}
 use Rattle.log_grammar.specs.Sessions.{Told}
 use Rattle.log_grammar.specs.Demands.{Accounts, demands, NamesMechanism, AreReplies}
 use Rattle.log_grammar.specs.Places.{Place, before_all, between, offered, asks_bare, waits_first, got_first, leaving, over, MayEnd}
 use Rattle.log_grammar.specs.Steps.{Goes, told_at}
 use Rattle.log_grammar.specs.Clean.{Begins, IsClean}
-use Rattle.log_grammar.specs.Why.{Why, is_cut, no_line, out_of_order, other_mechs, other_challenge, other_outcome, refused_with, LineClass, IsClassDue, IsDueAt, IsMisplaced, IsWhy}
+use Rattle.log_grammar.specs.Why.{is_cut, no_line, out_of_order, other_mechs, other_challenge, other_outcome, refused_with, LineClass, IsClassDue, IsDueAt, IsWhy}
 use Rattle.log_grammar.specs.Examples.{first_text, offer_text, first_alone, one_session, bare_no}
 use Rattle.log_grammar.proofs.ClassLemmas.{classes_due}
-use Rattle.log_grammar.proofs.Completions.{each-append}
-use Rattle.log_grammar.proofs.Standings.{Follows}
-use Rattle.log_grammar.proofs.FaultLemmas.{Lead, start, lead_on, clean_at, whole, not_at_end, end_why, text_why, front_starts, line_why}
+use Rattle.log_grammar.proofs.FaultLemmas.{Lead, start, lead_on, clean_at, whole, not_at_end, end_why, text_why, front_starts, last_why}
 
 -- the texts of lines
 names : List ℕ
@@ -77,7 +75,7 @@ lead_offer : (accounts : Accounts) → Lead accounts (first_text ∷ offer_text 
 lead_offer accounts = lead_on accounts _ _ between [] offer_text _ offered (lead_first accounts) is_offer refl (refl, refl) tt
 
 -- whole lines that lead to a place where a log may end are clean
-pub clean_by : (accounts : Accounts) (texts : List (List ℕ)) (lines : List LogLine) (place : Place) (told : List Told) → Lead accounts texts lines place told
+clean_by : (accounts : Accounts) (texts : List (List ℕ)) (lines : List LogLine) (place : Place) (told : List Told) → Lead accounts texts lines place told
     → MayEnd place → IsClean accounts (ended_by_lf texts)
 clean_by accounts texts lines place told l ends = clean_at accounts (ended_by_lf texts) texts lines place told (whole texts l.lack) l ends
 
@@ -162,15 +160,6 @@ cut_why parts once accounts texts lines place told l unended =
     let cut = whole texts l.lack in
     let unclean = not_at_end parts once accounts (ended_by_lf texts) texts lines place told cut l unended in
     end_why accounts (ended_by_lf texts) texts [] lines place told is_cut cut l unclean (inl (omega arith, refl))
-
--- the last of whole lines, which may not stand there, is at fault
-pub last_why : HasOneClientFirst → SpellsOneName → (accounts : Accounts) (texts : List (List ℕ)) (first : LogLine) (lines : List LogLine) (place : Place) (told : List Told)
-    (text : List ℕ) (line : LogLine) (why : Why) → Lead accounts texts (first ∷ lines) place told → IsLogLine text line → LacksLf text
-    → (Follows accounts place told line → ⊥) → IsMisplaced accounts (first ∷ lines) line why
-    → IsWhy accounts (ended_by_lf (texts ++ text ∷ [])) (length texts + 1) why
-last_why parts once accounts texts first lines place told text line why l is lacks stuck misplaced =
-    let cut = whole (texts ++ text ∷ []) (each-append texts (text ∷ []) l.lack (lacks, tt)) in
-    line_why parts once accounts (ended_by_lf (texts ++ text ∷ [])) texts text [] [] first lines place told line why cut l is stuck misplaced
 
 -- logs at fault
 pub empty_is_cut : HasOneClientFirst → SpellsOneName → (accounts : Accounts) → IsWhy accounts [] 1 is_cut
