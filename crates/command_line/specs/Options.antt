@@ -1,7 +1,5 @@
--- The names of the options whose values the program judges, and of the hash functions of codes.
+-- The names of the options whose values the program judges.
 use Rattle.std.specs.Prelude.{ℕ, List, codes}
-use Rattle.otp_core.specs.declared.hash.OtpHash.{OtpHash}
-use Rattle.otp_core.specs.declared.hash.OtpHash.TheVariants.{Sha1, Sha256, Sha512}
 use Rattle.command_line.specs.declared.value.Judged.{Judged}
 use Rattle.command_line.specs.declared.value.Judged.TheVariants.{Book, Name, Random, Mechanism, Salt, Count, Secret, Digits, Counter, Moment, Hash, T0, Step}
 
@@ -20,9 +18,3 @@ option_name Moment = codes "moment"
 option_name Hash = codes "hash"
 option_name T0 = codes "t0"
 option_name Step = codes "step"
-
--- the name of a hash function, as the value of `--hash`
-abbrev pub hash_name : OtpHash → List ℕ
-hash_name Sha1 = codes "sha1"
-hash_name Sha256 = codes "sha256"
-hash_name Sha512 = codes "sha512"

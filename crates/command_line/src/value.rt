@@ -6,7 +6,8 @@ ghost use Rattle.mac_core.specs.Chosen.{name_of};
 ghost use Rattle.scram_text.specs.Class.{IsPlainName, IsSalt};
 ghost use Rattle.otp_core.specs.Secret.{IsSecretLength, IsMoment};
 ghost use Rattle.command_line.specs.Number.{IsBare};
-ghost use Rattle.command_line.specs.Options.{option_name, hash_name};
+ghost use Rattle.book_format.specs.Keys.{hash_name};
+ghost use Rattle.command_line.specs.Options.{option_name};
 
 use crate::fault::Fault;
 use mac_core::Mechanism;
