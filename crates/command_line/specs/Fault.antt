@@ -1,5 +1,6 @@
 -- How a command ends without its answer.
-use Rattle.std.specs.Prelude.{ℕ}
+use Rattle.std.specs.Prelude.{ℕ, ◌≡◌, List, Option, MatchOption, string_bytes}
+use Rattle.book_format.specs.Account.{AccountFields}
 use Rattle.command_line.specs.declared.fault.Fault.{Fault}
 use Rattle.command_line.specs.declared.fault.Fault.TheVariants.{BadValue, BadPassword, NoCounterOrMoment, BeforeFirstStep, NameTaken, NoSuchAccount, NoToken, BadBook, CannotRead, CannotWrite, CannotReadInput, CannotWriteOutput, NoMemory}
 
@@ -18,3 +19,19 @@ status_of (CannotWrite file) = 3
 status_of CannotReadInput = 3
 status_of CannotWriteOutput = 3
 status_of NoMemory = 3
+
+-- memory ran out, or the file of this name can't be read
+abbrev pub IsUnread : List ℕ → Fault → Type 0
+IsUnread path (CannotRead file) = string_bytes file ≡ path
+IsUnread path fault = fault ≡ NoMemory
+
+-- memory ran out, or the file of this name can't be written
+abbrev pub IsUnwritten : List ℕ → Fault → Type 0
+IsUnwritten path (CannotWrite file) = string_bytes file ≡ path
+IsUnwritten path fault = fault ≡ NoMemory
+
+-- the fault of a change to the token of what stands at a name, in the book whose file has this name: there is no
+-- account, it has no token, or the book can't be saved
+abbrev pub IsTokenFault : List ℕ → Option AccountFields → Fault → Type 0
+IsTokenFault path found fault = MatchOption found (fault ≡ NoSuchAccount)
+    (λ account. MatchOption account.token (fault ≡ NoToken) (λ token. IsUnwritten path fault))

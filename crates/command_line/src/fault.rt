@@ -1,6 +1,6 @@
 //! Why a command ends without its answer: the text for standard error, and the exit status.
 ghost use Rattle.std.specs.Prelude.{◌≡◌};
-ghost use Rattle.command_line.specs.Fault.{status_of};
+ghost use Rattle.command_line.specs.Fault.{IsUnread, IsUnwritten, status_of};
 
 use crate::value::Judged;
 use book_format::{BookFault, BookWhy};
@@ -66,9 +66,10 @@ pub enum Fault {
 }
 
 impl Fault {
-    /// That the file at `path` can't be read, or NoMemory where that is why.
+    /// That the file at `path` can't be read, or NoMemory where that is why or where there is none to say so.
     pub fn of_reading(alloc: Global, path: &str, error: &io::Error) -> Fault
-        ensures { status_of result ≡ 3 }
+        ensures path { IsUnread path.now result }
+        ensures status { status_of result ≡ 3 }
     {
         if error.kind() == ErrorKind::OutOfMemory {
             return Fault::NoMemory;
@@ -79,9 +80,10 @@ impl Fault {
         }
     }
 
-    /// That the file at `path` can't be written.
+    /// That the file at `path` can't be written, or NoMemory where there is none to say so.
     pub fn of_writing(alloc: Global, path: &str) -> Fault
-        ensures { status_of result ≡ 3 }
+        ensures path { IsUnwritten path.now result }
+        ensures status { status_of result ≡ 3 }
     {
         match format!(in alloc; "{path}") {
             Ok(path) => Fault::CannotWrite(path),

@@ -5,6 +5,7 @@ ghost use Rattle.book_format.specs.Trees.{IsBookText};
 ghost use Rattle.account_book.specs.Accounts.{account_at, IsAdded, IsChanged};
 ghost use Rattle.account_book.specs.Enrolled.{enrolled};
 ghost use Rattle.account_book.specs.Tokens.{IsAttempt, token_at, with_token};
+ghost use Rattle.command_line.specs.Fault.{IsTokenFault, IsUnwritten};
 
 use account_book::{Book, BookStore, BookWhy, EnrolFault, Reply};
 use book_file::{BookFile, FileStore, Lockable};
@@ -67,7 +68,8 @@ fn read_text<'a, 'r, R>(
 where
     R: Files + Clock + AllocGlobal,
     R::File: Lockable,
-    ensures { IfOk result (λ held. IsBookText (⟦<FileStore<'r, R> as BookStore>⟧.facts held.store).saved held.book) }
+    ensures text { IfOk result (λ held. IsBookText (⟦<FileStore<'r, R> as BookStore>⟧.facts held.store).saved held.book) }
+    ensures path { IfOk result (λ held. held.path.now ≡ path.now) }
 {
     let book = Book::read(alloc, text.as_bytes())?;
     let store = FileStore::new(file, text);
@@ -106,6 +108,7 @@ impl<'a, S: BookStore> HeldBook<'a, S> {
     pub fn new(book: Book, store: S, path: &'a str) -> HeldBook<'a, S>
         ensures book { result.book ≡ book }
         ensures store { result.store ≡ store }
+        ensures path { result.path.now ≡ path.now }
     {
         HeldBook { book, store, path }
     }
@@ -124,6 +127,8 @@ impl<'a, S: BookStore> HeldBook<'a, S> {
         requires { 1 ≤ count }
         ensures added { OnOk result (IsAdded self.old.book name.now
             (enrolled password.now salt1.now salt256.now count) self.new.book) }
+        ensures err { IfErr result (λ fault. MatchOption (account_at self.old.book name.now)
+            (IsUnwritten self.old.path.now fault) (λ account. fault ≡ Fault.NameTaken)) }
         ensures saved { OnOk result (IsBookText (S.facts self.new.store).saved self.new.book) }
     {
         match self
@@ -161,6 +166,7 @@ impl<'a, S: BookStore> HeldBook<'a, S> {
     ) -> Result<Reply, Fault>
         ensures due { IfOk result (λ reply. IfSome (token_at self.old.book name.now)
             (λ token. IsAttempt self.old.book name.now token moment text.now reply self.new.book)) }
+        ensures err { IfErr result (IsTokenFault self.old.path.now (account_at self.old.book name.now)) }
         ensures saved { IfOk result (λ reply. reply ≢ Reply.Locked
             → IsBookText (S.facts self.new.store).saved self.new.book) }
     {
@@ -179,6 +185,7 @@ impl<'a, S: BookStore> HeldBook<'a, S> {
     pub fn unlock(&mut self, alloc: Global, name: &PlainName) -> Result<(), Fault>
         ensures unlocked { OnOk result (IfSome (token_at self.old.book name.now)
             (λ token. IsChanged self.old.book name.now (with_token (unlocked token)) self.new.book)) }
+        ensures err { IfErr result (IsTokenFault self.old.path.now (account_at self.old.book name.now)) }
         ensures saved { OnOk result (IsBookText (S.facts self.new.store).saved self.new.book) }
     {
         self.check_token(name)?;
@@ -189,6 +196,7 @@ impl<'a, S: BookStore> HeldBook<'a, S> {
     // Saves the book's text.
     fn save(&mut self, alloc: Global) -> Result<(), Fault>
         ensures book { self.new.book ≡ self.old.book }
+        ensures err { IfErr result (IsUnwritten self.old.path.now) }
         ensures saved { OnOk result (IsBookText (S.facts self.new.store).saved self.new.book) }
     {
         let text = self.book.write(alloc)?;
