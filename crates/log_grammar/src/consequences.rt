@@ -15,9 +15,9 @@ ghost use Rattle.log_grammar.specs.Why.{Why, IsWhy};
 
 use crate::laws::{
     are_cut, are_cut_one_way, clean_logs_are_fronts, each_account_has_its_history,
-    escapes_one_message, fronts_begin_with_fronts, goes_on_by_a_line, goes_on_by_no_other,
-    has_one_fault_line, has_one_reading, has_one_why, is_one_line, is_one_log_line,
-    line_is_decided, log_line_is_decided,
+    each_log_is_judged, escapes_one_message, fronts_begin_with_fronts, goes_on_by_a_line,
+    goes_on_by_no_other, has_one_fault_line, has_one_reading, has_one_why, is_one_line,
+    is_one_log_line, line_is_decided, log_line_is_decided,
 };
 
 /// Each text is one line of the protocol or none, and one line of a log or none.
@@ -87,6 +87,18 @@ pub fn logs_have_one_judgement()
 {
     has_one_fault_line();
     has_one_why();
+}
+
+/// Each log has exactly one answer: it is clean, or it is not, and one line of it is at fault for one reason.
+pub fn each_log_has_one_answer()
+    ensures { (accounts : Accounts) (bytes : List ℕ)
+        → (IsClean accounts bytes × ((k : ℕ) (why : Why) → IsWhy accounts bytes k why → ⊥))
+        ⊎ ((IsClean accounts bytes → ⊥) × (k : ℕ) × (why : Why) × IsWhy accounts bytes k why
+        × ((j : ℕ) (other : Why) → IsWhy accounts bytes j other → (j ≡ k) × (other ≡ why))) }
+{
+    each_log_is_judged();
+    clean_logs_have_no_fault();
+    logs_have_one_judgement();
 }
 
 /// To each code of an account without a token it is said that it has none, whatever others were told.
