@@ -38,6 +38,12 @@ fn path_of_book(rt: &HostRuntime, test: &str) -> Result<String, Fail> {
     Ok(format!(in rt.alloc(); "{folder}/book")?)
 }
 
+// Removes the book and its folder.
+fn remove(rt: &HostRuntime, book: &str) -> Result<(), Fail> {
+    let folder = book.strip_suffix("/book").ok_or("a folder")?;
+    Ok(fs::remove_dir_all(rt, folder)?)
+}
+
 // The words of `verify` at the moment 5.
 fn verify(book: &str) -> [&str; 8] {
     [
@@ -78,7 +84,7 @@ fn each_command(rt: HostRuntime) -> Result<(), Fail> {
     assert!(rt; has(&rt, book, b"failures = 0\n"));
     assert!(rt; has(&rt, book, b"next = 1\n"));
     assert!(rt; has(&rt, book, b"[accounts.other.sha1]\n"));
-    Ok(fs::remove_file(&rt, book)?)
+    remove(&rt, book)
 }
 
 // Whichever call of the file system fails, a code that was told as passed is spent, and a run that tells
@@ -120,5 +126,5 @@ fn verify_with_each_call_failing(rt: HostRuntime) -> Result<(), Fail> {
         }
     }
     assert!(rt; passed_at_last);
-    Ok(fs::remove_file(&rt, book)?)
+    remove(&rt, book)
 }
