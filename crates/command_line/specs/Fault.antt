@@ -1,6 +1,10 @@
 -- How a command ends without its answer.
 use Rattle.std.specs.Prelude.{ℕ, ◌≡◌, List, Option, MatchOption, string_bytes}
 use Rattle.book_format.specs.Account.{AccountFields}
+use Rattle.book_format.specs.Faults.{why_number}
+use Rattle.book_format.specs.declared.fault.BookFault.{BookFault}
+use Rattle.book_format.specs.declared.fault.BookWhy.{BookWhy}
+use Rattle.book_format.specs.declared.fault.BookWhy.TheVariants as why
 use Rattle.command_line.specs.declared.fault.Fault.{Fault}
 use Rattle.command_line.specs.declared.fault.Fault.TheVariants.{BadValue, BadPassword, NoCounterOrMoment, BeforeFirstStep, NameTaken, NoSuchAccount, NoToken, BadBook, CannotRead, CannotWrite, CannotReadInput, CannotWriteOutput, NoMemory}
 
@@ -35,3 +39,12 @@ IsUnwritten path fault = fault ≡ NoMemory
 abbrev pub IsTokenFault : List ℕ → Option AccountFields → Fault → Type 0
 IsTokenFault path found fault = MatchOption found (fault ≡ NoSuchAccount)
     (λ account. MatchOption account.token (fault ≡ NoToken) (λ token. IsUnwritten path fault))
+
+-- what is wrong with a book's text, as a command says it: by its number, or that memory ran out
+abbrev pub of_why : BookWhy → Fault
+of_why why.NoMemory = NoMemory
+of_why other = BadBook (why_number other)
+
+-- why a text is no account book, as a command says it
+abbrev pub of_book : BookFault → Fault
+of_book fault = of_why fault.why

@@ -120,6 +120,11 @@ impl From<AllocError> for Fault {
 }
 
 impl From<BookFault> for Fault {
+    ghost use Rattle.std.specs.Prelude.{◌≡◌};
+    ghost use Rattle.command_line.specs.Fault.{of_book};
+
+    ghost from_gives = { λ book fault. fault ≡ of_book book };
+
     fn from(fault: BookFault) -> Fault {
         match fault.why {
             BookWhy::NoMemory => Fault::NoMemory,

@@ -1,5 +1,5 @@
 //! Standard input, as lines.
-ghost use Rattle.std.specs.Prelude.{◌≡◌, ◌≤◌, ◌⊎◌, [], vec_len, IfErr, IfOk, IfSome, MatchOption};
+ghost use Rattle.std.specs.Prelude.{◌≡◌, ◌≤◌, ◌+◌, ◌⊎◌, [], length, vec_len, IfErr, IfOk, IfSome, MatchOption, OnOk};
 ghost use Rattle.std.specs.Io.BufRead.{first_piece, strip_last, take_through};
 ghost use Rattle.scramotp.specs.declared.input.TheConstants.{MOST_INPUT};
 
@@ -72,6 +72,8 @@ impl<'a, I: BufRead> Lines<'a, I> {
     pub fn next(&mut self, alloc: Global) -> Result<Option<Vec<u8>>, Fault>
         ensures line { IfOk result (λ found. IfSome (I.remaining self.old.input.now)
             (λ bytes. MatchOption found (bytes ≡ []) (λ line. line.items ≡ first_piece 10 bytes))) }
+        ensures left { OnOk result (IfSome (I.remaining self.old.input.now)
+            (λ bytes. self.new.left + length (take_through 10 bytes) ≡ self.old.left)) }
         ensures err { IfErr result (λ fault. (fault ≡ Fault.CannotReadInput) ⊎ (fault ≡ Fault.NoMemory)) }
     {
         let line = read_line(alloc, self.input, self.left)?;
