@@ -210,15 +210,16 @@ def values_at_their_limits(folder):
 
 
 def no_file(folder):
-    """No book is at a folder's name, behind a link to nothing, in a folder that is not there, or at no name."""
-    inner, link = os.path.join(folder, "inner"), os.path.join(folder, "link")
+    """No book is at a folder's name or a pipe's, behind a link to nothing, in a folder that is not there, or at no name."""
+    inner, pipe, link = (os.path.join(folder, name) for name in ["inner", "pipe", "link"])
     os.mkdir(inner)
+    os.mkfifo(pipe)
     os.symlink("nothing", link)
     nowhere = [os.path.join(folder, "no", name) for name in ["book", ".."]]
     for command in GOOD:
-        for book in [inner, link, *nowhere, ""]:
+        for book in [inner, pipe, link, *nowhere, ""]:
             says(f"{command} on {book}", well(command, book), 3, "", f"cannot read {book}")
-    same("folder", sorted(os.listdir(folder)), ["inner", "link"])
+    same("folder", sorted(os.listdir(folder)), ["inner", "link", "pipe"])
 
 
 def unreadable(folder):
