@@ -1,11 +1,13 @@
 //! A book that this run holds, and the store where each change is saved before anyone is told of it.
-ghost use Rattle.std.specs.Prelude.{◌≡◌, ◌≢◌, ◌≤◌, true, is_some, None, IfErr, IfOk, IfSome, MatchOption, OnOk, string_bytes};
+ghost use Rattle.std.specs.Prelude.{◌≡◌, ◌≢◌, ◌≤◌, ◌⊎◌, true, is_some, None, IfErr, IfOk, IfSome, MatchOption, OnOk, string_bytes};
 ghost use Rattle.otp_core.specs.Settings.{unlocked};
+ghost use Rattle.book_format.specs.Reading.{IsFirstFault};
 ghost use Rattle.book_format.specs.Trees.{IsBookText};
+ghost use Rattle.book_format.specs.declared.fault.BookFault.{BookFault};
 ghost use Rattle.account_book.specs.Accounts.{account_at, IsAdded, IsChanged};
 ghost use Rattle.account_book.specs.Enrolled.{enrolled};
 ghost use Rattle.account_book.specs.Tokens.{IsAttempt, token_at, with_token};
-ghost use Rattle.command_line.specs.Fault.{IsTokenFault, IsUnwritten};
+ghost use Rattle.command_line.specs.Fault.{IsTokenFault, IsUnwritten, of_book};
 
 use account_book::{Book, BookStore, BookWhy, EnrolFault, Reply};
 use book_file::{BookFile, FileStore, Lockable};
@@ -70,6 +72,8 @@ where
     R::File: Lockable,
     ensures text { IfOk result (λ held. IsBookText (⟦<FileStore<'r, R> as BookStore>⟧.facts held.store).saved held.book) }
     ensures path { IfOk result (λ held. held.path.now ≡ path.now) }
+    ensures err { IfErr result (λ fault. (fault ≡ Fault.NoMemory)
+        ⊎ ((found : BookFault) × (fault ≡ of_book found) × IsFirstFault (string_bytes text) found)) }
 {
     let book = Book::read(alloc, text.as_bytes())?;
     let store = FileStore::new(file, text);

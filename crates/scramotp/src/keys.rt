@@ -52,6 +52,11 @@ fn print_keys<I: BufRead, O: Write>(
     ensures ok { OnOk result (IfSome (I.remaining input.old) (λ bytes. IsPassword (first_piece 10 bytes)
         × IfSome (O.contents output.old) (λ before. O.contents output.new
         ≡ Some (before ++ printed_keys mechanism (first_piece 10 bytes) salt.now count)))) }
+
+    // A stream that fails, want of memory, or a first line that is no password.
+    ensures err { IfErr result (λ fault. (fault ≡ Fault.CannotReadInput) ⊎ ((fault ≡ Fault.CannotWriteOutput)
+        ⊎ ((fault ≡ Fault.NoMemory) ⊎ ((fault ≡ Fault.BadPassword)
+        × IfSome (I.remaining input.old) (λ bytes. IsPassword (first_piece 10 bytes) → ⊥))))) }
 {
     let line = input::first_line(alloc, input)?;
     let text = answer(alloc, mechanism, salt, count, line.as_slice())?;

@@ -1,5 +1,5 @@
 //! The command `verify`: each input line judged as a one-time code.
-ghost use Rattle.std.specs.Prelude.{◌≡◌, ◌&&◌, IfOk, string_bytes};
+ghost use Rattle.std.specs.Prelude.{◌≡◌, ◌&&◌, IfErr, IfOk, string_bytes};
 ghost use Rattle.scramotp.specs.Verify.{is_pass, printed_reply};
 
 use crate::held_book;
@@ -86,7 +86,8 @@ fn print_reply<O: Write>(
 
 // The line that is printed for a reply.
 fn reply_text(alloc: Global, moment: Moment, reply: Reply) -> Result<String, Fault>
-    ensures { IfOk result (λ text. string_bytes text ≡ printed_reply reply moment) }
+    ensures ok { IfOk result (λ text. string_bytes text ≡ printed_reply reply moment) }
+    ensures err { IfErr result (λ fault. fault ≡ Fault.NoMemory) }
 {
     let seconds = moment.seconds();
     Ok(match reply {

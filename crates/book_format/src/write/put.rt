@@ -1,5 +1,5 @@
 //! Values put into a table.
-ghost use Rattle.std.specs.Prelude.{◌≡◌, ◌≤◌, OnOk, Ok};
+ghost use Rattle.std.specs.Prelude.{◌≡◌, OnOk, Ok};
 ghost use Rattle.hex.specs.Hex.{decode_of, encode_lower};
 ghost use Rattle.toml.specs.Data.{string, integer};
 ghost use Rattle.toml.specs.View.{view, table_view};
@@ -47,15 +47,14 @@ pub(super) fn put_number(
     put(alloc, table, key, Value::Integer(number))
 }
 
-/// Puts an iteration count at a key. Its type says how great it can be.
+/// Puts an iteration count at a key.
 pub(super) fn put_count(
     alloc: Global,
     table: &mut Table,
     key: &str,
     count: u32,
 ) -> Result<(), AllocError>
-    ensures tree { OnOk result (table_view table.new ≡ put_member key.now (number_tree count) (table_view table.old)) }
-    ensures few { count ≤ 4294967295 }
+    ensures { OnOk result (table_view table.new ≡ put_member key.now (number_tree count) (table_view table.old)) }
 {
     put(alloc, table, key, Value::Integer(i64::from(count)))
 }
