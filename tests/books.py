@@ -1,6 +1,6 @@
 #!/usr/bin/env python3
 """What only processes show of the commands on an account book: runs at the same time, runs that are
-killed, links, modes, a folder that can't be written, a lock that another run keeps, which files it opens.
+killed, links, modes, a save that can't be made, a lock that another run keeps, which files it opens.
 
 Usage: books.py PROGRAM
 """

@@ -6,8 +6,8 @@ use crate::book::Book;
 use book_format::BookWhy;
 use std::alloc::{AllocError, Global};
 
-/// Each book is in its ranges: its salts and iteration counts are those that a challenge can show (RFC 5802,
-/// section 7), and its keys are values of their hash functions.
+/// Each book is in its ranges: its salts and iteration counts are those that a challenge can show, and its keys
+/// are as long as the digests of their hash functions.
 pub fn books_are_in_range(book: &Book)
     ensures { IsBook book.now }
 {

@@ -13,8 +13,8 @@ pub record AccountFields : Type 0 where
   pub act_as : List (List ℕ)
   pub token : Option Fields
 
--- keys that are values of a hash function of so many bytes, with a salt and an iteration count in the ranges
--- that a challenge can show (RFC 5802, section 7)
+-- keys as long as the digests of a hash function of so many bytes, with a salt and an iteration count in the
+-- ranges that a challenge can show
 pub record AreKeys (len : ℕ) (keys : MechKeys) : Type 0 where
   pub salt : IsSalt keys.salt
   pub salt_bytes : IsBytes keys.salt

@@ -1,4 +1,4 @@
--- The names of the options whose values the program judges.
+-- The names of the options whose values the program judges, or takes as paths.
 use Rattle.std.specs.Prelude.{ℕ, List, codes}
 use Rattle.command_line.specs.declared.value.Judged.{Judged}
 use Rattle.command_line.specs.declared.value.Judged.TheVariants.{Book, Name, Random, Mechanism, Salt, Count, Secret, Digits, Counter, Moment, Hash, T0, Step}

@@ -101,7 +101,8 @@ pub fn each_log_has_one_answer()
     logs_have_one_judgement();
 }
 
-/// To each code of an account without a token it is said that it has none, whatever others were told.
+/// To each code of an account without a token it is said that it has none, whatever others were told, at moments
+/// in their range.
 pub fn no_reply_without_a_token()
     ensures { (accounts : Accounts) (told : List Told) (account : List ℕ) → AllByRecursion (λ t. IsMoment t.moment) told
         → AreReplies (demands accounts) [] told → accounts.token account ≡ None → AllByRecursion (HasNoReply account) told }

@@ -29,7 +29,8 @@ pub fn clean_logs()
         (one_session (codes "C AUTH SCRAM-SHA-1" ∷ codes "S CONT :" ∷ codes "C GONE" ∷ codes "E" ∷ [])) }
 {}
 
-/// Cut are the empty log, and sessions behind each of their lines but the last.
+/// Cut are the empty log, a session that the client aborts behind each of its lines but the last, and three others
+/// behind some line.
 pub fn cut_logs()
     ensures empty { (accounts : Accounts) → IsWhy accounts [] 1 is_cut }
     ensures offer { (accounts : Accounts) → IsWhy accounts (one_session []) 3 is_cut }
@@ -84,8 +85,8 @@ pub fn lines_end_with_lf()
     ensures long { (accounts : Accounts) (rest : List ℕ) → LacksLf rest → 6203 ≤ length rest → IsWhy accounts rest 1 no_line }
 {}
 
-/// Each session is counted once, by its first line; an accepted login and a code that passed each by its line,
-/// and a code that failed by none.
+/// Each session is counted once, by its first line; in a log of one login, its acceptance is counted, and the code
+/// that passed, and not the one that failed.
 pub fn counted_logs()
     ensures sessions { (sessions : List Session)
         → (counts_of (header ∷ flat_map session_lines sessions)).sessions ≡ length sessions }

@@ -74,7 +74,8 @@ pub fn clean_logs_are_fronts()
     ensures { CleanLogsAreFronts }
 {}
 
-/// The replies of a log are due exactly where those of each account are due to it alone.
+/// Replies at moments in their range, as those of a log's lines are, are due exactly where those of each account
+/// are due to it alone.
 pub fn each_account_has_its_history()
     ensures { EachAccountHasItsHistory }
 {}

@@ -131,6 +131,7 @@ impl<'a, S: BookStore> HeldBook<'a, S> {
         requires { 1 ≤ count }
         ensures added { OnOk result (IsAdded self.old.book name.now
             (enrolled password.now salt1.now salt256.now count) self.new.book) }
+        ensures free { OnOk result (account_at self.old.book name.now ≡ None) }
         ensures err { IfErr result (λ fault. MatchOption (account_at self.old.book name.now)
             (IsUnwritten self.old.path.now fault) (λ account. fault ≡ Fault.NameTaken)) }
         ensures saved { OnOk result (IsBookText (S.facts self.new.store).saved self.new.book) }
@@ -170,6 +171,7 @@ impl<'a, S: BookStore> HeldBook<'a, S> {
     ) -> Result<Reply, Fault>
         ensures due { IfOk result (λ reply. IfSome (token_at self.old.book name.now)
             (λ token. IsAttempt self.old.book name.now token moment text.now reply self.new.book)) }
+        ensures there { OnOk result (is_some (token_at self.old.book name.now) ≡ true) }
         ensures err { IfErr result (IsTokenFault self.old.path.now (account_at self.old.book name.now)) }
         ensures saved { IfOk result (λ reply. reply ≢ Reply.Locked
             → IsBookText (S.facts self.new.store).saved self.new.book) }
@@ -189,6 +191,7 @@ impl<'a, S: BookStore> HeldBook<'a, S> {
     pub fn unlock(&mut self, alloc: Global, name: &PlainName) -> Result<(), Fault>
         ensures unlocked { OnOk result (IfSome (token_at self.old.book name.now)
             (λ token. IsChanged self.old.book name.now (with_token (unlocked token)) self.new.book)) }
+        ensures there { OnOk result (is_some (token_at self.old.book name.now) ≡ true) }
         ensures err { IfErr result (IsTokenFault self.old.path.now (account_at self.old.book name.now)) }
         ensures saved { OnOk result (IsBookText (S.facts self.new.store).saved self.new.book) }
     {

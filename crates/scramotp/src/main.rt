@@ -1,5 +1,5 @@
-//! `scramotp`: the keys of SCRAM logins (RFC 5802, RFC 7677) and one-time codes (RFC 4226, RFC 6238), on
-//! the command line.
+//! `scramotp`: the keys of SCRAM logins (RFC 5802, RFC 7677), one-time codes (RFC 4226, RFC 6238), and a book of
+//! accounts that have them, on the command line.
 //!
 //! `main` hands the words, the streams and the runtime to `run`, which does all the work.
 #![tactic(auto)]
