@@ -82,15 +82,21 @@ clean_by accounts texts lines place told l ends = clean_at accounts (ended_by_lf
 pub first_is_clean : (accounts : Accounts) → IsClean accounts first_alone
 first_is_clean accounts = clean_by accounts _ _ between [] (lead_first accounts) tt
 
--- `S NO` and the end, behind a place where the server may refuse
+-- `S NO` behind a place where the server may refuse
+lead_no : (accounts : Accounts) (texts : List (List ℕ)) (lines : List LogLine) (place : Place) → Lead accounts texts lines place []
+    → Goes (demands accounts) place (said (refuses [])) over → told_at place (said (refuses [])) ≡ []
+    → Lead accounts (texts ++ codes "S NO :" ∷ []) (lines ++ said (refuses []) ∷ []) over []
+lead_no accounts texts lines place l goes silent =
+    let due = subst (λ (t : List Told). AreReplies (demands accounts) [] t) (sym silent) tt in
+    let refusal = lead_on accounts texts lines place [] (codes "S NO :") (said (refuses [])) over l is_no refl goes due in
+    subst (λ (t : List Told). Lead accounts (texts ++ codes "S NO :" ∷ []) (lines ++ said (refuses []) ∷ []) over t) silent refusal
+
+-- and the end
 closed : (accounts : Accounts) (texts : List (List ℕ)) (lines : List LogLine) (place : Place) → Lead accounts texts lines place []
     → Goes (demands accounts) place (said (refuses [])) over → told_at place (said (refuses [])) ≡ []
     → IsClean accounts (ended_by_lf ((texts ++ codes "S NO :" ∷ []) ++ codes "E" ∷ []))
 closed accounts texts lines place l goes silent =
-    let due = subst (λ (t : List Told). AreReplies (demands accounts) [] t) (sym silent) tt in
-    let refusal = lead_on accounts texts lines place [] (codes "S NO :") (said (refuses [])) over l is_no refl goes due in
-    let same = subst (λ (t : List Told). Lead accounts (texts ++ codes "S NO :" ∷ []) (lines ++ said (refuses []) ∷ []) over t) silent refusal in
-    clean_by accounts _ _ between [] (lead_on accounts _ _ over [] (codes "E") ended between same is_end refl refl tt) tt
+    clean_by accounts _ _ between [] (lead_on accounts _ _ over [] (codes "E") ended between (lead_no accounts texts lines place l goes silent) is_end refl refl tt) tt
 
 pub aborted_is_clean : (accounts : Accounts) → IsClean accounts (one_session (codes "C ABORT" ∷ bare_no))
 aborted_is_clean accounts =
@@ -188,6 +194,44 @@ abort_is_cut parts once accounts = cut_why parts once accounts _ _ leaving [] (l
 pub no_is_cut : HasOneClientFirst → SpellsOneName → (accounts : Accounts) → IsWhy accounts (one_session (codes "C ABORT" ∷ codes "S NO :" ∷ [])) 5 is_cut
 no_is_cut parts once accounts =
     cut_why parts once accounts _ _ over [] (lead_on accounts _ _ leaving [] (codes "S NO :") (said (refuses [])) over (lead_abort accounts) is_no refl (refl, refl) tt) (λ h. h)
+
+lead_bad : (accounts : Accounts)
+    → Lead accounts (first_text ∷ offer_text ∷ codes "C BAD" ∷ []) (header ∷ said (mechs (codes "SCRAM-SHA-256 SCRAM-SHA-1")) ∷ bad ∷ []) leaving []
+lead_bad accounts = lead_on accounts _ _ offered [] (codes "C BAD") bad leaving (lead_offer accounts) is_bad refl refl tt
+
+lead_refused : (accounts : Accounts)
+    → Lead accounts (first_text ∷ offer_text ∷ codes "C AUTH SCRAM-SHA-1 :" ∷ [])
+    (header ∷ said (mechs (codes "SCRAM-SHA-256 SCRAM-SHA-1")) ∷ heard (auth_with (codes "SCRAM-SHA-1") []) ∷ []) (got_first (codes "SCRAM-SHA-1") []) []
+lead_refused accounts =
+    lead_on accounts _ _ offered [] (codes "C AUTH SCRAM-SHA-1 :") (heard (auth_with (codes "SCRAM-SHA-1") [])) (got_first (codes "SCRAM-SHA-1") [])
+    (lead_offer accounts) is_auth_with refl refl tt
+
+pub bad_is_cut : HasOneClientFirst → SpellsOneName → (accounts : Accounts) → IsWhy accounts (one_session (codes "C BAD" ∷ [])) 4 is_cut
+bad_is_cut parts once accounts = cut_why parts once accounts _ _ leaving [] (lead_bad accounts) (λ h. h)
+
+pub bad_no_is_cut : HasOneClientFirst → SpellsOneName → (accounts : Accounts) → IsWhy accounts (one_session (codes "C BAD" ∷ codes "S NO :" ∷ [])) 5 is_cut
+bad_no_is_cut parts once accounts = cut_why parts once accounts _ _ over [] (lead_no accounts _ _ leaving (lead_bad accounts) (refl, refl) refl) (λ h. h)
+
+pub plain_is_cut : HasOneClientFirst → SpellsOneName → (accounts : Accounts) → IsWhy accounts (one_session (codes "C AUTH PLAIN" ∷ [])) 4 is_cut
+plain_is_cut parts once accounts = cut_why parts once accounts _ _ (asks_bare (codes "PLAIN")) [] (lead_plain accounts) (λ h. h)
+
+pub plain_no_is_cut : HasOneClientFirst → SpellsOneName → (accounts : Accounts) → IsWhy accounts (one_session (codes "C AUTH PLAIN" ∷ codes "S NO :" ∷ [])) 5 is_cut
+plain_no_is_cut parts once accounts =
+    cut_why parts once accounts _ _ over []
+    (lead_no accounts _ _ (asks_bare (codes "PLAIN")) (lead_plain accounts) ((plain_not_offered, refl), refl) refl) (λ h. h)
+
+pub refused_is_cut : HasOneClientFirst → SpellsOneName → (accounts : Accounts) → IsWhy accounts (one_session (codes "C AUTH SCRAM-SHA-1 :" ∷ [])) 4 is_cut
+refused_is_cut parts once accounts = cut_why parts once accounts _ _ (got_first (codes "SCRAM-SHA-1") []) [] (lead_refused accounts) (λ h. h)
+
+pub refused_no_is_cut : HasOneClientFirst → SpellsOneName → (accounts : Accounts) → IsWhy accounts (one_session (codes "C AUTH SCRAM-SHA-1 :" ∷ codes "S NO :" ∷ [])) 5 is_cut
+refused_no_is_cut parts once accounts =
+    cut_why parts once accounts _ _ over []
+    (lead_no accounts _ _ (got_first (codes "SCRAM-SHA-1") []) (lead_refused accounts) ((λ name l. no_message l.parts l.is_first.spelled, refl), refl) refl) (λ h. h)
+
+pub left_is_cut : HasOneClientFirst → SpellsOneName → (accounts : Accounts) → IsWhy accounts (one_session (codes "C AUTH SCRAM-SHA-1" ∷ codes "S CONT :" ∷ codes "C GONE" ∷ [])) 6 is_cut
+left_is_cut parts once accounts =
+    cut_why parts once accounts _ _ over []
+    (lead_on accounts _ _ (waits_first (codes "SCRAM-SHA-1")) [] (codes "C GONE") gone over (lead_invited accounts) is_gone refl refl tt) (λ h. h)
 
 -- a class that is not due
 not_due : (accounts : Accounts) (lines : List LogLine) (place : Place) (class : LineClass) → Begins (demands accounts) lines place [] → (IsDueAt place class → ⊥)

@@ -26,3 +26,4 @@ pub mod ExampleLemmas
 pub mod BookLemmas
 pub mod EdgeLemmas
 pub mod CountLemmas
+pub mod MomentLemmas

@@ -7,17 +7,17 @@ ghost use Rattle.log_grammar.specs.Lines.{Line, LogLine, client_text, resp, IsLi
 ghost use Rattle.log_grammar.specs.Bytes.{ended_by_lf, IsCut};
 ghost use Rattle.log_grammar.specs.Sessions.{Told};
 ghost use Rattle.log_grammar.specs.Demands.{Accounts, demands, AreReplies};
-ghost use Rattle.log_grammar.specs.Histories.{HasNoReply};
+ghost use Rattle.log_grammar.specs.Histories.{HasNoReply, IsHistory};
 ghost use Rattle.log_grammar.specs.Places.{Place};
 ghost use Rattle.log_grammar.specs.Steps.{Goes, told_at};
-ghost use Rattle.log_grammar.specs.Clean.{Begins, IsFront, IsClean, IsFaultLine};
+ghost use Rattle.log_grammar.specs.Clean.{Spells, Begins, AreLines, IsFront, IsClean, IsFaultLine};
 ghost use Rattle.log_grammar.specs.Why.{Why, IsWhy};
 
 use crate::laws::{
     are_cut, are_cut_one_way, clean_logs_are_fronts, each_account_has_its_history,
     each_log_is_judged, escapes_one_message, fronts_begin_with_fronts, goes_on_by_a_line,
     goes_on_by_no_other, has_one_fault_line, has_one_reading, has_one_why, is_one_line,
-    is_one_log_line, line_is_decided, log_line_is_decided,
+    is_one_log_line, line_is_decided, log_line_is_decided, replies_have_moments,
 };
 
 /// Each text is one line of the protocol or none, and one line of a log or none.
@@ -99,6 +99,16 @@ pub fn each_log_has_one_answer()
     each_log_is_judged();
     clean_logs_have_no_fault();
     logs_have_one_judgement();
+}
+
+/// In a log that is read from bytes, what was told of each account is a legal history of its token.
+pub fn logs_have_legal_histories()
+    ensures { (accounts : Accounts) (bytes : List ℕ) (lines : List LogLine) (rest : List ℕ) (place : Place) (told : List Told)
+        → AreLines bytes lines rest → Spells (demands accounts) lines place told
+        → (account : List ℕ) → IsHistory (accounts.token account) account told }
+{
+    replies_have_moments();
+    each_account_has_its_history();
 }
 
 /// To each code of an account without a token it is said that it has none, whatever others were told, at moments

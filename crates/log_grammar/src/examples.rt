@@ -29,8 +29,7 @@ pub fn clean_logs()
         (one_session (codes "C AUTH SCRAM-SHA-1" ∷ codes "S CONT :" ∷ codes "C GONE" ∷ codes "E" ∷ [])) }
 {}
 
-/// Cut are the empty log, a session that the client aborts behind each of its lines but the last, and three others
-/// behind some line.
+/// Cut are the empty log, and each session of the clean logs above behind each of its lines but the last.
 pub fn cut_logs()
     ensures empty { (accounts : Accounts) → IsWhy accounts [] 1 is_cut }
     ensures offer { (accounts : Accounts) → IsWhy accounts (one_session []) 3 is_cut }
@@ -40,6 +39,20 @@ pub fn cut_logs()
     ensures auth { (accounts : Accounts) → IsWhy accounts (one_session (codes "C AUTH SCRAM-SHA-1" ∷ [])) 4 is_cut }
     ensures invited { (accounts : Accounts) → IsWhy accounts
         (one_session (codes "C AUTH SCRAM-SHA-1" ∷ codes "S CONT :" ∷ [])) 5 is_cut }
+    ensures bad { (accounts : Accounts) → IsWhy accounts
+        (one_session (codes "C BAD" ∷ [])) 4 is_cut }
+    ensures bad_no { (accounts : Accounts) → IsWhy accounts
+        (one_session (codes "C BAD" ∷ codes "S NO :" ∷ [])) 5 is_cut }
+    ensures not_offered { (accounts : Accounts) → IsWhy accounts
+        (one_session (codes "C AUTH PLAIN" ∷ [])) 4 is_cut }
+    ensures not_offered_no { (accounts : Accounts) → IsWhy accounts
+        (one_session (codes "C AUTH PLAIN" ∷ codes "S NO :" ∷ [])) 5 is_cut }
+    ensures refused { (accounts : Accounts) → IsWhy accounts
+        (one_session (codes "C AUTH SCRAM-SHA-1 :" ∷ [])) 4 is_cut }
+    ensures refused_no { (accounts : Accounts) → IsWhy accounts
+        (one_session (codes "C AUTH SCRAM-SHA-1 :" ∷ codes "S NO :" ∷ [])) 5 is_cut }
+    ensures left { (accounts : Accounts) → IsWhy accounts
+        (one_session (codes "C AUTH SCRAM-SHA-1" ∷ codes "S CONT :" ∷ codes "C GONE" ∷ [])) 6 is_cut }
 {
     has_one_client_first();
     spells_one_name();

@@ -1,4 +1,4 @@
-use Rattle.log_grammar.proofs.ExampleLemmas.{empty_is_cut, offer_is_cut, abort_is_cut, no_is_cut, gone_is_cut, auth_is_cut, invited_is_cut}
+use Rattle.log_grammar.proofs.ExampleLemmas.{empty_is_cut, offer_is_cut, abort_is_cut, no_is_cut, gone_is_cut, auth_is_cut, invited_is_cut, bad_is_cut, bad_no_is_cut, plain_is_cut, plain_no_is_cut, refused_is_cut, refused_no_is_cut, left_is_cut}
 use Rattle.log_grammar.proofs.examples.cut_logs.Goals as goal
 
 pub returns-clause-empty : goal.returns-clause-empty
@@ -21,3 +21,24 @@ returns-clause-auth c = auth_is_cut c.has_one_client_first.ensures c.spells_one_
 
 pub returns-clause-invited : goal.returns-clause-invited
 returns-clause-invited c = invited_is_cut c.has_one_client_first.ensures c.spells_one_name.ensures
+
+pub returns-clause-bad : goal.returns-clause-bad
+returns-clause-bad c = bad_is_cut c.has_one_client_first.ensures c.spells_one_name.ensures
+
+pub returns-clause-bad_no : goal.returns-clause-bad_no
+returns-clause-bad_no c = bad_no_is_cut c.has_one_client_first.ensures c.spells_one_name.ensures
+
+pub returns-clause-not_offered : goal.returns-clause-not_offered
+returns-clause-not_offered c = plain_is_cut c.has_one_client_first.ensures c.spells_one_name.ensures
+
+pub returns-clause-not_offered_no : goal.returns-clause-not_offered_no
+returns-clause-not_offered_no c = plain_no_is_cut c.has_one_client_first.ensures c.spells_one_name.ensures
+
+pub returns-clause-refused : goal.returns-clause-refused
+returns-clause-refused c = refused_is_cut c.has_one_client_first.ensures c.spells_one_name.ensures
+
+pub returns-clause-refused_no : goal.returns-clause-refused_no
+returns-clause-refused_no c = refused_no_is_cut c.has_one_client_first.ensures c.spells_one_name.ensures
+
+pub returns-clause-left : goal.returns-clause-left
+returns-clause-left c = left_is_cut c.has_one_client_first.ensures c.spells_one_name.ensures
