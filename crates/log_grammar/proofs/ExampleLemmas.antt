@@ -71,11 +71,11 @@ is_auth_with = record { spelled = refl; ranges = (is_sha_1, tt); short = omega a
 lead_first : (accounts : Accounts) → Lead accounts (first_text ∷ []) (header ∷ []) between []
 lead_first accounts = lead_on accounts [] [] before_all [] first_text header between (start accounts) is_header refl refl tt
 
-lead_offer : (accounts : Accounts) → Lead accounts (first_text ∷ offer_text ∷ []) (header ∷ said (mechs (codes "SCRAM-SHA-256 SCRAM-SHA-1")) ∷ []) offered []
+pub lead_offer : (accounts : Accounts) → Lead accounts (first_text ∷ offer_text ∷ []) (header ∷ said (mechs (codes "SCRAM-SHA-256 SCRAM-SHA-1")) ∷ []) offered []
 lead_offer accounts = lead_on accounts _ _ between [] offer_text _ offered (lead_first accounts) is_offer refl (refl, refl) tt
 
 -- whole lines that lead to a place where a log may end are clean
-clean_by : (accounts : Accounts) (texts : List (List ℕ)) (lines : List LogLine) (place : Place) (told : List Told) → Lead accounts texts lines place told
+pub clean_by : (accounts : Accounts) (texts : List (List ℕ)) (lines : List LogLine) (place : Place) (told : List Told) → Lead accounts texts lines place told
     → MayEnd place → IsClean accounts (ended_by_lf texts)
 clean_by accounts texts lines place told l ends = clean_at accounts (ended_by_lf texts) texts lines place told (whole texts l.lack) l ends
 

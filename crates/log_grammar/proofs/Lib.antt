@@ -27,3 +27,4 @@ pub mod BookLemmas
 pub mod EdgeLemmas
 pub mod CountLemmas
 pub mod MomentLemmas
+pub mod LoginLemmas

@@ -11,5 +11,6 @@ pub mod Histories
 pub mod Clean
 pub mod Why
 pub mod Counts
+pub mod Logins
 pub mod Examples
 pub mod Laws

@@ -1,0 +1,8 @@
+use Rattle.log_grammar.proofs.LoginLemmas.{logins_are_clean, logins_may_halt}
+use Rattle.log_grammar.proofs.logins.logins_are_clean.Goals as goal
+
+pub returns-clause-gone : goal.returns-clause-gone
+returns-clause-gone c = logins_are_clean c.acceptance_is_due_to_valid_logins.ensures
+
+pub returns-clause-halted : goal.returns-clause-halted
+returns-clause-halted c = logins_may_halt c.acceptance_is_due_to_valid_logins.ensures

@@ -1,0 +1,11 @@
+use Rattle.std.specs.Prelude.{[], ◌∷◌, ◌++◌, codes}
+use Rattle.mac_core.specs.Chosen.{name_of}
+use Rattle.log_grammar.specs.Lines.{heard, code}
+use Rattle.log_grammar.specs.Logins.{login_log}
+use Rattle.log_grammar.proofs.LoginLemmas.{a_code}
+use Rattle.log_grammar.proofs.logins.some_log_halts.Goals as goal
+
+pub returns : goal.returns
+returns c = λ accounts m name password fit plain has.
+    let (t1, t2, t3, t4, login) = c.passwords_log_in.ensures accounts m name password fit plain has in
+    (login_log (name_of m) t1 t2 t3 t4 ++ heard (code (codes "0")) ∷ [], c.logins_are_clean.ensures.halted accounts (name_of m) name t1 t2 t3 t4 (codes "0") login a_code)

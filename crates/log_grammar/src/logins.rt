@@ -1,0 +1,48 @@
+//! Logins in a log: an `S OK` is the last message of a valid login, and each valid login can be recorded.
+ghost use Rattle.std.specs.Prelude.{ℕ, List, [], ◌∷◌, ◌++◌, codes};
+ghost use Rattle.mac_core.specs.declared.chosen.Mechanism.{Mechanism};
+ghost use Rattle.scram_text.specs.Class.{IsPlainName};
+ghost use Rattle.log_grammar.specs.Lines.{LogLine, said, halt};
+ghost use Rattle.log_grammar.specs.Demands.{Accounts, IsFit};
+ghost use Rattle.log_grammar.specs.Clean.{IsClean};
+ghost use Rattle.log_grammar.specs.Logins.{EachOkEndsALogin, LoginsAreClean, LoginsMayHalt, HasPassword, PasswordsLogIn, log_bytes};
+
+use scram_ends::honest_login;
+use scram_ends::laws::acceptance_is_due_to_valid_logins;
+use scram_text::laws::{has_one_client_first, spells_one_name};
+
+/// An `S OK` stands in a log exactly where the messages of its session before it, and its own, are a valid
+/// login (RFC 5802, section 3) to the account that the first of them names.
+pub fn each_ok_ends_a_login()
+    ensures { EachOkEndsALogin }
+{
+    acceptance_is_due_to_valid_logins();
+    has_one_client_first();
+    spells_one_name();
+}
+
+/// A log of a valid login is clean where the client then goes away, and where a code is answered by a halt.
+pub fn logins_are_clean()
+    ensures gone { LoginsAreClean }
+    ensures halted { LoginsMayHalt }
+{
+    acceptance_is_due_to_valid_logins();
+}
+
+/// There is a valid login to each account whose keys are those of a password.
+pub fn passwords_log_in()
+    ensures { PasswordsLogIn }
+{
+    honest_login();
+    has_one_client_first();
+    spells_one_name();
+}
+
+/// So some clean log ends with a halt, wherever one account has a password.
+pub fn some_log_halts()
+    ensures { (accounts : Accounts) (m : Mechanism) (name password : List ℕ) → IsFit (accounts.entry m name) → IsPlainName name
+        → HasPassword (accounts.entry m name) m password → (lines : List LogLine) × IsClean accounts (log_bytes (lines ++ said halt ∷ [])) }
+{
+    logins_are_clean();
+    passwords_log_in();
+}
