@@ -28,3 +28,4 @@ pub mod EdgeLemmas
 pub mod CountLemmas
 pub mod MomentLemmas
 pub mod LoginLemmas
+pub mod PassLemmas

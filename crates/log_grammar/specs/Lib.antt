@@ -12,5 +12,6 @@ pub mod Clean
 pub mod Why
 pub mod Counts
 pub mod Logins
+pub mod Passes
 pub mod Examples
 pub mod Laws

@@ -5,7 +5,7 @@ ghost use Rattle.scram_text.specs.Class.{IsPlainName};
 ghost use Rattle.log_grammar.specs.Lines.{LogLine, said, halt};
 ghost use Rattle.log_grammar.specs.Demands.{Accounts, IsFit};
 ghost use Rattle.log_grammar.specs.Clean.{IsClean};
-ghost use Rattle.log_grammar.specs.Logins.{EachOkEndsALogin, LoginsAreClean, LoginsMayHalt, HasPassword, PasswordsLogIn, log_bytes};
+ghost use Rattle.log_grammar.specs.Logins.{EachOkEndsALogin, LoginsAreClean, LoginsMayHalt, LoginsAreAnswered, HasPassword, PasswordsLogIn, log_bytes};
 
 use scram_ends::honest_login;
 use scram_ends::laws::acceptance_is_due_to_valid_logins;
@@ -21,10 +21,12 @@ pub fn each_ok_ends_a_login()
     spells_one_name();
 }
 
-/// A log of a valid login is clean where the client then goes away, and where a code is answered by a halt.
+/// A log of a valid login is clean where the client then goes away, where a code is answered by a halt, and where
+/// it is answered by the reply that is due to it.
 pub fn logins_are_clean()
     ensures gone { LoginsAreClean }
     ensures halted { LoginsMayHalt }
+    ensures answered { LoginsAreAnswered }
 {
     acceptance_is_due_to_valid_logins();
 }

@@ -1,4 +1,4 @@
-use Rattle.log_grammar.proofs.LoginLemmas.{logins_are_clean, logins_may_halt}
+use Rattle.log_grammar.proofs.LoginLemmas.{logins_are_clean, logins_may_halt, logins_are_answered}
 use Rattle.log_grammar.proofs.logins.logins_are_clean.Goals as goal
 
 pub returns-clause-gone : goal.returns-clause-gone
@@ -6,3 +6,6 @@ returns-clause-gone c = logins_are_clean c.acceptance_is_due_to_valid_logins.ens
 
 pub returns-clause-halted : goal.returns-clause-halted
 returns-clause-halted c = logins_may_halt c.acceptance_is_due_to_valid_logins.ensures
+
+pub returns-clause-answered : goal.returns-clause-answered
+returns-clause-answered c = logins_are_answered c.acceptance_is_due_to_valid_logins.ensures
