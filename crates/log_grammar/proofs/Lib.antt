@@ -28,4 +28,6 @@ pub mod EdgeLemmas
 pub mod CountLemmas
 pub mod MomentLemmas
 pub mod LoginLemmas
-pub mod PassLemmas
+pub mod ReplyLemmas
+pub mod SessionLines
+pub mod OutcomeLemmas

@@ -12,6 +12,7 @@ pub mod Clean
 pub mod Why
 pub mod Counts
 pub mod Logins
-pub mod Passes
+pub mod Replies
+pub mod Outcomes
 pub mod Examples
 pub mod Laws

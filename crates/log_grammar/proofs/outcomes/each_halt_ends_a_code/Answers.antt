@@ -1,0 +1,5 @@
+use Rattle.log_grammar.proofs.OutcomeLemmas.{each_halt}
+use Rattle.log_grammar.proofs.outcomes.each_halt_ends_a_code.Goals as goal
+
+pub returns : goal.returns
+returns c = each_halt

@@ -1,0 +1,5 @@
+use Rattle.log_grammar.proofs.OutcomeLemmas.{each_offer}
+use Rattle.log_grammar.proofs.outcomes.each_offer_is_due.Goals as goal
+
+pub returns : goal.returns
+returns c = each_offer

@@ -1,0 +1,5 @@
+use Rattle.log_grammar.proofs.OutcomeLemmas.{each_refusal}
+use Rattle.log_grammar.proofs.outcomes.each_refusal_is_due.Goals as goal
+
+pub returns : goal.returns
+returns c = each_refusal c.at_most_one_verdict_is_due.ensures c.acceptance_is_due_to_valid_logins.ensures

@@ -1,0 +1,5 @@
+use Rattle.log_grammar.proofs.OutcomeLemmas.{each_reply}
+use Rattle.log_grammar.proofs.outcomes.each_reply_is_due.Goals as goal
+
+pub returns : goal.returns
+returns c = each_reply

@@ -1,0 +1,5 @@
+use Rattle.log_grammar.proofs.OutcomeLemmas.{first_lines}
+use Rattle.log_grammar.proofs.outcomes.first_lines_begin_logs.Goals as goal
+
+pub returns : goal.returns
+returns c = first_lines

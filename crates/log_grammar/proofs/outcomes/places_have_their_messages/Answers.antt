@@ -1,0 +1,5 @@
+use Rattle.log_grammar.proofs.SessionLines.{have_their_messages}
+use Rattle.log_grammar.proofs.outcomes.places_have_their_messages.Goals as goal
+
+pub returns : goal.returns
+returns c = have_their_messages

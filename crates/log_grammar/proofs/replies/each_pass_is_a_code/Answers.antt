@@ -1,0 +1,5 @@
+use Rattle.log_grammar.proofs.ReplyLemmas.{each_pass}
+use Rattle.log_grammar.proofs.replies.each_pass_is_a_code.Goals as goal
+
+pub returns : goal.returns
+returns c = each_pass c.each_reply_is_due.ensures

@@ -1,0 +1,108 @@
+-- The server's lines one by one: where each may stand in a log, and which messages stand before it.
+use Rattle.std.specs.Prelude.{ℕ, ◌≡◌, ◌⊎◌, ◌↔◌, List, [], ◌∷◌, ◌++◌, codes, reverse}
+use Rattle.std.specs.declared.option.Option.{Option}
+use Rattle.mac_core.specs.declared.chosen.Mechanism.{Mechanism}
+use Rattle.scram_ends.specs.Verdict.{refuse, due_text}
+use Rattle.scram_ends.specs.declared.verdict.Refusal.{Refusal}
+use Rattle.otp_core.specs.declared.token.answer.Reply.{Reply}
+use Rattle.log_grammar.specs.Lines.{LogLine, said, heard, mechs, cont, accepts, refuses, replies, halt, auth, auth_with, resp, code}
+use Rattle.log_grammar.specs.Sessions.{Told, told_of}
+use Rattle.log_grammar.specs.Demands.{Accounts, demands, NamesMechanism, IsLoginOf, IsChallenged, IsVerdict, IsReplyDue}
+use Rattle.log_grammar.specs.Places.{Place, between, offered, asks_bare, waits_first, got_first, waits_final, got_final, waits_code, got_code, leaving, over, halted}
+use Rattle.log_grammar.specs.Clean.{Begins}
+use Rattle.log_grammar.specs.Logins.{IsLoginTo}
+
+-- the first lines of what a log may begin with are such lines too, and what was told in them comes first: so each
+-- law on a log's last line holds of every line of it
+abbrev pub FirstLinesBeginLogs : Type 0
+FirstLinesBeginLogs = (accounts : Accounts) (lines more : List LogLine) (place : Place) (told : List Told)
+    → Begins (demands accounts) (lines ++ more) place told
+    → (at : Place) × (before : List Told) × (rest : List Told) × Begins (demands accounts) lines at before × (told ≡ before ++ rest)
+
+-- the log ends with these lines
+abbrev pub EndsWith : List LogLine → List LogLine → Type 0
+EndsWith log lines = (before : List LogLine) × (log ≡ before ++ lines)
+
+-- the lines by which a client sends its first message: in `C AUTH`, or behind an empty challenge
+abbrev pub IsSentBy : (mechanism first : List ℕ) → List LogLine → Type 0
+IsSentBy mechanism first lines =
+    (lines ≡ heard (auth_with mechanism first) ∷ [])
+    ⊎ (lines ≡ heard (auth mechanism) ∷ said (cont []) ∷ heard (resp first) ∷ [])
+
+-- the messages that a place tells of are those of the last lines, which are of one session
+abbrev pub HasItsMessages : Place → List LogLine → Type 0
+HasItsMessages (asks_bare mechanism) log = EndsWith log (heard (auth mechanism) ∷ [])
+HasItsMessages (waits_first mechanism) log = EndsWith log (heard (auth mechanism) ∷ said (cont []) ∷ [])
+HasItsMessages (got_first mechanism first) log = (lines : List LogLine) × IsSentBy mechanism first lines × EndsWith log lines
+HasItsMessages (waits_final mechanism account first challenge) log =
+    (lines : List LogLine) × IsSentBy mechanism first lines × EndsWith log (lines ++ said (cont challenge) ∷ [])
+HasItsMessages (got_final mechanism account first challenge last) log =
+    (lines : List LogLine) × IsSentBy mechanism first lines × EndsWith log (lines ++ said (cont challenge) ∷ heard (resp last) ∷ [])
+HasItsMessages (got_code account text) log = EndsWith log (heard (code text) ∷ [])
+HasItsMessages place log = Unit {0}
+
+-- what a log's place tells of messages is what its lines say
+abbrev pub PlacesHaveTheirMessages : Type 0
+PlacesHaveTheirMessages = (accounts : Accounts) (log : List LogLine) (place : Place) (told : List Told)
+    → Begins (demands accounts) log place told → HasItsMessages place log
+
+-- `S MECHS` stands where a session may begin, with the two names
+abbrev pub EachOfferIsDue : Type 0
+EachOfferIsDue = (accounts : Accounts) (log : List LogLine) (names : List ℕ) (next : Place) (told : List Told)
+    → Begins (demands accounts) (log ++ said (mechs names) ∷ []) next told
+    ↔ (Begins (demands accounts) log between told × (names ≡ codes "SCRAM-SHA-256 SCRAM-SHA-1") × (next ≡ offered))
+
+-- the empty challenge, behind a mechanism that is offered; or a challenge to the client-first message, for the
+-- account that it names
+abbrev pub IsChallengeDue : Accounts → List LogLine → List ℕ → Place → List Told → Type 0
+IsChallengeDue accounts log text next told =
+    ((mechanism : List ℕ) × Begins (demands accounts) log (asks_bare mechanism) told
+    × ((m : Mechanism) × NamesMechanism mechanism m) × (text ≡ []) × (next ≡ waits_first mechanism))
+    ⊎ ((mechanism : List ℕ) × (first : List ℕ) × (name : List ℕ) × Begins (demands accounts) log (got_first mechanism first) told
+    × IsChallenged accounts mechanism first name text × (next ≡ waits_final mechanism name first text))
+
+-- `S CONT` stands where it is one of these
+abbrev pub EachChallengeIsDue : Type 0
+EachChallengeIsDue = (accounts : Accounts) (log : List LogLine) (text : List ℕ) (next : Place) (told : List Told)
+    → Begins (demands accounts) (log ++ said (cont text) ∷ []) next told ↔ IsChallengeDue accounts log text next told
+
+-- the refusal that is due: a bare one of a mechanism that is not offered, of a client-first message that no server
+-- takes up, or to a client that ends its session; or the verdict on the three messages of a login, which is then
+-- valid with no fourth
+abbrev pub IsRefusalDue : Accounts → List LogLine → List ℕ → List Told → Type 0
+IsRefusalDue accounts log text told =
+    ((mechanism : List ℕ) × Begins (demands accounts) log (asks_bare mechanism) told
+    × ((m : Mechanism) → NamesMechanism mechanism m → ⊥) × (text ≡ []))
+    ⊎ (((mechanism : List ℕ) × (first : List ℕ) × Begins (demands accounts) log (got_first mechanism first) told
+    × ((name : List ℕ) → IsLoginOf mechanism first name → ⊥) × (text ≡ []))
+    ⊎ (((mechanism : List ℕ) × (name : List ℕ) × (t1 : List ℕ) × (t2 : List ℕ) × (t3 : List ℕ)
+    × Begins (demands accounts) log (got_final mechanism name t1 t2 t3) told
+    × ((why : Refusal) × IsVerdict accounts mechanism name t1 t2 t3 (refuse why) × (text ≡ due_text (refuse why)))
+    × ((t4 : List ℕ) → IsLoginTo accounts mechanism name t1 t2 t3 t4 → ⊥))
+    ⊎ (Begins (demands accounts) log leaving told × (text ≡ []))))
+
+-- `S NO` stands where it is the refusal that is due
+abbrev pub EachRefusalIsDue : Type 0
+EachRefusalIsDue = (accounts : Accounts) (log : List LogLine) (text : List ℕ) (next : Place) (told : List Told)
+    → Begins (demands accounts) (log ++ said (refuses text) ∷ []) next told ↔ (IsRefusalDue accounts log text told × (next ≡ over))
+
+-- the reply that is due to a code, after what was told of its account before
+pub record IsReplied (accounts : Accounts) (log : List LogLine) (moment : ℕ) (reply : Option Reply) (next : Place) (all : List Told) : Type 0 where
+  pub account : List ℕ
+  pub text : List ℕ
+  pub told : List Told
+  pub behind : Begins (demands accounts) log (got_code account text) told
+  pub due : IsReplyDue accounts (reverse told) (told_of account moment text reply)
+  pub tells : all ≡ told ++ told_of account moment text reply ∷ []
+  pub is_next : next ≡ waits_code account
+
+-- PASS, FAIL, LOCKED and NOCODE stand where they are that reply
+abbrev pub EachReplyIsDue : Type 0
+EachReplyIsDue = (accounts : Accounts) (log : List LogLine) (moment : ℕ) (reply : Option Reply) (next : Place) (all : List Told)
+    → Begins (demands accounts) (log ++ said (replies moment reply) ∷ []) next all ↔ IsReplied accounts log moment reply next all
+
+-- `S HALT` stands behind a code, whichever
+abbrev pub EachHaltEndsACode : Type 0
+EachHaltEndsACode = (accounts : Accounts) (log : List LogLine) (next : Place) (told : List Told)
+    → Begins (demands accounts) (log ++ said halt ∷ []) next told
+    ↔ ((account : List ℕ) × (text : List ℕ) × Begins (demands accounts) log (got_code account text) told × (next ≡ halted))
