@@ -4,7 +4,7 @@ use Rattle.std.specs.Prelude.{flat_map, map}
 use Rattle.std.specs.List.{AllByRecursion}
 use Rattle.log_grammar.specs.Lines.{LogLine, header, said, heard, cont, resp, auth, auth_with, mechs}
 use Rattle.log_grammar.specs.Sessions.{Told, Session, session, session_lines, session_told, Login, no_login, quits_login, with_first, without_first, login_lines, Invitation, no_word, turned_away, invited, invitation_lines, First, no_first, quits_first, begins, first_lines, Answer, no_answer, refused, challenged, answer_lines, Proof, no_proof, quits_proof, proves, Judgement, unjudged, denied, granted, Codes, no_code, quits_codes, asked, replied, halted_at, Quit, leaves, aborts, spoils, Farewell, silent, farewell}
-use Rattle.log_grammar.specs.Demands.{Demands, none, FarewellMeets, QuitMeets, CodesMeet, JudgementMeets, ProofMeets, AnswerMeets, FirstMeets, InvitationMeets, LoginMeets, SessionMeets, AreReplies}
+use Rattle.log_grammar.specs.Demands.{Demands, no_demands, FarewellMeets, QuitMeets, CodesMeet, JudgementMeets, ProofMeets, AnswerMeets, FirstMeets, InvitationMeets, LoginMeets, SessionMeets, AreReplies}
 use Rattle.log_grammar.specs.Places.{Place, before_all, between, offered, asks_bare, waits_first, got_first, waits_final, got_final, waits_code, got_code, leaving, over, halted, closing_place, farewell_place, quit_place, codes_place, judgement_place, proof_place, answer_place, first_place, invitation_place, login_place, session_place}
 use Rattle.log_grammar.specs.Clean.{OnlyLastOpen, place_behind, Begins}
 
@@ -132,54 +132,54 @@ session_bare : (s : Session) → session_place (bare s) ≡ bare_place (session_
 session_bare (session names l) = login_bare l
 
 -- it meets no demands
-farewell_aside : (f : Farewell) → FarewellMeets none f
+farewell_aside : (f : Farewell) → FarewellMeets no_demands f
 farewell_aside silent = tt
 farewell_aside (farewell text closed) = tt
 
-quit_aside : (q : Quit) → QuitMeets none q
+quit_aside : (q : Quit) → QuitMeets no_demands q
 quit_aside (leaves closed) = tt
 quit_aside (aborts f) = farewell_aside f
 quit_aside (spoils f) = farewell_aside f
 
-codes_aside : (c : Codes) → CodesMeet none c
+codes_aside : (c : Codes) → CodesMeet no_demands c
 codes_aside no_code = tt
 codes_aside (quits_codes q) = quit_aside q
 codes_aside (asked text) = tt
 codes_aside (replied text moment reply more) = codes_aside more
 codes_aside (halted_at text) = tt
 
-judgement_aside : (m account first challenge last : List ℕ) (j : Judgement) → JudgementMeets none m account first challenge last j
+judgement_aside : (m account first challenge last : List ℕ) (j : Judgement) → JudgementMeets no_demands m account first challenge last j
 judgement_aside m account first challenge last unjudged = tt
 judgement_aside m account first challenge last (denied text closed) = tt
 judgement_aside m account first challenge last (granted text c) = (tt, codes_aside c)
 
-proof_aside : (m account first challenge : List ℕ) (p : Proof) → ProofMeets none m account first challenge p
+proof_aside : (m account first challenge : List ℕ) (p : Proof) → ProofMeets no_demands m account first challenge p
 proof_aside m account first challenge no_proof = tt
 proof_aside m account first challenge (quits_proof q) = quit_aside q
 proof_aside m account first challenge (proves last j) = judgement_aside m account first challenge last j
 
-answer_aside : (m first : List ℕ) (a : Answer) → AnswerMeets none m first (bare_answer a)
+answer_aside : (m first : List ℕ) (a : Answer) → AnswerMeets no_demands m first (bare_answer a)
 answer_aside m first no_answer = tt
 answer_aside m first (refused text closed) = tt
 answer_aside m first (challenged account text p) = (refl, proof_aside m [] first text p)
 
-first_aside : (m : List ℕ) (f : First) → FirstMeets none m (bare_first f)
+first_aside : (m : List ℕ) (f : First) → FirstMeets no_demands m (bare_first f)
 first_aside m no_first = tt
 first_aside m (quits_first q) = quit_aside q
 first_aside m (begins first a) = answer_aside m first a
 
-invitation_aside : (m : List ℕ) (i : Invitation) → InvitationMeets none m (bare_invitation i)
+invitation_aside : (m : List ℕ) (i : Invitation) → InvitationMeets no_demands m (bare_invitation i)
 invitation_aside m no_word = tt
 invitation_aside m (turned_away text closed) = tt
 invitation_aside m (invited text f) = (tt, first_aside m f)
 
-login_aside : (l : Login) → LoginMeets none (bare_login l)
+login_aside : (l : Login) → LoginMeets no_demands (bare_login l)
 login_aside no_login = tt
 login_aside (quits_login q) = quit_aside q
 login_aside (with_first m first a) = answer_aside m first a
 login_aside (without_first m i) = invitation_aside m i
 
-session_aside : (s : Session) → SessionMeets none (bare s)
+session_aside : (s : Session) → SessionMeets no_demands (bare s)
 session_aside (session names l) = (tt, login_aside l)
 
 -- sessions with no account named
@@ -188,7 +188,7 @@ all_lines [] = refl
 all_lines (s ∷ sessions) = ap (λ (l : List LogLine). l ++ flat_map session_lines (map bare sessions)) (session_same s)
     ∙ ap (λ (l : List LogLine). session_lines s ++ l) (all_lines sessions)
 
-all_aside : (sessions : List Session) → AllByRecursion (SessionMeets none) (map bare sessions)
+all_aside : (sessions : List Session) → AllByRecursion (SessionMeets no_demands) (map bare sessions)
 all_aside [] = tt
 all_aside (s ∷ sessions) = (session_aside s, all_aside sessions)
 
@@ -202,12 +202,12 @@ all_behind [] = refl
 all_behind (s ∷ []) = session_bare s
 all_behind (s ∷ t ∷ more) = all_behind (t ∷ more)
 
-pub no_demand : (before told : List Told) → AreReplies none before told
+pub no_demand : (before told : List Told) → AreReplies no_demands before told
 no_demand before [] = tt
 no_demand before (t ∷ told) = (tt, no_demand (t ∷ before) told)
 
 pub aside : (d : Demands) (log : List LogLine) (place : Place) (told : List Told) → Begins d log place told
-    → (tells : List Told) × Begins none log (bare_place place) tells
+    → (tells : List Told) × Begins no_demands log (bare_place place) tells
 aside d log place told (inl nothing) = ([], inl (nothing.0, ap bare_place nothing.1, refl))
 aside d log place told (inr s) = (
   flat_map session_told (map bare s.sessions),

@@ -2,14 +2,14 @@
 use Rattle.std.proofs.Common.{◌≡◌, inl, inr, ℕ, zero, suc, ◌≤◌, List, [], ◌∷◌, ◌++◌, length, reverse, refl, sym, ◌∙◌, ap, subst, arith, append_assoc, append-nil}
 use Rattle.std.specs.declared.option.Option.{Option}
 use Rattle.mac_core.specs.declared.chosen.Mechanism.{Mechanism}
-use Rattle.scram_ends.specs.Verdict.{Due, accept, refuse, IsDue}
+use Rattle.scram_ends.specs.Verdict.{accept, refuse, IsDue}
 use Rattle.scram_ends.specs.Laws.{AtMostOneIsDue, AcceptsExactlyValid}
 use Rattle.scram_ends.specs.declared.verdict.Refusal.{Refusal}
 use Rattle.otp_core.specs.declared.token.answer.Reply.{Reply}
 use Rattle.log_grammar.specs.Lines.{LogLine, said, mechs, cont, refuses, replies, halt}
-use Rattle.log_grammar.specs.Sessions.{Told, told_of}
+use Rattle.log_grammar.specs.Sessions.{Told}
 use Rattle.log_grammar.specs.Demands.{Accounts, demands, IsVerdict, AreReplies}
-use Rattle.log_grammar.specs.Places.{Place, before_all, between, offered, asks_bare, waits_first, got_first, waits_final, got_final, waits_code, got_code, leaving, over, halted}
+use Rattle.log_grammar.specs.Places.{Place, between, offered, asks_bare, got_first, got_final, got_code, leaving, over, halted}
 use Rattle.log_grammar.specs.Steps.{Goes, told_at}
 use Rattle.log_grammar.specs.Clean.{Begins}
 use Rattle.log_grammar.specs.Logins.{IsLoginTo}

@@ -1,5 +1,5 @@
 -- Codes that passed in a log.
-use Rattle.std.proofs.Common.{All, le-leb, get_or, length, arith, ◌≡◌, inl, inr, ℕ, zero, suc, ◌<◌, ◌≤◌, true, List, [], ◌∷◌, ◌++◌, reverse, refl, sym, ◌∙◌, ap, subst, append_assoc, append-nil}
+use Rattle.std.proofs.Common.{All, le-leb, get_or, length, arith, ◌≡◌, inl, inr, ℕ, ◌<◌, true, List, [], ◌∷◌, ◌++◌, reverse, refl, sym, ◌∙◌, ap, subst, append_assoc}
 use Rattle.std.proofs.lemmas.List.{reverse-append}
 use Rattle.std.specs.declared.option.Option.{Option}
 use Rattle.std.specs.declared.option.Option.TheVariants.{None, Some}
@@ -25,14 +25,12 @@ use Rattle.log_grammar.specs.Lines.{LogLine}
 use Rattle.log_grammar.specs.Sessions.{Told, told_of}
 use Rattle.log_grammar.specs.Demands.{Accounts, attempts_by, attempts_of, IsReplyBy, demands}
 use Rattle.log_grammar.specs.Places.{Place, got_code, waits_code}
-use Rattle.log_grammar.specs.Steps.{told_at}
 use Rattle.log_grammar.specs.Clean.{Begins}
 use Rattle.log_grammar.specs.Outcomes.{IsReplied, EachReplyIsDue}
 use Rattle.log_grammar.specs.Replies.{passes, IsCodeOf, EachPassIsACode, CountersRise, NextHotpCodePasses}
 use Rattle.log_grammar.proofs.LogSteps.{turned}
 use Rattle.log_grammar.proofs.OutcomeLemmas.{told_first}
-use Rattle.log_grammar.proofs.Snoc.{with_last, length-last}
-use Rattle.log_grammar.proofs.FrontLemmas.{one_reading, stood_before}
+use Rattle.log_grammar.proofs.FrontLemmas.{one_reading}
 use Rattle.log_grammar.proofs.AccountLemmas.{of_account}
 
 of_reply : (accounts : Accounts) (log : List LogLine) (account text : List ℕ) (told : List Told) (moment counter : ℕ) (next : Place) (o : Option Fields)

@@ -1,13 +1,14 @@
 -- The server's lines one by one: where each may stand in a log, and which messages stand before it.
-use Rattle.std.specs.Prelude.{ℕ, ◌≡◌, ◌⊎◌, ◌↔◌, List, [], ◌∷◌, ◌++◌, codes, reverse}
+use Rattle.std.specs.Prelude.{ℕ, ◌≡◌, ◌⊎◌, ◌↔◌, List, [], ◌∷◌, ◌++◌, reverse}
 use Rattle.std.specs.declared.option.Option.{Option}
 use Rattle.mac_core.specs.declared.chosen.Mechanism.{Mechanism}
 use Rattle.scram_ends.specs.Verdict.{refuse, due_text}
 use Rattle.scram_ends.specs.declared.verdict.Refusal.{Refusal}
 use Rattle.otp_core.specs.declared.token.answer.Reply.{Reply}
-use Rattle.log_grammar.specs.Lines.{LogLine, said, heard, mechs, cont, accepts, refuses, replies, halt, auth, auth_with, resp, code}
+use Rattle.log_grammar.specs.Words.{offered_names}
+use Rattle.log_grammar.specs.Lines.{LogLine, said, heard, mechs, cont, refuses, replies, halt, auth, auth_with, resp, code}
 use Rattle.log_grammar.specs.Sessions.{Told, told_of}
-use Rattle.log_grammar.specs.Demands.{Accounts, demands, NamesMechanism, IsLoginOf, IsChallenged, IsVerdict, IsReplyDue}
+use Rattle.log_grammar.specs.Demands.{Accounts, demands, NamesMechanism, IsFirstOf, IsChallenged, IsVerdict, IsReplyDue}
 use Rattle.log_grammar.specs.Places.{Place, between, offered, asks_bare, waits_first, got_first, waits_final, got_final, waits_code, got_code, leaving, over, halted}
 use Rattle.log_grammar.specs.Clean.{Begins}
 use Rattle.log_grammar.specs.Logins.{IsLoginTo}
@@ -50,7 +51,7 @@ PlacesHaveTheirMessages = (accounts : Accounts) (log : List LogLine) (place : Pl
 abbrev pub EachOfferIsDue : Type 0
 EachOfferIsDue = (accounts : Accounts) (log : List LogLine) (names : List ℕ) (next : Place) (told : List Told)
     → Begins (demands accounts) (log ++ said (mechs names) ∷ []) next told
-    ↔ (Begins (demands accounts) log between told × (names ≡ codes "SCRAM-SHA-256 SCRAM-SHA-1") × (next ≡ offered))
+    ↔ (Begins (demands accounts) log between told × (names ≡ offered_names) × (next ≡ offered))
 
 -- the empty challenge, behind a mechanism that is offered; or a challenge to the client-first message, for the
 -- account that it names
@@ -74,7 +75,7 @@ IsRefusalDue accounts log text told =
     ((mechanism : List ℕ) × Begins (demands accounts) log (asks_bare mechanism) told
     × ((m : Mechanism) → NamesMechanism mechanism m → ⊥) × (text ≡ []))
     ⊎ (((mechanism : List ℕ) × (first : List ℕ) × Begins (demands accounts) log (got_first mechanism first) told
-    × ((name : List ℕ) → IsLoginOf mechanism first name → ⊥) × (text ≡ []))
+    × ((name : List ℕ) → IsFirstOf mechanism first name → ⊥) × (text ≡ []))
     ⊎ (((mechanism : List ℕ) × (name : List ℕ) × (t1 : List ℕ) × (t2 : List ℕ) × (t3 : List ℕ)
     × Begins (demands accounts) log (got_final mechanism name t1 t2 t3) told
     × ((why : Refusal) × IsVerdict accounts mechanism name t1 t2 t3 (refuse why) × (text ≡ due_text (refuse why)))

@@ -1,13 +1,11 @@
 //! What follows from the laws together, in the words of those who use them.
-ghost use Rattle.std.specs.Prelude.{ℕ, ◌≡◌, ◌⊎◌, ◌↔◌, List, [], ◌∷◌, ◌++◌, reverse, take, None};
-ghost use Rattle.std.specs.List.{AllByRecursion};
-ghost use Rattle.otp_core.specs.Secret.{IsMoment};
+ghost use Rattle.std.specs.Prelude.{ℕ, ◌≡◌, ◌⊎◌, ◌↔◌, List, [], ◌∷◌, ◌++◌, reverse, take};
 ghost use Rattle.log_grammar.specs.Payload.{IsMessage};
 ghost use Rattle.log_grammar.specs.Lines.{Line, LogLine, client_text, resp, IsLine, IsLogLine, IsNoLogLine};
 ghost use Rattle.log_grammar.specs.Bytes.{ended_by_lf, IsCut};
 ghost use Rattle.log_grammar.specs.Sessions.{Told};
 ghost use Rattle.log_grammar.specs.Demands.{Accounts, demands, AreReplies};
-ghost use Rattle.log_grammar.specs.Histories.{HasNoReply, IsHistory};
+ghost use Rattle.log_grammar.specs.Histories.{IsHistory};
 ghost use Rattle.log_grammar.specs.Places.{Place};
 ghost use Rattle.log_grammar.specs.Steps.{Goes, told_at};
 ghost use Rattle.log_grammar.specs.Clean.{Spells, Begins, AreLines, IsFront, IsClean, IsFaultLine};
@@ -17,7 +15,7 @@ use crate::laws::{
     are_cut, are_cut_one_way, clean_logs_are_fronts, each_account_has_its_history,
     each_log_is_judged, escapes_one_message, fronts_begin_with_fronts, goes_on_by_a_line,
     goes_on_by_no_other, has_one_fault_line, has_one_reading, has_one_why, is_one_line,
-    is_one_log_line, line_is_decided, log_line_is_decided, replies_have_moments,
+    is_one_log_line, line_is_decided, log_line_is_decided, moments_are_in_range,
 };
 
 /// Each text is one line of the protocol or none, and one line of a log or none.
@@ -50,7 +48,7 @@ pub fn lines_bear_one_message()
 }
 
 /// What a log begins with goes on by a line exactly where the line may stand behind its place, with the reply
-/// that is due where it is one: what a reader and a writer of a log have to decide at each line.
+/// that is due where it is one: what a reader and a writer of a log have to decide at each line, its ranges aside.
 pub fn logs_go_on_exactly_so()
     ensures { (accounts : Accounts) (log : List LogLine) (place : Place) (told : List Told) (line : LogLine) (next : Place) (all : List Told)
         → Begins (demands accounts) log place told
@@ -101,21 +99,13 @@ pub fn each_log_has_one_answer()
     logs_have_one_judgement();
 }
 
-/// In a log that is read from bytes, what was told of each account is a legal history of its token.
+/// In a log that is read from bytes, what was told of each account is a legal history of its token; or, where it has
+/// none, it was told so at each code.
 pub fn logs_have_legal_histories()
     ensures { (accounts : Accounts) (bytes : List ℕ) (lines : List LogLine) (rest : List ℕ) (place : Place) (told : List Told)
         → AreLines bytes lines rest → Spells (demands accounts) lines place told
         → (account : List ℕ) → IsHistory (accounts.token account) account told }
 {
-    replies_have_moments();
-    each_account_has_its_history();
-}
-
-/// To each code of an account without a token it is said that it has none, whatever others were told, at moments
-/// in their range.
-pub fn no_reply_without_a_token()
-    ensures { (accounts : Accounts) (told : List Told) (account : List ℕ) → AllByRecursion (λ t. IsMoment t.moment) told
-        → AreReplies (demands accounts) [] told → accounts.token account ≡ None → AllByRecursion (HasNoReply account) told }
-{
+    moments_are_in_range();
     each_account_has_its_history();
 }

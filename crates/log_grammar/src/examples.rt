@@ -15,9 +15,9 @@ ghost use Rattle.log_grammar.specs.Examples.{first_text, offer_text, first_alone
 use crate::laws::classes_follow_the_place;
 use scram_text::laws::{has_one_client_first, spells_one_name};
 
-/// Clean are the first line alone; sessions that the client ends by `ABORT`, by a line that was not due, or
-/// by going away; one of a mechanism that is not offered; one whose first message is refused; and one that
-/// ends behind the empty challenge.
+/// These logs are clean: the first line alone; sessions that the client ends by `ABORT`, by a line that was not due,
+/// or by going away; one of a mechanism that is not offered; one whose first message is refused; and one that ends
+/// behind the empty challenge.
 pub fn clean_logs()
     ensures first { (accounts : Accounts) → IsClean accounts first_alone }
     ensures aborted { (accounts : Accounts) → IsClean accounts (one_session (codes "C ABORT" ∷ bare_no)) }
@@ -29,12 +29,12 @@ pub fn clean_logs()
         (one_session (codes "C AUTH SCRAM-SHA-1" ∷ codes "S CONT :" ∷ codes "C GONE" ∷ codes "E" ∷ [])) }
 {}
 
-/// Cut are the empty log, and each session of the clean logs above behind each of its lines but the last.
+/// A log is cut where it is empty, and where a session of the clean logs above stops before its last line.
 pub fn cut_logs()
     ensures empty { (accounts : Accounts) → IsWhy accounts [] 1 is_cut }
     ensures offer { (accounts : Accounts) → IsWhy accounts (one_session []) 3 is_cut }
-    ensures abort { (accounts : Accounts) → IsWhy accounts (one_session (codes "C ABORT" ∷ [])) 4 is_cut }
-    ensures end { (accounts : Accounts) → IsWhy accounts (one_session (codes "C ABORT" ∷ codes "S NO :" ∷ [])) 5 is_cut }
+    ensures aborted { (accounts : Accounts) → IsWhy accounts (one_session (codes "C ABORT" ∷ [])) 4 is_cut }
+    ensures aborted_no { (accounts : Accounts) → IsWhy accounts (one_session (codes "C ABORT" ∷ codes "S NO :" ∷ [])) 5 is_cut }
     ensures gone { (accounts : Accounts) → IsWhy accounts (one_session (codes "C GONE" ∷ [])) 4 is_cut }
     ensures auth { (accounts : Accounts) → IsWhy accounts (one_session (codes "C AUTH SCRAM-SHA-1" ∷ [])) 4 is_cut }
     ensures invited { (accounts : Accounts) → IsWhy accounts
@@ -51,15 +51,15 @@ pub fn cut_logs()
         (one_session (codes "C AUTH SCRAM-SHA-1 :" ∷ [])) 4 is_cut }
     ensures refused_no { (accounts : Accounts) → IsWhy accounts
         (one_session (codes "C AUTH SCRAM-SHA-1 :" ∷ codes "S NO :" ∷ [])) 5 is_cut }
-    ensures left { (accounts : Accounts) → IsWhy accounts
+    ensures invited_gone { (accounts : Accounts) → IsWhy accounts
         (one_session (codes "C AUTH SCRAM-SHA-1" ∷ codes "S CONT :" ∷ codes "C GONE" ∷ [])) 6 is_cut }
 {
     has_one_client_first();
     spells_one_name();
 }
 
-/// At fault are another first line; a line whose class is not due, as a session that begins where `E` is due;
-/// other names of mechanisms; a challenge where none is due, and none where one is.
+/// These lines are at fault: another first line; a line whose class is not due, as a session that begins where `E` is
+/// due; other names of mechanisms; a challenge where none is due, and none where one is.
 pub fn faulty_logs()
     ensures first { (accounts : Accounts) → IsWhy accounts (ended_by_lf (codes "E" ∷ [])) 1 no_line }
     ensures order { (accounts : Accounts) → IsWhy accounts (ended_by_lf (first_text ∷ codes "C ABORT" ∷ [])) 2 out_of_order }

@@ -1,6 +1,6 @@
 //! Laws of lines and logs, for proofs that stand on this crate: each is what a function ensures that does
 //! nothing.
-ghost use Rattle.log_grammar.specs.Laws.{EscapesOneMessage, IsOneLine, IsOneLogLine, LineIsDecided, LogLineIsDecided, AreCut, AreCutOneWay, GoesOnByALine, GoesOnByNoOther, HasOneReading, FrontsBeginWithFronts, CleanLogsAreFronts, EachAccountHasItsHistory, RepliesHaveMoments, HasOneFaultLine, HasOneWhy, EachLogIsJudged, ClassesFollowThePlace, FrontsBeginClean};
+ghost use Rattle.log_grammar.specs.Laws.{EscapesOneMessage, IsOneLine, IsOneLogLine, LineIsDecided, LogLineIsDecided, AreCut, AreCutOneWay, GoesOnByALine, GoesOnByNoOther, HasOneReading, FrontsBeginWithFronts, CleanLogsAreFronts, EachAccountHasItsHistory, MomentsAreInRange, HasOneFaultLine, HasOneWhy, EachLogIsJudged, ClassesFollowThePlace, FrontsBeginClean};
 
 use otp_core::laws::{only_one_reply_is_due, some_reply_is_due};
 use scram_ends::laws::{at_most_one_verdict_is_due, some_verdict_is_due};
@@ -74,15 +74,15 @@ pub fn clean_logs_are_fronts()
     ensures { CleanLogsAreFronts }
 {}
 
-/// Replies at moments in their range, as those of a log's lines are, are due exactly where those of each account
-/// are due to it alone.
+/// Where their moments are in range, as in every log that was read, replies are due exactly where each account's own
+/// replies are due to it alone.
 pub fn each_account_has_its_history()
     ensures { EachAccountHasItsHistory }
 {}
 
 /// What was told in a log that is read from bytes was told at moments in their range.
-pub fn replies_have_moments()
-    ensures { RepliesHaveMoments }
+pub fn moments_are_in_range()
+    ensures { MomentsAreInRange }
 {}
 
 /// Bytes have one fault line at most.

@@ -12,7 +12,7 @@ use scram_ends::laws::acceptance_is_due_to_valid_logins;
 use scram_text::laws::{has_one_client_first, spells_one_name};
 
 /// An `S OK` stands in a log exactly where the messages of its session before it, and its own, are a valid
-/// login (RFC 5802, section 3) to the account that the first of them names.
+/// login (RFC 5802, sections 3 and 5) to the account that the first of them names, by its session's mechanism.
 pub fn each_ok_ends_a_login()
     ensures { EachOkEndsALogin }
 {
@@ -22,7 +22,7 @@ pub fn each_ok_ends_a_login()
 }
 
 /// A log of a valid login is clean where the client then goes away, where a code is answered by a halt, and where
-/// it is answered by the reply that is due to it.
+/// it is answered by the reply that is due to it, or, where the account has no token, that it has none.
 pub fn logins_are_clean()
     ensures gone { LoginsAreClean }
     ensures halted { LoginsMayHalt }
@@ -31,7 +31,8 @@ pub fn logins_are_clean()
     acceptance_is_due_to_valid_logins();
 }
 
-/// There is a valid login to each account whose keys are those of a password.
+/// There is a valid login to each account under a plain name whose keys are those of a password, with a salt and a
+/// count that a challenge can show, as those of every account book are.
 pub fn passwords_log_in()
     ensures { PasswordsLogIn }
 {

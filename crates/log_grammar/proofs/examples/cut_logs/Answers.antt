@@ -7,11 +7,11 @@ returns-clause-empty c = empty_is_cut c.has_one_client_first.ensures c.spells_on
 pub returns-clause-offer : goal.returns-clause-offer
 returns-clause-offer c = offer_is_cut c.has_one_client_first.ensures c.spells_one_name.ensures
 
-pub returns-clause-abort : goal.returns-clause-abort
-returns-clause-abort c = abort_is_cut c.has_one_client_first.ensures c.spells_one_name.ensures
+pub returns-clause-aborted : goal.returns-clause-aborted
+returns-clause-aborted c = abort_is_cut c.has_one_client_first.ensures c.spells_one_name.ensures
 
-pub returns-clause-end : goal.returns-clause-end
-returns-clause-end c = no_is_cut c.has_one_client_first.ensures c.spells_one_name.ensures
+pub returns-clause-aborted_no : goal.returns-clause-aborted_no
+returns-clause-aborted_no c = no_is_cut c.has_one_client_first.ensures c.spells_one_name.ensures
 
 pub returns-clause-gone : goal.returns-clause-gone
 returns-clause-gone c = gone_is_cut c.has_one_client_first.ensures c.spells_one_name.ensures
@@ -40,5 +40,5 @@ returns-clause-refused c = refused_is_cut c.has_one_client_first.ensures c.spell
 pub returns-clause-refused_no : goal.returns-clause-refused_no
 returns-clause-refused_no c = refused_no_is_cut c.has_one_client_first.ensures c.spells_one_name.ensures
 
-pub returns-clause-left : goal.returns-clause-left
-returns-clause-left c = left_is_cut c.has_one_client_first.ensures c.spells_one_name.ensures
+pub returns-clause-invited_gone : goal.returns-clause-invited_gone
+returns-clause-invited_gone c = left_is_cut c.has_one_client_first.ensures c.spells_one_name.ensures

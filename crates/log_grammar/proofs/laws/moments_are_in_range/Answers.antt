@@ -1,5 +1,5 @@
 use Rattle.log_grammar.proofs.MomentLemmas.{timed}
-use Rattle.log_grammar.proofs.laws.replies_have_moments.Goals as goal
+use Rattle.log_grammar.proofs.laws.moments_are_in_range.Goals as goal
 
 pub returns : goal.returns
 returns c = timed
