@@ -41,7 +41,7 @@ bench: build
 	python3 bench/books.py $(PROGRAM) crates/bench/out/bench
 
 clean:
-	rm -rf crates/*/out
+	rm -rf crates/*/out tests/__pycache__
 
 kit:
 	@command -v rt >/dev/null || { echo 'rt, the command of the Rattle kit, is not on your PATH' >&2; exit 1; }

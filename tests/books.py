@@ -14,27 +14,14 @@ import select
 import struct
 import subprocess
 import sys
-import tempfile
 import time
 import tomllib
 
+import suite
+from suite import SECRET, USER, hotp
+
 PROGRAM = os.path.abspath(sys.argv[1])
-SECRET = "3132333435363738393031323334353637383930"
-BOOK = f"""format = 1
-decoy_key = "000102030405060708090a0b0c0d0e0f101112131415161718191a1b1c1d1e1f"
-decoy_count = 4096
-
-[accounts.user]
-
-[accounts.user.token]
-kind = "hotp"
-secret = "{SECRET}"
-digits = 6
-next = 0
-look_ahead = 3
-limit = 100
-failures = 0
-"""
+BOOK = USER + hotp(look_ahead=3, limit=100)
 # RFC 4226, appendix D
 FIRST_CODE = "755224"
 
@@ -271,13 +258,4 @@ TESTS = [
     random_bytes,
 ]
 
-failed = 0
-for test in TESTS:
-    with tempfile.TemporaryDirectory() as scratch:
-        try:
-            test(scratch)
-        except AssertionError as fault:
-            failed += 1
-            print(f"{test.__name__}: line {fault.__traceback__.tb_next.tb_lineno}: {fault}", file=sys.stderr)
-print(f"books.py: {len(TESTS) - failed} passed, {failed} failed", file=sys.stderr)
-sys.exit(failed != 0)
+suite.run_all(TESTS)

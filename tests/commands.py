@@ -6,40 +6,20 @@ Usage: commands.py PROGRAM
 import os
 import subprocess
 import sys
-import tempfile
 import tomllib
 from hashlib import pbkdf2_hmac, sha1, sha256
 from hmac import digest
 
+import suite
+from suite import SECRET, USER, hotp
+
 PROGRAM = os.path.abspath(sys.argv[1])
 SALT = "4125c247e43ab1e93c6dff76"
-SECRET = "3132333435363738393031323334353637383930"
 LONGER = "3132333435363738393031323334353637383930313233343536373839303132"
 # 64 bytes
 LONGEST = "00112233445566778899aabbccddeeff00112233445566778899AABBCCDDEEFF" * 2
 # RFC 5802, section 5
 KEYS_OF_PENCIL = "stored=e9d94660c39d65c38fbad91c358f14da0eef2bd6\nserver=0fe09258b3ac852ba502cc62ba903eaacdbf7d31\n"
-
-USER = """format = 1
-decoy_key = "000102030405060708090a0b0c0d0e0f101112131415161718191a1b1c1d1e1f"
-decoy_count = 4096
-
-[accounts.user]
-"""
-
-
-def hotp(look_ahead, limit):
-    """A HOTP token for `user`, with the secret of RFC 4226's appendix D."""
-    return f"""[accounts.user.token]
-kind = "hotp"
-secret = "{SECRET}"
-digits = 6
-next = 0
-look_ahead = {look_ahead}
-limit = {limit}
-failures = 0
-"""
-
 
 # A TOTP token for `user`, with the secret of RFC 6238's appendix B.
 TOTP = f"""[accounts.user.token]
@@ -356,13 +336,4 @@ TESTS = [
     faulty_books,
 ]
 
-failed = 0
-for test in TESTS:
-    with tempfile.TemporaryDirectory() as scratch:
-        try:
-            test(scratch)
-        except AssertionError as fault:
-            failed += 1
-            print(f"{test.__name__}: line {fault.__traceback__.tb_next.tb_lineno}: {fault}", file=sys.stderr)
-print(f"commands.py: {len(TESTS) - failed} passed, {failed} failed", file=sys.stderr)
-sys.exit(failed != 0)
+suite.run_all(TESTS)
