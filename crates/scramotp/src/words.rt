@@ -29,10 +29,10 @@ Example:
   scramotp enrol --book book.toml --name user < password.txt";
 
 const VERIFY_EXAMPLE: &str =
-    "Each line of standard input is an attempt. Its reply is printed once the book is saved: PASS, the
-moment and the counter that passed, or FAIL or LOCKED and the moment. The book's folder is locked
-until the input ends; other runs wait for it, up to 30 seconds. Exit status 0 means that every
-reply was PASS.
+    "Each line of standard input is an attempt. Its reply is PASS, the moment and the counter that
+passed, or FAIL or LOCKED and the moment. PASS and FAIL are printed once the book is saved; LOCKED
+saves nothing. The book's folder is locked until the input ends; other runs wait for it, up to 30
+seconds. Exit status 0 means that every reply was PASS.
 
 Example:
   scramotp verify --book book.toml --name user --moment \"$(date +%s)\"";
