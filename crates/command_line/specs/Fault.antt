@@ -24,11 +24,6 @@ status_of CannotReadInput = 3
 status_of CannotWriteOutput = 3
 status_of NoMemory = 3
 
--- memory ran out, or the file of this name can't be read
-abbrev pub IsUnread : List ℕ → Fault → Type 0
-IsUnread path (CannotRead file) = string_bytes file ≡ path
-IsUnread path fault = fault ≡ NoMemory
-
 -- memory ran out, or the file of this name can't be written
 abbrev pub IsUnwritten : List ℕ → Fault → Type 0
 IsUnwritten path (CannotWrite file) = string_bytes file ≡ path

@@ -1,10 +1,11 @@
 //! Why a command ends without its answer: the text for standard error, and the exit status.
-ghost use Rattle.std.specs.Prelude.{◌≡◌};
-ghost use Rattle.command_line.specs.Fault.{IsUnread, IsUnwritten, status_of};
+ghost use Rattle.std.specs.Prelude.{◌≡◌, ◌≢◌};
+ghost use Rattle.std.specs.IoError.{error_kind};
+ghost use Rattle.command_line.specs.Fault.{status_of};
 
 use crate::value::Judged;
 use book_format::{BookFault, BookWhy};
-use std::alloc::{AllocError, Global};
+use std::alloc::AllocError;
 use std::io;
 use std::io::ErrorKind;
 use thiserror::Error;
@@ -66,28 +67,16 @@ pub enum Fault {
 }
 
 impl Fault {
-    /// That the file at `path` can't be read, or NoMemory where that is why or where there is none to say so.
-    pub fn of_reading(alloc: Global, path: &str, error: &io::Error) -> Fault
-        ensures path { IsUnread path.now result }
+    /// The fault of a read from the file of this name that failed: NoMemory where that is why, else CannotRead.
+    pub fn of_reading(file: String, error: &io::Error) -> Fault
+        ensures memory { error_kind error.now ≡ ErrorKind.OutOfMemory → result ≡ Fault.NoMemory }
+        ensures unread { error_kind error.now ≢ ErrorKind.OutOfMemory → result ≡ Fault.CannotRead file }
         ensures status { status_of result ≡ 3 }
     {
         if error.kind() == ErrorKind::OutOfMemory {
-            return Fault::NoMemory;
-        }
-        match format!(in alloc; "{path}") {
-            Ok(path) => Fault::CannotRead(path),
-            Err(_) => Fault::NoMemory,
-        }
-    }
-
-    /// That the file at `path` can't be written, or NoMemory where there is none to say so.
-    pub fn of_writing(alloc: Global, path: &str) -> Fault
-        ensures path { IsUnwritten path.now result }
-        ensures status { status_of result ≡ 3 }
-    {
-        match format!(in alloc; "{path}") {
-            Ok(path) => Fault::CannotWrite(path),
-            Err(_) => Fault::NoMemory,
+            Fault::NoMemory
+        } else {
+            Fault::CannotRead(file)
         }
     }
 

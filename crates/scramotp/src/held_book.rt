@@ -17,7 +17,6 @@ use scram_text::{Password, PlainName, Salt};
 use std::alloc::Global;
 use std::fs::Files;
 use std::io;
-use std::io::ErrorKind;
 use std::time::Clock;
 
 /// A book, and the store that has its text.
@@ -49,7 +48,7 @@ where
     let alloc = rt.alloc();
     let (file, bytes) = match read_held(rt, path) {
         Ok(held) => held,
-        Err(error) => return Err(Fault::of_reading(alloc, path, &error)),
+        Err(error) => return Err(Fault::of_reading(String::from_str(alloc, path)?, &error)),
     };
     let Some(bytes) = bytes else {
         return Ok(Found::Nothing(file));
@@ -100,10 +99,7 @@ where
 {
     match find(rt, path)? {
         Found::Book(held) => Ok(held),
-        Found::Nothing(_) => {
-            let missing = io::Error::from(ErrorKind::NotFound);
-            Err(Fault::of_reading(rt.alloc(), path, &missing))
-        }
+        Found::Nothing(_) => Err(Fault::CannotRead(String::from_str(rt.alloc(), path)?)),
     }
 }
 
@@ -134,6 +130,7 @@ impl<'a, S: BookStore> HeldBook<'a, S> {
         ensures free { OnOk result (account_at self.old.book name.now ≡ None) }
         ensures err { IfErr result (λ fault. MatchOption (account_at self.old.book name.now)
             (IsUnwritten self.old.path.now fault) (λ account. fault ≡ Fault.NameTaken)) }
+        ensures unasked { IfErr result (λ fault. fault ≡ Fault.NoMemory → self.new.store ≡ self.old.store) }
         ensures saved { OnOk result (IsBookText (S.facts self.new.store).saved self.new.book) }
     {
         match self
@@ -173,6 +170,7 @@ impl<'a, S: BookStore> HeldBook<'a, S> {
             (λ token. IsAttempt self.old.book name.now token moment text.now reply self.new.book)) }
         ensures there { OnOk result (is_some (token_at self.old.book name.now) ≡ true) }
         ensures err { IfErr result (IsTokenFault self.old.path.now (account_at self.old.book name.now)) }
+        ensures unasked { IfErr result (λ fault. fault ≡ Fault.NoMemory → self.new.store ≡ self.old.store) }
         ensures saved { IfOk result (λ reply. reply ≢ Reply.Locked
             → IsBookText (S.facts self.new.store).saved self.new.book) }
     {
@@ -193,6 +191,7 @@ impl<'a, S: BookStore> HeldBook<'a, S> {
             (λ token. IsChanged self.old.book name.now (with_token (unlocked token)) self.new.book)) }
         ensures there { OnOk result (is_some (token_at self.old.book name.now) ≡ true) }
         ensures err { IfErr result (IsTokenFault self.old.path.now (account_at self.old.book name.now)) }
+        ensures unasked { IfErr result (λ fault. fault ≡ Fault.NoMemory → self.new.store ≡ self.old.store) }
         ensures saved { OnOk result (IsBookText (S.facts self.new.store).saved self.new.book) }
     {
         self.check_token(name)?;
@@ -200,16 +199,18 @@ impl<'a, S: BookStore> HeldBook<'a, S> {
         self.save(alloc)
     }
 
-    // Saves the book's text.
+    // Saves the book's text. Where memory runs out the store is not asked.
     fn save(&mut self, alloc: Global) -> Result<(), Fault>
         ensures book { self.new.book ≡ self.old.book }
         ensures err { IfErr result (IsUnwritten self.old.path.now) }
+        ensures unasked { IfErr result (λ fault. fault ≡ Fault.NoMemory → self.new.store ≡ self.old.store) }
         ensures saved { OnOk result (IsBookText (S.facts self.new.store).saved self.new.book) }
     {
         let text = self.book.write(alloc)?;
+        let file = String::from_str(alloc, self.path)?;
         match self.store.save(text) {
             Ok(()) => Ok(()),
-            Err(_) => Err(Fault::of_writing(alloc, self.path)),
+            Err(_) => Err(Fault::CannotWrite(file)),
         }
     }
 }

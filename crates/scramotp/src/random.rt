@@ -22,7 +22,7 @@ impl<'a, F: Read + Drop> Random<'a, F> {
         let alloc = rt.alloc();
         match fs::open(rt, path) {
             Ok(file) => Ok(Random { alloc, path, file }),
-            Err(error) => Err(Fault::of_reading(alloc, path, &error)),
+            Err(error) => Err(Fault::of_reading(String::from_str(alloc, path)?, &error)),
         }
     }
 
@@ -32,7 +32,7 @@ impl<'a, F: Read + Drop> Random<'a, F> {
         let mut bytes = [0u8; N];
         match self.file.read_exact(&mut bytes) {
             Ok(()) => Ok(bytes),
-            Err(error) => Err(Fault::of_reading(self.alloc, self.path, &error)),
+            Err(error) => Err(Fault::of_reading(String::from_str(self.alloc, self.path)?, &error)),
         }
     }
 }
