@@ -76,7 +76,7 @@ where
 {
     let book = Book::read(alloc, text.as_bytes())?;
     let store = FileStore::new(file, text);
-    Ok(HeldBook { book, store, path })
+    Ok(HeldBook::new(book, store, path))
 }
 
 // Takes hold of the book's file, and reads it where it is there.
