@@ -210,14 +210,16 @@ def values_at_their_limits(folder):
 
 
 def no_file(folder):
-    """No book is at a folder's name or a pipe's, behind a link to nothing, in a folder that is not there, or at no name."""
+    """No book is at a folder's name or a pipe's, behind a link to nothing, in a folder that is not there, or at no name.
+    A name with a slash behind it is a folder's, also where nothing is there yet."""
     inner, pipe, link = (os.path.join(folder, name) for name in ["inner", "pipe", "link"])
     os.mkdir(inner)
     os.mkfifo(pipe)
     os.symlink("nothing", link)
     nowhere = [os.path.join(folder, "no", name) for name in ["book", ".."]]
+    folders = [os.path.join(folder, "new" + end) for end in ["/", "//", "/."]]
     for command in GOOD:
-        for book in [inner, pipe, link, *nowhere, ""]:
+        for book in [inner, pipe, link, *nowhere, *folders, ""]:
             says(f"{command} on {book}", well(command, book), 3, "", f"cannot read {book}")
     same("folder", sorted(os.listdir(folder)), ["inner", "link", "pipe"])
 

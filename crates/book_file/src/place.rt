@@ -40,10 +40,12 @@ fn real_path<R: Files + AllocGlobal>(rt: &R, path: &str) -> io::Result<String> {
     }
 }
 
-// The path of a file that is still to be made, with the links of its folder followed.
+// The path of a file that is still to be made, with the links of its folder followed. A slash behind the name
+// would make it a folder's.
 fn new_path<R: Files + AllocGlobal>(rt: &R, path: Path<'_>) -> io::Result<String> {
-    let (Some(folder), Some(name)) = (path.parent(), path.file_name()) else {
-        return Err(io::Error::from(ErrorKind::InvalidInput));
+    let (folder, name) = match (path.parent(), path.file_name()) {
+        (Some(folder), Some(name)) if path.as_str().ends_with(name) => (folder, name),
+        _ => return Err(io::Error::from(ErrorKind::InvalidInput)),
     };
     let folder = if folder.as_str().is_empty() {
         "."

@@ -83,7 +83,8 @@ fn links(rt: HostRuntime) -> Result<(), Fail> {
 fn paths_that_name_no_file(rt: HostRuntime) -> Result<(), Fail> {
     let folder = folder::make(&rt, "paths")?;
     let missing = format!(in rt.alloc(); "{folder}/missing/book")?;
-    for path in ["", "/", "..", missing.as_str()] {
+    let slash = format!(in rt.alloc(); "{folder}/book/")?;
+    for path in ["", "/", "..", missing.as_str(), slash.as_str()] {
         let held = BookFile::hold(&rt, path).and_then(|file| file.read());
         assert!(rt; held.is_err(), "{path}");
     }
