@@ -13,7 +13,7 @@ use Rattle.otp_core.specs.declared.token.kinds.TotpFields.{TotpFields}
 use Rattle.book_format.specs.Account.{AccountFields}
 use Rattle.book_format.specs.Book.{BookFields}
 use Rattle.book_format.specs.Keys.{hash_name}
-use Rattle.book_format.specs.Reading.{text_of, integer_of, number_of, bytes_within, bytes_of, mech_of, hash_named, hash_of, optional, last_of, drift_of, hotp_of, totp_of, kind_of, token_of, are_texts, item_count, name_of, names_in, names_of, act_as_of, act_as_at, account_of, entry_of, accounts_of, top_of, book_of}
+use Rattle.book_format.specs.Reading.{text_of, integer_of, number_of, bytes_within, bytes_of, mech_of, hash_named, hash_of, optional, last_of, drift_of, hotp_of, totp_of, kind_of, token_of, are_texts, item_count, plain_name_of, names_in, names_of, act_as_of, act_as_at, account_of, named_account_of, accounts_from, top_of, book_of}
 use Rattle.book_format.specs.Trees.{HoldsText, HoldsBytes, HoldsNumber, HoldsOption, IsMechTree, IsHotpTree, IsLastStep, IsTotpTree, IsTokenTree, AreNames, IsNameList, HoldsNames, IsAccountTree, AreAccountTrees, IsBookTree}
 use Rattle.book_format.specs.declared.account.MechKeys.{MechKeys}
 use Rattle.book_format.specs.declared.fault.BookWhy.{BookWhy}
@@ -90,7 +90,7 @@ count_again (name ∷ names) =
     let rest = count_again names in
     omega (arith, rest)
 
-pub name_held : (name : List ℕ) → IsPlainName name → name_of name ≡ Ok name
+pub name_held : (name : List ℕ) → IsPlainName name → plain_name_of name ≡ Ok name
 name_held name h = rw (le-leb 1 (length name) h.at_least, le-leb (length name) 255 h.at_most, h.each) refl
 
 names_again : (names : List (List ℕ)) → AreNames names → names_in (items_of (map string names)) ≡ Ok names
@@ -112,8 +112,8 @@ unfolding account_of
 account_held d account h =
     rw (h.is_table, h.known, mech_option_held _ _ _ _ h.sha1, mech_option_held _ _ _ _ h.sha256, act_as_held _ _ _ h.act_as, token_option_held _ _ _ h.token) refl
 
-accounts_held : (index : ℕ) (ms : Members) (entries : List (List ℕ × AccountFields)) → AreAccountTrees ms entries → accounts_of index ms ≡ Ok entries
-unfolding accounts_of entry_of
+accounts_held : (index : ℕ) (ms : Members) (entries : List (List ℕ × AccountFields)) → AreAccountTrees ms entries → accounts_from index ms ≡ Ok entries
+unfolding accounts_from named_account_of
 accounts_held index no_members [] h = refl
 accounts_held index no_members (entry ∷ entries) h = absurd h
 accounts_held index (member name d ms) [] h = absurd h

@@ -20,8 +20,8 @@ use Rattle.otp_core.specs.declared.token.kinds.HotpFields.{HotpFields}
 use Rattle.otp_core.specs.declared.token.kinds.TotpFields.{TotpFields}
 use Rattle.book_format.specs.Account.{AccountFields, AreKeys, IsAccount}
 use Rattle.book_format.specs.Book.{BookFields, AreAccounts, IsBook}
-use Rattle.book_format.specs.Keys.{top_keys, account_keys, mech_keys, hotp_keys, totp_keys, hash_name, is_among}
-use Rattle.book_format.specs.Reading.{demand, table_of, known_keys, text_of, integer_of, number_within, number_of, bytes_in, bytes_within, bytes_of, mech_of, hash_named, hash_of, optional, last_of, drift_of, hotp_of, totp_of, kind_of, token_of, are_texts, item_count, name_of, names_in, names_of, act_as_of, act_as_at, account_of, entry_of, in_account, at_top, accounts_of, accounts_in, is_one, TopFields, table_at, top_of, book_of}
+use Rattle.book_format.specs.Keys.{top_keys, account_keys, mech_table_keys, hotp_keys, totp_keys, hash_name, is_among}
+use Rattle.book_format.specs.Reading.{demand, table_of, known_keys, text_of, integer_of, number_within, number_of, bytes_in, bytes_within, bytes_of, mech_of, hash_named, hash_of, optional, last_of, drift_of, hotp_of, totp_of, kind_of, token_of, are_texts, item_count, plain_name_of, names_in, names_of, act_as_of, act_as_at, account_of, named_account_of, in_account, at_top, accounts_from, accounts_in, is_one, TopFields, table_at, top_of, book_of}
 use Rattle.book_format.specs.Trees.{HoldsText, HoldsBytes, HoldsNumber, HoldsOption, IsMechTree, IsHotpTree, IsLastStep, IsTotpTree, IsTokenTree, AreNames, IsNameList, HoldsNames, IsAccountTree, AreAccountTrees, HoldsAccounts, IsBookTree}
 use Rattle.book_format.specs.declared.account.MechKeys.{MechKeys}
 use Rattle.book_format.specs.declared.fault.BookWhy.{BookWhy}
@@ -126,7 +126,7 @@ mech_found : (len : ℕ) (d : Data) (keys : MechKeys) → mech_of len d ≡ Ok k
 unfolding mech_of
 mech_found len d keys h =
     let (ms, is_table, h0) = bind_ok (table_of d) _ keys h in
-    let (u, known, h1) = bind_ok (known_keys (is_among mech_keys) ms) _ keys h0 in
+    let (u, known, h1) = bind_ok (known_keys (is_among mech_table_keys) ms) _ keys h0 in
     let (salt, s, h2) = bind_ok (bytes_of (codes "salt") 1 64 Salt ms) _ keys h1 in
     let (count, n, h3) = bind_ok (number_of (codes "count") 1 4294967295 Count ms) _ keys h2 in
     let (stored, t, h4) = bind_ok (bytes_of (codes "stored") len len KeyLength ms) _ keys h3 in
@@ -266,7 +266,7 @@ token_found d fields h =
     let (kind, said, h1) = bind_ok (text_of (codes "kind") ms) _ fields h0 in
     kind_found d ms kind fields (table_said d ms is_table) (text_said _ kind said) h1
 
-name_found : (text name : List ℕ) → name_of text ≡ Ok name → (text ≡ name) × IsPlainName name
+name_found : (text name : List ℕ) → plain_name_of text ≡ Ok name → (text ≡ name) × IsPlainName name
 name_found text name h = elim (cases_Bool (nat_le 1 (length text) && nat_le (length text) 255 && list_all is_plain text)) [
   | inl is ↦
       let same : text ≡ name = ok_same text name (rw is at h) in
@@ -286,7 +286,7 @@ unfolding names_in
 names_found no_items names h = subst (λ ns. (no_items ≡ items_of (map string ns)) × AreNames ns) (ok_same [] names h) (refl, tt)
 names_found (item d ds) names h =
     let (text, said, h0) = bind_ok (ok_or (as_str d) Key) _ names h in
-    let (name, plain, h1) = bind_ok (name_of text) _ names h0 in
+    let (name, plain, h1) = bind_ok (plain_name_of text) _ names h0 in
     let (rest, more, h2) = bind_ok (names_in ds) _ names h1 in
     let (same, is_plain_name) = name_found text name plain in
     let (others, plain_others) = names_found ds rest more in
@@ -330,16 +330,16 @@ account_found d account h =
       token = option_found (codes "token") token_of IsTokenTree token_found ms _ token refl token_read;
     })
 
-entry_parts : (key : List ℕ) (d : Data) (entry : List ℕ × AccountFields) → entry_of key d ≡ Ok entry
+entry_parts : (key : List ℕ) (d : Data) (entry : List ℕ × AccountFields) → named_account_of key d ≡ Ok entry
     → (key ≡ entry.0) × IsPlainName entry.0 × IsAccountTree d entry.1
-unfolding entry_of
+unfolding named_account_of
 entry_parts key d entry h =
-    let (name, said, h0) = bind_ok (name_of key) _ entry h in
+    let (name, said, h0) = bind_ok (plain_name_of key) _ entry h in
     let (account, read, h1) = bind_ok (account_of d) _ entry h0 in
     let (same, plain) = name_found key name said in
     subst (λ e. (key ≡ e.0) × IsPlainName e.0 × IsAccountTree d e.1) (ok_same (name, account) entry h1) (same, plain, account_found d account read)
 
-pub entry_name : (key : List ℕ) (d : Data) (entry : List ℕ × AccountFields) → entry_of key d ≡ Ok entry → entry.0 ≡ key
+pub entry_name : (key : List ℕ) (d : Data) (entry : List ℕ × AccountFields) → named_account_of key d ≡ Ok entry → entry.0 ≡ key
 entry_name key d entry h = sym (entry_parts key d entry h).0
 
 in_account_ok : {A : Type 0} (index : ℕ) (r : Result A BookWhy) (x : A) → in_account index r ≡ Ok x → r ≡ Ok x
@@ -350,12 +350,12 @@ pub at_top_ok : {A : Type 0} (r : Result A BookWhy) (x : A) → at_top r ≡ Ok 
 at_top_ok (Ok y) x h = cc h
 at_top_ok (Err why) x h = absurd (cc h)
 
-accounts_found : (index : ℕ) (ms : Members) (entries : List (List ℕ × AccountFields)) → accounts_of index ms ≡ Ok entries → AreAccountTrees ms entries
-unfolding accounts_of
+accounts_found : (index : ℕ) (ms : Members) (entries : List (List ℕ × AccountFields)) → accounts_from index ms ≡ Ok entries → AreAccountTrees ms entries
+unfolding accounts_from
 accounts_found index no_members entries h = subst (λ es. AreAccountTrees no_members es) (ok_same [] entries h) tt
 accounts_found index (member key d ms) entries h =
-    let (entry, read, h0) = bind_ok (in_account index (entry_of key d)) _ entries h in
-    let (others, more, h1) = bind_ok (accounts_of (index + 1) ms) _ entries h0 in
+    let (entry, read, h0) = bind_ok (in_account index (named_account_of key d)) _ entries h in
+    let (others, more, h1) = bind_ok (accounts_from (index + 1) ms) _ entries h0 in
     let (same, plain, tree) = entry_parts key d entry (in_account_ok index _ entry read) in
     subst (λ es. AreAccountTrees (member key d ms) es) (ok_same (entry ∷ others) entries h1) (same, plain, tree, accounts_found (index + 1) ms others more)
 

@@ -15,8 +15,8 @@ abbrev pub account_keys : List (List ℕ)
 account_keys = codes "sha1" ∷ codes "sha256" ∷ codes "act_as" ∷ codes "token" ∷ []
 
 -- the keys of what is kept for one mechanism
-abbrev pub mech_keys : List (List ℕ)
-mech_keys = codes "salt" ∷ codes "count" ∷ codes "stored" ∷ codes "server" ∷ []
+abbrev pub mech_table_keys : List (List ℕ)
+mech_table_keys = codes "salt" ∷ codes "count" ∷ codes "stored" ∷ codes "server" ∷ []
 
 -- the keys of a HOTP token
 abbrev pub hotp_keys : List (List ℕ)

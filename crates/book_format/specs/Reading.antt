@@ -17,7 +17,7 @@ use Rattle.otp_core.specs.declared.token.kinds.HotpFields.{HotpFields}
 use Rattle.otp_core.specs.declared.token.kinds.TotpFields.{TotpFields}
 use Rattle.book_format.specs.Account.{AccountFields}
 use Rattle.book_format.specs.Book.{BookFields}
-use Rattle.book_format.specs.Keys.{top_keys, account_keys, mech_keys, hotp_keys, totp_keys, is_among, has_only}
+use Rattle.book_format.specs.Keys.{top_keys, account_keys, mech_table_keys, hotp_keys, totp_keys, is_among, has_only}
 use Rattle.book_format.specs.declared.account.MechKeys.{MechKeys}
 use Rattle.book_format.specs.declared.fault.BookFault.{BookFault}
 use Rattle.book_format.specs.declared.fault.BookWhy.{BookWhy}
@@ -81,7 +81,7 @@ bytes_of key least most why ms = do
 unfoldable pub mech_of : ℕ → Data → Result MechKeys BookWhy
 mech_of len d = do
   ms ← table_of d
-  known ← known_keys (is_among mech_keys) ms
+  known ← known_keys (is_among mech_table_keys) ms
   salt ← bytes_of (codes "salt") 1 64 Salt ms
   count ← number_of (codes "count") 1 4294967295 Count ms
   stored ← bytes_of (codes "stored") len len KeyLength ms
@@ -175,8 +175,8 @@ item_count no_items = 0
 item_count (item d ds) = item_count ds + 1
 
 -- the name in plain bytes
-abbrev pub name_of : List ℕ → Result (List ℕ) BookWhy
-name_of name =
+abbrev pub plain_name_of : List ℕ → Result (List ℕ) BookWhy
+plain_name_of name =
     if nat_le 1 (length name) && nat_le (length name) 255 && list_all is_plain name then Ok name else Err Name
 
 -- the names in a list of texts
@@ -184,7 +184,7 @@ unfoldable pub names_in : Items → Result (List (List ℕ)) BookWhy
 names_in no_items = Ok []
 names_in (item d ds) = do
   text ← ok_or (as_str d) Key
-  name ← name_of text
+  name ← plain_name_of text
   names ← names_in ds
   Ok (name ∷ names)
 
@@ -218,9 +218,9 @@ account_of d = do
   Ok (record { sha1 = sha1; sha256 = sha256; act_as = act_as; token = token })
 
 -- an account and its name
-unfoldable pub entry_of : List ℕ → Data → Result (List ℕ × AccountFields) BookWhy
-entry_of key d = do
-  name ← name_of key
+unfoldable pub named_account_of : List ℕ → Data → Result (List ℕ × AccountFields) BookWhy
+named_account_of key d = do
+  name ← plain_name_of key
   account ← account_of d
   Ok (name, account)
 
@@ -235,17 +235,17 @@ at_top (Ok x) = Ok x
 at_top (Err why) = Err (record { why = why; account = None })
 
 -- the accounts of a table, from an index on, each wholly before the next
-unfoldable pub accounts_of : ℕ → Members → Result (List (List ℕ × AccountFields)) BookFault
-accounts_of index no_members = Ok []
-accounts_of index (member key d ms) = do
-  entry ← in_account index (entry_of key d)
-  entries ← accounts_of (index + 1) ms
+unfoldable pub accounts_from : ℕ → Members → Result (List (List ℕ × AccountFields)) BookFault
+accounts_from index no_members = Ok []
+accounts_from index (member key d ms) = do
+  entry ← in_account index (named_account_of key d)
+  entries ← accounts_from (index + 1) ms
   Ok (entry ∷ entries)
 
 -- the same of a table that may be missing
 abbrev pub accounts_in : Option Members → Result (List (List ℕ × AccountFields)) BookFault
 accounts_in None = Ok []
-accounts_in (Some ms) = accounts_of 0 ms
+accounts_in (Some ms) = accounts_from 0 ms
 
 -- the number 1
 abbrev pub is_one : Option ℤ → Bool

@@ -13,7 +13,7 @@ use Rattle.otp_core.specs.declared.token.kinds.HotpFields.{HotpFields}
 use Rattle.otp_core.specs.declared.token.kinds.TotpFields.{TotpFields}
 use Rattle.book_format.specs.Account.{AccountFields}
 use Rattle.book_format.specs.Book.{BookFields}
-use Rattle.book_format.specs.Keys.{top_keys, account_keys, mech_keys, hotp_keys, totp_keys, hash_name, is_among, has_only}
+use Rattle.book_format.specs.Keys.{top_keys, account_keys, mech_table_keys, hotp_keys, totp_keys, hash_name, is_among, has_only}
 use Rattle.book_format.specs.declared.account.MechKeys.{MechKeys}
 
 -- at a key stands a text
@@ -43,7 +43,7 @@ HoldsOption key Is (Some x) ms = (d : Data) × (get_member key ms ≡ Some d) ×
 pub record IsMechTree (len : ℕ) (d : Data) (keys : MechKeys) : Type 0 where
   pub members : Members
   pub is_table : d ≡ table members
-  pub known : IsTrue (has_only (is_among mech_keys) members)
+  pub known : IsTrue (has_only (is_among mech_table_keys) members)
   pub salt : HoldsBytes (codes "salt") 1 64 keys.salt members
   pub count : HoldsNumber (codes "count") 1 4294967295 keys.count members
   pub stored : HoldsBytes (codes "stored") len len keys.keys.stored.items members

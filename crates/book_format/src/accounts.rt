@@ -2,7 +2,7 @@
 ghost use Rattle.std.specs.Prelude.{◌≡◌, ◌≤◌, IfOk, MatchResult, ◌⊎◌, codes, Some};
 ghost use Rattle.toml.specs.Data.{get_member};
 ghost use Rattle.toml.specs.View.{view, items_view, table_view};
-ghost use Rattle.book_format.specs.Reading.{Gives, GivesFault, optional, mech_of, name_of, are_texts, names_in, names_of, act_as_of, act_as_at, token_of, account_of, entry_of, accounts_of, in_account};
+ghost use Rattle.book_format.specs.Reading.{Gives, GivesFault, optional, mech_of, plain_name_of, are_texts, names_in, names_of, act_as_of, act_as_at, token_of, account_of, named_account_of, accounts_from, in_account};
 ghost use Rattle.book_format.specs.declared.fault.BookWhy.TheVariants.{NoMemory};
 
 use crate::account::{Account, MechKeys};
@@ -21,17 +21,17 @@ const MOST_NAMES: usize = 16;
 
 /// The accounts of a table in byte order of names, each wholly read before the next. A fault says the
 /// index of its account.
-#[tactic(auto, unfolding(crate::specs::Reading::accounts_of))]
-pub(crate) fn accounts_of(
+#[tactic(auto, unfolding(crate::specs::Reading::accounts_from))]
+pub(crate) fn accounts_from(
     alloc: Global,
     table: &Table,
 ) -> Result<BTreeMap<PlainName, Account>, BookFault>
-    ensures { GivesFault (λ m. m.entries) result (accounts_of 0 (table_view table.now)) }
+    ensures { GivesFault (λ m. m.entries) result (accounts_from 0 (table_view table.now)) }
 {
     let mut accounts = BTreeMap::new(alloc);
     let mut index = 0;
     for (key, value) in table.iter() {
-        let (name, account) = match entry_of(alloc, key.as_str(), value) {
+        let (name, account) = match named_account_of(alloc, key.as_str(), value) {
             Ok(entry) => entry,
             Err(why) => return Err(in_account(why, index)),
         };
@@ -52,17 +52,21 @@ fn in_account(why: BookWhy, index: usize) -> BookFault
     }
 }
 
-#[tactic(auto, unfolding(crate::specs::Reading::entry_of))]
-fn entry_of(alloc: Global, key: &str, value: &Value) -> Result<(PlainName, Account), BookWhy>
-    ensures { Gives (λ e. e) result (entry_of key.now (view value.now)) }
+#[tactic(auto, unfolding(crate::specs::Reading::named_account_of))]
+fn named_account_of(
+    alloc: Global,
+    key: &str,
+    value: &Value,
+) -> Result<(PlainName, Account), BookWhy>
+    ensures { Gives (λ e. e) result (named_account_of key.now (view value.now)) }
 {
-    let name = name_of(key)?;
+    let name = plain_name_of(key)?;
     let account = account_of(alloc, value)?;
     Ok((name, account))
 }
 
-fn name_of(text: &str) -> Result<PlainName, BookWhy>
-    ensures { result ≡ name_of text.now }
+fn plain_name_of(text: &str) -> Result<PlainName, BookWhy>
+    ensures { result ≡ plain_name_of text.now }
 {
     PlainName::new(text.as_bytes()).ok_or(BookWhy::Name)
 }
@@ -159,7 +163,7 @@ fn names_in(alloc: Global, list: &[Value]) -> Result<Vec<PlainName>, BookWhy>
         let Some(text) = value.as_str() else {
             return Err(BookWhy::Key);
         };
-        let name = match name_of(text) {
+        let name = match plain_name_of(text) {
             Ok(name) => name,
             Err(why) => return Err(why),
         };

@@ -9,7 +9,7 @@ ghost use Rattle.book_format.specs.declared.fault.BookWhy.TheVariants.{NoMemory}
 ghost use Rattle.book_format.specs.declared.read.Top.{Top};
 
 use crate::account::Account;
-use crate::accounts::accounts_of;
+use crate::accounts::accounts_from;
 use crate::contents::Contents;
 use crate::fault::{BookFault, BookWhy};
 use crate::field::{at, bytes_of, known_keys, number_of, table_of};
@@ -140,7 +140,7 @@ fn accounts_in(
     ensures { GivesFault (λ m. m.entries) result (accounts_in (option_map (λ m. table_view m.now) table.entry)) }
 {
     match table {
-        Some(table) => accounts_of(alloc, table),
+        Some(table) => accounts_from(alloc, table),
         None => Ok(BTreeMap::new(alloc)),
     }
 }

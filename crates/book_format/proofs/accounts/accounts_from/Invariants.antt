@@ -1,9 +1,9 @@
 use Rattle.std.proofs.Common.{◌≡◌, ◌+◌, ◌++◌, List, Ok, length}
 use Rattle.toml.specs.View.{members_view}
 use Rattle.toml.proofs.Views.{Entry}
-use Rattle.book_format.specs.Reading.{accounts_of, ◌>>=◌}
+use Rattle.book_format.specs.Reading.{accounts_from, ◌>>=◌}
 use Rattle.book_format.proofs.Entries.{HaveKeys}
-use Rattle.book_format.proofs.accounts.accounts_of.Given as goal
+use Rattle.book_format.proofs.accounts.accounts_from.Given as goal
 
 -- the accounts so far, and those that are left
 abbrev pub invariant-loop-key : goal.invariant-loop-key
@@ -11,6 +11,6 @@ invariant-loop-key l =
     (done : List Entry)
     × (l.table.entries ≡ done ++ l.key-iterator)
     × HaveKeys l.accounts.entries done
-    × ((accounts_of l.index (members_view l.key-iterator) >>= λ left. Ok (l.accounts.entries ++ left))
-    ≡ accounts_of 0 (members_view l.table.entries))
+    × ((accounts_from l.index (members_view l.key-iterator) >>= λ left. Ok (l.accounts.entries ++ left))
+    ≡ accounts_from 0 (members_view l.table.entries))
     × (l.index + length l.key-iterator ≡ length l.table.entries)

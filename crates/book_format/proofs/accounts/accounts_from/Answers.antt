@@ -7,20 +7,20 @@ use Rattle.std.specs.String.{string_cmp}
 use Rattle.toml.specs.Data.{Data, Members, member}
 use Rattle.toml.specs.View.{view}
 use Rattle.toml.proofs.Views.{Entry}
-use Rattle.book_format.specs.Reading.{accounts_of, entry_of, ◌>>=◌}
+use Rattle.book_format.specs.Reading.{accounts_from, named_account_of, ◌>>=◌}
 use Rattle.book_format.specs.declared.fault.BookFault.{BookFault}
 use Rattle.book_format.proofs.Binds.{on_ok}
 use Rattle.book_format.proofs.Entries.{Named, HaveKeys-last, inserted_last}
 use Rattle.book_format.proofs.Found.{entry_name}
 use Rattle.book_format.proofs.Lists.{moved}
-use Rattle.book_format.proofs.accounts.accounts_of.Goals as goal
+use Rattle.book_format.proofs.accounts.accounts_from.Goals as goal
 
 -- one more account moves from those that are left to those that were read
 step : (index : ℕ) (key : List ℕ) (d : Data) (ms : Members) (entry : Named) (front : List Named) (whole : Result (List Named) BookFault)
-    → entry_of key d ≡ Ok entry → (accounts_of index (member key d ms) >>= λ left. Ok (front ++ left)) ≡ whole
-    → (accounts_of (index + 1) ms >>= λ left. Ok ((front ++ entry ∷ []) ++ left)) ≡ whole
-unfolding accounts_of
-step index key d ms entry front whole read h = sym (moved front entry (accounts_of (index + 1) ms)) ∙ (rw read at h)
+    → named_account_of key d ≡ Ok entry → (accounts_from index (member key d ms) >>= λ left. Ok (front ++ left)) ≡ whole
+    → (accounts_from (index + 1) ms >>= λ left. Ok ((front ++ entry ∷ []) ++ left)) ≡ whole
+unfolding accounts_from
+step index key d ms entry front whole read h = sym (moved front entry (accounts_from (index + 1) ms)) ∙ (rw read at h)
 
 pub loop-key-preserved : goal.loop-key-preserved
 loop-key-preserved c =
@@ -30,7 +30,7 @@ loop-key-preserved c =
     let left = c.next.new.self in
     let entry : Named = c.in-Ok.entry in
     let all : c.args.table.now.entries ≡ done ++ e ∷ left = l.invariant.1 ∙ ap (λ es. done ++ es) c.in-Some.ensures.steps in
-    let read : entry_of (string_bytes e.0) (view e.1) ≡ Ok entry = rw (← c.as_str.ensures.value) c.in-Ok.ensures in
+    let read : named_account_of (string_bytes e.0) (view e.1) ≡ Ok entry = rw (← c.as_str.ensures.value) c.in-Ok.ensures in
     let named : entry.0 ≡ string_bytes e.0 = entry_name (string_bytes e.0) (view e.1) entry read in
     let last = inserted_last l.accounts.entries done e left entry.1 (subst (λ es. IsStrictlySortedBy string_cmp (keys_of es)) all c.iter-key-items.ensures.ordered) l.invariant.2 in
     let put : c.insert.new.self.entries ≡ l.accounts.entries ++ entry ∷ [] =
