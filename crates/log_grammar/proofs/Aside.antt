@@ -1,4 +1,4 @@
--- A log that meets the demands is one with the demands aside, with no account named in it.
+-- A log that meets the demands is one without demands too, with no account named in it.
 use Rattle.std.proofs.Common.{◌≡◌, inl, inr, ℕ, Bool, true, false, List, [], ◌∷◌, ◌++◌, refl, sym, ◌∙◌, ap}
 use Rattle.std.specs.Prelude.{flat_map, map}
 use Rattle.std.specs.List.{AllByRecursion}
@@ -49,7 +49,7 @@ bare_login (without_first m i) = without_first m (bare_invitation i)
 abbrev bare : Session → Session
 bare (session names l) = session names (bare_login l)
 
--- its lines are the same
+-- a session has the same lines with no account named
 answer_same : (a : Answer) → answer_lines (bare_answer a) ≡ answer_lines a
 answer_same no_answer = refl
 answer_same (refused text closed) = refl
@@ -74,7 +74,7 @@ login_same (without_first m i) = ap (λ (l : List LogLine). heard (auth m) ∷ l
 session_same : (s : Session) → session_lines (bare s) ≡ session_lines s
 session_same (session names l) = ap (λ (t : List LogLine). said (mechs names) ∷ t) (login_same l)
 
--- its place is the same, with no account named
+-- a session with no account named has the same place, with no account named in it
 closing_bare : (closed : Bool) → closing_place closed ≡ bare_place (closing_place closed)
 closing_bare true = refl
 closing_bare false = refl
@@ -131,7 +131,7 @@ login_bare (without_first m i) = invitation_bare m i
 session_bare : (s : Session) → session_place (bare s) ≡ bare_place (session_place s)
 session_bare (session names l) = login_bare l
 
--- it meets no demands
+-- a session with no account named meets `no_demands`
 farewell_aside : (f : Farewell) → FarewellMeets no_demands f
 farewell_aside silent = tt
 farewell_aside (farewell text closed) = tt

@@ -1,5 +1,5 @@
--- Logs that end with a halt, and bytes without an LF.
-use Rattle.std.proofs.Common.{◌≤◌, ◌+◌, inl, inr, ℕ, List, [], ◌∷◌, ◌++◌, length, refl, subst}
+-- Logs that end with a halt, bytes without an LF, and lines that are too long.
+use Rattle.std.proofs.Common.{◌≤◌, ◌+◌, inl, inr, ℕ, List, [], ◌∷◌, ◌++◌, length, refl, ap, subst, arith}
 use Rattle.std.specs.List.{AllByRecursion, AllZip}
 use Rattle.scram_text.specs.Laws.{SpellsOneName, HasOneClientFirst}
 use Rattle.log_grammar.specs.Lines.{LogLine, IsLogLine}
@@ -8,13 +8,15 @@ use Rattle.log_grammar.specs.Sessions.{Told}
 use Rattle.log_grammar.specs.Demands.{Accounts, demands}
 use Rattle.log_grammar.specs.Places.{Place, before_all, halted}
 use Rattle.log_grammar.specs.Clean.{Spells, Begins, IsClean}
-use Rattle.log_grammar.specs.Why.{Why, is_cut, no_line, out_of_order, class_of, LineClass, IsClassDue, IsWrongNext, IsWhy}
+use Rattle.log_grammar.specs.Why.{Why, is_cut, no_line, out_of_order, class_of, LineClass, IsClassDue, IsUnfit, IsWrongNext, IsWhy}
 use Rattle.log_grammar.specs.Laws.{ClassesFollowThePlace}
 use Rattle.log_grammar.specs.Examples.{AreWhole}
 use Rattle.log_grammar.proofs.CutLemmas.{cut_one_way}
-use Rattle.log_grammar.proofs.FaultLemmas.{start, whole, clean_at, end_why, last_why}
+use Rattle.log_grammar.proofs.Completions.{each-append}
+use Rattle.log_grammar.proofs.FaultLemmas.{start, whole, clean_at, not_behind_lf, end_why, text_why, front_ends, last_why}
 
--- what ends with one more is not empty in front of it, or that one stands alone
+-- two lists, each with its last element, are related element by element: so are the lists before,
+-- and the last elements
 parts : {A B : Type 0} (P : A → B → Type 0) (xs : List A) (x : A) (ys : List B) (y : B) → AllZip P (xs ++ x ∷ []) (ys ++ y ∷ [])
     → AllZip P xs ys × P x y
 parts P [] x [] y h = (tt, h.0)
@@ -51,7 +53,7 @@ more_behind_halt once names classes accounts texts (first ∷ log) told text lin
     last_why once names accounts texts first log halted told text line out_of_order (record { are = read.0; lack = lacks.0; begins = begins })
     read.1 lacks.1 (λ f. f.goes) (inl (none_behind_halt classes accounts (first ∷ log) told (class_of line) begins, refl))
 
--- bytes without an LF are no lines
+-- bytes without an LF have no whole line
 alone : (rest : List ℕ) → LacksLf rest → IsCut rest [] rest
 alone rest lacks = record { joined = refl; lines = tt; behind = lacks }
 
@@ -72,3 +74,40 @@ short_is_cut accounts rest lacks short = at_once accounts rest is_cut lacks (inl
 
 pub long_is_no_line : (accounts : Accounts) (rest : List ℕ) → LacksLf rest → 6203 ≤ length rest → IsWhy accounts rest 1 no_line
 long_is_no_line accounts rest lacks long = at_once accounts rest no_line lacks (inr (long, refl))
+
+-- a part of a line after whole lines
+after_lines : (accounts : Accounts) (texts : List (List ℕ)) (log : List LogLine) (place : Place) (told : List Told) (rest : List ℕ) (why : Why)
+    → AreWhole texts log → Begins (demands accounts) log place told → LacksLf rest → 1 ≤ length rest → IsWrongNext accounts log [] rest why
+    → IsWhy accounts (ended_by_lf texts ++ rest) (length texts + 1) why
+after_lines accounts texts log place told [] why are begins lacks some wrong = absurd (omega (arith, some))
+after_lines accounts texts log place told (c ∷ rest) why are begins lacks some wrong =
+    let bytes = ended_by_lf texts ++ c ∷ rest in
+    let cut : IsCut bytes texts (c ∷ rest) = record { joined = refl; lines = are.1; behind = lacks } in
+    end_why accounts bytes texts (c ∷ rest) log place told why cut (record { are = are.0; lack = are.1; begins = begins })
+    (not_behind_lf accounts bytes texts c rest cut) wrong
+
+pub part_is_cut : (accounts : Accounts) (texts : List (List ℕ)) (log : List LogLine) (place : Place) (told : List Told) (rest : List ℕ)
+    → AreWhole texts log → Begins (demands accounts) log place told → LacksLf rest → 1 ≤ length rest → length rest ≤ 6202
+    → IsWhy accounts (ended_by_lf texts ++ rest) (length texts + 1) is_cut
+part_is_cut accounts texts log place told rest are begins lacks some short =
+    after_lines accounts texts log place told rest is_cut are begins lacks some (inl (short, refl))
+
+pub long_part_is_no_line : (accounts : Accounts) (texts : List (List ℕ)) (log : List LogLine) (place : Place) (told : List Told) (rest : List ℕ)
+    → AreWhole texts log → Begins (demands accounts) log place told → LacksLf rest → 6203 ≤ length rest
+    → IsWhy accounts (ended_by_lf texts ++ rest) (length texts + 1) no_line
+long_part_is_no_line accounts texts log place told rest are begins lacks long =
+    after_lines accounts texts log place told rest no_line are begins lacks (omega (arith, long)) (inr (long, refl))
+
+-- a text that is too long is no line
+too_long : (log : List LogLine) (text : List ℕ) → 6203 ≤ length text → IsUnfit log text
+too_long [] text long = λ same. omega (arith, long, ap length same)
+too_long (line ∷ log) text long = λ other is. omega (arith, long, is.short)
+
+pub long_line_is_no_line : (accounts : Accounts) (texts : List (List ℕ)) (log : List LogLine) (place : Place) (told : List Told) (text : List ℕ)
+    → AreWhole texts log → Begins (demands accounts) log place told → LacksLf text → 6203 ≤ length text
+    → IsWhy accounts (ended_by_lf (texts ++ text ∷ [])) (length texts + 1) no_line
+long_line_is_no_line accounts texts log place told text are begins lacks long =
+    let all = texts ++ text ∷ [] in
+    text_why accounts (ended_by_lf all) texts text [] [] log place told no_line (whole all (each-append texts (text ∷ []) are.1 (lacks, tt)))
+    (record { are = are.0; lack = are.1; begins = begins })
+    (λ is. let ends = front_ends accounts texts text are.1 lacks is in omega (arith, long, ends.1.short)) (inl (too_long log text long, refl))

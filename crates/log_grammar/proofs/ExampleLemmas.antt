@@ -1,5 +1,5 @@
 -- The small logs, line by line.
-use Rattle.std.proofs.Common.{◌≡◌, inl, inr, ℕ, ◌+◌, List, [], ◌∷◌, ◌++◌, length, get_or, refl, sym, ap, subst, arith}
+use Rattle.std.proofs.Common.{◌≡◌, inl, inr, ℕ, ◌+◌, ◌≤◌, List, [], ◌∷◌, ◌++◌, length, get_or, refl, sym, ap, subst, arith}
 use Rattle.std.specs.Prelude.{codes}
 use Rattle.mac_core.specs.declared.chosen.Mechanism.{Mechanism}
 use Rattle.mac_core.specs.declared.chosen.Mechanism.TheVariants.{ScramSha1, ScramSha256}
@@ -7,26 +7,27 @@ use Rattle.scram_text.specs.Laws.{SpellsOneName, HasOneClientFirst}
 use Rattle.scram_text.specs.Messages.{ClientFirstParts, header_text, client_first_text, bare_text}
 use Rattle.scram_text.specs.Parts.{authz_text}
 use Rattle.log_grammar.specs.Words.{IsMechName}
-use Rattle.log_grammar.specs.Lines.{LogLine, header, said, heard, bad, gone, ended, mechs, cont, refuses, halt, auth, auth_with, abort, IsLogLine}
-use Rattle.log_grammar.specs.Bytes.{ended_by_lf}
+use Rattle.log_grammar.specs.Lines.{LogLine, header, said, heard, bad, gone, ended, mechs, cont, accepts, refuses, halt, auth, auth_with, abort, IsLogLine}
+use Rattle.log_grammar.specs.Bytes.{LacksLf, ended_by_lf}
 use Rattle.log_grammar.specs.Sessions.{Told}
 use Rattle.log_grammar.specs.Demands.{Accounts, demands, NamesMechanism, AreReplies}
 use Rattle.log_grammar.specs.Places.{Place, before_all, between, offered, asks_bare, waits_first, got_first, leaving, over, MayEnd}
 use Rattle.log_grammar.specs.Steps.{Goes, told_at}
 use Rattle.log_grammar.specs.Clean.{Begins, IsClean}
 use Rattle.log_grammar.specs.Why.{is_cut, no_line, out_of_order, other_mechs, other_challenge, other_outcome, refused_with, LineClass, IsClassDue, IsDueAt, IsWhy}
-use Rattle.log_grammar.specs.Examples.{first_text, offer_text, first_alone, one_session, bare_no}
+use Rattle.log_grammar.specs.Examples.{first_text, offer_text, first_alone, one_session, bare_no, AreWhole}
 use Rattle.log_grammar.proofs.ClassLemmas.{classes_due}
+use Rattle.log_grammar.proofs.EdgeLemmas.{part_is_cut, long_part_is_no_line, long_line_is_no_line}
 use Rattle.log_grammar.proofs.FaultLemmas.{Lead, start, lead_on, clean_at, whole, not_at_end, end_why, text_why, front_starts, last_why}
 
 -- the texts of lines
 names : List ℕ
 names = codes "SCRAM-SHA-256 SCRAM-SHA-1"
 
-is_sha_256 : IsMechName (codes "SCRAM-SHA-256")
+pub is_sha_256 : IsMechName (codes "SCRAM-SHA-256")
 is_sha_256 = record { at_least = omega arith; at_most = omega arith; each = refl }
 
-is_sha_1 : IsMechName (codes "SCRAM-SHA-1")
+pub is_sha_1 : IsMechName (codes "SCRAM-SHA-1")
 is_sha_1 = record { at_least = omega arith; at_most = omega arith; each = refl }
 
 is_header : IsLogLine first_text header
@@ -82,7 +83,7 @@ clean_by accounts texts lines place told l ends = clean_at accounts (ended_by_lf
 pub first_is_clean : (accounts : Accounts) → IsClean accounts first_alone
 first_is_clean accounts = clean_by accounts _ _ between [] (lead_first accounts) tt
 
--- `S NO` behind a place where the server may refuse
+-- `S NO` at a place where the server may refuse
 lead_no : (accounts : Accounts) (texts : List (List ℕ)) (lines : List LogLine) (place : Place) → Lead accounts texts lines place []
     → Goes (demands accounts) place (said (refuses [])) over → told_at place (said (refuses [])) ≡ []
     → Lead accounts (texts ++ codes "S NO :" ∷ []) (lines ++ said (refuses []) ∷ []) over []
@@ -91,7 +92,7 @@ lead_no accounts texts lines place l goes silent =
     let refusal = lead_on accounts texts lines place [] (codes "S NO :") (said (refuses [])) over l is_no refl goes due in
     subst (λ (t : List Told). Lead accounts (texts ++ codes "S NO :" ∷ []) (lines ++ said (refuses []) ∷ []) over t) silent refusal
 
--- and the end
+-- `S NO` at such a place, and then `E`
 closed : (accounts : Accounts) (texts : List (List ℕ)) (lines : List LogLine) (place : Place) → Lead accounts texts lines place []
     → Goes (demands accounts) place (said (refuses [])) over → told_at place (said (refuses [])) ≡ []
     → IsClean accounts (ended_by_lf ((texts ++ codes "S NO :" ∷ []) ++ codes "E" ∷ []))
@@ -167,7 +168,7 @@ cut_why parts once accounts texts lines place told l unended =
     let unclean = not_at_end parts once accounts (ended_by_lf texts) texts lines place told cut l unended in
     end_why accounts (ended_by_lf texts) texts [] lines place told is_cut cut l unclean (inl (omega arith, refl))
 
--- logs at fault
+-- small logs at fault
 pub empty_is_cut : HasOneClientFirst → SpellsOneName → (accounts : Accounts) → IsWhy accounts [] 1 is_cut
 empty_is_cut parts once accounts = cut_why parts once accounts [] [] before_all [] (start accounts) (λ h. h)
 
@@ -304,3 +305,69 @@ pub end_is_no_line : (accounts : Accounts) → IsWhy accounts (ended_by_lf (code
 end_is_no_line accounts =
     text_why accounts (ended_by_lf (codes "E" ∷ [])) [] (codes "E") [] [] [] before_all [] no_line (whole (codes "E" ∷ []) (refl, tt)) (start accounts)
     (λ front. text_differs (front_starts accounts (codes "E") refl front)) (inl (text_differs, refl))
+
+-- two sessions, one after the other
+pub two_are_clean : (accounts : Accounts) → IsClean accounts (one_session (codes "C GONE" ∷ codes "E" ∷ offer_text ∷ codes "C ABORT" ∷ bare_no))
+two_are_clean accounts =
+    let left = lead_on accounts _ _ over [] (codes "E") ended between (lead_gone accounts) is_end refl refl tt in
+    let again = lead_on accounts _ _ between [] offer_text _ offered left is_offer refl (refl, refl) tt in
+    closed accounts _ _ leaving (lead_on accounts _ _ offered [] (codes "C ABORT") (heard abort) leaving again is_abort refl refl tt) (refl, refl) refl
+
+-- the first line again
+pub header_again : HasOneClientFirst → SpellsOneName → (accounts : Accounts) → IsWhy accounts (ended_by_lf (first_text ∷ first_text ∷ [])) 2 out_of_order
+header_again parts once accounts =
+    let l = lead_first accounts in
+    last_why parts once accounts (first_text ∷ []) header [] between [] first_text header out_of_order l is_header refl (λ f. f.goes)
+    (inl (not_due accounts (header ∷ []) between _ l.begins (λ is. cc is), refl))
+
+is_ok : IsLogLine (codes "S OK :") (said (accepts []))
+is_ok = record { spelled = refl; ranges = tt; short = omega arith }
+
+is_error : IsLogLine (codes "S NO :e=other-error") (said (refuses (codes "e=other-error")))
+is_error = record {
+  spelled = refl;
+  ranges = (omega arith, (omega arith, (omega arith, (omega arith, (omega arith, (omega arith, (omega arith, (omega arith, (omega arith, (omega arith, (omega arith, (omega arith, (omega arith, tt)))))))))))));
+  short = omega arith;
+}
+
+some_error : codes "e=other-error" ≡ [] → ⊥
+some_error e = cc e
+
+pub accepted_why : HasOneClientFirst → SpellsOneName → (accounts : Accounts)
+    → IsWhy accounts (one_session (codes "C ABORT" ∷ codes "S OK :" ∷ [])) 4 (other_outcome (refused_with []))
+accepted_why parts once accounts =
+    let l = lead_abort accounts in
+    last_why parts once accounts (first_text ∷ offer_text ∷ codes "C ABORT" ∷ []) header _ leaving [] (codes "S OK :") (said (accepts [])) (other_outcome (refused_with []))
+    l is_ok refl (λ f. f.goes) (inr (is_due accounts _ leaving _ l.begins refl, leaving, [], l.begins, refl))
+
+pub message_why : HasOneClientFirst → SpellsOneName → (accounts : Accounts)
+    → IsWhy accounts (one_session (codes "C BAD" ∷ codes "S NO :e=other-error" ∷ [])) 4 (other_outcome (refused_with []))
+message_why parts once accounts =
+    let l = lead_bad accounts in
+    last_why parts once accounts (first_text ∷ offer_text ∷ codes "C BAD" ∷ []) header _ leaving [] (codes "S NO :e=other-error") (said (refuses (codes "e=other-error")))
+    (other_outcome (refused_with [])) l is_error refl (λ f. some_error f.goes.0) (inr (is_due accounts _ leaving _ l.begins refl, leaving, [], l.begins, refl))
+
+pub not_first_why : HasOneClientFirst → SpellsOneName → (accounts : Accounts)
+    → IsWhy accounts (one_session (codes "C AUTH SCRAM-SHA-1 :" ∷ codes "S CONT :" ∷ [])) 4 (other_outcome (refused_with []))
+not_first_why parts once accounts =
+    let l = lead_refused accounts in
+    let at = got_first (codes "SCRAM-SHA-1") [] in
+    last_why parts once accounts (first_text ∷ offer_text ∷ codes "C AUTH SCRAM-SHA-1 :" ∷ []) header _ at [] (codes "S CONT :") (said (cont [])) (other_outcome (refused_with []))
+    l is_cont refl (λ f. no_message f.goes.1.opening.first f.goes.1.opens.is_first.spelled)
+    (inr (is_due accounts _ at _ l.begins refl, at, [], l.begins, inr (λ name is. no_message is.parts is.is_first.spelled, refl)))
+
+-- the first line and what follows it
+first_whole : AreWhole (first_text ∷ []) (header ∷ [])
+first_whole = ((is_header, tt), (refl, tt))
+
+pub second_is_no_line : (accounts : Accounts) (text : List ℕ) → LacksLf text → 6203 ≤ length text → IsWhy accounts (ended_by_lf (first_text ∷ text ∷ [])) 2 no_line
+second_is_no_line accounts text lacks long =
+    long_line_is_no_line accounts (first_text ∷ []) (header ∷ []) between [] text first_whole (lead_first accounts).begins lacks long
+
+pub second_part_is_no_line : (accounts : Accounts) (rest : List ℕ) → LacksLf rest → 6203 ≤ length rest → IsWhy accounts (first_alone ++ rest) 2 no_line
+second_part_is_no_line accounts rest lacks long =
+    long_part_is_no_line accounts (first_text ∷ []) (header ∷ []) between [] rest first_whole (lead_first accounts).begins lacks long
+
+pub second_is_cut : (accounts : Accounts) (rest : List ℕ) → LacksLf rest → 1 ≤ length rest → length rest ≤ 6202 → IsWhy accounts (first_alone ++ rest) 2 is_cut
+second_is_cut accounts rest lacks some short =
+    part_is_cut accounts (first_text ∷ []) (header ∷ []) between [] rest first_whole (lead_first accounts).begins lacks some short

@@ -1,4 +1,4 @@
--- A session goes on by one line: where the line may stand behind the session's place, there is a session with
+-- A session goes on by one line: where the line may stand at the session's place, there is a session with
 -- that line more.
 use Rattle.std.proofs.Common.{◌≡◌, ◌⊎◌, inl, inr, ℕ, true, false, List, [], ◌∷◌, ◌++◌, refl, sym, ◌∙◌, ap, append_assoc}
 use Rattle.log_grammar.specs.Lines.{LogLine, said, heard, bad, gone, ended, mechs, cont, accepts, refuses, replies, halt, auth, auth_with, resp, abort, code}
@@ -8,7 +8,7 @@ use Rattle.log_grammar.specs.Places.{Place, between}
 use Rattle.log_grammar.specs.Steps.{Goes, told_at}
 use Rattle.log_grammar.proofs.SessionParts.{Part, farewell_part, quit_part, codes_part, judgement_part, proof_part, answer_part, first_part, invitation_part, login_part, session_part}
 
--- a part of a session with one line more, which leads to a place and tells this
+-- a part of a session with one more line, which leads to a place and tells this
 pub record Grown {X : Type 0} (part : Part X) (old : X) (line : LogLine) (next : Place) (more : List Told) : Type 0 where
   pub tree : X
   pub lines : part.lines tree ≡ part.lines old ++ line ∷ []
@@ -20,7 +20,7 @@ pub record Grown {X : Type 0} (part : Part X) (old : X) (line : LogLine) (next :
 abbrev pub GoesOn : {X : Type 0} → Part X → X → LogLine → Place → Type 0
 GoesOn part old line next = (part.place old ≡ between) ⊎ Grown part old line next (told_at (part.place old) line)
 
--- a part that goes on within another, behind lines of the other
+-- a part that goes on within another, after lines of the other
 lift : {X Y : Type 0} (inner : Part X) (outer : Part Y) (wrap : X → Y) (front : List LogLine) (before : List Told)
     → ((t : X) → outer.lines (wrap t) ≡ front ++ inner.lines t) → ((t : X) → outer.place (wrap t) ≡ inner.place t)
     → ((t : X) → outer.tells (wrap t) ≡ before ++ inner.tells t) → ((t : X) → inner.Meets t → outer.Meets (wrap t))

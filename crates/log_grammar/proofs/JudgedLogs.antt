@@ -24,7 +24,7 @@ use Rattle.log_grammar.proofs.FaultLemmas.{Lead, start, lead_on, clean_at, not_a
 abbrev Judged : Accounts → List ℕ → Type 0
 Judged accounts bytes = IsClean accounts bytes ⊎ ((k : ℕ) × (why : Why) × IsWhy accounts bytes k why)
 
--- behind the texts that were read one more is, or it is at fault
+-- after the texts that were read, one more was read too, or is at fault
 abbrev Next : Accounts → List ℕ → List (List ℕ) → List ℕ → Type 0
 Next accounts bytes texts text =
     ((lines : List LogLine) × (place : Place) × (told : List Told) × Lead accounts (texts ++ text ∷ []) lines place told)
@@ -45,7 +45,7 @@ first_text accounts bytes text more rest place told cut l = elim (decided_same t
 ]
 
 -- a line that goes on is of a class that is due
-class_goes : (accounts : Accounts) (lines : List LogLine) (place : Place) (told : List Told) (line : LogLine) → Begins (demands accounts) lines place told
+pub class_goes : (accounts : Accounts) (lines : List LogLine) (place : Place) (told : List Told) (line : LogLine) → Begins (demands accounts) lines place told
     → Follows accounts place told line → IsDueAt place (class_of line)
 class_goes accounts lines place told line begins f =
     let bare = aside (demands accounts) (lines ++ line ∷ []) f.next (told ++ told_at place line)
@@ -104,7 +104,7 @@ may_end_decided between = inl tt
 may_end_decided halted = inl tt
 may_end_decided place = inr (λ none. none)
 
--- behind the last line
+-- after the last line
 behind_all : Settled → (accounts : Accounts) (bytes : List ℕ) (texts : List (List ℕ)) (rest : List ℕ) (lines : List LogLine) (place : Place) (told : List Told)
     → IsCut bytes texts rest → Lead accounts texts lines place told → Judged accounts bytes
 behind_all s accounts bytes texts [] lines place told cut l = elim (may_end_decided place) [
@@ -120,7 +120,7 @@ behind_all s accounts bytes texts (c ∷ rest) lines place told cut l =
       | inr within ↦ inr (length texts + 1, is_cut, end_why accounts bytes texts (c ∷ rest) lines place told is_cut cut l unclean (inl (within, refl)))
     ]
 
--- the texts that are left, behind those that were read
+-- the texts that are left, after those that were read
 walk : Settled → (accounts : Accounts) (bytes : List ℕ) (more texts : List (List ℕ)) (rest : List ℕ) (lines : List LogLine) (place : Place) (told : List Told)
     → IsCut bytes (texts ++ more) rest → Lead accounts texts lines place told → Judged accounts bytes
 walk s accounts bytes [] texts rest lines place told cut l =

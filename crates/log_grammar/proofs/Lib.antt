@@ -31,3 +31,12 @@ pub mod LoginLemmas
 pub mod ReplyLemmas
 pub mod SessionLines
 pub mod OutcomeLemmas
+pub mod LineBytes
+pub mod HeadlineLemmas
+pub mod LoginCodes
+pub mod FirstFaults
+pub mod FaultTexts
+pub mod Mended
+pub mod LoginFaults
+pub mod DueRanges
+pub mod DueLines

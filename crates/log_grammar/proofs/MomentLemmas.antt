@@ -10,7 +10,7 @@ use Rattle.log_grammar.specs.Places.{Place}
 use Rattle.log_grammar.specs.Clean.{Begins, AreLines}
 
 -- all lines are in their ranges
-abbrev Ranged : List LogLine → Type 0
+abbrev pub Ranged : List LogLine → Type 0
 Ranged lines = AllByRecursion IsLogInRange lines
 
 -- all replies are at moments
@@ -66,7 +66,7 @@ joined : {A : Type 0} (P : A → Type 0) (front back : List A) → AllByRecursio
 joined P [] back h k = k
 joined P (a ∷ front) back h k = (h.0, joined P front back h.1 k)
 
-of_sessions : (sessions : List Session) → Ranged (flat_map session_lines sessions) → Timed (flat_map session_told sessions)
+pub of_sessions : (sessions : List Session) → Ranged (flat_map session_lines sessions) → Timed (flat_map session_told sessions)
 of_sessions [] h = tt
 of_sessions (s ∷ sessions) h =
     let both = parted IsLogInRange (session_lines s) (flat_map session_lines sessions) h in

@@ -53,7 +53,7 @@ told_first accounts (suc n) log (x ∷ more) place told short begins =
 pub first_lines : FirstLinesBeginLogs
 first_lines accounts lines more place told begins = told_first accounts (length more) lines more place told (omega arith) begins
 
--- MECHS
+-- from where MECHS goes on
 offer_from : (accounts : Accounts) (log : List LogLine) (names : List ℕ) (next at : Place) (all told : List Told)
     → all ≡ told ++ told_at at (said (mechs names)) → Begins (demands accounts) log at told → Goes (demands accounts) at (said (mechs names)) next
     → Begins (demands accounts) log between all × (demands accounts).mechs names × (next ≡ offered)
@@ -68,7 +68,7 @@ each_offer accounts log names next told = (
   λ is. on_quietly accounts log between told (said (mechs names)) next refl is.0 (is.1, is.2),
 )
 
--- CONT
+-- from where CONT goes on
 cont_from : (accounts : Accounts) (log : List LogLine) (text : List ℕ) (next at : Place) (all told : List Told)
     → all ≡ told ++ told_at at (said (cont text)) → Begins (demands accounts) log at told → Goes (demands accounts) at (said (cont text)) next
     → IsChallengeDue accounts log text next all
@@ -93,7 +93,7 @@ each_challenge accounts log text next told = (
   λ is. cont_on accounts log text next told is,
 )
 
--- NO
+-- from where NO goes on, and that it then follows no valid login
 invalid : AtMostOneIsDue → AcceptsExactlyValid → (accounts : Accounts) (mechanism name t1 t2 t3 : List ℕ) (why : Refusal)
     → IsVerdict accounts mechanism name t1 t2 t3 (refuse why) → (t4 : List ℕ) → IsLoginTo accounts mechanism name t1 t2 t3 t4 → ⊥
 invalid once valid accounts mechanism name t1 t2 t3 why (m, named, due) t4 l =
@@ -134,7 +134,7 @@ each_refusal once valid accounts log text next told = (
   λ is. no_on accounts log text next told is.0 is.1,
 )
 
--- the replies to a code
+-- from where a reply to a code goes on
 reply_from : (accounts : Accounts) (log : List LogLine) (moment : ℕ) (reply : Option Reply) (next at : Place) (all told : List Told)
     → all ≡ told ++ told_at at (said (replies moment reply)) → AreReplies (demands accounts) (reverse told) (told_at at (said (replies moment reply)))
     → Begins (demands accounts) log at told → Goes (demands accounts) at (said (replies moment reply)) next → IsReplied accounts log moment reply next all
@@ -152,7 +152,7 @@ each_reply accounts log moment reply next all = (
       (goes_on (demands accounts) log (got_code r.account r.text) r.told (said (replies moment reply)) next r.behind r.is_next (r.due, tt)),
 )
 
--- HALT
+-- from where HALT goes on
 abbrev EndsCode : Accounts → List LogLine → Place → List Told → Type 0
 EndsCode accounts log next told =
     (account : List ℕ) × (text : List ℕ) × Begins (demands accounts) log (got_code account text) told × (next ≡ halted)

@@ -1,5 +1,5 @@
--- A log is read in one way: its place and what was told in it follow from its lines. What it begins with is
--- what a log may begin with.
+-- A log is read in one way: its place and what was told in it follow from its lines. Its first lines are
+-- again lines that a log may begin with.
 use Rattle.std.proofs.Common.{◌≡◌, inl, inr, ℕ, zero, suc, ◌≤◌, List, [], ◌∷◌, ◌++◌, length, sym, ◌∙◌, ap, subst, arith, append_assoc, append-nil}
 use Rattle.log_grammar.specs.Lines.{LogLine, header, said, heard, bad, gone, ended, mechs, cont, accepts, refuses, replies, halt, auth, auth_with, resp, abort, code}
 use Rattle.log_grammar.specs.Sessions.{Told}
@@ -10,7 +10,7 @@ use Rattle.log_grammar.specs.Clean.{Begins}
 use Rattle.log_grammar.proofs.LogSteps.{before_last}
 use Rattle.log_grammar.proofs.Snoc.{some_last, last_same, with_last, length-last}
 
--- a challenge is one account's
+-- a challenge is that of one account
 abbrev pub OneAccount : Demands → Type 0
 OneAccount d = (m first account other text : List ℕ) → d.challenged m first account text → d.challenged m first other text → account ≡ other
 
@@ -130,7 +130,7 @@ read_once d one (suc n) log p q told other short (inr s) (inr r) =
     let moved = subst (λ (x : LogLine). Goes d a.at x q) (sym same.1) (subst (λ (r : Place). Goes d r b.line q) (sym earlier.0) b.goes) in
     (goes_once d one a.at a.line p q a.goes moved, a.all ∙ told_same a.tells b.tells a.at b.at a.line b.line earlier.1 earlier.0 same.1 ∙ sym b.all)
 
--- without its last line a log begins with what stood before it
+-- without its last line a log still begins as a log may
 shorter_front : (d : Demands) (log : List LogLine) (line : LogLine) (p : Place) (told : List Told) → Begins d (log ++ line ∷ []) p told
     → (q : Place) × (other : List Told) × Begins d log q other
 shorter_front d log line p told (inl none) = absurd (some_last log line none.0)
@@ -139,7 +139,7 @@ shorter_front d log line p told (inr s) =
     let same = last_same log b.lines line b.line b.same in
     (b.at, b.tells, subst (λ (l : List LogLine). Begins d l b.at b.tells) (sym same.0) b.begins)
 
--- what a log may begin with begins so itself
+-- the first lines of what a log may begin with are such lines
 pub front_of : (d : Demands) (n : ℕ) (log more : List LogLine) (p : Place) (told : List Told) → length more ≤ n → Begins d (log ++ more) p told
     → (q : Place) × (other : List Told) × Begins d log q other
 front_of d n log [] p told short begins = (p, told, subst (λ (l : List LogLine). Begins d l p told) (append-nil log) begins)

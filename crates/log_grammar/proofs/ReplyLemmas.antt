@@ -61,7 +61,7 @@ pub each_pass : EachReplyIsDue → EachPassIsACode
 each_pass replied accounts log moment counter next told begins =
     of_answer accounts log moment counter next told ((replied accounts log moment (Some (Pass counter)) next told).0 begins)
 
--- what is above all counters that passed is above those of fewer attempts
+-- a counter above all that passed is above those that passed in fewer attempts
 above_by : (t : Told) (reply : Option Reply) (attempts : List Attempt) (d : ℕ) → IsAbove (passed (attempts_by t reply attempts)) d → IsAbove (passed attempts) d
 above_by t None attempts d above = above
 above_by t (Some (Pass c)) attempts d above = above.1

@@ -1,4 +1,4 @@
--- How a line stands behind a place: it goes on from there; or no line of its class does; or one does, and it is wrong.
+-- How a line stands at a place: it goes on from there; no line of its class does; or one does, and this one is wrong.
 use Rattle.std.proofs.Common.{◌≡◌, ◌⊎◌, inl, inr, ℕ, List, [], reverse, refl}
 use Rattle.std.specs.Prelude.{codes}
 use Rattle.scram_text.proofs.DecisionLemmas.{Decided, decided_both, decided_same}
@@ -20,14 +20,14 @@ pub record Follows (accounts : Accounts) (place : Place) (told : List Told) (lin
   pub goes : Goes (demands accounts) place line next
   pub due : AreReplies (demands accounts) (reverse told) (told_at place line)
 
--- a line of a class that is due does not, and there is a reason
+-- a line of a class that is due does not go on, and there is a reason
 pub record Fails (accounts : Accounts) (place : Place) (told : List Told) (line : LogLine) : Type 0 where
   pub of_class : IsDueAt place (class_of line)
   pub stuck : Follows accounts place told line → ⊥
   pub why : Why
   pub wrong : IsWrong accounts place told line why
 
--- one of the three
+-- a line goes on, is of a class that is not due, or fails
 abbrev pub Standing : Accounts → Place → List Told → LogLine → Type 0
 Standing accounts place told line = Follows accounts place told line ⊎ ((IsDueAt place (class_of line) → ⊥) ⊎ Fails accounts place told line)
 
@@ -44,7 +44,7 @@ never : (accounts : Accounts) (place : Place) (told : List Told) (line : LogLine
     → (why : Why) × IsWrong accounts place told line why → (Follows accounts place told line → ⊥) → Standing accounts place told line
 never accounts place told line due why stuck = by_demand accounts place told line ⊥ due why (λ none. absurd none) stuck (inr (λ none. none))
 
--- a class that is none of those where it is the client's turn
+-- a class that is not among those due where it is the client's turn
 no_turn : (class own : LineClass) → (class ≡ own → ⊥) → (class ≡ of_abort → ⊥) → (class ≡ of_bad → ⊥) → (class ≡ of_gone → ⊥)
     → (class ≡ own) ⊎ IsQuitting class → ⊥
 no_turn class own no_own no_abort no_bad no_gone (inl is) = no_own is
@@ -52,7 +52,7 @@ no_turn class own no_own no_abort no_bad no_gone (inr (inl is)) = no_abort is
 no_turn class own no_own no_abort no_bad no_gone (inr (inr (inl is))) = no_bad is
 no_turn class own no_own no_abort no_bad no_gone (inr (inr (inr is))) = no_gone is
 
--- what is decided to be there or not, each way
+-- it is decided whether something exists, said in one way and in the other
 there_decided : {A : Type 0} {P : A → Type 0} → ((a : A) × P a) ⊎ ((a : A) → P a → ⊥) → Decided ((a : A) × P a)
 there_decided (inl is) = inl is
 there_decided (inr none) = inr (λ is. none is.0 is.1)
@@ -84,7 +84,7 @@ at_offered accounts told gone = inl (record { next = over; goes = refl; due = tt
 at_offered accounts told (said halt) = inr (inl (no_turn _ _ (λ e. cc e) (λ e. cc e) (λ e. cc e) (λ e. cc e)))
 at_offered accounts told line = inr (inl (no_turn _ _ (λ e. cc e) (λ e. cc e) (λ e. cc e) (λ e. cc e)))
 
--- why a word is wrong behind `C AUTH` without a message
+-- why a word is wrong after `C AUTH` without a message
 bare_why : (accounts : Accounts) (m : List ℕ) → (why : Why) × IsWrongWord accounts (asks_bare m) why
 bare_why accounts m = elim (offered_decided m) [
   | inl is ↦ (other_challenge, inl (is, refl))
@@ -112,7 +112,7 @@ at_waits_first accounts told m gone = inl (record { next = over; goes = refl; du
 at_waits_first accounts told m (said halt) = inr (inl (no_turn _ _ (λ e. cc e) (λ e. cc e) (λ e. cc e) (λ e. cc e)))
 at_waits_first accounts told m line = inr (inl (no_turn _ _ (λ e. cc e) (λ e. cc e) (λ e. cc e) (λ e. cc e)))
 
--- why a word is wrong behind a client-first message
+-- why a word is wrong after a client-first message
 first_why : Settled → (accounts : Accounts) (m first : List ℕ) → (why : Why) × IsWrongWord accounts (got_first m first) why
 first_why s accounts m first = elim (login_decided s.ground.once s.ground.firsts s.ground.names m first) [
   | inl is ↦ (other_challenge, inl (is, refl))
@@ -202,7 +202,7 @@ at_over accounts told (said halt) = inr (inl (λ is. cc is))
 at_over accounts told (heard abort) = inr (inl (λ is. cc is))
 at_over accounts told line = inr (inl (λ is. cc is))
 
--- at every place of a log
+-- how a line stands at each place of a log
 pub standing_at : Settled → (accounts : Accounts) (place : Place) (told : List Told) (line : LogLine) → Opened (demands accounts) place
     → Standing accounts place told line
 standing_at s accounts before_all told line opened = at_start accounts told line

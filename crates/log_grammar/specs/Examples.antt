@@ -16,14 +16,14 @@ offer_text = codes "S MECHS SCRAM-SHA-256 SCRAM-SHA-1"
 abbrev pub first_alone : List ℕ
 first_alone = ended_by_lf (first_text ∷ [])
 
--- a log of one session, by the lines behind its first
+-- a log of one session, by the lines after the first of the session
 abbrev pub one_session : List (List ℕ) → List ℕ
 one_session texts = ended_by_lf (first_text ∷ offer_text ∷ texts)
 
--- `S NO` with nothing behind its colon, and the end of the session
+-- `S NO` with nothing after its colon, and the end of the session
 abbrev pub bare_no : List (List ℕ)
 bare_no = codes "S NO :" ∷ codes "E" ∷ []
 
--- texts that are these lines, with no LF in them
+-- the texts are these lines, with no LF in them
 abbrev pub AreWhole : List (List ℕ) → List LogLine → Type 0
 AreWhole texts log = AllZip IsLogLine texts log × AllByRecursion LacksLf texts

@@ -9,16 +9,16 @@ use Rattle.otp_core.specs.declared.token.kinds.Fields.{Fields}
 use Rattle.log_grammar.specs.Sessions.{Told}
 use Rattle.log_grammar.specs.Demands.{attempts_of}
 
--- where it is told of this account, there was no reply, since it has no token
+-- where this is told of this account, there was no reply, since it has no token
 abbrev pub HasNoReply : List ℕ → Told → Type 0
 HasNoReply account t = t.account ≡ account → t.reply ≡ None
 
--- where it is told of this account, there was a reply
+-- where this is told of this account, there was a reply
 abbrev pub HasReply : List ℕ → Told → Type 0
 HasReply account t = t.account ≡ account → (reply : Reply) × (t.reply ≡ Some reply)
 
--- of an account without a token each code is told to have no reply; of one with a token each has one, and
--- its attempts, in their order, are a legal history of the token
+-- an account without a token has no reply to any code; one with a token has a reply to each, and its
+-- attempts, in their order, are a legal history of the token
 abbrev pub IsHistory : Option Fields → List ℕ → List Told → Type 0
 IsHistory None account told = AllByRecursion (HasNoReply account) told
 IsHistory (Some token) account told =

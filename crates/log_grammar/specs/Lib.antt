@@ -16,3 +16,5 @@ pub mod Replies
 pub mod Outcomes
 pub mod Examples
 pub mod Laws
+pub mod Headline
+pub mod Reasons

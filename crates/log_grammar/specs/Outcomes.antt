@@ -1,4 +1,4 @@
--- The server's lines one by one: where each may stand in a log, and which messages stand before it.
+-- The server's lines one by one: where each may stand in a log, and which messages come before it.
 use Rattle.std.specs.Prelude.{ℕ, ◌≡◌, ◌⊎◌, ◌↔◌, List, [], ◌∷◌, ◌++◌, reverse}
 use Rattle.std.specs.declared.option.Option.{Option}
 use Rattle.mac_core.specs.declared.chosen.Mechanism.{Mechanism}
@@ -14,7 +14,7 @@ use Rattle.log_grammar.specs.Clean.{Begins}
 use Rattle.log_grammar.specs.Logins.{IsLoginTo}
 
 -- the first lines of what a log may begin with are such lines too, and what was told in them comes first: so each
--- law on a log's last line holds of every line of it
+-- law of a log's last line holds for every line of it
 abbrev pub FirstLinesBeginLogs : Type 0
 FirstLinesBeginLogs = (accounts : Accounts) (lines more : List LogLine) (place : Place) (told : List Told)
     → Begins (demands accounts) (lines ++ more) place told
@@ -24,13 +24,13 @@ FirstLinesBeginLogs = (accounts : Accounts) (lines more : List LogLine) (place :
 abbrev pub EndsWith : List LogLine → List LogLine → Type 0
 EndsWith log lines = (before : List LogLine) × (log ≡ before ++ lines)
 
--- the lines by which a client sends its first message: in `C AUTH`, or behind an empty challenge
+-- the lines by which a client sends its first message: in `C AUTH`, or after an empty challenge
 abbrev pub IsSentBy : (mechanism first : List ℕ) → List LogLine → Type 0
 IsSentBy mechanism first lines =
     (lines ≡ heard (auth_with mechanism first) ∷ [])
     ⊎ (lines ≡ heard (auth mechanism) ∷ said (cont []) ∷ heard (resp first) ∷ [])
 
--- the messages that a place tells of are those of the last lines, which are of one session
+-- the messages that a place has are those of the last lines, which are of one session
 abbrev pub HasItsMessages : Place → List LogLine → Type 0
 HasItsMessages (asks_bare mechanism) log = EndsWith log (heard (auth mechanism) ∷ [])
 HasItsMessages (waits_first mechanism) log = EndsWith log (heard (auth mechanism) ∷ said (cont []) ∷ [])
@@ -42,18 +42,18 @@ HasItsMessages (got_final mechanism account first challenge last) log =
 HasItsMessages (got_code account text) log = EndsWith log (heard (code text) ∷ [])
 HasItsMessages place log = Unit {0}
 
--- what a log's place tells of messages is what its lines say
+-- the messages that a log's place has are those of its lines
 abbrev pub PlacesHaveTheirMessages : Type 0
 PlacesHaveTheirMessages = (accounts : Accounts) (log : List LogLine) (place : Place) (told : List Told)
     → Begins (demands accounts) log place told → HasItsMessages place log
 
--- `S MECHS` stands where a session may begin, with the two names
+-- `S MECHS` may stand exactly where a session may begin, with the two names
 abbrev pub EachOfferIsDue : Type 0
 EachOfferIsDue = (accounts : Accounts) (log : List LogLine) (names : List ℕ) (next : Place) (told : List Told)
     → Begins (demands accounts) (log ++ said (mechs names) ∷ []) next told
     ↔ (Begins (demands accounts) log between told × (names ≡ offered_names) × (next ≡ offered))
 
--- the empty challenge, behind a mechanism that is offered; or a challenge to the client-first message, for the
+-- the empty challenge, after a mechanism that is offered; or a challenge to the client-first message, for the
 -- account that it names
 abbrev pub IsChallengeDue : Accounts → List LogLine → List ℕ → Place → List Told → Type 0
 IsChallengeDue accounts log text next told =
@@ -62,14 +62,13 @@ IsChallengeDue accounts log text next told =
     ⊎ ((mechanism : List ℕ) × (first : List ℕ) × (name : List ℕ) × Begins (demands accounts) log (got_first mechanism first) told
     × IsChallenged accounts mechanism first name text × (next ≡ waits_final mechanism name first text))
 
--- `S CONT` stands where it is one of these
+-- `S CONT` may stand exactly where it is one of these challenges
 abbrev pub EachChallengeIsDue : Type 0
 EachChallengeIsDue = (accounts : Accounts) (log : List LogLine) (text : List ℕ) (next : Place) (told : List Told)
     → Begins (demands accounts) (log ++ said (cont text) ∷ []) next told ↔ IsChallengeDue accounts log text next told
 
 -- the refusal that is due: a bare one of a mechanism that is not offered, of a client-first message that no server
--- takes up, or to a client that ends its session; or the verdict on the three messages of a login, which is then
--- valid with no fourth
+-- takes up, or to a client that ends its session; or the verdict on three messages that no fourth makes a login
 abbrev pub IsRefusalDue : Accounts → List LogLine → List ℕ → List Told → Type 0
 IsRefusalDue accounts log text told =
     ((mechanism : List ℕ) × Begins (demands accounts) log (asks_bare mechanism) told
@@ -82,7 +81,7 @@ IsRefusalDue accounts log text told =
     × ((t4 : List ℕ) → IsLoginTo accounts mechanism name t1 t2 t3 t4 → ⊥))
     ⊎ (Begins (demands accounts) log leaving told × (text ≡ []))))
 
--- `S NO` stands where it is the refusal that is due
+-- `S NO` may stand exactly where it is the refusal that is due
 abbrev pub EachRefusalIsDue : Type 0
 EachRefusalIsDue = (accounts : Accounts) (log : List LogLine) (text : List ℕ) (next : Place) (told : List Told)
     → Begins (demands accounts) (log ++ said (refuses text) ∷ []) next told ↔ (IsRefusalDue accounts log text told × (next ≡ over))
@@ -97,12 +96,12 @@ pub record IsReplied (accounts : Accounts) (log : List LogLine) (moment : ℕ) (
   pub tells : all ≡ told ++ told_of account moment text reply ∷ []
   pub is_next : next ≡ waits_code account
 
--- PASS, FAIL, LOCKED and NOCODE stand where they are that reply
+-- PASS, FAIL, LOCKED and NOCODE may stand exactly where they are that reply
 abbrev pub EachReplyIsDue : Type 0
 EachReplyIsDue = (accounts : Accounts) (log : List LogLine) (moment : ℕ) (reply : Option Reply) (next : Place) (all : List Told)
     → Begins (demands accounts) (log ++ said (replies moment reply) ∷ []) next all ↔ IsReplied accounts log moment reply next all
 
--- `S HALT` stands behind a code, whichever
+-- `S HALT` may stand exactly after a code, whatever the code
 abbrev pub EachHaltEndsACode : Type 0
 EachHaltEndsACode = (accounts : Accounts) (log : List LogLine) (next : Place) (told : List Told)
     → Begins (demands accounts) (log ++ said halt ∷ []) next told

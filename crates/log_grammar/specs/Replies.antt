@@ -21,8 +21,8 @@ use Rattle.log_grammar.specs.Logins.{IsLoginTo, login_log, log_bytes}
 abbrev pub passes : (moment counter : ℕ) → LogLine
 passes moment counter = said (replies moment (Some (Pass counter)))
 
--- the log ends with a code of an account that has a token; it is the token's code of this counter, which could pass
--- at the moment, after what was told of the account before
+-- the log ends with a code of an account that has a token; the code is the token's for this counter, which could
+-- pass at the moment, after what was told of the account before
 pub record IsCodeOf (accounts : Accounts) (log : List LogLine) (moment counter : ℕ) (next : Place) : Type 0 where
   pub account : List ℕ
   pub text : List ℕ
@@ -34,7 +34,7 @@ pub record IsCodeOf (accounts : Accounts) (log : List LogLine) (moment counter :
   pub in_window : IsCandidate token (attempts_of account (reverse told)) moment counter
   pub is_next : next ≡ waits_code account
 
--- PASS stands behind such a code alone
+-- PASS may stand only after such a code
 abbrev pub EachPassIsACode : Type 0
 EachPassIsACode = (accounts : Accounts) (log : List LogLine) (moment counter : ℕ) (next : Place) (told : List Told)
     → Begins (demands accounts) (log ++ passes moment counter ∷ []) next told → IsCodeOf accounts log moment counter next

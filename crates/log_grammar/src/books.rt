@@ -1,26 +1,43 @@
-//! The laws of logs, said of account books.
-ghost use Rattle.std.specs.Prelude.{ℕ, List, ◌++◌};
+//! The laws of logs, for account books: for all fields of a book that are in their ranges, as those of every `Book`
+//! are (`account_book::laws::books_are_in_range`).
+ghost use Rattle.std.specs.Prelude.{ℕ, ◌↔◌, List, []};
+ghost use Rattle.book_format.specs.Book.{BookFields, IsBook};
+ghost use Rattle.log_grammar.specs.Bytes.{IsCut};
 ghost use Rattle.log_grammar.specs.Demands.{AreFit};
 ghost use Rattle.log_grammar.specs.Books.{accounts_in};
-ghost use Rattle.log_grammar.specs.Clean.{IsFront, IsClean};
+ghost use Rattle.log_grammar.specs.Clean.{IsFront, IsFaultLine};
+ghost use Rattle.log_grammar.specs.Headline.{BeginsClean, IsFirstToBeginNoClean};
 
+use crate::headline::{fault_lines_begin_no_clean_log, fronts_are_what_begins_clean_logs};
 use crate::laws::fronts_begin_clean;
-use account_book::Book;
-use account_book::laws::books_are_in_range;
 
 /// A challenge can be written for each account of a book, and for each decoy.
-pub fn books_are_fit(book: &Book)
-    ensures { AreFit (accounts_in book.now) }
-{
-    books_are_in_range(book);
-}
+pub fn books_are_fit()
+    ensures { (book : BookFields) → IsBook book → AreFit (accounts_in book) }
+{}
 
-/// Each front begins a clean log, for every account book: what the lines of a log may be up to some line
-/// can always be brought to an end.
-pub fn fronts_of_books_begin_clean(book: &Book)
-    ensures { (bytes : List ℕ) → IsFront (accounts_in book.now) bytes
-        → (more : List ℕ) × IsClean (accounts_in book.now) (bytes ++ more) }
+/// Each front begins a clean log, for every account book: what a log may begin with can be completed to a clean log.
+pub fn fronts_of_books_begin_clean()
+    ensures { (book : BookFields) → IsBook book → (bytes : List ℕ) → IsFront (accounts_in book) bytes → BeginsClean (accounts_in book) bytes }
 {
     fronts_begin_clean();
-    books_are_fit(book);
+    books_are_fit();
+}
+
+/// Whole lines are a front exactly where they begin a clean log, for every account book.
+pub fn fronts_of_books_are_what_begins_clean_logs()
+    ensures { (book : BookFields) → IsBook book → (bytes : List ℕ) (texts : List (List ℕ)) → IsCut bytes texts []
+        → IsFront (accounts_in book) bytes ↔ BeginsClean (accounts_in book) bytes }
+{
+    fronts_are_what_begins_clean_logs();
+    books_are_fit();
+}
+
+/// The fault line is the first line that begins no clean log, for every account book.
+pub fn fault_lines_of_books_begin_no_clean_log()
+    ensures { (book : BookFields) → IsBook book → (bytes : List ℕ) (texts : List (List ℕ)) (rest : List ℕ) (k : ℕ) → IsCut bytes texts rest
+        → IsFaultLine (accounts_in book) bytes k ↔ IsFirstToBeginNoClean (accounts_in book) bytes texts k }
+{
+    fault_lines_begin_no_clean_log();
+    books_are_fit();
 }

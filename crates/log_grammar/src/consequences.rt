@@ -1,4 +1,4 @@
-//! What follows from the laws together, in the words of those who use them.
+//! What follows from several laws together, as those who use the crate need it.
 ghost use Rattle.std.specs.Prelude.{ℕ, ◌≡◌, ◌⊎◌, ◌↔◌, List, [], ◌∷◌, ◌++◌, reverse, take};
 ghost use Rattle.log_grammar.specs.Payload.{IsMessage};
 ghost use Rattle.log_grammar.specs.Lines.{Line, LogLine, client_text, resp, IsLine, IsLogLine, IsNoLogLine};
@@ -40,15 +40,15 @@ pub fn bytes_are_cut_in_one_way()
     are_cut_one_way();
 }
 
-/// A line bears one message: no two that a client may send are spelled alike.
+/// A line has one message: no two that a client may send are spelled alike.
 pub fn lines_bear_one_message()
     ensures { (one other : List ℕ) → IsMessage one → IsMessage other → client_text (resp one) ≡ client_text (resp other) → one ≡ other }
 {
     escapes_one_message();
 }
 
-/// What a log begins with goes on by a line exactly where the line may stand behind its place, with the reply
-/// that is due where it is one: what a reader and a writer of a log have to decide at each line, its ranges aside.
+/// What a log begins with goes on by a line exactly where the line may stand at its place, with the reply that is
+/// due where it is one: what a reader and a writer of a log have to decide at each line, its ranges aside.
 pub fn logs_go_on_exactly_so()
     ensures { (accounts : Accounts) (log : List LogLine) (place : Place) (told : List Told) (line : LogLine) (next : Place) (all : List Told)
         → Begins (demands accounts) log place told
@@ -99,8 +99,8 @@ pub fn each_log_has_one_answer()
     logs_have_one_judgement();
 }
 
-/// In a log that is read from bytes, what was told of each account is a legal history of its token; or, where it has
-/// none, it was told so at each code.
+/// In a log that is read from bytes, what was told of each account is a legal history of its token; where it has no
+/// token, each code was told to have no reply.
 pub fn logs_have_legal_histories()
     ensures { (accounts : Accounts) (bytes : List ℕ) (lines : List LogLine) (rest : List ℕ) (place : Place) (told : List Told)
         → AreLines bytes lines rest → Spells (demands accounts) lines place told

@@ -1,5 +1,5 @@
-//! Small logs, judged by the definitions: what is clean, and where a log is at fault and why. Each is a
-//! theorem, at lines that need no hash.
+//! Small logs, judged by the definitions: which are clean, and where a log is at fault and why. Each is a theorem,
+//! on lines that need no hash.
 ghost use Rattle.std.specs.Prelude.{ℕ, ◌≡◌, ◌≤◌, ◌+◌, List, [], ◌∷◌, ◌++◌, length, codes, flat_map, Some};
 ghost use Rattle.otp_core.specs.declared.token.answer.Reply.TheVariants.{Pass, Fail};
 ghost use Rattle.log_grammar.specs.Lines.{LogLine, header, said, heard, gone, ended, mechs, cont, accepts, replies, auth_with, resp, code, IsLogLine};
@@ -7,7 +7,7 @@ ghost use Rattle.log_grammar.specs.Bytes.{LacksLf, ended_by_lf};
 ghost use Rattle.log_grammar.specs.Counts.{counts_of};
 ghost use Rattle.log_grammar.specs.Sessions.{Told, Session, session_lines};
 ghost use Rattle.log_grammar.specs.Demands.{Accounts, demands};
-ghost use Rattle.log_grammar.specs.Places.{halted};
+ghost use Rattle.log_grammar.specs.Places.{Place, halted};
 ghost use Rattle.log_grammar.specs.Clean.{Begins, IsClean};
 ghost use Rattle.log_grammar.specs.Why.{LineClass, IsClassDue, IsWhy, is_cut, no_line, out_of_order, other_mechs, other_challenge, other_outcome, refused_with};
 ghost use Rattle.log_grammar.specs.Examples.{first_text, offer_text, first_alone, one_session, bare_no, AreWhole};
@@ -15,9 +15,9 @@ ghost use Rattle.log_grammar.specs.Examples.{first_text, offer_text, first_alone
 use crate::laws::classes_follow_the_place;
 use scram_text::laws::{has_one_client_first, spells_one_name};
 
-/// These logs are clean: the first line alone; sessions that the client ends by `ABORT`, by a line that was not due,
-/// or by going away; one of a mechanism that is not offered; one whose first message is refused; and one that ends
-/// behind the empty challenge.
+/// These logs are clean: the first line alone; sessions that the client ends by `ABORT`, by a line that was not
+/// due, or by going away; one of a mechanism that is not offered; one whose first message is refused; one that ends
+/// after the empty challenge; and two sessions, one after the other.
 pub fn clean_logs()
     ensures first { (accounts : Accounts) → IsClean accounts first_alone }
     ensures aborted { (accounts : Accounts) → IsClean accounts (one_session (codes "C ABORT" ∷ bare_no)) }
@@ -27,6 +27,8 @@ pub fn clean_logs()
     ensures refused { (accounts : Accounts) → IsClean accounts (one_session (codes "C AUTH SCRAM-SHA-1 :" ∷ bare_no)) }
     ensures invited { (accounts : Accounts) → IsClean accounts
         (one_session (codes "C AUTH SCRAM-SHA-1" ∷ codes "S CONT :" ∷ codes "C GONE" ∷ codes "E" ∷ [])) }
+    ensures two_sessions { (accounts : Accounts) → IsClean accounts
+        (one_session (codes "C GONE" ∷ codes "E" ∷ offer_text ∷ codes "C ABORT" ∷ bare_no)) }
 {}
 
 /// A log is cut where it is empty, and where a session of the clean logs above stops before its last line.
@@ -59,7 +61,8 @@ pub fn cut_logs()
 }
 
 /// These lines are at fault: another first line; a line whose class is not due, as a session that begins where `E` is
-/// due; other names of mechanisms; a challenge where none is due, and none where one is.
+/// due, or the first line again; other names of mechanisms; a challenge where none is due, and none where one is; and
+/// an `S OK`, or an `S NO` with a message, where a bare `S NO` is due.
 pub fn faulty_logs()
     ensures first { (accounts : Accounts) → IsWhy accounts (ended_by_lf (codes "E" ∷ [])) 1 no_line }
     ensures order { (accounts : Accounts) → IsWhy accounts (ended_by_lf (first_text ∷ codes "C ABORT" ∷ [])) 2 out_of_order }
@@ -71,12 +74,19 @@ pub fn faulty_logs()
         (one_session (codes "C AUTH PLAIN" ∷ codes "S CONT :" ∷ [])) 4 (other_outcome (refused_with [])) }
     ensures challenge { (accounts : Accounts) → IsWhy accounts
         (one_session (codes "C AUTH SCRAM-SHA-1" ∷ codes "S NO :" ∷ [])) 4 other_challenge }
+    ensures first_again { (accounts : Accounts) → IsWhy accounts (ended_by_lf (first_text ∷ first_text ∷ [])) 2 out_of_order }
+    ensures accepted { (accounts : Accounts) → IsWhy accounts
+        (one_session (codes "C ABORT" ∷ codes "S OK :" ∷ [])) 4 (other_outcome (refused_with [])) }
+    ensures message { (accounts : Accounts) → IsWhy accounts
+        (one_session (codes "C BAD" ∷ codes "S NO :e=other-error" ∷ [])) 4 (other_outcome (refused_with [])) }
+    ensures not_first { (accounts : Accounts) → IsWhy accounts
+        (one_session (codes "C AUTH SCRAM-SHA-1 :" ∷ codes "S CONT :" ∷ [])) 4 (other_outcome (refused_with [])) }
 {
     has_one_client_first();
     spells_one_name();
 }
 
-/// A log that ends with a halt is clean, and whatever line follows one is at fault: nothing is due behind it.
+/// A log that ends with a halt is clean, and whatever line follows one is at fault: nothing is due after it.
 pub fn halt_is_last()
     ensures clean { (accounts : Accounts) (texts : List (List ℕ)) (log : List LogLine) (told : List Told)
         → AreWhole texts log → Begins (demands accounts) log halted told → IsClean accounts (ended_by_lf texts) }
@@ -96,6 +106,25 @@ pub fn halt_is_last()
 pub fn lines_end_with_lf()
     ensures short { (accounts : Accounts) (rest : List ℕ) → LacksLf rest → length rest ≤ 6202 → IsWhy accounts rest 1 is_cut }
     ensures long { (accounts : Accounts) (rest : List ℕ) → LacksLf rest → 6203 ≤ length rest → IsWhy accounts rest 1 no_line }
+{}
+
+/// After whole lines that a log may begin with, bytes without an LF are a log that is cut, up to 6202 bytes, and
+/// then no line; and a whole line of more bytes is none. A part of a line after a halt is such a cut too.
+pub fn lines_have_6202_bytes_at_most()
+    ensures part { (accounts : Accounts) (texts : List (List ℕ)) (log : List LogLine) (place : Place) (told : List Told) (rest : List ℕ)
+        → AreWhole texts log → Begins (demands accounts) log place told → LacksLf rest → 1 ≤ length rest → length rest ≤ 6202
+        → IsWhy accounts (ended_by_lf texts ++ rest) (length texts + 1) is_cut }
+    ensures long_part { (accounts : Accounts) (texts : List (List ℕ)) (log : List LogLine) (place : Place) (told : List Told) (rest : List ℕ)
+        → AreWhole texts log → Begins (demands accounts) log place told → LacksLf rest → 6203 ≤ length rest
+        → IsWhy accounts (ended_by_lf texts ++ rest) (length texts + 1) no_line }
+    ensures long_line { (accounts : Accounts) (texts : List (List ℕ)) (log : List LogLine) (place : Place) (told : List Told) (text : List ℕ)
+        → AreWhole texts log → Begins (demands accounts) log place told → LacksLf text → 6203 ≤ length text
+        → IsWhy accounts (ended_by_lf (texts ++ text ∷ [])) (length texts + 1) no_line }
+    ensures second { (accounts : Accounts) (text : List ℕ) → LacksLf text → 6203 ≤ length text
+        → IsWhy accounts (ended_by_lf (first_text ∷ text ∷ [])) 2 no_line }
+    ensures second_part { (accounts : Accounts) (rest : List ℕ) → LacksLf rest → 6203 ≤ length rest → IsWhy accounts (first_alone ++ rest) 2 no_line }
+    ensures second_cut { (accounts : Accounts) (rest : List ℕ) → LacksLf rest → 1 ≤ length rest → length rest ≤ 6202
+        → IsWhy accounts (first_alone ++ rest) 2 is_cut }
 {}
 
 /// Each session is counted once, by its first line; in a log of one login, its acceptance is counted, and the code

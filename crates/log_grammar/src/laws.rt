@@ -1,6 +1,5 @@
-//! Laws of lines and logs, for proofs that stand on this crate: each is what a function ensures that does
-//! nothing.
-ghost use Rattle.log_grammar.specs.Laws.{EscapesOneMessage, IsOneLine, IsOneLogLine, LineIsDecided, LogLineIsDecided, AreCut, AreCutOneWay, GoesOnByALine, GoesOnByNoOther, HasOneReading, FrontsBeginWithFronts, CleanLogsAreFronts, EachAccountHasItsHistory, MomentsAreInRange, HasOneFaultLine, HasOneWhy, EachLogIsJudged, ClassesFollowThePlace, FrontsBeginClean};
+//! Laws of lines and logs, for proofs that rest on this crate: each is the promise of a function that does nothing.
+ghost use Rattle.log_grammar.specs.Laws.{EscapesOneMessage, IsOneLine, IsOneLogLine, LineIsDecided, LogLineIsDecided, WrittenLinesAreRead, LinesLackLf, AreCut, AreCutOneWay, GoesOnByALine, GoesOnByNoOther, HasOneReading, FrontsBeginWithFronts, CleanLogsAreFronts, EachAccountHasItsHistory, MomentsAreInRange, HasOneFaultLine, HasOneWhy, EachLogIsJudged, ClassesFollowThePlace, FrontsBeginClean};
 
 use otp_core::laws::{only_one_reply_is_due, some_reply_is_due};
 use scram_ends::laws::{at_most_one_verdict_is_due, some_verdict_is_due};
@@ -9,7 +8,7 @@ use scram_text::laws::{
     name_is_decided, server_final_is_decided, server_first_is_decided, spells_one_name,
 };
 
-/// A spelling is that of one message: who reads a line knows which bytes were sent.
+/// A spelling is that of one message: a reader of a line knows which bytes were sent.
 pub fn escapes_one_message()
     ensures { EscapesOneMessage }
 {}
@@ -34,6 +33,20 @@ pub fn log_line_is_decided()
     ensures { LogLineIsDecided }
 {}
 
+/// A written line is read as the same line: the text of a line in its ranges, of at most 6202 bytes, is this line
+/// and no other, and has no LF.
+pub fn written_lines_are_read()
+    ensures { WrittenLinesAreRead }
+{
+    is_one_log_line();
+    lines_lack_lf();
+}
+
+/// No text of a line has an LF.
+pub fn lines_lack_lf()
+    ensures { LinesLackLf }
+{}
+
 /// All bytes are lines, each with its LF, and what follows the last LF.
 pub fn are_cut()
     ensures { AreCut }
@@ -44,19 +57,17 @@ pub fn are_cut_one_way()
     ensures { AreCutOneWay }
 {}
 
-/// Behind a place where a line may stand, with the reply that is due where it is one, a log goes on
-/// with it.
+/// At a place where a line may stand, with the reply that is due where it is one, a log goes on with it.
 pub fn goes_on_by_a_line()
     ensures { GoesOnByALine }
 {}
 
-/// A log goes on in no other way: what ends with a line has a place before it where the line may
-/// stand.
+/// A log goes on in no other way: before its last line it has a place where the line may stand.
 pub fn goes_on_by_no_other()
     ensures { GoesOnByNoOther }
 {}
 
-/// The place behind a log's lines, and what was told in them, follow from the lines.
+/// The place after a log's lines, and what was told in them, follow from the lines.
 pub fn has_one_reading()
     ensures { HasOneReading }
 {
@@ -69,7 +80,7 @@ pub fn fronts_begin_with_fronts()
     ensures { FrontsBeginWithFronts }
 {}
 
-/// A clean log is a front, so that each of its first lines ends a front.
+/// A clean log is a front, so that all first lines of it are fronts.
 pub fn clean_logs_are_fronts()
     ensures { CleanLogsAreFronts }
 {}
@@ -100,8 +111,7 @@ pub fn has_one_why()
     only_one_reply_is_due();
 }
 
-/// Each list of bytes is a clean log, or has a line at fault and a reason for it: an audit has an answer
-/// for whatever it reads.
+/// Each list of bytes is a clean log, or has a line at fault and a reason for it: an audit always has an answer.
 pub fn each_log_is_judged()
     ensures { EachLogIsJudged }
 {
@@ -119,13 +129,13 @@ pub fn each_log_is_judged()
     some_reply_is_due();
 }
 
-/// The classes of lines that are due behind a log's lines, demands aside, are those of its place.
+/// The classes of lines that are due after a log's lines, demands aside, are those of its place.
 pub fn classes_follow_the_place()
     ensures { ClassesFollowThePlace }
 {}
 
-/// Each front begins a clean log, where a challenge can be written for each account and decoy: what the
-/// lines of a log may be up to some line can always be brought to an end.
+/// Each front begins a clean log, where a challenge can be written for each account and decoy: whatever a log may
+/// begin with can be completed to a clean log.
 pub fn fronts_begin_clean()
     ensures { FrontsBeginClean }
 {

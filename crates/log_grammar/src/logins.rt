@@ -5,14 +5,15 @@ ghost use Rattle.scram_text.specs.Class.{IsPlainName};
 ghost use Rattle.log_grammar.specs.Lines.{LogLine, said, halt};
 ghost use Rattle.log_grammar.specs.Demands.{Accounts, IsFit};
 ghost use Rattle.log_grammar.specs.Clean.{IsClean};
-ghost use Rattle.log_grammar.specs.Logins.{EachOkEndsALogin, LoginsAreClean, LoginsMayHalt, LoginsAreAnswered, HasPassword, PasswordsLogIn, log_bytes};
+ghost use Rattle.log_grammar.specs.Logins.{EachOkEndsALogin, LoginsAreClean, LoginsMayHalt, LoginsAreAnswered, HasPassword, PasswordsLogIn, RefusedLoginsAreAtFault, OtherRepliesAreAtFault, log_bytes};
 
+use otp_core::laws::only_one_reply_is_due;
 use scram_ends::honest_login;
-use scram_ends::laws::acceptance_is_due_to_valid_logins;
+use scram_ends::laws::{acceptance_is_due_to_valid_logins, at_most_one_verdict_is_due};
 use scram_text::laws::{has_one_client_first, spells_one_name};
 
-/// An `S OK` stands in a log exactly where the messages of its session before it, and its own, are a valid
-/// login (RFC 5802, sections 3 and 5) to the account that the first of them names, by its session's mechanism.
+/// An `S OK` may stand in a log exactly where the messages of its session before it, and its own, are a valid login
+/// (RFC 5802, sections 3 and 5) to the account that the first of them names, by its session's mechanism.
 pub fn each_ok_ends_a_login()
     ensures { EachOkEndsALogin }
 {
@@ -31,7 +32,20 @@ pub fn logins_are_clean()
     acceptance_is_due_to_valid_logins();
 }
 
-/// There is a valid login to each account under a plain name whose keys are those of a password, with a salt and a
+/// A log that has a valid login as refused is at fault there, and so is one that has a code after it answered by a
+/// reply other than the one due. The reason names the acceptance, by its signature, and the reply that is due.
+pub fn other_answers_to_logins_are_at_fault()
+    ensures refused { RefusedLoginsAreAtFault }
+    ensures answered { OtherRepliesAreAtFault }
+{
+    acceptance_is_due_to_valid_logins();
+    at_most_one_verdict_is_due();
+    has_one_client_first();
+    only_one_reply_is_due();
+    spells_one_name();
+}
+
+/// There is a valid login to each account with a plain name whose keys are those of a password, with a salt and a
 /// count that a challenge can show, as those of every account book are.
 pub fn passwords_log_in()
     ensures { PasswordsLogIn }
@@ -41,7 +55,7 @@ pub fn passwords_log_in()
     spells_one_name();
 }
 
-/// So some clean log ends with a halt, wherever one account has a password.
+/// Some clean log ends with a halt, wherever one account has a password.
 pub fn some_log_halts()
     ensures { (accounts : Accounts) (m : Mechanism) (name password : List ℕ) → IsFit (accounts.entry m name) → IsPlainName name
         → HasPassword (accounts.entry m name) m password → (lines : List LogLine) × IsClean accounts (log_bytes (lines ++ said halt ∷ [])) }

@@ -1,34 +1,33 @@
-//! The server's lines one by one: where each stands in a log, which is as the table of what is due has it, read from
-//! the lines' side.
+//! The server's lines one by one: where each may stand in a log. They are what the demands make due at its place,
+//! stated line by line.
 ghost use Rattle.log_grammar.specs.Outcomes.{FirstLinesBeginLogs, PlacesHaveTheirMessages, EachOfferIsDue, EachChallengeIsDue, EachRefusalIsDue, EachReplyIsDue, EachHaltEndsACode};
 
 use scram_ends::laws::{acceptance_is_due_to_valid_logins, at_most_one_verdict_is_due};
 
 /// The first lines of what a log may begin with are such lines too, and what was told in them comes first: so what
-/// is said here of a log's last line holds of every line of it.
+/// is said here of a log's last line holds for every line of it.
 pub fn first_lines_begin_logs()
     ensures { FirstLinesBeginLogs }
 {}
 
-/// The messages that a log's place tells of, which the demands on its next line speak of, are those of its last
-/// lines.
+/// The messages that a log's place has, which the demands on its next line speak of, are those of its last lines.
 pub fn places_have_their_messages()
     ensures { PlacesHaveTheirMessages }
 {}
 
-/// `S MECHS` stands exactly where a session may begin, with the names of the two mechanisms.
+/// `S MECHS` may stand exactly where a session may begin, with the names of the two mechanisms.
 pub fn each_offer_is_due()
     ensures { EachOfferIsDue }
 {}
 
-/// `S CONT` stands exactly where it is the empty challenge behind a mechanism that is offered, or a challenge to the
-/// client-first message, with the salt and the count of the account that it names, or of its decoy.
+/// `S CONT` may stand exactly where it is the empty challenge after a mechanism that is offered, or a challenge to
+/// the client-first message, with the salt and the count of the account that it names, or of its decoy.
 pub fn each_challenge_is_due()
     ensures { EachChallengeIsDue }
 {}
 
-/// `S NO` stands exactly where it is the refusal that is due; behind a client-final message it says why the verdict
-/// is no acceptance, and the messages are no valid login.
+/// `S NO` may stand exactly where it is the refusal that is due; after a client-final message it says why the
+/// verdict is no acceptance, and the messages are no valid login.
 pub fn each_refusal_is_due()
     ensures { EachRefusalIsDue }
 {
@@ -36,13 +35,13 @@ pub fn each_refusal_is_due()
     at_most_one_verdict_is_due();
 }
 
-/// PASS, FAIL, LOCKED and NOCODE stand exactly where they are the reply that is due to the code before them, after
-/// what was told of its account.
+/// PASS, FAIL, LOCKED and NOCODE may stand exactly where they are the reply that is due to the code before them,
+/// after what was told of its account.
 pub fn each_reply_is_due()
     ensures { EachReplyIsDue }
 {}
 
-/// `S HALT` stands exactly behind a code, whichever.
+/// `S HALT` may stand exactly after a code, whatever the code.
 pub fn each_halt_ends_a_code()
     ensures { EachHaltEndsACode }
 {}

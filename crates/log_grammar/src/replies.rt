@@ -6,7 +6,7 @@ use crate::outcomes::each_reply_is_due;
 use otp_core::laws::candidates_are_new;
 use scram_text::laws::{has_one_client_first, spells_one_name};
 
-/// PASS stands behind a code alone that is the token's code of the counter that passes, which was inside the window
+/// PASS may stand only after a code that is the token's for the counter that passes, which was inside the window
 /// (RFC 4226, section 7.4, and RFC 6238, sections 5.2 and 6).
 pub fn each_pass_is_a_code()
     ensures { EachPassIsACode }

@@ -1,4 +1,4 @@
-use Rattle.log_grammar.proofs.ExampleLemmas.{first_is_clean, aborted_is_clean, bad_is_clean, gone_is_clean, not_offered_is_clean, refused_is_clean, invited_is_clean}
+use Rattle.log_grammar.proofs.ExampleLemmas.{first_is_clean, aborted_is_clean, bad_is_clean, gone_is_clean, not_offered_is_clean, refused_is_clean, invited_is_clean, two_are_clean}
 use Rattle.log_grammar.proofs.examples.clean_logs.Goals as goal
 
 pub returns-clause-first : goal.returns-clause-first
@@ -21,3 +21,6 @@ returns-clause-refused c = refused_is_clean
 
 pub returns-clause-invited : goal.returns-clause-invited
 returns-clause-invited c = invited_is_clean
+
+pub returns-clause-two_sessions : goal.returns-clause-two_sessions
+returns-clause-two_sessions c = two_are_clean

@@ -1,4 +1,4 @@
-use Rattle.log_grammar.proofs.ExampleLemmas.{end_is_no_line, end_is_missing, abort_is_early, halt_is_early, other_offer_why, invited_why, turned_away_why}
+use Rattle.log_grammar.proofs.ExampleLemmas.{end_is_no_line, end_is_missing, abort_is_early, halt_is_early, other_offer_why, invited_why, turned_away_why, header_again, accepted_why, message_why, not_first_why}
 use Rattle.log_grammar.proofs.examples.faulty_logs.Goals as goal
 
 pub returns-clause-first : goal.returns-clause-first
@@ -21,3 +21,15 @@ returns-clause-challenge c = turned_away_why c.has_one_client_first.ensures c.sp
 
 pub returns-clause-end : goal.returns-clause-end
 returns-clause-end c = end_is_missing c.has_one_client_first.ensures c.spells_one_name.ensures
+
+pub returns-clause-first_again : goal.returns-clause-first_again
+returns-clause-first_again c = header_again c.has_one_client_first.ensures c.spells_one_name.ensures
+
+pub returns-clause-accepted : goal.returns-clause-accepted
+returns-clause-accepted c = accepted_why c.has_one_client_first.ensures c.spells_one_name.ensures
+
+pub returns-clause-message : goal.returns-clause-message
+returns-clause-message c = message_why c.has_one_client_first.ensures c.spells_one_name.ensures
+
+pub returns-clause-not_first : goal.returns-clause-not_first
+returns-clause-not_first c = not_first_why c.has_one_client_first.ensures c.spells_one_name.ensures

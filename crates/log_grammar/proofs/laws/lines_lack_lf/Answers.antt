@@ -1,0 +1,5 @@
+use Rattle.log_grammar.proofs.LineBytes.{text_lacks}
+use Rattle.log_grammar.proofs.laws.lines_lack_lf.Goals as goal
+
+pub returns : goal.returns
+returns c = text_lacks

@@ -1,0 +1,18 @@
+use Rattle.log_grammar.proofs.LoginFaults.{refused_logins, other_replies}
+use Rattle.log_grammar.proofs.logins.other_answers_to_logins_are_at_fault.Goals as goal
+
+pub returns-clause-refused : goal.returns-clause-refused
+returns-clause-refused c = refused_logins (record {
+  parts = c.has_one_client_first.ensures;
+  names = c.spells_one_name.ensures;
+  verdicts = c.at_most_one_verdict_is_due.ensures;
+  answers = c.only_one_reply_is_due.ensures;
+}) c.acceptance_is_due_to_valid_logins.ensures
+
+pub returns-clause-answered : goal.returns-clause-answered
+returns-clause-answered c = other_replies (record {
+  parts = c.has_one_client_first.ensures;
+  names = c.spells_one_name.ensures;
+  verdicts = c.at_most_one_verdict_is_due.ensures;
+  answers = c.only_one_reply_is_due.ensures;
+}) c.acceptance_is_due_to_valid_logins.ensures

@@ -1,0 +1,91 @@
+-- Clean logs by the sessions that they are made of, the line at fault by the clean logs that lines begin, and the
+-- account of each code by the login of its session.
+use Rattle.std.specs.Prelude.{ℕ, ◌≡◌, ◌+◌, ◌⊎◌, ◌↔◌, List, [], ◌∷◌, ◌++◌, length, flat_map}
+use Rattle.std.specs.List.{AllByRecursion}
+use Rattle.log_grammar.specs.Lines.{LogLine, header, said, ended, halt, mechs, log_text, IsLogLine}
+use Rattle.log_grammar.specs.Bytes.{ended_by_lf, IsCut}
+use Rattle.log_grammar.specs.Sessions.{Session, session_lines, Told, session_told}
+use Rattle.log_grammar.specs.Demands.{Accounts, AreFit, IsFirstOf, demands, SessionMeets}
+use Rattle.log_grammar.specs.Histories.{IsHistory}
+use Rattle.log_grammar.specs.Places.{got_code}
+use Rattle.log_grammar.specs.Clean.{Begins, IsFront, IsClean, IsFaultLine}
+use Rattle.log_grammar.specs.Logins.{log_bytes}
+use Rattle.log_grammar.specs.Outcomes.{EndsWith, IsSentBy}
+
+-- a line that can be written: in its ranges, and at most 6200 bytes after `S ` or `C `
+abbrev pub IsWritable : LogLine → Type 0
+IsWritable line = IsLogLine (log_text line) line
+
+-- the session is closed: `E` is its last line
+abbrev pub IsClosed : Session → Type 0
+IsClosed s = EndsWith (session_lines s) (ended ∷ [])
+
+-- the session halted: `S HALT` is its last line
+abbrev pub IsHalted : Session → Type 0
+IsHalted s = EndsWith (session_lines s) (said halt ∷ [])
+
+-- each session but the last is closed, and the last is closed or halted
+abbrev pub AreOver : List Session → Type 0
+AreOver [] = Unit {0}
+AreOver (s ∷ []) = IsClosed s ⊎ IsHalted s
+AreOver (s ∷ t ∷ more) = IsClosed s × AreOver (t ∷ more)
+
+-- the bytes are `SCRAMLOG 1` and the lines of these sessions, each ended by an LF; each session meets its demands; and
+-- what was told of each account in all of them, in its order, is a legal history of its token
+pub record IsLogOf (accounts : Accounts) (bytes : List ℕ) (sessions : List Session) : Type 0 where
+  pub spelled : bytes ≡ log_bytes (header ∷ flat_map session_lines sessions)
+  pub lines : AllByRecursion IsWritable (flat_map session_lines sessions)
+  pub over : AreOver sessions
+  pub good : AllByRecursion (SessionMeets (demands accounts)) sessions
+  pub histories : (account : List ℕ) → IsHistory (accounts.token account) account (flat_map session_told sessions)
+
+-- a log is clean exactly where it is that of some sessions
+abbrev pub CleanLogsAreThoseOfSessions : Type 0
+CleanLogsAreThoseOfSessions = (accounts : Accounts) (bytes : List ℕ)
+    → IsClean accounts bytes ↔ ((sessions : List Session) × IsLogOf accounts bytes sessions)
+
+-- the bytes begin a clean log: with some bytes after them they are one
+abbrev pub BeginsClean : Accounts → List ℕ → Type 0
+BeginsClean accounts bytes = (more : List ℕ) × IsClean accounts (bytes ++ more)
+
+-- whole lines are a front exactly where they begin a clean log
+abbrev pub FrontsAreWhatBeginsCleanLogs : Type 0
+FrontsAreWhatBeginsCleanLogs = (accounts : Accounts) → AreFit accounts → (bytes : List ℕ) (texts : List (List ℕ)) → IsCut bytes texts []
+    → IsFront accounts bytes ↔ BeginsClean accounts bytes
+
+-- of these lines and what follows them, this is the first line that begins no clean log: those before it begin one,
+-- and with it they do not; or all begin one, it is the line after the last, and the bytes are not clean
+abbrev pub IsFirstToBeginNoClean : Accounts → (bytes : List ℕ) (texts : List (List ℕ)) (k : ℕ) → Type 0
+IsFirstToBeginNoClean accounts bytes texts k =
+    ((before : List (List ℕ)) × (text : List ℕ) × (more : List (List ℕ)) × (texts ≡ before ++ text ∷ more) × (k ≡ length before + 1)
+    × BeginsClean accounts (ended_by_lf before) × (BeginsClean accounts (ended_by_lf (before ++ text ∷ [])) → ⊥))
+    ⊎ ((k ≡ length texts + 1) × BeginsClean accounts (ended_by_lf texts) × (IsClean accounts bytes → ⊥))
+
+-- a line is the fault line exactly where it is the first that begins no clean log
+abbrev pub FaultLinesBeginNoCleanLog : Type 0
+FaultLinesBeginNoCleanLog = (accounts : Accounts) → AreFit accounts → (bytes : List ℕ) (texts : List (List ℕ)) (rest : List ℕ) (k : ℕ)
+    → IsCut bytes texts rest → IsFaultLine accounts bytes k ↔ IsFirstToBeginNoClean accounts bytes texts k
+
+-- the session begins with `S MECHS` and the lines by which the client sends this first message
+abbrev pub HasFirst : Session → (mechanism first : List ℕ) → Type 0
+HasFirst s mechanism first =
+    (names : List ℕ) × (sent : List LogLine) × (more : List LogLine) × IsSentBy mechanism first sent
+    × (session_lines s ≡ said (mechs names) ∷ sent ++ more)
+
+-- the client-first message of the session names this account
+abbrev pub IsLoginOf : Session → List ℕ → Type 0
+IsLoginOf s account = (mechanism : List ℕ) × (first : List ℕ) × HasFirst s mechanism first × IsFirstOf mechanism first account
+
+-- each code of a session that meets its demands was sent by the account that the client-first message names
+abbrev pub EachCodeIsOfItsLogin : Type 0
+EachCodeIsOfItsLogin = (accounts : Accounts) (s : Session) → SessionMeets (demands accounts) s
+    → AllByRecursion (λ t. IsLoginOf s t.account) (session_told s)
+
+-- the lines end with those of a session whose client-first message names this account
+abbrev pub EndsInLoginOf : List LogLine → List ℕ → Type 0
+EndsInLoginOf log account = (s : Session) × EndsWith log (session_lines s) × IsLoginOf s account
+
+-- where the reply to a code is due, the last lines are those of a session whose client-first names the account
+abbrev pub EachCodeHasItsLogin : Type 0
+EachCodeHasItsLogin = (accounts : Accounts) (log : List LogLine) (account text : List ℕ) (told : List Told)
+    → Begins (demands accounts) log (got_code account text) told → EndsInLoginOf log account
