@@ -1,4 +1,4 @@
--- Texts that `parse` reads and that begin bare are those that a number is printed as.
+-- A text that `parse` reads and that is bare is the one that its number is printed as.
 use Rattle.std.proofs.Common.{◌≡◌, ◌≢◌, ◌<◌, ◌^◌, ℕ, zero, suc, List, Result, Ok, Err, IfSome, IfNone, arith, sym, refl}
 use Rattle.std.specs.Fmt.{decimal}
 use Rattle.std.specs.Result.{result_ok}
@@ -7,7 +7,7 @@ use Rattle.std.proofs.lemmas.Fmt.{decimal-digits_value, decimal_digit, first_dec
 use Rattle.std.proofs.lemmas.Str.Parse.{IsNumeralModel, numerals_by_value, parse_plain, tells_digits}
 use Rattle.command_line.specs.Number.{IsBare}
 
--- the words of std for digits and their value
+-- std's definition of the digits of a number and their value
 own : IsNumeralModel (AllDigits 10) (digits_value 10)
 own = numerals_by_value (AllDigits 10) tells_digits
 

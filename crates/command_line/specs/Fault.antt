@@ -8,7 +8,7 @@ use Rattle.book_format.specs.declared.fault.BookWhy.TheVariants as why
 use Rattle.command_line.specs.declared.fault.Fault.{Fault}
 use Rattle.command_line.specs.declared.fault.Fault.TheVariants.{BadValue, BadPassword, NoCounterOrMoment, BeforeFirstStep, NameTaken, NoSuchAccount, NoToken, BadBook, CannotRead, CannotWrite, CannotReadInput, CannotWriteOutput, NoMemory}
 
--- the exit status: 1 for what is refused, 2 for what the user can spell otherwise, 3 for files, streams and memory
+-- the exit status: 1 for a refusal, 2 where the user can give other words, 3 for files, streams and memory
 abbrev pub status_of : Fault → ℕ
 status_of (BadValue option) = 2
 status_of BadPassword = 2
@@ -29,8 +29,8 @@ abbrev pub IsUnwritten : List ℕ → Fault → Type 0
 IsUnwritten path (CannotWrite file) = string_bytes file ≡ path
 IsUnwritten path fault = fault ≡ NoMemory
 
--- the fault of a change to the token of what stands at a name, in the book whose file has this name: there is no
--- account, it has no token, or the book can't be saved
+-- the fault of a change to the token of the account that was looked up, in the book whose file has this name:
+-- there is no account, it has no token, or the book can't be saved
 abbrev pub IsTokenFault : List ℕ → Option AccountFields → Fault → Type 0
 IsTokenFault path found fault = MatchOption found (fault ≡ NoSuchAccount)
     (λ account. MatchOption account.token (fault ≡ NoToken) (λ token. IsUnwritten path fault))

@@ -1,6 +1,7 @@
 -- How the program's number options are spelled.
 use Rattle.std.specs.Prelude.{◌≡◌, ◌≢◌, ℕ, List, length, slice_index}
 
--- the text begins with no plus, and with a zero only where that is all of it
+-- the text does not begin with a plus, and begins with a zero only where the zero is
+-- all of it
 abbrev pub IsBare : List ℕ → Type 0
 IsBare text = (slice_index text 0 ≢ 43) × (slice_index text 0 ≡ 48 → length text ≡ 1)

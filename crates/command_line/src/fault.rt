@@ -10,10 +10,10 @@ use std::io;
 use std::io::ErrorKind;
 use thiserror::Error;
 
-/// What ends a command other than by its answer.
+/// What ends a command without its answer.
 #[derive(Debug, Drop, Error)]
 pub enum Fault {
-    /// An option's value is not one of those that its help names.
+    /// The value of an option is not one that its help describes.
     #[error("bad value for --{0}")]
     BadValue(Judged),
 
@@ -29,7 +29,7 @@ pub enum Fault {
     #[error("before the first step")]
     BeforeFirstStep,
 
-    /// The book has an account of the name already.
+    /// The book already has an account of the name.
     #[error("name is taken")]
     NameTaken,
 
@@ -45,7 +45,7 @@ pub enum Fault {
     #[error("bad book: {0}")]
     BadBook(u16),
 
-    /// The file of this name can't be read, has more bytes than a command reads, or another run holds it.
+    /// The file of this name can't be read, has more bytes than a command reads, or is held by another run.
     #[error("cannot read {0}")]
     CannotRead(String),
 
@@ -67,7 +67,7 @@ pub enum Fault {
 }
 
 impl Fault {
-    /// The fault of a read from the file of this name that failed: NoMemory where that is why, else CannotRead.
+    /// The fault of a read from the file of this name that failed: NoMemory where memory ran out, else CannotRead.
     pub fn of_reading(file: String, error: &io::Error) -> Fault
         ensures memory { error_kind error.now ≡ ErrorKind.OutOfMemory → result ≡ Fault.NoMemory }
         ensures unread { error_kind error.now ≢ ErrorKind.OutOfMemory → result ≡ Fault.CannotRead file }
@@ -80,7 +80,7 @@ impl Fault {
         }
     }
 
-    /// The exit status: 1 for what is refused, 2 for what the user can spell otherwise, 3 for files, streams and memory.
+    /// The exit status: 1 for a refusal, 2 where the user can give other words, 3 for files, streams and memory.
     pub fn status(&self) -> u8
         ensures { result ≡ status_of self.now }
     {

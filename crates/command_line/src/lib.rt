@@ -1,5 +1,5 @@
-//! What stands behind a command on the command line: the values of options, judged, and the faults that end a
-//! command without its answer, with their texts and exit statuses.
+//! What a command on the command line needs: the values of options, judged, and the faults that end a command
+//! without its answer, with their texts and exit statuses.
 //!
 //! ```rust
 //! use command_line::Fault;

@@ -1,4 +1,4 @@
-//! The values of options, judged.
+//! Judges the values of options.
 ghost use Rattle.std.specs.Prelude.{◌≡◌, ◌≢◌, ◌≤◌, ◌<◌, ◌^◌, ◌↔◌, ◌⊎◌, ℕ, List, Ok, length, IsTrue, IfSome, IfNone, IfOk, IfErr};
 ghost use Rattle.std.specs.Fmt.{decimal};
 ghost use Rattle.hex.specs.Hex.{decode_of};
@@ -16,14 +16,17 @@ use scram_text::{PlainName, Salt};
 use std::alloc::Global;
 use std::fmt;
 
-/// The last second that a moment may be, in the year 9999.
+/// The last second that a moment may be, in the year 9999, since the start of 1970.
 const LAST_MOMENT: u64 = 253_402_300_799;
 
-/// An option whose value the program judges or takes as it is.
+/// An option whose value the program judges, or takes as it is.
 #[derive(Clone, Copy, Debug)]
 pub enum Judged {
     /// `--book`
     Book,
+
+    /// `--log`
+    Log,
 
     /// `--name`
     Name,
@@ -69,6 +72,7 @@ impl Judged {
     {
         match self {
             Judged::Book => "book",
+            Judged::Log => "log",
             Judged::Name => "name",
             Judged::Random => "random",
             Judged::Mechanism => "mechanism",
@@ -96,7 +100,7 @@ impl fmt::Display for Judged {
     }
 }
 
-// Whether neither a plus nor a needless zero stands in front of the digits.
+// Whether the digits begin with no plus, and with no needless zero.
 fn is_bare(digits: &[u8]) -> bool
     ensures { IsTrue result ↔ IsBare digits.now }
 {
@@ -107,7 +111,7 @@ fn is_bare(digits: &[u8]) -> bool
 }
 
 /// The number that `text` spells in decimal: `0`, or a digit 1 to 9 and any digits. None where it
-/// spells none below 2^64 so.
+/// spells no number below 2^64 in this form.
 pub fn number(text: &str) -> Option<u64>
     ensures some { IfSome result (λ n. (text.now ≡ decimal n) × (n < 2 ^ 64)) }
     ensures none { IfNone result ((n : ℕ) → n < 2 ^ 64 → text.now ≢ decimal n) }
@@ -119,8 +123,8 @@ pub fn number(text: &str) -> Option<u64>
     }
 }
 
-/// The number from `least` to `most` that `text` spells in decimal. BadValue of the option for any
-/// other text.
+/// The number from `least` to `most` that `text` spells in decimal. Answers BadValue of the option
+/// for any other text.
 pub fn within(option: Judged, text: &str, least: u64, most: u64) -> Result<u64, Fault>
     ensures ok { IfOk result (λ n. (text.now ≡ decimal n) × (least ≤ n) × (n ≤ most)) }
     ensures err { IfErr result (λ fault. (fault ≡ Fault.BadValue option)
@@ -132,7 +136,7 @@ pub fn within(option: Judged, text: &str, least: u64, most: u64) -> Result<u64, 
     }
 }
 
-/// The number that `text` spells, an iteration count of 1 to 4294967295. BadValue for any other text.
+/// The iteration count that `text` spells in decimal, 1 to 4294967295. Answers BadValue for any other text.
 pub fn count(text: &str) -> Result<u32, Fault>
     ensures ok { IfOk result (λ n. (text.now ≡ decimal n) × (1 ≤ n)) }
     ensures err { IfErr result (λ fault. (fault ≡ Fault.BadValue Judged.Count)
@@ -144,7 +148,7 @@ pub fn count(text: &str) -> Result<u32, Fault>
     }
 }
 
-/// The number of digits of a code that `text` spells, 6 to 8. BadValue for any other text.
+/// The number of digits of a code that `text` spells, 6 to 8. Answers BadValue for any other text.
 pub fn digits(text: &str) -> Result<Digits, Fault>
     ensures ok { IfOk result (λ digits. text.now ≡ decimal digits) }
     ensures err { IfErr result (λ fault. (fault ≡ Fault.BadValue Judged.Digits)
@@ -161,7 +165,8 @@ pub fn digits(text: &str) -> Result<Digits, Fault>
     }
 }
 
-/// The moment that `text` spells in seconds since 1970. BadValue of the option for any other text.
+/// The moment that `text` spells in seconds since 1970, at most 253402300799. Answers BadValue of the
+/// option for any other text.
 pub fn moment(option: Judged, text: &str) -> Result<Moment, Fault>
     ensures ok { IfOk result (λ moment. text.now ≡ decimal moment) }
     ensures err { IfErr result (λ fault. (fault ≡ Fault.BadValue option)
@@ -178,7 +183,7 @@ pub fn moment(option: Judged, text: &str) -> Result<Moment, Fault>
     }
 }
 
-/// The account name of this text, 1 to 255 bytes from space to tilde. BadValue for any other text.
+/// The account name of this text, 1 to 255 bytes from space to tilde. Answers BadValue for any other text.
 pub fn name(text: &str) -> Result<PlainName, Fault>
     ensures ok { IfOk result (λ name. name ≡ text.now) }
     ensures err { IfErr result (λ fault. (fault ≡ Fault.BadValue Judged.Name)
@@ -190,7 +195,7 @@ pub fn name(text: &str) -> Result<PlainName, Fault>
     }
 }
 
-/// The SCRAM mechanism of this name. BadValue where there is none.
+/// The SCRAM mechanism of this name: SCRAM-SHA-1 or SCRAM-SHA-256. Answers BadValue for any other text.
 pub fn mechanism(name: &str) -> Result<Mechanism, Fault>
     ensures ok { IfOk result (λ mechanism. name.now ≡ name_of mechanism) }
     ensures err { IfErr result (λ fault. (fault ≡ Fault.BadValue Judged.Mechanism)
@@ -202,7 +207,7 @@ pub fn mechanism(name: &str) -> Result<Mechanism, Fault>
     }
 }
 
-/// The hash function of this name: `sha1`, `sha256` or `sha512`. BadValue for any other text.
+/// The hash function of this name: `sha1`, `sha256` or `sha512`. Answers BadValue for any other text.
 pub fn hash(name: &str) -> Result<OtpHash, Fault>
     ensures ok { IfOk result (λ hash. name.now ≡ hash_name hash) }
     ensures err { IfErr result (λ fault. (fault ≡ Fault.BadValue Judged.Hash)
@@ -219,8 +224,8 @@ pub fn hash(name: &str) -> Result<OtpHash, Fault>
     }
 }
 
-// The bytes that `text` spells in hexadecimal, in either case. BadValue of the option for any other
-// text, NoMemory where memory runs out.
+// The bytes that `text` spells in hexadecimal, in either case. Answers BadValue of the option for any
+// other text, NoMemory where memory runs out.
 fn bytes(alloc: Global, option: Judged, text: &str) -> Result<Vec<u8>, Fault>
     ensures ok { IfOk result (λ bytes. decode_of text.now ≡ Ok bytes.items) }
     ensures err { IfErr result (λ fault. (fault ≡ Fault.NoMemory)
@@ -233,8 +238,8 @@ fn bytes(alloc: Global, option: Judged, text: &str) -> Result<Vec<u8>, Fault>
     }
 }
 
-/// The salt that `text` spells in hexadecimal, 1 to 64 bytes. BadValue for any other text, NoMemory
-/// where memory runs out.
+/// The salt that `text` spells in hexadecimal, in either case, 1 to 64 bytes. Answers BadValue for
+/// any other text, NoMemory where memory runs out.
 pub fn salt(alloc: Global, text: &str) -> Result<Salt, Fault>
     ensures ok { IfOk result (λ salt. decode_of text.now ≡ Ok salt) }
     ensures err { IfErr result (λ fault. (fault ≡ Fault.NoMemory) ⊎ ((fault ≡ Fault.BadValue Judged.Salt)
@@ -247,8 +252,8 @@ pub fn salt(alloc: Global, text: &str) -> Result<Salt, Fault>
     }
 }
 
-/// The secret that `text` spells in hexadecimal, 10 to 64 bytes. BadValue for any other text,
-/// NoMemory where memory runs out.
+/// The secret that `text` spells in hexadecimal, in either case, 10 to 64 bytes. Answers BadValue for
+/// any other text, NoMemory where memory runs out.
 pub fn secret(alloc: Global, text: &str) -> Result<Secret, Fault>
     ensures ok { IfOk result (λ secret. decode_of text.now ≡ Ok secret) }
     ensures err { IfErr result (λ fault. (fault ≡ Fault.NoMemory) ⊎ ((fault ≡ Fault.BadValue Judged.Secret)
