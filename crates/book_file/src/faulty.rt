@@ -1,5 +1,5 @@
-//! For tests of what works on files: a runtime that notes each call to the file system and fails at one of
-//! them. Pauses take no time.
+//! For tests of what works on files: a runtime that notes each call to the file system and fails at one of them.
+//! Its clock advances only by the pauses, which take no time.
 use crate::lock::Lockable;
 use std::alloc::{Alloc, Allocator, Global};
 use std::cell::{Cell, RefCell};
@@ -12,20 +12,24 @@ use std::time::{Clock, Duration};
 /// The calls that were made, and the one that is to fail.
 #[derive(Drop)]
 pub struct Calls {
-    // The calls until one fails: 1 where the next one does, 0 where none will.
+    // The calls until one fails: 1 where the next one does, 0 where none does.
     left: Cell<u32>,
+
+    // The pauses so far.
+    paused: Cell<Duration>,
 
     alloc: Global,
 
-    // A line for each call, with the path that it is for; calls that are alike in a row have one line.
+    // A line for each call, with the path that it is for; a row of equal calls has one line.
     noted: RefCell<String>,
 }
 
 impl Calls {
-    /// The call of this number fails, from 1 on, and no other; none where it is 0.
+    /// Calls of which number `failing` fails, counted from 1, and no other; none where it is 0.
     pub fn new(alloc: Global, failing: u32) -> Calls {
         Calls {
             left: Cell::new(failing),
+            paused: Cell::new(Duration::ZERO),
             alloc,
             noted: RefCell::new(String::new(alloc)),
         }
@@ -36,8 +40,8 @@ impl Calls {
         self.left.get() == 0
     }
 
-    /// Whether the calls were these: a line for each, its name and its path, where calls that are alike in a row
-    /// have one line.
+    /// Whether the calls were these: a line for each, with its name and its path; a row of equal calls has one
+    /// line.
     pub fn were(&self, calls: &str) -> bool {
         match self.noted.try_borrow() {
             Ok(noted) => noted.as_str() == calls,
@@ -63,7 +67,7 @@ impl Calls {
     }
 }
 
-/// The runtime itself, but for one call.
+/// The runtime itself, except for one call.
 #[derive(Drop)]
 pub struct Faulty<'a> {
     /// The runtime that does the work.
@@ -139,6 +143,11 @@ impl Lockable for FaultyFile<'_> {
         self.calls.make("try_hold", self.path.as_str())?;
         self.file.try_hold()
     }
+
+    fn set_owner(&self, owner: u32, group: u32) -> io::Result<()> {
+        self.calls.make("set_owner", self.path.as_str())?;
+        self.file.set_owner(owner, group)
+    }
 }
 
 impl<'a> Files for Faulty<'a> {
@@ -165,7 +174,7 @@ impl<'a> Files for Faulty<'a> {
     }
 
     fn symlink_metadata(&self, path: &str) -> io::Result<Metadata> {
-        self.calls.make("symlink_metadata", path)?;
+        self.calls.make("lstat", path)?;
         self.rt.symlink_metadata(path)
     }
 
@@ -204,19 +213,24 @@ impl<'a> Files for Faulty<'a> {
         self.rt.canonicalize(alloc, path)
     }
 
-    fn lchown(&self, path: &str, uid: Option<u32>, gid: Option<u32>) -> io::Result<()> {
-        self.calls.make("lchown", path)?;
-        self.rt.lchown(path, uid, gid)
+    fn hard_link(&self, original: &str, link: &str) -> io::Result<()> {
+        self.calls.make("hard_link", original)?;
+        self.rt.hard_link(original, link)
     }
 }
 
 impl Clock for Faulty<'_> {
     fn monotonic(&self) -> io::Result<Duration> {
-        self.rt.monotonic()
+        Ok(self.calls.paused.get())
     }
 
     fn since_1970(&self) -> io::Result<Duration> {
         self.rt.since_1970()
+    }
+
+    fn sleep(&self, duration: Duration) {
+        let paused = self.calls.paused.get();
+        self.calls.paused.set(paused.saturating_add(duration));
     }
 }
 

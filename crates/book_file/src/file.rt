@@ -1,29 +1,64 @@
 //! The file of a book, held by one run at a time.
 ghost use Rattle.std.specs.Prelude.{◌≤◌, IfOk, IfSome, vec_len};
 
-use crate::lock::{HeldFolder, Lockable};
+use crate::fault::HoldFault;
+use crate::hold::{Held, OpenBook, hold, is_named, next_of};
+use crate::lock::Lockable;
 use crate::place::Place;
-use std::fs::{Files, Metadata, OpenFile, OpenOptions, Permissions};
-use std::io::{ErrorKind, Read, Write};
-use std::os::unix::fs::{MetadataExt, OpenOptionsExt, PermissionsExt, lchown};
+use crate::trust;
+use std::fs::{Files, OpenFile, Permissions};
+use std::io::{ErrorKind, Read, Seek, SeekFrom, Write};
+use std::os::unix::fs::{MetadataExt, PermissionsExt};
 use std::time::Clock;
 use std::{fs, io};
 
-/// The most bytes of a book.
-const MOST_BOOK: usize = 16_777_216;
+/// The most bytes that a book may have.
+pub const MOST_BOOK: usize = 16_777_216;
 
-/// The mode of a new book: only its owner reads and writes it.
-const OWNER_ONLY: u32 = 0o600;
+/// The bits of a mode that say what the owner may do.
+const OWNER_BITS: u32 = 0o700;
 
-/// The bits of a mode that say who may read, write and run a file.
-const ACCESS: u32 = 0o777;
-
-/// A book's file. No other run works on a book of its folder while this value lives.
-#[derive(Drop)]
+/// A book's file, or the place of one that is still to be made. No other run works on the book while this value lives.
 pub struct BookFile<'a, R: Files> {
     rt: &'a R,
     place: Place,
-    folder: HeldFolder<R::File>,
+
+    // The folder, so that the system can be asked to write its names to its device.
+    folder: R::File,
+
+    // Whether others may change the folder's names.
+    is_shared: bool,
+
+    // The file at the book's path, or None where there is none.
+    book: Option<OpenBook<R::File>>,
+
+    // The file of the next text, once it was made.
+    next: Option<R::File>,
+}
+
+// Removes the file of a next text that has not become the book.
+impl<'a, R: Files> Drop for BookFile<'a, R> {
+    fn drop(self) {
+        if let Some(next) = &self.next {
+            remove_next(self.rt, &self.place, next);
+        }
+        let BookFile {
+            rt: _,
+            place: _,
+            folder: _,
+            is_shared: _,
+            book: _,
+            next: _,
+        } = self;
+    }
+}
+
+// Removes the file of the next text, if it still has that name.
+fn remove_next<R: Files>(rt: &R, place: &Place, next: &R::File) {
+    let path = place.next.as_str();
+    if is_named(rt, next, path).unwrap_or(false) {
+        let _ = fs::remove_file(rt, path);
+    }
 }
 
 impl<'a, R> BookFile<'a, R>
@@ -31,86 +66,138 @@ where
     R: Files + Clock + AllocGlobal,
     R::File: Lockable,
 {
-    /// Takes hold of the book at `path`, where a file may be or not. Waits up to 30 seconds for other
-    /// runs, then answers TimedOut.
-    pub fn hold(rt: &'a R, path: &str) -> io::Result<BookFile<'a, R>> {
-        let place = Place::find(rt, path)?;
-        let folder = HeldFolder::hold(rt, place.folder.as_str())?;
-        Ok(BookFile { rt, place, folder })
+    /// Takes hold of the book at `path`. Waits up to 30 seconds for other runs, then answers Held. Missing where
+    /// there is no file. Unreadable where the file is no plain file, where it has another name too (a save would
+    /// leave the old text there), where it belongs to others in a folder that others may write, and where it or its
+    /// folder can't be opened or locked. OfAnother where a save could not keep the book's owner. InTheWay where the text
+    /// that a killed run left can't be removed.
+    pub fn hold(rt: &'a R, path: &str) -> Result<BookFile<'a, R>, HoldFault> {
+        BookFile::hold_at(rt, path, false)
     }
 
-    /// The file's bytes, or None where there is no file. FileTooLarge where they are more than 16777216;
-    /// InvalidInput where something else than a file is there, or a file that has another name too, at which
-    /// a save would leave the old text.
-    pub fn read(&self) -> io::Result<Option<Vec<u8>>>
+    /// As `hold`; but where there is no file at `path`, takes hold of the place of a book that is to be made there.
+    /// Unwritable where none can be made.
+    pub fn hold_or_make(rt: &'a R, path: &str) -> Result<BookFile<'a, R>, HoldFault> {
+        BookFile::hold_at(rt, path, true)
+    }
+
+    fn hold_at(rt: &'a R, path: &str, makes: bool) -> Result<BookFile<'a, R>, HoldFault> {
+        let place = Place::find(rt, path)?;
+        let folder = fs::open(rt, place.folder.as_str())?;
+        let is_shared = trust::is_shared(&folder.metadata()?);
+        let (book, next) = match hold(rt, &place, is_shared, makes)? {
+            Held::Book(book) if !trust::can_give_owner(&book.state) => {
+                return Err(HoldFault::OfAnother);
+            }
+            Held::Book(book) => (Some(book), None),
+            Held::Next(next) => (None, Some(next)),
+        };
+        Ok(BookFile {
+            rt,
+            place,
+            folder,
+            is_shared,
+            book,
+            next,
+        })
+    }
+
+    /// The file's bytes, or None where there is no file. FileTooLarge where there are more than 16777216.
+    pub fn read(&mut self) -> io::Result<Option<Vec<u8>>>
         ensures most { IfOk result (λ found. IfSome found (λ bytes. vec_len bytes ≤ MOST_BOOK)) }
     {
-        let book = self.place.book.as_str();
-        match fs::metadata(self.rt, book) {
-            Err(error) if error.kind() == ErrorKind::NotFound => return Ok(None),
-            found => check_single(&found?)?,
-        }
-        let file = fs::open(self.rt, book)?;
-        let mut bytes = Vec::new(self.rt.alloc());
-        file.take(MOST_BOOK as u64 + 1).read_to_end(&mut bytes)?;
-        if bytes.len() <= MOST_BOOK {
-            Ok(Some(bytes))
-        } else {
-            Err(io::Error::from(ErrorKind::FileTooLarge))
+        match &mut self.book {
+            None => Ok(None),
+            Some(book) => {
+                book.file.seek(SeekFrom::Start(0))?;
+                Ok(Some(read_all(self.rt, &mut book.file)?))
+            }
         }
     }
 
-    /// Puts a file with this text in the place of the book, whole or not at all: a run that is stopped
-    /// leaves the old text or the new one. Owner, group and mode stay, or it is an error; a new book's mode
-    /// is 0600.
-    pub fn replace(&self, text: &str) -> io::Result<()> {
+    /// Puts a file with this text in the place of the book, whole or not at all: a run that is stopped leaves the
+    /// old text or the new one. The owner and the group stay, and of the mode the owner's bits; a new book's mode
+    /// is 0600. NotFound where the file at the path is not the one that this run has read or put there last, or has
+    /// changed since; AlreadyExists where there was none and there now is one; ResourceBusy where the next file
+    /// can't be made; else the error of the call to the file system that failed.
+    pub fn replace(&mut self, text: &str) -> io::Result<()> {
         let replaced = self.write_next(text).and_then(|()| self.put_in_place());
-        if replaced.is_err() {
-            let _ = fs::remove_file(self.rt, self.place.next.as_str());
+        if let Some(next) = self.next.take() {
+            remove_next(self.rt, &self.place, &next);
         }
         replaced
     }
 
     // Writes the text to a file of its own, and asks the system to write that to its device.
-    fn write_next(&self, text: &str) -> io::Result<()> {
-        let next = self.place.next.as_str();
-        match fs::remove_file(self.rt, next) {
-            Err(error) if error.kind() == ErrorKind::NotFound => {}
-            removed => removed?,
+    fn write_next(&mut self, text: &str) -> io::Result<()> {
+        self.check_unchanged()?;
+        if self.next.is_none() {
+            let state = self.book.as_ref().map(|book| &book.state);
+            self.next = next_of(self.rt, &self.place, state, self.is_shared).ok();
         }
-        let mut file = OpenOptions::new()
-            .write(true)
-            .create_new(true)
-            .mode(OWNER_ONLY)
-            .open(self.rt, next)?;
-        self.keep_access(&file)?;
-        file.write_all(text.as_bytes())?;
-        file.sync_all()
-    }
-
-    // Gives the next file the owner, the group and the mode of the book, where there is one.
-    fn keep_access(&self, file: &R::File) -> io::Result<()> {
-        let old = match fs::metadata(self.rt, self.place.book.as_str()) {
-            Err(error) if error.kind() == ErrorKind::NotFound => return Ok(()),
-            old => old?,
+        let Some(next) = &mut self.next else {
+            return Err(io::Error::from(ErrorKind::ResourceBusy));
         };
-        let next = self.place.next.as_str();
-        lchown(self.rt, next, Some(old.uid()), Some(old.gid()))?;
-        file.set_permissions(Permissions::from_mode(old.mode() & ACCESS))
+        if let Some(book) = &self.book {
+            next.set_owner(book.state.uid(), book.state.gid())?;
+            next.set_permissions(Permissions::from_mode(book.state.mode() & OWNER_BITS))?;
+        }
+        next.write_all(text.as_bytes())?;
+        next.sync_all()
     }
 
-    // Gives the next file the book's name.
-    fn put_in_place(&self) -> io::Result<()> {
-        fs::rename(self.rt, self.place.next.as_str(), self.place.book.as_str())?;
-        self.folder.sync()
+    // Checks that the file at the book's path is the one that was read, or put there last, and is unchanged.
+    fn check_unchanged(&self) -> io::Result<()> {
+        let Some(book) = &self.book else {
+            return Ok(());
+        };
+        let found = fs::symlink_metadata(self.rt, self.place.book.as_str())?;
+        if trust::are_unchanged(&found, &book.state) {
+            Ok(())
+        } else {
+            Err(io::Error::from(ErrorKind::NotFound))
+        }
+    }
+
+    // Gives the next file the book's name, and makes it the book.
+    fn put_in_place(&mut self) -> io::Result<()> {
+        let (book, next) = (self.place.book.as_str(), self.place.next.as_str());
+        if self.book.is_some() {
+            fs::rename(self.rt, next, book)?;
+        } else {
+            fs::hard_link(self.rt, next, book)?;
+            fs::remove_file(self.rt, next)?;
+        }
+        let Some(file) = self.next.take() else {
+            return Ok(());
+        };
+        if !is_named(self.rt, &file, book)? {
+            return Err(io::Error::from(ErrorKind::NotFound));
+        }
+        let state = file.metadata()?;
+        self.book = Some(OpenBook { file, state });
+        self.folder.sync_all()
     }
 }
 
-// Refuses what is no file, and a file that has more names than one.
-fn check_single(found: &Metadata) -> io::Result<()> {
-    if found.is_file() && found.nlink() == 1 {
-        Ok(())
+/// Reads the bytes of the book at `path` without a hold of it: a save replaces it whole. FileTooLarge where there
+/// are more than 16777216.
+pub fn read_unheld<R: Files + AllocGlobal>(rt: &R, path: &str) -> io::Result<Vec<u8>>
+    ensures most { IfOk result (λ bytes. vec_len bytes ≤ MOST_BOOK) }
+{
+    let mut file = fs::open(rt, path)?;
+    read_all(rt, &mut file)
+}
+
+// Reads the rest of a file. FileTooLarge where that is more than a book may have.
+fn read_all<R: AllocGlobal, F: Read>(rt: &R, file: &mut F) -> io::Result<Vec<u8>>
+    ensures most { IfOk result (λ bytes. vec_len bytes ≤ MOST_BOOK) }
+{
+    let mut bytes = Vec::new(rt.alloc());
+    file.take(MOST_BOOK as u64 + 1).read_to_end(&mut bytes)?;
+    if bytes.len() <= MOST_BOOK {
+        Ok(bytes)
     } else {
-        Err(io::Error::from(ErrorKind::InvalidInput))
+        Err(io::Error::from(ErrorKind::FileTooLarge))
     }
 }

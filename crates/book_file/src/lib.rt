@@ -1,29 +1,35 @@
-//! The file of an account book, held by one run at a time, and the store over it that a book is saved in.
+//! The file of an account book, held by one run at a time, and the store in which a book is saved to it.
 //!
-//! `BookFile::hold` locks the book's folder, `read` gives the file's bytes, and `FileStore` puts each new text in
-//! their place, whole or not at all: the text is written to a file beside the book, with `.new` behind its
-//! name, which the system is asked to write to its device before it gets the book's name. The lock is the
-//! system's advisory one on the open folder, which ends with the run, however it ends.
+//! `BookFile::hold` locks the book's file, `read` reads its bytes, and `FileStore` replaces them by each new text,
+//! whole or not at all: the text is written to a file beside the book, with `.new` after its name, which the system
+//! is asked to write to its device before it gets the book's name. The lock is the system's advisory one on the
+//! open file, which ends with the run, however it ends; the next file is locked before it is the book's. A save is
+//! made only where the file at the path is the one that was read, or saved last.
 //!
-//! No contract can say what a file holds: what the store counts is proved, and what files hold is tested.
+//! No contract can say what a file has in it: what the store counts is proved, and what files have is tested.
 //!
 //! ```rust
 //! use book_file::{BookFile, FileStore};
 //!
-//! let file = BookFile::hold(&rt, "book.toml")?;
+//! let mut file = BookFile::hold(&rt, "book.toml")?;
 //! let text = String::from_utf8(file.read()?.ok_or("a book")?)?;
 //! let store = FileStore::new(file, text);
 //! ```
 #![tactic(auto)]
 
+mod fault;
 pub mod faulty;
 mod file;
+mod hold;
 mod lock;
 mod place;
 mod store;
 #[cfg(test)]
 mod tests;
+mod trust;
+mod wait;
 
-pub use file::BookFile;
+pub use fault::HoldFault;
+pub use file::{BookFile, MOST_BOOK, read_unheld};
 pub use lock::Lockable;
 pub use store::FileStore;

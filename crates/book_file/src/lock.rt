@@ -1,20 +1,17 @@
-//! The lock that keeps two runs from working on one book at the same time.
-use std::fs::{File, Files, OpenFile, TryLockError};
-use std::io::ErrorKind;
-use std::time::{Clock, Duration};
-use std::{fs, io, thread};
+//! What is asked of a book's open file, beyond the standard library's trait.
+use std::fs::{File, TryLockError};
+use std::io;
+use std::os::unix::fs::fchown;
 
-/// How often a lock is asked for, which takes 30 seconds of pauses.
-const TRIES: u32 = 600;
-
-/// The pause between two tries, in milliseconds.
-const PAUSE: u64 = 50;
-
-/// An open file that can be locked, for one run at a time.
+/// An open file that can be locked, by one run at a time, and given to an owner.
 pub trait Lockable {
-    /// Takes the exclusive advisory lock, or answers false where another opening of the file holds it.
-    /// The system frees it once the file is closed, also where a run is killed.
+    /// Takes the exclusive advisory lock. Returns whether it did; false where another opening of the
+    /// file holds it. The system frees the lock when the file is closed, also where a run is killed.
+    /// An error where the system can't lock the file.
     fn try_hold(&self) -> io::Result<bool>;
+
+    /// Gives the file to this owner and this group. An error where the system refuses it.
+    fn set_owner(&self, owner: u32, group: u32) -> io::Result<()>;
 }
 
 impl Lockable for File {
@@ -25,29 +22,8 @@ impl Lockable for File {
             Err(TryLockError::Error(error)) => Err(error),
         }
     }
-}
 
-/// A folder that no other run holds while this value lives.
-#[derive(Drop)]
-pub struct HeldFolder<F> {
-    folder: F,
-}
-
-impl<F: Lockable + OpenFile + Drop> HeldFolder<F> {
-    /// Opens the folder and locks it. Waits up to 30 seconds for another run, then answers TimedOut.
-    pub fn hold<R: Files<File = F> + Clock>(rt: &R, path: &str) -> io::Result<HeldFolder<F>> {
-        let folder = fs::open(rt, path)?;
-        for _ in 0..TRIES {
-            if folder.try_hold()? {
-                return Ok(HeldFolder { folder });
-            }
-            thread::sleep(rt, Duration::from_millis(PAUSE));
-        }
-        Err(io::Error::from(ErrorKind::TimedOut))
-    }
-
-    /// Asks the system to write the folder's names to its device.
-    pub fn sync(&self) -> io::Result<()> {
-        self.folder.sync_all()
+    fn set_owner(&self, owner: u32, group: u32) -> io::Result<()> {
+        fchown(self, Some(owner), Some(group))
     }
 }

@@ -1,25 +1,25 @@
-//! Where a book stands.
+//! The paths of a book.
 use std::fs::Files;
 use std::io::ErrorKind;
 use std::path::Path;
 use std::{fs, io};
 
-/// The paths of a book, with symbolic links followed: a book and the links to it have the same.
+/// The paths of a book, with symbolic links followed: they are the same for a book and for the links to it.
 #[derive(Drop)]
 pub struct Place {
     /// The book's file.
     pub book: String,
 
-    /// Where the next text is written, before it takes the book's place.
+    /// The file in which the next text is written, before it takes the book's place.
     pub next: String,
 
-    /// The folder that has both.
+    /// The folder of both.
     pub folder: String,
 }
 
 impl Place {
-    /// The place of the book at `path`, where a file may be or not. An error where its folder is not
-    /// there, where the path ends in no name, and where it is a link to nothing.
+    /// The paths of the book at `path`, whether or not a file is there. An error where its folder does not
+    /// exist, where the path does not end in a name, and where it is a link to nothing.
     pub fn find<R: Files + AllocGlobal>(rt: &R, path: &str) -> io::Result<Place> {
         let alloc = rt.alloc();
         let book = real_path(rt, path)?;
@@ -40,8 +40,8 @@ fn real_path<R: Files + AllocGlobal>(rt: &R, path: &str) -> io::Result<String> {
     }
 }
 
-// The path of a file that is still to be made, with the links of its folder followed. A slash behind the name
-// would make it a folder's.
+// The path of a file that is still to be made, with the links of its folder followed. With a slash after it,
+// the name would be a folder's.
 fn new_path<R: Files + AllocGlobal>(rt: &R, path: Path<'_>) -> io::Result<String> {
     let (folder, name) = match (path.parent(), path.file_name()) {
         (Some(folder), Some(name)) if path.as_str().ends_with(name) => (folder, name),

@@ -1,4 +1,4 @@
-//! The store of a book in a file.
+//! The store of a book that is kept in a file.
 ghost use Rattle.std.specs.Prelude.{◌≡◌, ◌<◌, ◌+◌, ◌^◌, [], string_bytes, Some, None, false};
 ghost use Rattle.account_book.specs.Store.{StoreFacts};
 ghost use Rattle.std.specs.Option.{is_some, option_map, unwrap_or};
@@ -9,12 +9,14 @@ use account_book::{BookStore, StoreFault};
 use std::fs::Files;
 use std::time::Clock;
 
-/// A book's file as a store.
+/// The file of a book as a store.
 #[derive(Drop)]
 pub struct FileStore<'a, R: Files> {
     file: BookFile<'a, R>,
 
-    // The text that the file had, or was given last.
+    // The text that the file had at first, or that was saved last. After a save that failed, the file may have
+    // that save's text instead: where it has the book's name already, but the name could not be written to its
+    // device.
     saved: String,
 
     // The text of the save that failed.
@@ -30,7 +32,7 @@ where
     R: Files + Clock + AllocGlobal,
     R::File: Lockable,
 {
-    /// The store over a book's file, which has this text.
+    /// The store of a book's file, which has this text. Nothing was saved or has failed yet.
     pub fn new(file: BookFile<'a, R>, text: String) -> FileStore<'a, R>
         ensures { ⟦<FileStore<'a, R> as BookStore>⟧.facts result
             ≡ record { saved = string_bytes text; asked = string_bytes text; failed = false; saves = 0 } }

@@ -2,7 +2,7 @@
 mod folder;
 
 use crate::faulty::{Calls, Faulty};
-use crate::{BookFile, FileStore};
+use crate::{BookFile, FileStore, HoldFault};
 use account_book::{BookStore, StoreFault};
 use folder::has;
 use std::fs;
@@ -10,23 +10,36 @@ use std::fs::{File, OpenFile, Permissions};
 use std::io::ErrorKind;
 use std::os::unix::fs::{PermissionsExt, symlink};
 use std::test::Fail;
+use std::time::{Clock, Duration};
 
-// What a run that reads a book and saves it once asks of the file system, each with the end of its path.
-const READ_AND_SAVED: [(&str, &str); 15] = [
+// The calls to the file system of a run that reads a book and saves it once, each with the end of its path.
+const READ_AND_SAVED: [(&str, &str); 27] = [
     ("canonicalize", "/book"),
     ("open_file", ""),
-    ("try_hold", ""),
-    ("metadata", "/book"),
+    ("metadata", ""),
+    ("lstat", "/book"),
     ("open_file", "/book"),
-    ("read", "/book"),
-    ("remove_file", "/book.new"),
-    ("open_file", "/book.new"),
     ("metadata", "/book"),
-    ("lchown", "/book.new"),
+    ("try_hold", "/book"),
+    ("lstat", "/book"),
+    ("metadata", "/book"),
+    ("lstat", "/book.new"),
+    ("metadata", "/book"),
+    ("seek", "/book"),
+    ("read", "/book"),
+    ("lstat", "/book"),
+    ("lstat", "/book.new"),
+    ("open_file", "/book.new"),
+    ("try_hold", "/book.new"),
+    ("lstat", "/book.new"),
+    ("metadata", "/book.new"),
+    ("set_owner", "/book.new"),
     ("set_permissions", "/book.new"),
     ("write", "/book.new"),
     ("sync_all", "/book.new"),
     ("rename", "/book.new"),
+    ("lstat", "/book"),
+    ("metadata", "/book.new"),
     ("sync_all", ""),
 ];
 
@@ -34,29 +47,53 @@ fn text(rt: &HostRuntime, text: &str) -> Result<String, Fail> {
     Ok(format!(in rt.alloc(); "{text}")?)
 }
 
+// Holds the book at `path`, where there is one.
+fn held<'r>(rt: &'r HostRuntime, path: &str) -> Result<BookFile<'r, HostRuntime>, Fail> {
+    match BookFile::hold(rt, path) {
+        Ok(file) => Ok(file),
+        Err(_) => Err(Fail::from("the book is not held")),
+    }
+}
+
+// Holds the place of a book at `path`, where there is none.
+fn made<'r>(rt: &'r HostRuntime, path: &str) -> Result<BookFile<'r, HostRuntime>, Fail> {
+    match BookFile::hold_or_make(rt, path) {
+        Ok(file) => Ok(file),
+        Err(_) => Err(Fail::from("the place of the book is not held")),
+    }
+}
+
+// The bits of a file's mode.
+fn mode(rt: &HostRuntime, path: &str) -> Result<u32, Fail> {
+    Ok(fs::metadata(rt, path)?.permissions().mode() & 0o7777)
+}
+
+// Only its owner can read or write a new book; of a rewritten one's mode the owner's bits stay.
 #[test]
-fn a_new_book_is_its_owners(rt: HostRuntime) -> Result<(), Fail> {
+fn modes(rt: HostRuntime) -> Result<(), Fail> {
     let folder = folder::make(&rt, "new")?;
     let book = format!(in rt.alloc(); "{folder}/book")?;
-    let file = BookFile::hold(&rt, book.as_str())?;
+    let mut file = made(&rt, book.as_str())?;
     assert!(rt; file.read()?.is_none());
     file.replace("first")?;
+    drop(file);
     assert!(rt; has(&rt, book.as_str(), "first"));
-    let mode = fs::metadata(&rt, book.as_str())?.permissions().mode();
-    assert_eq!(rt; mode & 0o7777, 0o600);
-    fs::set_permissions(&rt, book.as_str(), Permissions::from_mode(0o640))?;
-    file.replace("second")?;
-    assert!(rt;
-        file.read()?
-            .is_some_and(|bytes| bytes.as_slice() == b"second".as_slice())
-    );
-    let mode = fs::metadata(&rt, book.as_str())?.permissions().mode();
-    assert_eq!(rt; mode & 0o7777, 0o640);
+    assert_eq!(rt; mode(&rt, book.as_str())?, 0o600);
+    for (before, after) in [(0o644, 0o600), (0o640, 0o600), (0o404, 0o400)] {
+        fs::set_permissions(&rt, book.as_str(), Permissions::from_mode(before))?;
+        let mut file = held(&rt, book.as_str())?;
+        file.replace("second")?;
+        assert!(rt;
+            file.read()?
+                .is_some_and(|bytes| bytes.as_slice() == b"second".as_slice())
+        );
+        assert_eq!(rt; mode(&rt, book.as_str())?, after);
+    }
     assert_eq!(rt; fs::read_dir(&rt, folder.as_str())?.count(), 1);
     Ok(fs::remove_dir_all(&rt, folder.as_str())?)
 }
 
-// Each name of a book is the same book, and a link in the place of the next text is not followed.
+// Every name of a book leads to the same book, and a link in the place of the next text is not followed.
 #[test]
 fn links(rt: HostRuntime) -> Result<(), Fail> {
     let folder = folder::make(&rt, "links")?;
@@ -70,12 +107,12 @@ fn links(rt: HostRuntime) -> Result<(), Fail> {
     symlink(&rt, "book", link.as_str())?;
     symlink(&rt, "other", next.as_str())?;
     symlink(&rt, "nothing", dangling.as_str())?;
-    BookFile::hold(&rt, link.as_str())?.replace("new")?;
+    held(&rt, link.as_str())?.replace("new")?;
     assert!(rt; has(&rt, book.as_str(), "new"));
     assert!(rt; has(&rt, other.as_str(), "other"));
     assert!(rt; fs::symlink_metadata(&rt, link.as_str())?.is_symlink());
     assert!(rt; fs::symlink_metadata(&rt, next.as_str()).is_err());
-    assert!(rt; BookFile::hold(&rt, dangling.as_str()).is_err());
+    assert!(rt; BookFile::hold_or_make(&rt, dangling.as_str()).is_err());
     Ok(fs::remove_dir_all(&rt, folder.as_str())?)
 }
 
@@ -85,13 +122,15 @@ fn paths_that_name_no_file(rt: HostRuntime) -> Result<(), Fail> {
     let missing = format!(in rt.alloc(); "{folder}/missing/book")?;
     let slash = format!(in rt.alloc(); "{folder}/book/")?;
     for path in ["", "/", "..", missing.as_str(), slash.as_str()] {
-        let held = BookFile::hold(&rt, path).and_then(|file| file.read());
-        assert!(rt; held.is_err(), "{path}");
+        assert!(rt; BookFile::hold(&rt, path).is_err(), "{path}");
+        assert!(rt; BookFile::hold_or_make(&rt, path).is_err(), "{path}");
     }
+    assert_eq!(rt; fs::read_dir(&rt, folder.as_str())?.count(), 0);
     Ok(fs::remove_dir_all(&rt, folder.as_str())?)
 }
 
-// While one run holds a book, another waits for it, here with pauses that take no time.
+// While one run holds a book, or the place of a new one, another waits for 30 seconds, here by a clock of its own.
+// A run that saves nothing leaves nothing.
 #[test]
 fn one_run_at_a_time(rt: HostRuntime) -> Result<(), Fail> {
     let folder = folder::make(&rt, "lock")?;
@@ -101,14 +140,73 @@ fn one_run_at_a_time(rt: HostRuntime) -> Result<(), Fail> {
         rt: &rt,
         calls: &calls,
     };
-    let first = BookFile::hold(&rt, book.as_str())?;
-    let second = BookFile::hold(&hasty, book.as_str()).map(|_| ());
-    assert_eq!(rt;
-        second.map_err(|error| error.kind()),
-        Err(ErrorKind::TimedOut)
-    );
+    let first = BookFile::hold_or_make(&rt, book.as_str());
+    assert!(rt; first.is_ok());
+    let second = BookFile::hold_or_make(&hasty, book.as_str());
+    assert!(rt; matches!(second, Err(HoldFault::Held)));
+    assert_eq!(rt; hasty.monotonic()?, Duration::from_secs(30));
+    drop(first);
+    assert_eq!(rt; fs::read_dir(&rt, folder.as_str())?.count(), 0);
+    fs::write(&rt, book.as_str(), "old")?;
+    let mut first = held(&rt, book.as_str())?;
+    for _ in 0..2 {
+        let second = BookFile::hold(&hasty, book.as_str());
+        assert!(rt; matches!(second, Err(HoldFault::Held)));
+        first.replace("new")?;
+    }
     drop(first);
     assert!(rt; BookFile::hold(&hasty, book.as_str()).is_ok());
+    Ok(fs::remove_dir_all(&rt, folder.as_str())?)
+}
+
+// What a killed run left is removed when the book is held.
+#[test]
+fn the_next_text_of_a_killed_run(rt: HostRuntime) -> Result<(), Fail> {
+    let folder = folder::make(&rt, "killed")?;
+    let book = format!(in rt.alloc(); "{folder}/book")?;
+    let next = format!(in rt.alloc(); "{folder}/book.new")?;
+    fs::write(&rt, book.as_str(), "old")?;
+    fs::write(&rt, next.as_str(), "ne")?;
+    drop(held(&rt, book.as_str())?);
+    assert_eq!(rt; fs::read_dir(&rt, folder.as_str())?.count(), 1);
+    fs::hard_link(&rt, book.as_str(), next.as_str())?;
+    held(&rt, book.as_str())?.replace("new")?;
+    assert_eq!(rt; fs::read_dir(&rt, folder.as_str())?.count(), 1);
+    assert!(rt; has(&rt, book.as_str(), "new"));
+    Ok(fs::remove_dir_all(&rt, folder.as_str())?)
+}
+
+// No save is made where the file at the path is not the one that was read, or has changed since, or where there was
+// none and there now is one.
+#[test]
+fn another_file_in_its_place(rt: HostRuntime) -> Result<(), Fail> {
+    let folder = folder::make(&rt, "place")?;
+    let book = format!(in rt.alloc(); "{folder}/book")?;
+    let away = format!(in rt.alloc(); "{folder}/away")?;
+    fs::write(&rt, book.as_str(), "old")?;
+    let mut file = held(&rt, book.as_str())?;
+    fs::rename(&rt, book.as_str(), away.as_str())?;
+    assert!(rt; file.replace("new").is_err());
+    symlink(&rt, "away", book.as_str())?;
+    assert!(rt; file.replace("new").is_err());
+    assert!(rt; fs::symlink_metadata(&rt, book.as_str())?.is_symlink());
+    fs::remove_file(&rt, book.as_str())?;
+    fs::write(&rt, book.as_str(), "new")?;
+    assert!(rt; file.replace("newer").is_err());
+    assert!(rt; has(&rt, book.as_str(), "new"));
+    assert!(rt; has(&rt, away.as_str(), "old"));
+    fs::rename(&rt, away.as_str(), book.as_str())?;
+    fs::write(&rt, book.as_str(), "longer")?;
+    assert!(rt; file.replace("newer").is_err());
+    assert!(rt; has(&rt, book.as_str(), "longer"));
+    drop(file);
+    fs::remove_file(&rt, book.as_str())?;
+    if let Ok(mut made) = BookFile::hold_or_make(&rt, book.as_str()) {
+        fs::write(&rt, book.as_str(), "another")?;
+        assert!(rt; made.replace("newer").is_err());
+    }
+    assert!(rt; has(&rt, book.as_str(), "another"));
+    assert_eq!(rt; fs::read_dir(&rt, folder.as_str())?.count(), 1);
     Ok(fs::remove_dir_all(&rt, folder.as_str())?)
 }
 
@@ -118,7 +216,7 @@ fn the_longest_book(rt: HostRuntime) -> Result<(), Fail> {
     let book = format!(in rt.alloc(); "{folder}/book")?;
     let file = File::create(&rt, book.as_str())?;
     file.set_len(16_777_216)?;
-    let held = BookFile::hold(&rt, book.as_str())?;
+    let mut held = held(&rt, book.as_str())?;
     assert!(rt; held.read()?.is_some_and(|bytes| bytes.len() == 16_777_216));
     file.set_len(16_777_217)?;
     let longer = held.read().map(|_| ());
@@ -129,8 +227,8 @@ fn the_longest_book(rt: HostRuntime) -> Result<(), Fail> {
     Ok(fs::remove_dir_all(&rt, folder.as_str())?)
 }
 
-// The folder is locked once, before the book is read. A new text is on its device before it has the book's name,
-// and the name is on its device before the save ends.
+// The book is locked before it is read, and the next file before it has the book's name. A new text is on its
+// device before it has the book's name, and the name is on its device before the save ends.
 #[test]
 fn the_order_of_calls(rt: HostRuntime) -> Result<(), Fail> {
     let folder = folder::make(&rt, "order")?;
@@ -141,7 +239,9 @@ fn the_order_of_calls(rt: HostRuntime) -> Result<(), Fail> {
         rt: &rt,
         calls: &calls,
     };
-    let file = BookFile::hold(&noting, book.as_str())?;
+    let Ok(mut file) = BookFile::hold(&noting, book.as_str()) else {
+        return Err(Fail::from("the book is not held"));
+    };
     assert!(rt; file.read()?.is_some());
     let mut store = FileStore::new(file, text(&rt, "old")?);
     assert!(rt; store.save(text(&rt, "new")?).is_ok());
@@ -160,7 +260,7 @@ fn each_call_fails_in_turn(rt: HostRuntime) -> Result<(), Fail> {
     let folder = folder::make(&rt, "turns")?;
     let book = format!(in rt.alloc(); "{folder}/book")?;
     let mut saved_at_last = false;
-    for failing in 1..40u32 {
+    for failing in 1..60u32 {
         fs::write(&rt, book.as_str(), "old")?;
         let calls = Calls::new(rt.alloc(), failing);
         let faulty = Faulty {
@@ -188,6 +288,39 @@ fn each_call_fails_in_turn(rt: HostRuntime) -> Result<(), Fail> {
             assert!(rt; !has(&rt, book.as_str(), "later"), "{failing}");
         }
         assert_eq!(rt; fs::read_dir(&rt, folder.as_str())?.count(), 1, "{failing}");
+    }
+    assert!(rt; saved_at_last);
+    Ok(fs::remove_dir_all(&rt, folder.as_str())?)
+}
+
+// Whichever call of the file system fails while a book is made, there is none, or it has the text.
+#[test]
+fn each_call_for_a_new_book_fails_in_turn(rt: HostRuntime) -> Result<(), Fail> {
+    let folder = folder::make(&rt, "new-turns")?;
+    let book = format!(in rt.alloc(); "{folder}/book")?;
+    let mut saved_at_last = false;
+    for failing in 1..60u32 {
+        let calls = Calls::new(rt.alloc(), failing);
+        let faulty = Faulty {
+            rt: &rt,
+            calls: &calls,
+        };
+        let mut is_saved = false;
+        if let Ok(mut file) = BookFile::hold_or_make(&faulty, book.as_str()) {
+            is_saved = file.replace("new").is_ok();
+        }
+        let count = fs::read_dir(&rt, folder.as_str())?.count();
+        assert!(rt;
+            count == 0 && !is_saved || count == 1 && has(&rt, book.as_str(), "new"),
+            "{failing}"
+        );
+        saved_at_last = is_saved && !calls.are_over();
+        if saved_at_last {
+            break;
+        }
+        if count == 1 {
+            fs::remove_file(&rt, book.as_str())?;
+        }
     }
     assert!(rt; saved_at_last);
     Ok(fs::remove_dir_all(&rt, folder.as_str())?)

@@ -1,13 +1,16 @@
-//! A folder of a test's own.
+//! A folder for one test.
+use std::fs::Permissions;
+use std::os::unix::fs::PermissionsExt;
 use std::test::Fail;
 use std::{env, fs, process};
 
-/// Makes a new folder for the test of this name, and gives its path.
+/// Makes a new folder for the test of this name, usable only by its owner; returns its path.
 pub fn make(rt: &HostRuntime, test: &str) -> Result<String, Fail> {
     let temp = fs::canonicalize(rt, env::temp_dir(rt)?.as_str())?;
     let id = process::id(rt.process());
     let folder = format!(in rt.alloc(); "{}/book-file-{test}-{id}", temp.as_str())?;
     fs::create_dir(rt, folder.as_str())?;
+    fs::set_permissions(rt, folder.as_str(), Permissions::from_mode(0o700))?;
     Ok(folder)
 }
 

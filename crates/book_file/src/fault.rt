@@ -1,0 +1,37 @@
+//! Why a book could not be held.
+use std::alloc::AllocError;
+use std::io;
+
+/// Why a run could not take hold of a book.
+#[derive(Debug, Drop)]
+pub enum HoldFault {
+    /// The book is not one that a run takes, or it or its folder can't be opened or locked.
+    Unreadable(io::Error),
+
+    /// There is no file.
+    Missing,
+
+    /// There is no file, and none can be made.
+    Unwritable(io::Error),
+
+    /// The book belongs to another user, and the one who runs is not root: a save could not keep its owner.
+    OfAnother,
+
+    /// Other runs held the book for 30 seconds.
+    Held,
+
+    /// What has this path, where the next text of the book would be written, can't be removed.
+    InTheWay(String),
+}
+
+impl From<io::Error> for HoldFault {
+    fn from(error: io::Error) -> HoldFault {
+        HoldFault::Unreadable(error)
+    }
+}
+
+impl From<AllocError> for HoldFault {
+    fn from(error: AllocError) -> HoldFault {
+        HoldFault::Unreadable(io::Error::from(error))
+    }
+}

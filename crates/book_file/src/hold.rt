@@ -1,0 +1,271 @@
+//! How a run takes hold of a book: the locks that keep two runs from working on one at the same time.
+//!
+//! The lock is on the book's own file, so whoever may not open the book can't keep a run from it. A save puts
+//! another file in its place, which the run has locked before: so once a lock is taken, the book's name has to be
+//! looked up once more. Where there is no book yet, the file of its next text stands for it.
+use crate::fault::HoldFault;
+use crate::lock::Lockable;
+use crate::place::Place;
+use crate::trust;
+use crate::wait::Wait;
+use std::fs::{Files, Metadata, OpenFile, OpenOptions};
+use std::io::ErrorKind;
+use std::os::unix::fs::{MetadataExt, OpenOptionsExt};
+use std::time::Clock;
+use std::{fs, io};
+
+/// The mode of a new file: only its owner reads and writes it.
+const OWNER_ONLY: u32 = 0o600;
+
+/// The file of a book, open and locked.
+#[derive(Drop)]
+pub struct OpenBook<F> {
+    /// The file.
+    pub file: F,
+
+    /// Its metadata when this run took hold of it, or put it in place.
+    pub state: Metadata,
+}
+
+/// What a run holds of a book.
+#[derive(Drop)]
+pub enum Held<F> {
+    /// The file of the book.
+    Book(OpenBook<F>),
+
+    /// There is no book: the file of its first text, empty and locked.
+    Next(F),
+}
+
+/// Takes hold of the book at a place; `is_shared` says whether others may change the folder's names. Where there is
+/// no file, the answer is Missing, or, where `makes` is true, the file of the next text is made. Waits up to 30
+/// seconds for other runs.
+pub fn hold<R>(
+    rt: &R,
+    place: &Place,
+    is_shared: bool,
+    makes: bool,
+) -> Result<Held<R::File>, HoldFault>
+where
+    R: Files + Clock + AllocGlobal,
+    R::File: Lockable,
+{
+    let wait = Wait::begin(rt)?;
+    for _ in 0..u64::MAX {
+        let held = match open_plain(rt, place.book.as_str(), is_shared)? {
+            Some(file) => try_book(rt, place, file, is_shared)?,
+            None if makes => try_first(rt, place, is_shared)?,
+            None => return Err(HoldFault::Missing),
+        };
+        if let Some(held) = held {
+            return Ok(held);
+        }
+        if !wait.pause(rt)? {
+            break;
+        }
+    }
+    Err(HoldFault::Held)
+}
+
+// Opens the plain file of this name, or returns None where nothing has the name. Anything but a plain file is not
+// opened: the system has no flag here that keeps a pipe from blocking. In a shared folder, where a pipe may take
+// the file's place in between, the file is opened for writing too, since no pipe blocks that.
+fn open_plain<R: Files>(rt: &R, path: &str, is_shared: bool) -> io::Result<Option<R::File>> {
+    match fs::symlink_metadata(rt, path) {
+        Err(error) if error.kind() == ErrorKind::NotFound => return Ok(None),
+        found => trust::check(&found?, is_shared)?,
+    }
+    let mut how = OpenOptions::new();
+    how.read(true).write(is_shared);
+    let file = match how.open(rt, path) {
+        Err(error) if error.kind() == ErrorKind::NotFound => return Ok(None),
+        file => file?,
+    };
+    trust::check(&file.metadata()?, is_shared)?;
+    Ok(Some(file))
+}
+
+// Locks a file that was opened at the book's path, and removes what a killed run left. None where another run holds
+// the book, or has put another file in its place.
+fn try_book<R>(
+    rt: &R,
+    place: &Place,
+    file: R::File,
+    is_shared: bool,
+) -> Result<Option<Held<R::File>>, HoldFault>
+where
+    R: Files + AllocGlobal,
+    R::File: Lockable,
+{
+    if !claim(rt, &file, place.book.as_str())? {
+        return Ok(None);
+    }
+    let locked = file.metadata()?;
+    if !remove_next(rt, place, Some(&locked), is_shared)? {
+        return Ok(None);
+    }
+    let state = file.metadata()?;
+    if state.nlink() != 1 {
+        return Err(HoldFault::Unreadable(io::Error::from(ErrorKind::InvalidInput)));
+    }
+    Ok(Some(Held::Book(OpenBook { file, state })))
+}
+
+// Makes the file of the first text of a book that does not exist. None where another run is making the book, or has
+// made it in the meantime.
+fn try_first<R>(rt: &R, place: &Place, is_shared: bool) -> Result<Option<Held<R::File>>, HoldFault>
+where
+    R: Files + AllocGlobal,
+    R::File: Lockable,
+{
+    let Some(next) = try_next(rt, place, None, is_shared)? else {
+        return Ok(None);
+    };
+    match fs::symlink_metadata(rt, place.book.as_str()) {
+        Err(error) if error.kind() == ErrorKind::NotFound => Ok(Some(Held::Next(next))),
+        found => {
+            remove(rt, place.next.as_str())?;
+            found?;
+            Ok(None)
+        }
+    }
+}
+
+/// Makes and locks the file of the next text of a book that is held. Waits up to 30 seconds for a run that looked
+/// for the book before this one was there.
+pub fn next_of<R>(
+    rt: &R,
+    place: &Place,
+    book: Option<&Metadata>,
+    is_shared: bool,
+) -> Result<R::File, HoldFault>
+where
+    R: Files + Clock + AllocGlobal,
+    R::File: Lockable,
+{
+    let wait = Wait::begin(rt)?;
+    for _ in 0..u64::MAX {
+        if let Some(next) = try_next(rt, place, book, is_shared)? {
+            return Ok(next);
+        }
+        if !wait.pause(rt)? {
+            break;
+        }
+    }
+    Err(HoldFault::Held)
+}
+
+// Makes and locks the file of the next text. None where another run has one.
+fn try_next<R>(
+    rt: &R,
+    place: &Place,
+    book: Option<&Metadata>,
+    is_shared: bool,
+) -> Result<Option<R::File>, HoldFault>
+where
+    R: Files + AllocGlobal,
+    R::File: Lockable,
+{
+    let next = place.next.as_str();
+    if !remove_next(rt, place, book, is_shared)? {
+        return Ok(None);
+    }
+    match make_next(rt, next) {
+        Ok(made) => Ok(made),
+        Err(error) if error.kind() == ErrorKind::AlreadyExists && !is_folder(rt, next) => Ok(None),
+        Err(error) => Err(HoldFault::Unwritable(error)),
+    }
+}
+
+fn is_folder<R: Files>(rt: &R, path: &str) -> bool {
+    match fs::symlink_metadata(rt, path) {
+        Ok(found) => found.is_dir(),
+        Err(_) => false,
+    }
+}
+
+// Makes and locks the file of the next text, which nobody but its owner can open. None where another run has it.
+fn make_next<R>(rt: &R, next: &str) -> io::Result<Option<R::File>>
+where
+    R: Files,
+    R::File: Lockable,
+{
+    let file = OpenOptions::new()
+        .read(true)
+        .write(true)
+        .create_new(true)
+        .mode(OWNER_ONLY)
+        .open(rt, next)?;
+    let claimed = claim(rt, &file, next);
+    if claimed.is_err() {
+        let _ = fs::remove_file(rt, next);
+    }
+    Ok(claimed?.then_some(file))
+}
+
+// Locks a file, and returns whether this run now holds it, and whether it still has its name.
+fn claim<R>(rt: &R, file: &R::File, path: &str) -> io::Result<bool>
+where
+    R: Files,
+    R::File: Lockable,
+{
+    Ok(file.try_hold()? && is_named(rt, file, path)?)
+}
+
+// Removes the file of the next text that a killed run left, whose lock is free. Returns false where another run
+// holds it. `book` is the metadata of the book that is held.
+fn remove_next<R>(
+    rt: &R,
+    place: &Place,
+    book: Option<&Metadata>,
+    is_shared: bool,
+) -> Result<bool, HoldFault>
+where
+    R: Files + AllocGlobal,
+    R::File: Lockable,
+{
+    let next = place.next.as_str();
+    let found = match fs::symlink_metadata(rt, next) {
+        Err(error) if error.kind() == ErrorKind::NotFound => return Ok(true),
+        found => found?,
+    };
+    let is_of_run = found.is_file() && trust::is_ours(&found);
+    let is_book = book.is_some_and(|book| trust::are_of_one_file(book, &found));
+    if !is_of_run || is_book {
+        remove(rt, next)?;
+        return Ok(true);
+    }
+    let left = match open_plain(rt, next, is_shared) {
+        Ok(Some(left)) => left,
+        Ok(None) => return Ok(false),
+        Err(_) => return Err(HoldFault::InTheWay(String::from_str(rt.alloc(), next)?)),
+    };
+    if !claim(rt, &left, next)? {
+        return Ok(false);
+    }
+    remove(rt, next)?;
+    Ok(true)
+}
+
+// Removes what has this name. A folder stays; then no save can be made.
+fn remove<R: Files + AllocGlobal>(rt: &R, next: &str) -> Result<(), HoldFault> {
+    match fs::remove_file(rt, next) {
+        Err(error) if !is_gone(error.kind()) => {
+            Err(HoldFault::InTheWay(String::from_str(rt.alloc(), next)?))
+        }
+        _ => Ok(()),
+    }
+}
+
+// Whether an error of this kind says that there is a folder, or nothing any more.
+fn is_gone(kind: ErrorKind) -> bool {
+    kind == ErrorKind::NotFound || kind == ErrorKind::IsADirectory
+}
+
+/// Whether the path names this open file itself, and not a link to it.
+pub fn is_named<R: Files>(rt: &R, file: &R::File, path: &str) -> io::Result<bool> {
+    match fs::symlink_metadata(rt, path) {
+        Err(error) if error.kind() == ErrorKind::NotFound => Ok(false),
+        found => Ok(trust::are_of_one_file(&found?, &file.metadata()?)),
+    }
+}

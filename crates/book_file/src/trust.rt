@@ -1,0 +1,50 @@
+//! Whose files and folders a run trusts: those of its user, and those of root.
+use std::fs::Metadata;
+use std::io;
+use std::io::ErrorKind;
+use std::os::unix::fs::MetadataExt;
+
+/// The number of root.
+const ROOT: u32 = 0;
+
+/// The bits of a folder's mode by which its group, or everyone, may change its names. Where the folder has an
+/// access list, the group's bits cover all that the list allows.
+const OTHERS_WRITE: u32 = 0o022;
+
+/// Whether this belongs to the user who runs, or to root.
+pub fn is_ours(found: &Metadata) -> bool {
+    found.uid() == libc::geteuid() || found.uid() == ROOT
+}
+
+/// Whether anyone but the user who runs, and root, may change the names of this folder.
+pub fn is_shared(folder: &Metadata) -> bool {
+    !is_ours(folder) || folder.mode() & OTHERS_WRITE != 0
+}
+
+/// Whether the user who runs can give another file the owner of this one.
+pub fn can_give_owner(found: &Metadata) -> bool {
+    let runner = libc::geteuid();
+    runner == found.uid() || runner == ROOT
+}
+
+/// Answers InvalidInput for anything but a plain file, and, in a shared folder, for a file of others.
+pub fn check(found: &Metadata, is_shared: bool) -> io::Result<()> {
+    if found.is_file() && (!is_shared || is_ours(found)) {
+        Ok(())
+    } else {
+        Err(io::Error::from(ErrorKind::InvalidInput))
+    }
+}
+
+/// Whether both are of one file, whatever names it has.
+pub fn are_of_one_file(one: &Metadata, other: &Metadata) -> bool {
+    one.dev() == other.dev() && one.ino() == other.ino()
+}
+
+/// Whether both are of one file that has not changed in between: neither its bytes nor its names, owner and mode.
+pub fn are_unchanged(one: &Metadata, other: &Metadata) -> bool {
+    are_of_one_file(one, other)
+        && one.len() == other.len()
+        && one.ctime() == other.ctime()
+        && one.ctime_nsec() == other.ctime_nsec()
+}

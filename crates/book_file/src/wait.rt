@@ -1,0 +1,34 @@
+//! How long a run waits for other runs.
+use std::time::{Clock, Duration, Instant};
+use std::{io, thread};
+
+/// The longest wait, in seconds by the clock.
+const MOST_WAIT: u64 = 30;
+
+/// The pause between two tries, in milliseconds.
+const PAUSE: u64 = 50;
+
+/// A wait, from its beginning.
+#[derive(Clone, Copy)]
+pub struct Wait {
+    begun: Instant,
+}
+
+impl Wait {
+    /// A wait that begins now. An error where the clock can't be read.
+    pub fn begin(clock: &impl Clock) -> io::Result<Wait> {
+        Ok(Wait {
+            begun: Instant::now(clock)?,
+        })
+    }
+
+    /// Pauses before the next try and returns true; or returns false, at once, where the wait has
+    /// taken 30 seconds. An error where the clock can't be read.
+    pub fn pause(&self, clock: &impl Clock) -> io::Result<bool> {
+        if self.begun.elapsed(clock)? >= Duration::from_secs(MOST_WAIT) {
+            return Ok(false);
+        }
+        thread::sleep(clock, Duration::from_millis(PAUSE));
+        Ok(true)
+    }
+}
