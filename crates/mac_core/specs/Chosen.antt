@@ -19,7 +19,7 @@ abbrev pub name_of : Mechanism → List ℕ
 name_of ScramSha1 = codes "SCRAM-SHA-1"
 name_of ScramSha256 = codes "SCRAM-SHA-256"
 
--- the mechanism's name is one of those in the text, which a space separates
+-- the mechanism's name is one of those in the text, between which there are spaces
 abbrev pub IsOffered : Mechanism → List ℕ → Type 0
 IsOffered mechanism names = Contains (slice_split (λ c. c == 32) names) (name_of mechanism)
 
@@ -37,7 +37,7 @@ length_by ScramSha256 = 32
 abbrev pub hmac_by : Mechanism → List ℕ → List ℕ → List ℕ
 hmac_by mechanism = hmac (hash_by mechanism) 64
 
--- Hi of the mechanism, which of a password is its SaltedPassword
+-- Hi of the mechanism; that of a password is its SaltedPassword
 abbrev pub hi_by : Mechanism → List ℕ → List ℕ → ℕ → List ℕ
 hi_by mechanism = hi (hash_by mechanism) 64
 

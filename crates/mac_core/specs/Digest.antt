@@ -1,4 +1,4 @@
--- The length of a SHA-1 digest, which is a law of the hash functions here.
+-- The length of a SHA-1 digest: a law that the hash functions here need.
 use Rattle.std.proofs.Common.{◌≡◌, ◌*◌, ℕ, zero, suc, List, arith, length, length-append, refl}
 use Rattle.std.specs.Prelude.{slice_index}
 use Rattle.std.specs.Int.{to_be_bytes, w32}

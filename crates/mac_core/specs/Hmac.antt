@@ -4,7 +4,7 @@ use Rattle.std.specs.Prelude.{ℕ, ◌-◌, List, [], ◌++◌, length, map, rep
 use Rattle.mac_core.specs.declared.hmac.Mac.{Mac}
 use Rattle.mac_core.specs.declared.hmac.Prepared.{Prepared}
 
--- K0: the key, or its digest where it is longer than a block, with zeros behind it up to a block
+-- K0: the key, or its digest where it is longer than a block, with zeros after it up to a block
 abbrev pub padded_key : (List ℕ → List ℕ) → ℕ → List ℕ → List ℕ
 padded_key hash block key =
     let short = if nat_lt block (length key) then hash key else key in
@@ -27,8 +27,8 @@ unfoldable pub hmac : (List ℕ → List ℕ) → ℕ → List ℕ → List ℕ 
 hmac hash block key text =
     hash (outer_block hash block key ++ hash (inner_block hash block key ++ text))
 
--- a running MAC stands for a key and the text so far: its two hashes, of which `holds` tells the
--- messages, have taken in what HMAC hashes, but for the inner digest
+-- a running MAC stands for a key and the text so far: its two hashes, whose messages `holds` gives, have
+-- taken in what HMAC hashes, except the inner digest
 pub record IsMacOf {H : Type 0} (holds : H → List ℕ → Type 0) (hash : List ℕ → List ℕ) (block : ℕ) (mac : Mac H) (key text : List ℕ) : Type 0 where
   pub inner : holds mac.inner (inner_block hash block key ++ text)
   pub outer : holds mac.outer (outer_block hash block key)

@@ -2,7 +2,7 @@
 use Rattle.std.specs.Prelude.{ℕ, zero, suc, List, [], ◌∷◌, ◌++◌, bit_xor, codes}
 use Rattle.mac_core.specs.Hmac.{hmac}
 
--- two lists of bytes xor-ed place by place, up to the end of the shorter one
+-- the xor of two lists of bytes place by place, up to the end of the shorter one
 unfoldable pub xor_bytes : List ℕ → List ℕ → List ℕ
 xor_bytes [] ys = []
 xor_bytes (x ∷ xs) [] = []
@@ -12,8 +12,8 @@ xor_bytes (x ∷ xs) (y ∷ ys) = bit_xor x y ∷ xor_bytes xs ys
 abbrev pub int_one : List ℕ
 int_one = 0 ∷ 0 ∷ 0 ∷ 1 ∷ []
 
--- U k of Hi under a MAC: U 1 is the MAC of the salt and INT(1), and each later one that of the one
--- before it. U 0 stands for what U 1 is the MAC of.
+-- U k of Hi under a MAC: U 1 is the MAC of the salt and INT(1), and each later one the MAC of the
+-- one before it. U 0 is the salt and INT(1), of which U 1 is the MAC.
 unfoldable pub iterated : (List ℕ → List ℕ) → List ℕ → ℕ → List ℕ
 iterated mac salt zero = salt ++ int_one
 iterated mac salt (suc k) = mac (iterated mac salt k)

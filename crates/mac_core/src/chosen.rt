@@ -1,5 +1,5 @@
-//! The formulas of `keys` and `hmac` where the hash function is chosen at run time, by the name of a
-//! SCRAM mechanism.
+//! The formulas of `keys` and `hmac` with a hash function that is chosen at run time, by the name of
+//! a SCRAM mechanism.
 ghost use Rattle.std.specs.Prelude.{◌≡◌, ◌≢◌, ◌≤◌, ◌↔◌, IsTrue, ℕ, List, [], ◌++◌, length, IfSome, IfNone};
 ghost use Rattle.mac_core.specs.Chosen.{name_of, IsOffered, length_by, hmac_by, hi_by, client_key_by, stored_key_by, server_key_by, IsScramMac};
 
@@ -19,8 +19,8 @@ pub enum Mechanism {
 }
 
 impl Mechanism {
-    /// The mechanism of this name, or None where there is none. Letters count in upper case alone
-    /// (RFC 4422, section 3.1).
+    /// The mechanism of this name, or None where there is none. Names are in upper case (RFC 4422,
+    /// section 3.1), and no other spelling is taken.
     pub fn of_name(name: &[u8]) -> Option<Mechanism>
         ensures some { IfSome result (λ mechanism. name.now ≡ name_of mechanism) }
         ensures none { IfNone result ((mechanism : Mechanism) → name.now ≢ name_of mechanism) }
@@ -34,7 +34,7 @@ impl Mechanism {
         }
     }
 
-    /// The mechanism's name, as on the wire.
+    /// The mechanism's name (RFC 5802, section 4, and RFC 7677, section 3).
     pub fn name(&self) -> &'static str
         ensures { result.now ≡ name_of self.now }
     {
@@ -44,8 +44,8 @@ impl Mechanism {
         }
     }
 
-    /// The mechanism to take of the names that a server offers, with one space between each two:
-    /// SCRAM-SHA-256 where it is among them, else SCRAM-SHA-1 where that is, else None.
+    /// The mechanism to take from the names that a server offers, with one space between each two:
+    /// SCRAM-SHA-256 where it is among them, else SCRAM-SHA-1 where it is, else None.
     pub fn choose(names: &[u8]) -> Option<Mechanism>
         ensures some { IfSome result (λ mechanism. IsOffered mechanism names.now) }
         ensures best { IsOffered Mechanism.ScramSha256 names.now → result ≡ Some Mechanism.ScramSha256 }
@@ -67,7 +67,8 @@ impl Mechanism {
         names.split(|byte| *byte == b' ').any(|name| name == wanted)
     }
 
-    /// Hi(password, salt, count), as `hi`. `count` is at least 1.
+    /// Hi(password, salt, count) with the mechanism's hash function (RFC 5802, section 2.2). It
+    /// takes time in proportion to `count`, which is at least 1.
     pub fn hi(self, password: &[u8], salt: &[u8], count: u32) -> Tag
         requires { 1 ≤ count }
         ensures value { result.items ≡ hi_by self password.now salt.now count }
@@ -79,7 +80,7 @@ impl Mechanism {
         }
     }
 
-    /// ClientKey of a SaltedPassword, as `client_key`.
+    /// ClientKey of a SaltedPassword, with the mechanism's hash function (RFC 5802, section 3).
     pub fn client_key(self, salted: &Tag) -> Tag
         ensures value { result.items ≡ client_key_by self salted.now.items }
         ensures len { length result.items ≡ length_by self }
@@ -90,7 +91,7 @@ impl Mechanism {
         }
     }
 
-    /// StoredKey of a ClientKey, as `stored_key`.
+    /// StoredKey of a ClientKey, with the mechanism's hash function (RFC 5802, section 3).
     pub fn stored_key(self, client_key: &Tag) -> Tag
         ensures value { result.items ≡ stored_key_by self client_key.now.items }
         ensures len { length result.items ≡ length_by self }
@@ -101,7 +102,7 @@ impl Mechanism {
         }
     }
 
-    /// ServerKey of a SaltedPassword, as `server_key`.
+    /// ServerKey of a SaltedPassword, with the mechanism's hash function (RFC 5802, section 3).
     pub fn server_key(self, salted: &Tag) -> Tag
         ensures value { result.items ≡ server_key_by self salted.now.items }
         ensures len { length result.items ≡ length_by self }
@@ -112,7 +113,8 @@ impl Mechanism {
         }
     }
 
-    /// The keys of a password, as `scram_keys`. `count` is at least 1.
+    /// The keys of `password` under `salt` and `count`, with the mechanism's hash function. `count`
+    /// is at least 1.
     pub fn scram_keys(self, password: &[u8], salt: &[u8], count: u32) -> ScramKeys
         requires { 1 ≤ count }
         ensures stored { result.stored.items
@@ -161,7 +163,7 @@ impl ScramMac {
         }
     }
 
-    /// A second MAC of the same mechanism, key and text.
+    /// A second MAC for the same mechanism, key and text.
     pub fn copy(&self) -> ScramMac
         ensures { (mechanism : Mechanism) (key text : List ℕ) → IsScramMac mechanism self.now key text
             → IsScramMac mechanism result key text }

@@ -1,4 +1,4 @@
-//! Hash functions (FIPS 180-4) behind one trait, and the type of their digests.
+//! One trait for hash functions (FIPS 180-4), and the type of their digests.
 ghost use Rattle.std.specs.Prelude.{◌≡◌, ◌≤◌, ℕ, List, [], ◌++◌, length};
 ghost use Rattle.std.proofs.Common.{lit≤};
 ghost use Rattle.sha1.specs.Sha1.{Holds, sha1};
@@ -16,10 +16,10 @@ use sha2::{Digest, Sha256, Sha512};
 /// A digest, a MAC or a key: at most 64 bytes, in a fixed buffer.
 pub type Tag = ArrayVec<u8, 64>;
 
-/// A hash function. A value of it has taken in a message, piece by piece.
+/// A hash function. A value of the type has taken in a message, piece by piece.
 ///
 /// A value does not keep its message, so its contracts say which messages it stands for: `start`
-/// stands for the empty one, `add` extends each by the piece, and `done` answers the digest of
+/// stands for the empty one, `add` extends each by the piece, and `done` returns the digest of
 /// each.
 pub trait HashFn: Drop {
     // The digest of a message.

@@ -9,13 +9,13 @@ const IPAD: u8 = 0x36;
 
 const OPAD: u8 = 0x5C;
 
-// The longest block of a hash function here, that of SHA-512.
+// The longest block of the hash functions here, that of SHA-512.
 const MOST_BLOCK: usize = 128;
 
 // A padded key, K0 of RFC 2104.
 type Block = ArrayVec<u8, MOST_BLOCK>;
 
-// The key with zeros behind it up to a block, where it is no longer than one.
+// The key with zeros after it up to a block, where it is no longer than one.
 fn zero_filled(key: &[u8], block: usize) -> Block
     requires fits { length key.now ≤ block }
     requires most { block ≤ MOST_BLOCK }
@@ -30,7 +30,7 @@ fn zero_filled(key: &[u8], block: usize) -> Block
     filled
 }
 
-// K0: a key longer than a block is hashed first.
+// K0; a key longer than a block is hashed first.
 fn padded_key<H: HashFn>(key: &[u8]) -> Block
     ensures { result.items ≡ padded_key H.digest_of H.BLOCK key.now }
 {
@@ -62,8 +62,8 @@ pub struct Mac<H> {
 }
 
 impl<H: HashFn> Mac<H> {
-    /// A MAC of the empty text under `key`, which may have any length: one longer than a block
-    /// counts as its digest (RFC 2104, section 2).
+    /// A MAC of the empty text under `key`, which may have any length: one longer than a block is
+    /// replaced by its digest (RFC 2104, section 2).
     pub fn new(key: &[u8]) -> Self
         ensures { IsMacOf H.holds H.digest_of H.BLOCK result key.now [] }
     {
@@ -83,7 +83,7 @@ impl<H: HashFn> Mac<H> {
         self.inner.add(piece);
     }
 
-    /// A second MAC of the same key and text.
+    /// A second MAC for the same key and text.
     pub fn copy(&self) -> Self
         ensures { (key text : List ℕ) → IsMacOf H.holds H.digest_of H.BLOCK self.now key text
             → IsMacOf H.holds H.digest_of H.BLOCK result key text }
@@ -106,8 +106,8 @@ impl<H: HashFn> Mac<H> {
     }
 }
 
-/// A key for HMAC whose two padded blocks are hashed already, so that a MAC of a short text costs
-/// two compressions and not four.
+/// A key for HMAC whose two padded blocks are hashed already, so that a MAC of a short text takes
+/// two compressions instead of four.
 #[derive(Drop)]
 pub struct Prepared<H> {
     empty: Mac<H>,

@@ -7,7 +7,7 @@ use crate::digest::{HashFn, Tag, tag_of};
 use crate::hmac::Prepared;
 use crate::mac;
 
-/// `a` and `b` xor-ed byte by byte. They have one length, and so has the result.
+/// The xor of `a` and `b`, byte by byte. They have the same length, and so has the result.
 pub fn xor(a: &Tag, b: &Tag) -> Tag
     requires { length a.now.items ≡ length b.now.items }
     ensures value { result.items ≡ xor_bytes a.now.items b.now.items }
@@ -50,7 +50,7 @@ pub fn hi<H: HashFn>(password: &[u8], salt: &[u8], count: u32) -> Tag
     sum
 }
 
-/// ClientKey of a SaltedPassword: HMAC(SaltedPassword, "Client Key"), of `H::LEN` bytes.
+/// ClientKey of a SaltedPassword, HMAC(SaltedPassword, "Client Key"): `H::LEN` bytes (RFC 5802, section 3).
 pub fn client_key<H: HashFn>(salted: &Tag) -> Tag
     ensures value { result.items ≡ client_key H.digest_of H.BLOCK salted.now.items }
     ensures len { length result.items ≡ H.LEN }
@@ -58,7 +58,7 @@ pub fn client_key<H: HashFn>(salted: &Tag) -> Tag
     mac::<H>(salted.as_slice(), b"Client Key")
 }
 
-/// StoredKey of a ClientKey: H(ClientKey), of `H::LEN` bytes.
+/// StoredKey of a ClientKey: H(ClientKey), of `H::LEN` bytes (RFC 5802, section 3).
 pub fn stored_key<H: HashFn>(client_key: &Tag) -> Tag
     ensures value { result.items ≡ stored_key H.digest_of client_key.now.items }
     ensures len { length result.items ≡ H.LEN }
@@ -68,7 +68,7 @@ pub fn stored_key<H: HashFn>(client_key: &Tag) -> Tag
     hasher.done()
 }
 
-/// ServerKey of a SaltedPassword: HMAC(SaltedPassword, "Server Key"), of `H::LEN` bytes.
+/// ServerKey of a SaltedPassword, HMAC(SaltedPassword, "Server Key"): `H::LEN` bytes (RFC 5802, section 3).
 pub fn server_key<H: HashFn>(salted: &Tag) -> Tag
     ensures value { result.items ≡ server_key H.digest_of H.BLOCK salted.now.items }
     ensures len { length result.items ≡ H.LEN }
@@ -76,8 +76,7 @@ pub fn server_key<H: HashFn>(salted: &Tag) -> Tag
     mac::<H>(salted.as_slice(), b"Server Key")
 }
 
-/// What a server keeps of a password (RFC 5802, section 3). Neither key gives the password back, nor
-/// lets one log in.
+/// What a server stores in place of a password (RFC 5802, section 3).
 #[derive(Drop)]
 pub struct ScramKeys {
     /// StoredKey, by which a client's proof is checked.
@@ -88,7 +87,7 @@ pub struct ScramKeys {
 }
 
 impl ScramKeys {
-    /// A second value of the same keys.
+    /// A copy of the keys.
     pub fn copy(&self) -> ScramKeys
         ensures { result ≡ self.now }
     {
@@ -99,7 +98,8 @@ impl ScramKeys {
     }
 }
 
-/// The keys of `password` under `salt` and `count`, each of `H::LEN` bytes. `count` is at least 1.
+/// The keys of `password` under `salt` and `count`, each of `H::LEN` bytes (RFC 5802, section 3). It
+/// takes time in proportion to `count`, which is at least 1.
 pub fn scram_keys<H: HashFn>(password: &[u8], salt: &[u8], count: u32) -> ScramKeys
     requires { 1 ≤ count }
     ensures stored { let salted = salted_password H.digest_of H.BLOCK password.now salt.now count in

@@ -27,7 +27,7 @@ pub use hmac::Prepared;
 pub use keys::{ScramKeys, client_key, hi, scram_keys, server_key, stored_key, xor};
 
 /// The HMAC of `key` and `text`, of `H::LEN` bytes. The key may have any length: one longer than a
-/// block counts as its digest (RFC 2104, section 2).
+/// block is replaced by its digest (RFC 2104, section 2).
 pub fn mac<H: HashFn>(key: &[u8], text: &[u8]) -> Tag
     ensures value { result.items ≡ hmac H.digest_of H.BLOCK key.now text.now }
     ensures len { length result.items ≡ H.LEN }

@@ -37,8 +37,8 @@ fn hex_of(alloc: Global, tag: &Tag) -> Result<String, AllocError> {
     hex::encode(alloc, tag.as_slice())
 }
 
-// One MAC in each way: at once, over a prepared key, and in every cut of its text into two pieces.
-// `want` is its hexadecimal text, or the front of it where the source cuts it off.
+// Checks one MAC, made in each way: at once, over a prepared key, and in every cut of its text into
+// two pieces. `want` is its hexadecimal text, or the beginning of it where the source cuts it off.
 fn check_mac<H: HashFn>(
     rt: &(impl Abort + AllocGlobal),
     key: &[u8],
@@ -234,7 +234,7 @@ fn hmac_sha512(rt: HostRuntime) -> Result<(), Fail> {
     Ok(())
 }
 
-// RFC 6070, but for its case of two blocks, and RFC 7914, section 11, of whose output the first block.
+// RFC 6070 without its case of two blocks, and the first block of the outputs of RFC 7914, section 11.
 #[test]
 fn hi_is_pbkdf2_of_one_block(rt: HostRuntime) -> Result<(), Fail> {
     let alloc = rt.alloc();
@@ -292,7 +292,7 @@ fn hi_is_pbkdf2_of_one_block(rt: HostRuntime) -> Result<(), Fail> {
     Ok(())
 }
 
-// The longest case of RFC 6070: some seconds as compiled code, and minutes in an interpreter.
+// The longest case of RFC 6070: it takes some seconds as compiled code, and minutes in an interpreter.
 #[test]
 fn hi_at_its_longest_case(rt: HostRuntime) -> Result<(), Fail> {
     let tag = hi::<HSha1>(b"password", b"salt", 16777216);
@@ -381,7 +381,7 @@ fn a_client_takes_the_longer_hash_that_is_offered(rt: HostRuntime) {
     }
 }
 
-// The same values by a mechanism that is chosen at run time.
+// The keys of the example, by a mechanism that is chosen at run time.
 #[test]
 fn keys_by_mechanism(rt: HostRuntime) -> Result<(), Fail> {
     let alloc = rt.alloc();

@@ -15,7 +15,7 @@ length-last_digits zero number = refl
 length-last_digits (suc count) number =
     omega (arith, length-last_digits count (number / 10), length-append (last_digits count (number / 10)) ((48 + number % 10) ∷ []))
 
--- a digit more at the back
+-- one more digit at the end
 all_more : (xs : List ℕ) (x : ℕ) → All IsAsciiDigit xs → IsAsciiDigit x → All IsAsciiDigit (xs ++ x ∷ [])
 all_more xs x all one = search (rules, common_steps)
 
@@ -26,7 +26,7 @@ digits-last_digits zero number = search rules
 digits-last_digits (suc count) number =
     all_more _ _ (digits-last_digits count (number / 10)) (search (rules, arith))
 
--- the last of the digits that are left moves to the front of those that are there
+-- the last of the digits that are left moves to the front of those that were found
 pub last_digits-more : (more number : ℕ) (rest : List ℕ)
     → last_digits (more + 1) number ++ rest ≡ last_digits more (number / 10) ++ ((48 + number % 10) ∷ rest)
 unfolding last_digits
@@ -36,7 +36,7 @@ last_digits-more more number rest = rw (add-one, append_assoc) refl
 pub IsUtf8-from_digits : (text : List ℕ) → All IsAsciiDigit text → IsUtf8 text
 IsUtf8-from_digits text all = IsUtf8-from_ascii text (grind (arith, common_steps))
 
--- 6 to 8 of them are a code's text
+-- 6 to 8 ASCII digits are a code's text
 pub IsCodeText-last_digits : (count number : ℕ) → IsDigitCount count → IsCodeText (last_digits count number)
 IsCodeText-last_digits count number range = record {
   count = rw (length-last_digits count number) range;

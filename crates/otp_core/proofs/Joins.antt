@@ -43,7 +43,7 @@ candidates_both s t h k m said Fail alike is due later c when =
 candidates_both s t h k m said Locked alike is due later c when =
     locked_both s t h k m said later c (alike.candidates later c when)
 
--- one attempt more keeps two pasts alike
+-- one more attempt keeps two pasts alike
 alike_more : (s t : Fields) (h k : List Attempt) (m : ℕ) (said : Said) (reply : Reply) → AreAlike s h t k → IsMoment m
     → IsDue t k m said reply → AreAlike s (attempt_of m said reply ∷ h) t (attempt_of m said reply ∷ k)
 alike_more s t h k m said reply alike is due = record {
@@ -52,7 +52,7 @@ alike_more s t h k m said reply alike is due = record {
   candidates = candidates_both s t h k m said reply alike is due;
 }
 
--- what is legal from the middle on is legal, and alike, from the start on
+-- a history that is legal from the middle on is legal from the start on, and the pasts are alike
 legal_joined : (start : Fields) (earlier : List Attempt) (middle : Fields) → IsAfter start earlier middle
     → (later : List Attempt) → IsLegal middle later
     → IsLegal start (later ++ earlier) × AreAlike start (later ++ earlier) middle later
@@ -77,7 +77,7 @@ histories-join start earlier middle later end after on =
       };
     }
 
--- failures that have and have not reached the limit
+-- failures cannot both have reached the limit and be below it
 both_ways : (limit failures : ℕ) → limit ≤ failures → failures < limit → ⊥
 both_ways limit failures reached below = omega arith
 

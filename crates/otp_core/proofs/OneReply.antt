@@ -16,17 +16,17 @@ use Rattle.otp_core.specs.declared.token.kinds.Fields.{Fields}
 use Rattle.otp_core.specs.declared.token.kinds.Fields.TheVariants.{Hotp, Totp}
 use lib.Signed.{le_z}
 
--- the fact holds, or it does not
+-- a fact holds, or it does not
 abbrev Decided : Type 0 → Type 0
 Decided P = P ⊎ (P → ⊥)
 
--- both facts
+-- whether two facts hold is decided
 decided_both : (P Q : Type 0) → Decided P → Decided Q → Decided (P × Q)
 decided_both P Q (inl p) (inl q) = inl (p, q)
 decided_both P Q (inl p) (inr other) = inr (λ both. other both.1)
 decided_both P Q (inr other) q = inr (λ both. other both.0)
 
--- a fact that is as good as a decided one
+-- a fact that holds exactly where a decided one does is decided
 decided_by : (P Q : Type 0) → (P → Q) → (Q → P) → Decided P → Decided Q
 decided_by P Q to from (inl p) = inl (to p)
 decided_by P Q to from (inr other) = inr (λ q. other (from q))
@@ -96,7 +96,7 @@ decided_fitting : (s : Fields) (h : List Attempt) (m : ℕ) (said : Said) (c : �
 decided_fitting s h m (Said.OneText text) c =
     decided_both _ _ (decided_candidate s h m c) (decided_text (code_text s c) text)
 
--- below a number there is a least one that a decided fact holds of, or it holds of none
+-- below a number there is a least one for which a decided fact holds, or it holds for none
 least : (P : ℕ → Type 0) → ((k : ℕ) → Decided (P k)) → (n : ℕ)
     → ((c : ℕ) × P c × ((k : ℕ) → P k → c ≤ k)) ⊎ ((k : ℕ) → k < n → P k → ⊥)
 least P decided zero = inr (λ k low p. absurd (omega arith))
@@ -111,7 +111,7 @@ least P decided (suc n) = elim (least P decided n) [
   ]
 ]
 
--- the reply, where what fits is below a bound
+-- the reply, where the counters that fit are below a bound
 due_below : (s : Fields) (h : List Attempt) (m : ℕ) (said : Said) (n : ℕ)
     → ((k : ℕ) → IsFitting s h m said k → k < n) → (reply : Reply) × IsDue s h m said reply
 due_below s h m said n bound = elim (cases_lt (failures_after s h) (limit_of s)) [
@@ -122,7 +122,7 @@ due_below s h m said n bound = elim (cases_lt (failures_after s h) (limit_of s))
   | inr reached ↦ (Locked, reached)
 ]
 
--- what fits can pass, and that is below a bound
+-- a counter that fits can pass, and those that can are below a bound
 pub some-reply_is_due : SomeReplyIsDue
 some-reply_is_due (Hotp t) h m (Said.OneText text) =
     due_below (Hotp t) h m (Said.OneText text) (2 ^ 63) (λ k fits. omega (arith, fits.0.most))

@@ -1,4 +1,4 @@
--- One attempt more: from a token and its past to any start and history that are alike.
+-- One more attempt: from a token and its past to any start and history that are alike.
 use Rattle.std.proofs.Common.{◌≡◌, ◌≤◌, ◌<◌, ◌+◌, ◌↔◌, ℕ, pos, ◌-ℤ◌, List, [], ◌∷◌, Option, Some, None, max, refl, sym, ap, subst, arith, ◌∙◌}
 use Rattle.std.specs.Option.{option_map_or}
 use Rattle.otp_core.specs.Secret.{IsMoment}
@@ -13,12 +13,12 @@ use Rattle.otp_core.specs.declared.token.answer.Reply.TheVariants.{Pass, Fail, L
 use Rattle.otp_core.specs.declared.token.kinds.Fields.{Fields}
 use Rattle.otp_core.specs.declared.token.kinds.Fields.TheVariants.{Hotp, Totp}
 
--- the limit is a setting
+-- the limit is among the settings
 limit_settled : (s : Fields) → limit_of (settings_of s) ≡ limit_of s
 limit_settled (Hotp s) = refl
 limit_settled (Totp s) = refl
 
--- the codes depend on the settings alone
+-- the codes depend only on the settings
 code_settled : (s : Fields) (c : ℕ) → code_text (settings_of s) c ≡ code_text s c
 code_settled (Hotp s) c = refl
 code_settled (Totp s) c = refl
@@ -29,7 +29,7 @@ limit_alike s t e = sym (limit_settled s) ∙ (ap limit_of e ∙ limit_settled t
 code_alike : (s t : Fields) (c : ℕ) → settings_of s ≡ settings_of t → code_text s c ≡ code_text t c
 code_alike s t c e = sym (code_settled s c) ∙ (ap (λ f. code_text f c) e ∙ code_settled t c)
 
--- what fits one of two alike pasts fits the other
+-- a counter that fits after one of two alike pasts fits after the other
 fits_to : (s t : Fields) (h k : List Attempt) (m : ℕ) (said : Said) (c : ℕ) → AreAlike s h t k → IsMoment m
     → IsFitting s h m said c → IsFitting t k m said c
 fits_to s t h k m (OneText text) c alike is fits =
@@ -40,7 +40,7 @@ pub fits_from : (s t : Fields) (h k : List Attempt) (m : ℕ) (said : Said) (c :
 fits_from s t h k m (OneText text) c alike is fits =
     ((alike.candidates m c is).1 fits.0, code_alike s t c alike.settings ∙ fits.1)
 
--- what is due after one of two alike pasts is due after the other
+-- a reply that is due after one of two alike pasts is due after the other
 pub due_alike : (s t : Fields) (h k : List Attempt) (m : ℕ) (said : Said) (reply : Reply) → AreAlike s h t k → IsMoment m
     → IsDue t k m said reply → IsDue s h m said reply
 due_alike s t h k m said Locked alike is due =
@@ -60,7 +60,7 @@ due_alike s t h k m said (Pass p) alike is due =
       λ c fits. due.2 c (fits_to s t h k m said c alike is fits),
     )
 
--- no reply moves a setting
+-- no reply changes a setting
 settings_advanced : (t : Fields) (m : ℕ) (reply : Reply) → settings_of (advanced t m reply) ≡ settings_of t
 settings_advanced (Hotp t) m (Pass p) = refl
 settings_advanced (Hotp t) m Fail = refl
@@ -69,7 +69,7 @@ settings_advanced (Totp t) m (Pass p) = refl
 settings_advanced (Totp t) m Fail = refl
 settings_advanced (Totp t) m Locked = refl
 
--- the failures move as replies move them
+-- the failures change as the replies say
 failures_advanced : (t : Fields) (m : ℕ) (reply : Reply) → failures_of (advanced t m reply) ≡ failures_by reply (failures_of t)
 failures_advanced (Hotp t) m (Pass p) = refl
 failures_advanced (Hotp t) m Fail = refl
@@ -78,13 +78,13 @@ failures_advanced (Totp t) m (Pass p) = refl
 failures_advanced (Totp t) m Fail = refl
 failures_advanced (Totp t) m Locked = refl
 
--- behind a counter that is due, HOTP's first counter is one more
+-- after a pass of a counter that is due, HOTP's first counter is one more
 pub first_of : (o : Option ℕ) (next p : ℕ) → option_map_or (λ m. m + 1) o next ≤ p
     → option_map_or (λ m. m + 1) (Some (option_map_or (λ most. max p most) o p)) next ≡ p + 1
 first_of None next p h = refl
 first_of (Some m) next p h = omega arith
 
--- above what is above all of them
+-- a counter above one that is above all of these is above all of them
 above_more : (counters : List ℕ) (p c : ℕ) → IsAbove counters p → p < c → IsAbove counters c
 above_more [] p c h more = h
 above_more (x ∷ counters) p c h more =
@@ -133,7 +133,7 @@ locked_alike : (s t : Fields) (h : List Attempt) (m : ℕ) (said : Said) (later 
 locked_alike (Hotp s) t h m said later c same = same
 locked_alike (Totp s) t h m said later c same = same
 
--- the counter that fits can pass
+-- a counter that fits can pass
 pub candidate_of : (s : Fields) (h : List Attempt) (m : ℕ) (said : Said) (c : ℕ) → IsFitting s h m said c → IsCandidate s h m c
 candidate_of s h m (OneText text) c fits = fits.0
 

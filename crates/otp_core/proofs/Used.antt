@@ -12,7 +12,7 @@ use Rattle.otp_core.specs.declared.token.kinds.HotpFields.{HotpFields}
 use Rattle.otp_core.specs.declared.token.kinds.Fields.TheVariants.{Hotp, Totp}
 use Rattle.otp_core.proofs.Steps.{first_of, candidate_of}
 
--- what is above the greatest is above each
+-- a counter above the greatest is above each
 parts_below : (o : Option ℕ) (x c : ℕ) → option_map_or (λ most. max x most) o x < c
     → (x < c) × ((m : ℕ) → o ≡ Some m → m < c)
 parts_below None x c h = (h, λ m is. absurd (cc))
@@ -34,7 +34,7 @@ candidates-are_new (Hotp t) history moment c due =
     above_greatest (passed history) c (below_first (greatest (passed history)) t.next c due.not_before)
 candidates-are_new (Totp t) history moment c due = due.3
 
--- a due reply moves HOTP's first counter nowhere back
+-- a due reply never moves HOTP's first counter back
 grows_by : (t : HotpFields) (before : List Attempt) (m : ℕ) (said : Said) (reply : Reply)
     → t.next ≤ first_due t.next (passed before) → IsDue (Hotp t) before m said reply
     → t.next ≤ first_due t.next (with_passed reply (passed before))

@@ -1,4 +1,4 @@
--- A window cut by the last step that passed.
+-- A window that the last step that passed cuts.
 use Rattle.std.proofs.Common.{◌≡◌, ◌≤◌, ◌<◌, ◌+◌, ◌↔◌, ℕ, Option, Some, None, max, arith}
 use Rattle.std.specs.Option.{ForSome}
 
@@ -6,7 +6,7 @@ use Rattle.std.specs.Option.{ForSome}
 same_value : (o : Option ℕ) (x y : ℕ) → o ≡ Some x → o ≡ Some y → x ≡ y
 same_value o x y p q = cc
 
--- with a last step the window begins above it
+-- where a step has passed, the window begins after it
 pub cut_by_last : {N : Type 0} (o : Option ℕ) (last first cut end w : ℕ) → o ≡ Some last → cut ≡ max first (last + 1)
     → (N ↔ ((first ≤ w) × (w < end))) → ((N × ForSome o (λ l. l < w)) ↔ ((cut ≤ w) × (w < end)))
 cut_by_last o last first cut end w is value near = (
@@ -15,7 +15,7 @@ cut_by_last o last first cut end w is value near = (
       (near.1 (begins, h.1), λ x at. let same : x ≡ last = same_value o x last at is in omega arith)),
 )
 
--- with no last step it stays
+-- where no step has passed, the window is whole
 pub cut_by_none : {N : Type 0} (o : Option ℕ) (first end w : ℕ) → o ≡ None
     → (N ↔ ((first ≤ w) × (w < end))) → ((N × ForSome o (λ l. l < w)) ↔ ((first ≤ w) × (w < end)))
 cut_by_none o first end w is near = (

@@ -3,11 +3,11 @@ use Rattle.std.specs.Prelude.{ℕ, List, [], ◌∷◌}
 use Rattle.otp_core.specs.declared.token.answer.Reply.{Reply}
 use Rattle.otp_core.specs.declared.token.answer.Reply.TheVariants.{Pass, Fail, Locked}
 
--- what was said: the text of one code
+-- what a client sent: the text of one code
 pub data Said : Type 0 where
   OneText : List ℕ → Said
 
--- an attempt: when, what was said, and the reply
+-- an attempt: when it was made, what was sent, and the reply
 pub record Attempt : Type 0 where
   pub moment : ℕ
   pub said : Said
@@ -17,7 +17,7 @@ pub record Attempt : Type 0 where
 abbrev pub attempt_of : ℕ → Said → Reply → Attempt
 attempt_of moment said reply = record { moment = moment; said = said; reply = reply }
 
--- the counters that passed, with that of one more reply
+-- the counters that passed, and that of one more reply
 abbrev pub with_passed : Reply → List ℕ → List ℕ
 with_passed (Pass counter) counters = counter ∷ counters
 with_passed Fail counters = counters

@@ -45,13 +45,13 @@ hash_by Sha1 = sha1
 hash_by Sha256 = sha256
 hash_by Sha512 = sha512
 
--- the length of its blocks in bytes
+-- the length of the hash function's blocks in bytes
 abbrev pub block_by : OtpHash → ℕ
 block_by Sha1 = 64
 block_by Sha256 = 64
 block_by Sha512 = 128
 
--- HOTP over that hash function, as RFC 6238, section 1.2, allows for TOTP
+-- HOTP with this hash function, as RFC 6238, section 1.2, allows for TOTP
 abbrev pub hotp_text_by : OtpHash → ℕ → List ℕ → ℕ → List ℕ
 hotp_text_by hash = hotp_text (hash_by hash) (block_by hash)
 

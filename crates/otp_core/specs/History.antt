@@ -1,4 +1,4 @@
--- Legal histories, and tokens that stand where a start and a history lead.
+-- Legal histories, and tokens that are where a start and a history lead.
 use Rattle.std.specs.Prelude.{ℕ, pos, ◌≡◌, ◌↔◌, List, [], ◌∷◌, None}
 use Rattle.otp_core.specs.Secret.{IsMoment}
 use Rattle.otp_core.specs.Attempt.{Attempt}
@@ -24,7 +24,7 @@ pub record AreAlike (start : Fields) (history : List Attempt) (other : Fields) (
   pub failures : failures_after start history ≡ failures_after other since
   pub candidates : (moment c : ℕ) → IsMoment moment → IsCandidate start history moment c ↔ IsCandidate other since moment c
 
--- a token stands where a start and a legal history lead
+-- a token is where a start and a legal history lead
 pub record IsAfter (start : Fields) (history : List Attempt) (token : Fields) : Type 0 where
   pub legal : IsLegal start history
   pub alike : AreAlike start history token []

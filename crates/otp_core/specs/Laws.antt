@@ -9,7 +9,7 @@ use Rattle.otp_core.specs.declared.token.answer.Reply.{Reply}
 use Rattle.otp_core.specs.declared.token.kinds.Fields.{Fields}
 use Rattle.otp_core.specs.declared.token.kinds.Fields.TheVariants.{Hotp, Totp}
 
--- each token stands where it and the empty history lead
+-- each token is where it and the empty history lead
 abbrev pub BeginsWithItself : Type 0
 BeginsWithItself = (token : Fields) → IsAfter token [] token
 
@@ -18,18 +18,18 @@ abbrev pub CandidatesAreNew : Type 0
 CandidatesAreNew = (start : Fields) (history : List Attempt) (moment c : ℕ)
     → IsCandidate start history moment c → IsAbove (passed history) c
 
--- a counter that a token has not used: at HOTP's next or behind it, or above TOTP's last step
+-- a counter that a token has not used: HOTP's next or one after it, or a step after TOTP's last
 abbrev pub IsNotUsed : Fields → ℕ → Type 0
 IsNotUsed (Hotp t) c = t.next ≤ c
 IsNotUsed (Totp t) c = ForSome t.last (λ l. l < c)
 
--- a counter that a start has used can pass after no legal history. Failures do not enter, so this
--- holds across an unlock too.
+-- a counter that a start has used can pass after no legal history. Failures have no part in this,
+-- so it holds across an unlock too.
 abbrev pub UsedStaysUsed : Type 0
 UsedStaysUsed = (start : Fields) (history : List Attempt) (moment c : ℕ)
     → IsLegal start history → IsCandidate start history moment c → IsNotUsed start c
 
--- a history that goes on from where another one led is one history with it
+-- a history that goes on from where another one led makes one history with it
 abbrev pub HistoriesJoin : Type 0
 HistoriesJoin = (start : Fields) (earlier : List Attempt) (middle : Fields) (later : List Attempt) (end : Fields)
     → IsAfter start earlier middle → IsAfter middle later end → IsAfter start (later ++ earlier) end
@@ -39,7 +39,7 @@ abbrev pub OnlyOneReplyIsDue : Type 0
 OnlyOneReplyIsDue = (start : Fields) (history : List Attempt) (moment : ℕ) (said : Said) (reply other : Reply)
     → IsDue start history moment said reply → IsDue start history moment said other → reply ≡ other
 
--- to every attempt some reply is due
+-- some reply is due to every attempt
 abbrev pub SomeReplyIsDue : Type 0
 SomeReplyIsDue = (start : Fields) (history : List Attempt) (moment : ℕ) (said : Said)
     → (reply : Reply) × IsDue start history moment said reply

@@ -14,7 +14,7 @@ abbrev pub code_text : Fields → ℕ → List ℕ
 code_text (Hotp t) c = hotp_text_by Sha1 t.digits t.secret c
 code_text (Totp t) c = hotp_text_by t.hash t.digits t.secret c
 
--- how many failures lock the token
+-- the number of failures that locks the token
 abbrev pub limit_of : Fields → ℕ
 limit_of (Hotp t) = t.limit
 limit_of (Totp t) = t.limit
@@ -30,12 +30,12 @@ failures_by (Pass c) before = 0
 failures_by Fail before = before + 1
 failures_by Locked before = before
 
--- the failures after a history: those since the last pass, and the start's where there is none
+-- the failures after a history: those since the last pass; without a pass, all of them and the start's
 abbrev pub failures_after : Fields → List Attempt → ℕ
 failures_after start [] = failures_of start
 failures_after start (a ∷ before) = failures_by a.reply (failures_after start before)
 
--- what was said fits a counter that can pass: it is its code
+-- the text that was sent is the code of a counter that can pass
 abbrev pub IsFitting : Fields → List Attempt → ℕ → Said → ℕ → Type 0
 IsFitting start history moment (Said.OneText text) c = IsCandidate start history moment c × (code_text start c ≡ text)
 

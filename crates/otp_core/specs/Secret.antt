@@ -1,7 +1,7 @@
--- The ranges of secrets, digits and moments.
+-- The ranges of secrets, of numbers of digits and of moments.
 use Rattle.std.specs.Prelude.{ℕ, ◌≤◌}
 
--- a secret has 10 to 64 bytes; RFC 4226, section 4, asks for 16
+-- a secret has 10 to 64 bytes; RFC 4226, section 4, requires 16
 abbrev pub IsSecretLength : ℕ → Type 0
 IsSecretLength length = (10 ≤ length) × (length ≤ 64)
 

@@ -1,4 +1,4 @@
--- How a token's state moves by a reply.
+-- How a reply changes a token's state.
 use Rattle.std.specs.Prelude.{ℕ, ◌+◌, pos, ◌-ℤ◌, Some}
 use Rattle.otp_core.specs.Window.{step_at}
 use Rattle.otp_core.specs.declared.token.answer.Reply.{Reply}

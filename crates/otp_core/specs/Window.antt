@@ -28,7 +28,7 @@ pub record IsCounterDue (first look_ahead c : ℕ) : Type 0 where
 abbrev pub step_at : TotpFields → ℕ → ℕ
 step_at t moment = steps_from t.t0 t.step moment
 
--- the drift after a reply: by how many steps the code that passed lay beside the present one
+-- the drift after a reply: by how many steps the code that passed was ahead of the present one
 abbrev pub drift_by : Reply → ℤ → ℤ → ℤ
 drift_by (Pass w) now before = pos w -ℤ now
 drift_by Fail now before = before
@@ -39,8 +39,8 @@ abbrev pub drift_after : TotpFields → List Attempt → ℤ
 drift_after t [] = t.drift
 drift_after t (a ∷ before) = drift_by a.reply (pos (step_at t a.moment)) (drift_after t before)
 
--- a step of TOTP's window (RFC 6238, sections 5.2 and 6): from `back` before to `ahead` behind the
--- present step moved by the drift, and no more than max_drift from the present step
+-- a step of TOTP's window (RFC 6238, sections 5.2 and 6): the present step moved by the drift, from
+-- `back` steps before it to `ahead` steps after it, and at most max_drift from the present step
 pub record IsStepNear (now : ℕ) (drift : ℤ) (back ahead max_drift w : ℕ) : Type 0 where
   pub not_before : ((pos now +ℤ drift) -ℤ pos back) ≤ℤ pos w
   pub not_behind : pos w ≤ℤ ((pos now +ℤ drift) +ℤ pos ahead)
@@ -53,7 +53,7 @@ IsAbove [] w = Unit {0}
 IsAbove (p ∷ counters) w = (p < w) × IsAbove counters w
 
 -- the counter can pass at a moment, after a history from a start. A step of TOTP passes once, and
--- after it none before it (RFC 6238, section 5.2).
+-- after it no earlier one (RFC 6238, section 5.2).
 abbrev pub IsCandidate : Fields → List Attempt → ℕ → ℕ → Type 0
 IsCandidate (Hotp t) history moment c = IsCounterDue (first_due t.next (passed history)) t.look_ahead c
 IsCandidate (Totp t) history moment w =

@@ -24,7 +24,7 @@ impl Model for Code {
 }
 
 impl Code {
-    /// The code's digits.
+    /// The digits of the code.
     pub fn text(&self) -> &str
         ensures value { result.now ≡ self.now }
         ensures form { IsCodeText self.now }
@@ -36,7 +36,7 @@ impl Code {
     }
 }
 
-// The truncation of a tag: the four bytes from its offset on, without the top bit.
+// The truncation of a tag: the four bytes from its offset on as a number, without the top bit.
 fn number_of(tag: &[u8]) -> u32
     requires { 20 ≤ length tag.now }
     ensures { result ≡ truncated tag.now }
@@ -58,8 +58,8 @@ fn digits_of(mut number: u32, count: usize) -> ArrayVec<u8, 8>
     digits
 }
 
-/// The code of a tag (RFC 4226, section 5.3): its dynamic truncation modulo 10 to the number of
-/// digits, with leading zeros. The tag has at least 20 bytes; the offset is in its last byte.
+/// The code of a tag (RFC 4226, section 5.3): its dynamic truncation modulo 10 ^ `digits`, in that
+/// many digits, with leading zeros. The tag has at least 20 bytes; the offset is in its last byte.
 pub fn truncate(tag: &Tag, digits: Digits) -> Code
     requires { 20 ≤ length tag.now.items }
     ensures { result ≡ code_of digits tag.now.items }
@@ -71,9 +71,9 @@ pub fn truncate(tag: &Tag, digits: Digits) -> Code
     }
 }
 
-/// The HOTP value of `counter` under a key that is prepared once (RFC 4226, section 5.3). With a
-/// counter of `step` it is TOTP's (RFC 6238, section 4.2), and `H` is then the token's hash
-/// function.
+/// The HOTP value of `counter` under a key that was prepared once (RFC 4226, section 5.3). Where
+/// `counter` is made by `step`, it is the TOTP value (RFC 6238, section 4.2), and `H` is then the
+/// token's hash function.
 pub fn hotp_with<H: HashFn>(prepared: &Prepared<H>, counter: u64, digits: Digits) -> Code
     ensures { (key : List ℕ) → IsPreparedFor H.holds H.digest_of H.BLOCK prepared.now key
         → result ≡ hotp_text H.digest_of H.BLOCK digits key counter }
@@ -81,15 +81,15 @@ pub fn hotp_with<H: HashFn>(prepared: &Prepared<H>, counter: u64, digits: Digits
     truncate(&prepared.mac(&counter.to_be_bytes()), digits)
 }
 
-/// The HOTP value of `counter` under `secret`, as `hotp_with`.
+/// The HOTP value of `counter` under `secret` (RFC 4226, section 5.3).
 pub fn hotp<H: HashFn>(secret: &Secret, counter: u64, digits: Digits) -> Code
     ensures { result ≡ hotp_text H.digest_of H.BLOCK digits secret.now counter }
 {
     hotp_with(&Prepared::<H>::new(secret.bytes()), counter, digits)
 }
 
-/// The TOTP counter of a moment (RFC 6238, section 4.2): the whole steps of `x` seconds from `t0`
-/// on, or None exactly where the moment is before `t0`. `x` is at least 1.
+/// The TOTP counter of a moment (RFC 6238, section 4.2): the number of whole steps of `x` seconds
+/// since `t0`, or None exactly where the moment is before `t0`. `x` is at least 1.
 pub fn step(moment: Moment, t0: Moment, x: u64) -> Option<u64>
     requires { 1 ≤ x }
     ensures { MatchOption result

@@ -5,18 +5,18 @@ ghost use Rattle.otp_core.specs.Fault.{fault_number, setting_name};
 use std::fmt;
 use thiserror::Error;
 
-/// A secret, a number of digits or a token's setting that is refused.
+/// Why a secret, a number of digits or a token's setting is refused.
 #[derive(Clone, Copy, Debug, PartialEq, Eq, Error)]
 pub enum OtpFault {
-    /// A secret has other than 10 to 64 bytes.
+    /// 40: a secret has fewer than 10 or more than 64 bytes.
     #[error("a secret has 10 to 64 bytes")]
     SecretLength,
 
-    /// A code has other than 6 to 8 digits.
+    /// 41: a code is to have fewer than 6 or more than 8 digits.
     #[error("a code has 6 to 8 digits")]
     DigitCount,
 
-    /// This setting of a token is out of its range.
+    /// 42: this setting of a token is out of its range.
     #[error("{0} is out of range")]
     Setting(Setting),
 }
@@ -41,31 +41,31 @@ pub enum Setting {
     /// HOTP's next counter.
     Next,
 
-    /// How many counters behind the next one HOTP looks at.
+    /// How many counters after the next one HOTP takes too.
     LookAhead,
 
-    /// The seconds of a TOTP step.
+    /// The length of a TOTP step in seconds.
     Step,
 
-    /// How many steps TOTP looks back.
+    /// How many steps TOTP looks back from the step that is due.
     Back,
 
-    /// How many steps TOTP looks ahead.
+    /// How many steps TOTP looks ahead of the step that is due.
     Ahead,
 
-    /// The most steps that a TOTP code may lie beside the present one.
+    /// The most steps that a TOTP code may be away from the present one.
     MaxDrift,
 
     /// TOTP's last accepted step.
     Last,
 
-    /// By how many steps TOTP's last accepted code lay beside its present one.
+    /// By how many steps TOTP's last accepted code was ahead of the step that was then present.
     Drift,
 
-    /// How many failures lock the token.
+    /// The number of failures that locks the token.
     Limit,
 
-    /// The failures so far.
+    /// The failures since the token last passed or was unlocked.
     Failures,
 }
 

@@ -6,10 +6,10 @@ use crate::code::{Code, hotp};
 use crate::secret::{Digits, Secret};
 use mac_core::{HSha1, HSha256, HSha512};
 
-/// A hash function of TOTP (RFC 6238, section 1.2). HOTP has SHA-1 alone.
+/// A hash function of TOTP (RFC 6238, section 1.2). HOTP uses SHA-1 only.
 #[derive(Clone, Copy, Debug, PartialEq, Eq)]
 pub enum OtpHash {
-    /// SHA-1, of RFC 4226.
+    /// SHA-1, as in RFC 4226.
     Sha1,
 
     /// SHA-256.
@@ -20,7 +20,8 @@ pub enum OtpHash {
 }
 
 impl OtpHash {
-    /// `hotp` with this hash function.
+    /// The HOTP value of `counter` under `secret` (RFC 4226, section 5.3),
+    /// with this hash function.
     pub fn hotp(self, secret: &Secret, counter: u64, digits: Digits) -> Code
         ensures { result ≡ hotp_text_by self digits secret.now counter }
     {

@@ -1,8 +1,8 @@
-//! Laws over histories of attempts, for what stands on tokens. Each is the contract of a function
+//! Laws of histories of attempts, for crates that use tokens. Each is the contract of a function
 //! that does nothing.
 ghost use Rattle.otp_core.specs.Laws.{BeginsWithItself, CandidatesAreNew, UsedStaysUsed, HistoriesJoin, OnlyOneReplyIsDue, SomeReplyIsDue};
 
-/// Each token stands where it and the empty history lead, so a run may begin with any token.
+/// Each token is where it and the empty history lead, so a run may begin with any token.
 pub fn begins_with_itself()
     ensures { BeginsWithItself }
 {}
@@ -13,25 +13,25 @@ pub fn candidates_are_new()
     ensures { CandidatesAreNew }
 {}
 
-/// A counter that a token has used can pass after no legal history from it, also where failures are
-/// set back to 0 on the way.
+/// A counter that a token has used can pass after no legal history from it, even where failures are
+/// set back to 0 in between.
 pub fn used_stays_used()
     ensures { UsedStaysUsed }
 {}
 
-/// Where one history leads from a start to a token, and another from there on, both as one lead from
-/// the start to where the second leads.
+/// Where one history leads from a start to a token, and another leads on from there, both together
+/// lead from the start to where the second leads.
 pub fn histories_join()
     ensures { HistoriesJoin }
 {}
 
-/// No two replies are due to one attempt: whoever knows the start and the history can judge a
-/// recorded reply.
+/// No two replies are due to one attempt: from the start and the history it follows whether a
+/// recorded reply is right.
 pub fn only_one_reply_is_due()
     ensures { OnlyOneReplyIsDue }
 {}
 
-/// To every attempt some reply is due, after any start and history.
+/// Some reply is due to every attempt, after any start and history.
 pub fn some_reply_is_due()
     ensures { SomeReplyIsDue }
 {}

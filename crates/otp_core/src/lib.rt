@@ -1,7 +1,8 @@
 //! HOTP (RFC 4226) and TOTP (RFC 6238) codes, and tokens that judge them.
 //!
-//! A code's contract says that it is the RFC's formula of its arguments. A token's says that each
-//! reply is the one due after all earlier attempts (`Token::attempt`). No call takes memory.
+//! A code's contract says that it is the RFC's formula of its arguments. A token's contract says
+//! that each reply is the one due after all earlier attempts (`Token::attempt`). No call takes
+//! memory.
 //!
 //! ```rust
 //! use mac_core::HSha1;

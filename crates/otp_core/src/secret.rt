@@ -22,8 +22,8 @@ impl Model for Secret {
 }
 
 impl Secret {
-    /// The secret of these bytes. `SecretLength` (40) exactly where they are fewer than 10 or more
-    /// than 64.
+    /// The secret of these bytes. Answers 40 SecretLength exactly where there are fewer than 10 or
+    /// more than 64.
     pub fn new(bytes: &[u8]) -> Result<Secret, OtpFault>
         ensures { MatchResult result
             (λ secret. (secret ≡ bytes.now) × IsSecretLength (length bytes.now))
@@ -46,7 +46,7 @@ impl Secret {
         self.bytes.as_slice()
     }
 
-    /// A second value of the same bytes.
+    /// A copy of the secret.
     pub fn copy(&self) -> Secret
         ensures { result ≡ self.now }
     {
@@ -57,7 +57,7 @@ impl Secret {
     }
 }
 
-/// How many digits a code has: 6 to 8 (RFC 4226, section 5.3). Contracts see it as that number.
+/// The number of digits of a code: 6 to 8 (RFC 4226, section 5.3). Contracts see it as that number.
 #[derive(Clone, Copy, Debug, PartialEq, Eq)]
 pub struct Digits {
     count: u8,
@@ -74,7 +74,7 @@ impl Model for Digits {
 }
 
 impl Digits {
-    /// Codes of `count` digits. `DigitCount` (41) exactly where `count` is below 6 or above 8.
+    /// The number `count` of digits. Answers 41 DigitCount exactly where it is below 6 or above 8.
     pub fn new(count: u8) -> Result<Digits, OtpFault>
         ensures { MatchResult result
             (λ digits. (digits ≡ count) × IsDigitCount count)
@@ -87,7 +87,7 @@ impl Digits {
         }
     }
 
-    /// How many digits.
+    /// The number of digits.
     pub fn count(self) -> u8
         ensures value { result ≡ self }
         ensures range { IsDigitCount self }
@@ -114,7 +114,7 @@ impl Model for Moment {
 }
 
 impl Moment {
-    /// The moment so many seconds after the start of 1970, or None exactly where they are more than
+    /// The moment `seconds` after the start of 1970 (UTC), or None exactly where they are more than
     /// 253402300799.
     pub fn new(seconds: u64) -> Option<Moment>
         ensures { MatchOption result
@@ -128,7 +128,7 @@ impl Moment {
         }
     }
 
-    /// The seconds since the start of 1970.
+    /// The seconds since the start of 1970 (UTC).
     pub fn seconds(self) -> u64
         ensures value { result ≡ self }
         ensures range { IsMoment self }

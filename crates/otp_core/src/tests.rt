@@ -1,5 +1,5 @@
-//! Values from outside: RFC 4226, section 5.4 and appendix D, and RFC 6238, appendix B; a few codes of
-//! other counters are from Python's hmac.
+//! Values from outside: RFC 4226, section 5.4 and appendix D, and RFC 6238, appendix B; the codes of a
+//! few other counters are from Python's hmac.
 use crate::laws::{
     begins_with_itself, candidates_are_new, histories_join, only_one_reply_is_due, used_stays_used,
 };
@@ -11,14 +11,14 @@ use mac_core::{HSha1, HSha256, HSha512, HashFn, Prepared, Tag};
 use std::process::Abort;
 use std::test::Fail;
 
-// The secret of RFC 6238, appendix B; its front of 20 bytes is also that of RFC 4226, appendix D.
+// The secret of RFC 6238, appendix B; its first 20 bytes are also that of RFC 4226, appendix D.
 const SECRET: &[u8; 64] = b"1234567890123456789012345678901234567890123456789012345678901234";
 
 fn moment(rt: &impl Abort, seconds: u64) -> Moment {
     Moment::new(seconds).expect(rt, "a moment")
 }
 
-// One code in each way: over the secret and over a prepared key.
+// Checks one code, made in each way: of the secret, and of a prepared key.
 fn check_code<H: HashFn>(
     rt: &impl Abort,
     hash: OtpHash,
@@ -78,7 +78,7 @@ fn totp_values(rt: HostRuntime) -> Result<(), Fail> {
     Ok(())
 }
 
-// The tag of these bytes, cut to this many digits.
+// The code of the tag of these bytes, with `count` digits.
 fn code_of_bytes(rt: &impl Abort, bytes: &[u8], count: u8) -> Code {
     let tag = Tag::try_from(bytes).ok().expect(rt, "at most 64 bytes");
     assert!(rt; tag.len() >= 20, "at least 20 bytes");
@@ -101,7 +101,7 @@ fn truncation_of_rfc(rt: HostRuntime) {
     }
 }
 
-// The offset is in the last of 32 bytes and not in the twentieth; the top bit drops out.
+// The offset is in the last of 32 bytes and not in the twentieth; the top bit is dropped.
 #[test]
 fn truncation_of_long_tag(rt: HostRuntime) {
     let mut tag = [0; 32];
@@ -183,7 +183,7 @@ fn fault_texts(rt: HostRuntime) -> Result<(), Fail> {
     Ok(())
 }
 
-// A setting is shown by the name of its field.
+// A setting has the name of its field.
 #[test]
 fn setting_names(rt: HostRuntime) -> Result<(), Fail> {
     let rows = [
@@ -205,7 +205,7 @@ fn setting_names(rt: HostRuntime) -> Result<(), Fail> {
     Ok(())
 }
 
-// A HOTP token's fields: next, look_ahead, limit and failures.
+// The HOTP token with these fields: next, look_ahead, limit and failures.
 fn hotp_fields(rt: &impl Abort, state: (u64, u64, u64, u64)) -> HotpFields {
     let (next, look_ahead, limit, failures) = state;
     HotpFields {
@@ -236,7 +236,7 @@ fn hotp_ranges(rt: HostRuntime) {
     }
 }
 
-// A TOTP token's fields: step, back, ahead and max_drift; last, drift, limit and failures.
+// The TOTP token with these fields: step, back, ahead and max_drift; last, drift, limit and failures.
 fn totp_fields(
     rt: &impl Abort,
     window: (u64, u64, u64, u64),
@@ -308,7 +308,7 @@ fn unlock_sets_failures_alone(rt: HostRuntime) {
     }
 }
 
-// Attempts one after the other: a moment, a text and the reply.
+// Makes attempts one after the other, each a moment and a text, and compares the replies.
 fn check_attempts(
     rt: &impl Abort,
     token: Result<Token, OtpFault>,
@@ -395,7 +395,7 @@ fn totp_attempts(rt: HostRuntime) {
             (59, "94287082", Reply::Pass(1)),
             (59, "94287082", Reply::Fail),
         ],
-        // A moment that goes back behind a pass.
+        // A moment that is before that of a pass.
         [
             (1111111111, "14050471", Reply::Pass(37037037)),
             (59, "94287082", Reply::Fail),
@@ -438,7 +438,7 @@ fn totp_edges(rt: HostRuntime) {
             Reply::Pass(1),
         ),
         ((30, 0, 1, 0), (None, 0, 3, 0), 29, "94287082", Reply::Fail),
-        // So is the window back.
+        // The window back is cut by max_drift too.
         (
             (30, 1, 0, 1),
             (None, 0, 3, 0),
@@ -457,7 +457,7 @@ fn totp_edges(rt: HostRuntime) {
 #[test]
 fn totp_clocks(rt: HostRuntime) {
     let rows = [
-        // A slow clock looks before step 0, where there is nothing.
+        // With a slow clock the window lies before step 0, where there is no step.
         ((30, 0, 0, 1), (None, -1, 3, 0), 29, "84755224", Reply::Fail),
         (
             (30, 0, 0, 1),
@@ -474,7 +474,7 @@ fn totp_clocks(rt: HostRuntime) {
             "37359152",
             Reply::Pass(2),
         ),
-        // Locked comes first.
+        // Locked counts before all else.
         (
             (30, 0, 0, 0),
             (None, 0, 3, 3),

@@ -40,7 +40,7 @@ impl Model for Token {
 }
 
 impl Token {
-    /// The HOTP token of these fields. `Setting` (42) with the first field that is out of its
+    /// The HOTP token of these fields. Answers 42 Setting with the first field that is out of its
     /// range, exactly where there is one.
     pub fn hotp(fields: HotpFields) -> Result<Token, OtpFault>
         ensures { MatchResult result
@@ -55,7 +55,7 @@ impl Token {
         }
     }
 
-    /// The TOTP token of these fields. `Setting` (42) with the first field that is out of its
+    /// The TOTP token of these fields. Answers 42 Setting with the first field that is out of its
     /// range, exactly where there is one.
     pub fn totp(fields: TotpFields) -> Result<Token, OtpFault>
         ensures { MatchResult result
@@ -78,7 +78,7 @@ impl Token {
         &self.fields
     }
 
-    /// A second token of the same settings and state.
+    /// A copy of the token.
     pub fn copy(&self) -> Token
         ensures { result ≡ self.now }
     {
@@ -89,12 +89,16 @@ impl Token {
         Token { fields }
     }
 
-    /// Judges `text` as a code at `moment`. `Locked` where the failures have reached the limit; else
-    /// `Pass` with the least counter that can pass and whose code is the text; else `Fail`. So no
-    /// counter passes twice. For every start and history that lead to this token, the reply is the
-    /// one due after them, and they lead, with this attempt added, to the token as it is then. Its
-    /// fields change as the reply says: a pass moves `next`, or `last` and `drift`, past the counter
-    /// and clears the failures; a failure is counted; `Locked` changes nothing.
+    /// Judges `text` as a code at `moment` (RFC 4226, section 7, and RFC 6238, sections 5.2 and 6):
+    /// `Locked` where the failures have reached the limit; else `Pass` with the least counter that
+    /// can pass and whose code is the text; else `Fail`. So no counter passes twice. For every start
+    /// and history that lead to this token, the reply is the one due after them, and with this
+    /// attempt added they lead to the token as it is afterwards.
+    ///
+    /// The fields change by the reply. A pass of HOTP moves `next` to the counter after it; a pass
+    /// of TOTP sets `last` to its step, and `drift` to the steps by which that is ahead of the
+    /// present one; both set the failures to 0. `Fail` adds one to the failures; `Locked` changes
+    /// nothing.
     pub fn attempt(&mut self, moment: Moment, text: &[u8]) -> Reply
         ensures due { (start : TheFields) (history : List Attempt)
             → IsAfter start history self.old → IsDue start history moment (OneText text.now) result }

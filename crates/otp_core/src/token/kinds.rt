@@ -15,22 +15,22 @@ pub(crate) const MOST_COUNTER: u64 = 0x7fff_ffff_ffff_fffe;
 /// The settings and the state of a HOTP token (RFC 4226, section 7).
 #[derive(Drop)]
 pub struct HotpFields {
-    /// The key of its codes.
+    /// The key of the token's codes.
     pub secret: Secret,
 
-    /// How many digits its codes have.
+    /// The number of digits of the token's codes.
     pub digits: Digits,
 
     /// The least counter that can pass, at most 2^63-1, at which none can.
     pub next: u64,
 
-    /// How many counters behind `next` can pass too, at most 100 (RFC 4226, section 7.4).
+    /// How many counters after `next` can pass too, at most 100 (RFC 4226, section 7.4).
     pub look_ahead: u64,
 
-    /// The number of failures that locks it, 1 to 100 (RFC 4226, section 7.3).
+    /// The number of failures that locks the token, 1 to 100 (RFC 4226, section 7.3).
     pub limit: u64,
 
-    /// The failures since it last passed, at most `limit`.
+    /// The failures since the token last passed or was unlocked, at most `limit`.
     pub failures: u64,
 }
 
@@ -53,7 +53,7 @@ impl HotpFields {
         }
     }
 
-    /// A second value of the same fields.
+    /// A copy of the fields.
     pub(crate) fn copy(&self) -> HotpFields
         ensures { result ≡ self.now }
     {
@@ -71,28 +71,28 @@ impl HotpFields {
 /// The settings and the state of a TOTP token (RFC 6238, sections 4 to 6).
 #[derive(Drop)]
 pub struct TotpFields {
-    /// The hash function of its codes.
+    /// The hash function of the token's codes.
     pub hash: OtpHash,
 
-    /// The key of its codes.
+    /// The key of the token's codes.
     pub secret: Secret,
 
-    /// How many digits its codes have.
+    /// The number of digits of the token's codes.
     pub digits: Digits,
 
-    /// The moment at which its steps begin.
+    /// The moment at which step 0 begins.
     pub t0: Moment,
 
     /// The length of a step in seconds, 1 to 3600.
     pub step: u64,
 
-    /// How many steps before the one that is due can pass, at most 10.
+    /// How many steps before the step that is due can pass, at most 10.
     pub back: u64,
 
-    /// How many steps behind the one that is due can pass, at most 10.
+    /// How many steps after the step that is due can pass, at most 10.
     pub ahead: u64,
 
-    /// How far a step that passes may lie from the present one, at most 100 steps.
+    /// How far a step that passes may be from the present one, at most 100 steps.
     pub max_drift: u64,
 
     /// The greatest step that has passed, at most 2^63-2, or None where none has.
@@ -102,10 +102,10 @@ pub struct TotpFields {
     /// `max_drift` (RFC 6238, section 6).
     pub drift: i64,
 
-    /// The number of failures that locks it, 1 to 100.
+    /// The number of failures that locks the token, 1 to 100.
     pub limit: u64,
 
-    /// The failures since it last passed, at most `limit`.
+    /// The failures since the token last passed or was unlocked, at most `limit`.
     pub failures: u64,
 }
 
@@ -145,7 +145,7 @@ impl TotpFields {
         }
     }
 
-    /// A second value of the same fields.
+    /// A copy of the fields.
     pub(crate) fn copy(&self) -> TotpFields
         ensures { result ≡ self.now }
     {
@@ -169,9 +169,9 @@ impl TotpFields {
 /// The settings and the state of a token of either kind.
 #[derive(Drop)]
 pub enum Fields {
-    /// Those of a HOTP token.
+    /// The settings and the state of a HOTP token.
     Hotp(HotpFields),
 
-    /// Those of a TOTP token.
+    /// The settings and the state of a TOTP token.
     Totp(TotpFields),
 }

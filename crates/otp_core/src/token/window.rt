@@ -9,7 +9,7 @@ use crate::code::step;
 use crate::secret::Moment;
 use crate::token::kinds::{Fields, HotpFields, MOST_COUNTER, TotpFields};
 
-// The counters from `first` on and before `end`.
+// The counters from `first` up to but not including `end`.
 #[derive(Clone, Copy)]
 pub(crate) struct Counters {
     pub(crate) first: u64,
@@ -41,7 +41,7 @@ fn counters_due(token: &HotpFields) -> Counters
     }
 }
 
-// By how many steps a clock is fast, and by how many slow; one of them is 0.
+// By how many steps a clock is fast, and by how many it is slow; one of them is 0.
 fn fast_and_slow(drift: i64) -> (u64, u64)
     requires { nat_abs drift ≤ 100 }
     ensures value { drift ≡ pos result.0 -ℤ pos result.1 }
@@ -72,7 +72,7 @@ fn steps_near(now: u64, drift: i64, back: u64, ahead: u64, max_drift: u64) -> Co
     }
 }
 
-// The steps near the present one, above the last that passed.
+// The steps near the present one that are above the last that passed.
 fn steps_due(token: &TotpFields, now: u64) -> Counters
     requires range { IsTotpInRange token.now }
     requires now { now ≤ 253402300799 }
