@@ -1,5 +1,5 @@
--- The STANDARD engine's texts have their usual form: no comma, four bytes for each three begun, and they
--- are decoded to what they are the texts of, as nothing else is.
+-- The STANDARD engine's texts have their usual form: no comma, four bytes for each three begun, and each
+-- is decoded to the bytes that it is the text of, while no other text is.
 use Rattle.std.proofs.Common.{◌≡◌, ℕ, zero, suc, ◌+◌, ◌*◌, ◌/◌, ◌%◌, ◌≤◌, true, not, List, [], ◌∷◌, length, replicate, refl, sym, ◌∙◌, arith, length-append, subst}
 use Rattle.std.specs.Prelude.{slice_index}
 use Rattle.std.specs.List.{list_all}
@@ -18,7 +18,7 @@ use Rattle.scram_text.specs.Base64Field.{base64, reading, IsField, HasUsualBase6
 use Rattle.scram_text.specs.Parts.{SpellsField}
 use Rattle.scram_text.proofs.PartLemmas.{both}
 
--- no element of a list without commas is one, nor is 0, which stands past the end
+-- no element of a list without commas is a comma, nor is 0, which is what an index past the end reads
 symbol_lacks : (symbols : List ℕ) (k : ℕ) → LacksComma symbols → not (is_comma (slice_index symbols k)) ≡ true
 symbol_lacks [] k h = refl
 symbol_lacks (c ∷ symbols) zero h = (both (not (is_comma c)) (list_all (λ c. not (is_comma c)) symbols) h).0
@@ -69,7 +69,7 @@ pub base64_back : (bytes : List ℕ) → IsBytes bytes → reading (base64 bytes
 unfolding reading base64
 base64_back bytes fits = decode_of-encode_of standard bytes refl fits
 
--- what is decoded is the text of what it is decoded to
+-- a text that is decoded is the text of what it is decoded to
 pub base64_read : (text bytes : List ℕ) → IsBytes text → reading text ≡ Ok bytes → text ≡ base64 bytes
 unfolding reading base64
 base64_read text bytes fits read = decode_of_strict standard text bytes (refl, refl) fits read
@@ -110,7 +110,7 @@ field_error most text e read (spelt, spelled, field) =
     let also = subst (λ (t : List ℕ). reading t ≡ Ok spelt) (sym spelled) field.field.back in
     cc (also, read)
 
--- bytes of a length within the limits may stand in a field
+-- bytes of a length within the limits fit a field
 pub field_of_bytes : (most : ℕ) (bytes : List ℕ) → IsBytes bytes → 1 ≤ length bytes → length bytes ≤ most → IsField most bytes
 field_of_bytes most bytes fits least within = record {
   at_least = least;
@@ -118,7 +118,7 @@ field_of_bytes most bytes fits least within = record {
   field = record { spelled = refl; back = base64_back bytes fits; no_comma = base64_lacks bytes };
 }
 
--- the same, from the usual form
+-- bytes of a length within the limits fit a field, by the usual form of base64
 pub field_where_usual : HasUsualBase64 → (most : ℕ) (bytes : List ℕ) → most ≤ 1536 → IsBytes bytes → 1 ≤ length bytes → length bytes ≤ most → IsField most bytes
 field_where_usual usual most bytes limit fits least within =
     record { at_least = least; at_most = within; field = (usual bytes fits least (omega (arith, limit, within))).0 }

@@ -16,7 +16,7 @@ use Rattle.scram_text.specs.declared.fault.TextWhy.TheVariants.{Channel, Nonce, 
 use Rattle.scram_text.proofs.PartLemmas.{parts-append, parts_whole, misfit_here, misfit_later}
 use Rattle.scram_text.proofs.PlaceLemmas.{AllFit, fits_cons, fits_end, places_of, misfit-append, misfit_behind, fit_behind, no_fault, nonce_lacks, extensions_lack, parts-joined, last_once, field_fits, field_once}
 
--- the parts of the text of these parts
+-- the parts of the message that these parts make
 abbrev pub final_parts : ClientFinalParts → List (List ℕ)
 final_parts p =
     (codes "c=" ++ base64 p.channel) ∷ (codes "r=" ++ p.nonce) ∷ (p.extensions ++ (codes "p=" ++ base64 p.proof) ∷ [])
@@ -56,7 +56,7 @@ client_final_once text p q is also =
     let proof = field_once 64 p.proof q.proof is.proof also.proof proofs in
     parts_once p q channel nonces ends.0 proof
 
--- the places of as many parts
+-- the places of as many parts as these
 pub final_places : (channel nonce proof : List ℕ) (extensions : List (List ℕ))
     → places (Channel ∷ Nonce ∷ []) (Proof ∷ []) (length (channel ∷ nonce ∷ (extensions ++ proof ∷ [])))
     ≡ Channel ∷ Nonce ∷ (replicate (length extensions) Extension ++ Proof ∷ [])
@@ -96,7 +96,7 @@ client_final_spelled text front last channel_part nonce_part p whole cut is_chan
     let front_is : front ≡ final_front p = sym (join_with_byte-slice_split 44 front) ∙ ap joined (cut ∙ pieces) in
     (front_is, rw (whole, front_is, is_proof) refl)
 
--- what is found is all that can be
+-- the parts that were found are all that a text can have
 pub client_final_only : (text : List ℕ) (r : Result ClientFinal TextFault)
     → IfOk r (λ m. (p : ClientFinalParts) × IsClientFinal text p × ShowsClientFinal m p) → IfErr r (λ f. IsClientFinalFault text f)
     → (p : ClientFinalParts) → IsClientFinal text p → IsOkAnd r (λ m. ShowsClientFinal m p)

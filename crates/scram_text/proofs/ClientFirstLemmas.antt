@@ -23,7 +23,7 @@ use Rattle.scram_text.proofs.PartLemmas.{both, parts_front, misfit_here, misfit_
 use Rattle.scram_text.proofs.PlaceLemmas.{AllFit, fits_cons, fits_end, fit_behind, fault_at, no_fault_at, class_lacks, nonce_lacks, extensions_lack, parts-joined_list, misfit_at}
 use Rattle.scram_text.proofs.MarkedLemmas.{places-cons, places_front, marked_of, marked_lack, marked_some, marked_once, marked_fit, marked_misfit, marked_length}
 
--- the parts behind a mandatory extension
+-- the parts after a mandatory extension
 abbrev pub later_parts : ClientFirstParts → List (List ℕ)
 later_parts p = (codes "n=" ++ p.name) ∷ (codes "r=" ++ p.nonce) ∷ p.extensions
 
@@ -105,12 +105,12 @@ later_fit name nonce extensions is_name is_nonce are =
     (fits_cons 256 Name _ name _ is_name (fits_cons 256 Nonce _ nonce _ is_nonce
     (rw (append-nil (replicate (length extensions) Extension), append-nil extensions) at behind)))
 
--- the places with those of the header in front
+-- the places with those of the header before them
 pub header_places : (later : List TextWhy) (n : ℕ) → places (Flag ∷ Authzid ∷ later) [] (suc (suc n)) ≡ Flag ∷ Authzid ∷ places later [] n
 header_places later n =
     places-cons Flag (Authzid ∷ later) [] (suc n) ∙ ap (λ (ps : List TextWhy). Flag ∷ ps) (places-cons Authzid later [] n)
 
--- a mandatory extension is one place more
+-- a mandatory extension is one more place
 pub marked_count : (pieces : List (List ℕ)) (later : List TextWhy) → length (marked_places pieces later) ≡ length (marked_places pieces []) + length later
 marked_count pieces later = elim (cases_Bool (is_headed 109 (first_of pieces))) [
   | inl hit ↦ rw hit (omega arith)
@@ -143,7 +143,7 @@ client_first_no_fault text p f is =
     (header_fit p.flag (authz_text p.authz) (bare_parts p) is.flag (p.authz, refl, is.authz)
     (bare_fit p is.mext is.name is.nonce is.extensions))
 
--- what is found is all that can be
+-- the parts that were found are all that a text can have
 pub client_first_only : (text : List ℕ) (r : Result ClientFirst TextFault)
     → IfOk r (λ m. (p : ClientFirstParts) × IsClientFirst text p × ShowsClientFirst m p) → IfErr r (λ f. IsClientFirstFault text f)
     → (p : ClientFirstParts) → IsClientFirst text p → IsOkAnd r (λ m. ShowsClientFirst m p)
@@ -182,7 +182,7 @@ bare_fault text flag authz bare f short is_text cut enough is_a_flag is_authz mi
     header_fault text flag authz bare f short is_text cut enough
     (misfit_later 256 0 Flag _ flag _ f is_a_flag (misfit_later 256 1 Authzid _ authz _ f is_authz misfit))
 
--- a misfit behind the mandatory extension; k is the index of the name
+-- a misfit after the mandatory extension; k is the index of the name
 later_misfit : (pieces : List (List ℕ)) (name nonce : List ℕ) (extensions : List (List ℕ)) (mext : Option (List ℕ)) (k : ℕ) (f : TextFault)
     → IsMarked pieces (name ∷ nonce ∷ extensions) mext → k ≡ 2 + length (mext_parts mext)
     → IsFirstMisfit 256 (Name ∷ Nonce ∷ replicate (length extensions) Extension) k (name ∷ nonce ∷ extensions) f → IsBareMisfit pieces f

@@ -1,4 +1,4 @@
--- Messages as they are composed: the text of the parts, and a text.
+-- Messages as they are composed: each is the text of its parts, and is a text.
 use Rattle.std.proofs.Common.{◌≡◌, ℕ, ◌≤◌, List, [], ◌∷◌, ◌++◌, length, refl, sym, ◌∙◌, ap, arith, subst, append-nil, append_assoc, true}
 use Rattle.std.specs.Prelude.{codes, decimal, option_map, IfSome}
 use Rattle.std.specs.declared.option.Option.{Option}
@@ -23,7 +23,7 @@ pub joined_cons : (piece : List ℕ) (pieces : List (List ℕ)) → 1 ≤ length
 joined_cons piece [] some = absurd (omega (arith, some))
 joined_cons piece (next ∷ pieces) some = refl
 
--- extensions stand behind a comma, where there are any
+-- a comma and the extensions follow, where there are any
 pub joined_behind : (piece extensions : List ℕ) → joined (piece ∷ extension_parts extensions) ≡ piece ++ behind_comma extensions
 joined_behind piece [] = sym (append-nil piece)
 joined_behind piece (c ∷ text) =

@@ -27,7 +27,7 @@ use Rattle.scram_text.proofs.PlaceLemmas.{AllFit}
 abbrev pub Decided : Type 0 → Type 0
 Decided P = P ⊎ (P → ⊥)
 
--- what has the same ground is decided with it
+-- a fact that holds exactly where another does is decided with it
 pub decided_by : (P Q : Type 0) → (P → Q) → (Q → P) → Decided P → Decided Q
 decided_by P Q there back d = elim d [ inl p ↦ inl (there p) | inr none ↦ inr (λ q. none (back q)) ]
 
@@ -100,7 +100,7 @@ count_decided count =
     (λ h. record { at_least = h.0; at_most = h.1 }) (λ r. (r.at_least, r.at_most))
     (decided_both _ _ (decided_le 1 count) (decided_le count 4294967295))
 
--- a text can be the decimal of the number that its digits are worth alone
+-- a text can only be the decimal of the number that its digits make
 spells_count_decided : (value : List ℕ) → Decided (SpellsCount value)
 spells_count_decided value =
     let worth = digits_value 10 value in
@@ -110,7 +110,7 @@ spells_count_decided value =
     (subst (λ (k : ℕ). value ≡ decimal k) (sym same) spelled, subst IsCount (sym same) is))
     (decided_both _ _ (decided_same value (decimal worth)) (count_decided worth))
 
--- a text can be the base64 of the bytes that it is decoded to alone
+-- a text can only be the base64 of the bytes that it is decoded to
 field_decided_by : (most : ℕ) (value : List ℕ) (r : Result (List ℕ) DecodeError) → reading value ≡ r → Decided (SpellsField most value)
 field_decided_by most value (Err e) read = inr (λ (bytes, spelled, field).
     let also = subst (λ (t : List ℕ). reading t ≡ Ok bytes) (sym spelled) field.field.back in cc (also, read))
@@ -176,13 +176,13 @@ fits_decided most Proof part = headed_decided 112 (SpellsField 64) part (spells_
 fits_decided most Verifier part = headed_decided 118 (SpellsField 64) part (spells_field_decided 64)
 fits_decided most ErrorValue part = headed_decided 101 IsValue part value_decided
 
--- and so is whether all do
+-- whether all parts fit their places is decided
 pub all_fit_decided : (most : ℕ) (later : List TextWhy) (pieces : List (List ℕ)) → Decided (AllFit most later pieces)
 unfolding AllFit
 all_fit_decided most [] pieces = inl tt
 all_fit_decided most (place ∷ later) [] = inl tt
 all_fit_decided most (place ∷ later) (part ∷ pieces) = decided_both _ _ (fits_decided most place part) (all_fit_decided most later pieces)
 
--- what is decided to be there, in two words
+-- it is decided whether something exists, said in another way
 pub decided_some : (A : Type 0) (P : A → Type 0) → Decided ((a : A) × P a) → ((a : A) × P a) ⊎ ((a : A) → P a → ⊥)
 decided_some A P d = elim d [ inl there ↦ inl there | inr none ↦ inr (λ a is. none (a, is)) ]

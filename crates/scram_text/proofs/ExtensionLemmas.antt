@@ -6,7 +6,7 @@ use Rattle.scram_text.specs.declared.fault.TextFault.{TextFault}
 use Rattle.scram_text.specs.declared.fault.TextWhy.TheVariants.{Extension}
 use Rattle.scram_text.proofs.PartLemmas.{misfit_here, misfit_later}
 
--- what holds of the parts that are left, from this index on, holds of all parts
+-- what holds for the parts that are left, from this index on, holds for all parts
 pub record Leads (first : ℕ) (all : List (List ℕ)) (index : ℕ) (mandatory : Bool) (left : List (List ℕ)) : Type 0 where
   pub extensions : AreExtensions left → AreExtensions all
   pub is_mandatory : (mandatory || have_mandatory left) ≡ have_mandatory all
@@ -17,7 +17,7 @@ or_assoc : (a b c : Bool) → ((a || b) || c) ≡ (a || (b || c))
 or_assoc true b c = refl
 or_assoc false b c = refl
 
--- one part more
+-- one more part
 pub Leads-next : (first : ℕ) (all : List (List ℕ)) (index : ℕ) (mandatory : Bool) (part : List ℕ) (left : List (List ℕ))
     → Leads first all index mandatory (part ∷ left) → IsExtension part
     → Leads first all (index + 1) (mandatory || is_headed 109 part) left

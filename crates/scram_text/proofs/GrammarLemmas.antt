@@ -30,7 +30,7 @@ fits_first : (most : ℕ) (place : TextWhy) (later : List TextWhy) (part : List 
 unfolding AllFit
 fits_first most place later part pieces fit = fit
 
--- extensions fit, and what stands behind them
+-- extensions fit, and so do the parts after them
 fits_split : (most : ℕ) (later : List TextWhy) (extensions pieces : List (List ℕ))
     → AllFit most (replicate (length extensions) Extension ++ later) (extensions ++ pieces) → AreExtensions extensions × AllFit most later pieces
 unfolding AllFit
@@ -184,7 +184,7 @@ marked_split_yes most least later (part ∷ rest) count headed enough fit =
     let (value, spelled, is) = each.0 in
     (Some value, rest, record { cut = ap (λ (x : List ℕ). x ∷ rest) spelled; value = is; headed = headed }, omega (arith, enough, count), each.1)
 
--- parts of which those behind a mandatory extension are enough
+-- parts are a mandatory extension, where they begin with one, and then enough others
 marked_split : (most least : ℕ) (later : List TextWhy) (pieces : List (List ℕ)) → length later ≡ least
     → length (marked_places pieces later) ≤ length pieces → AllFit most (places (marked_places pieces later) [] (length pieces)) pieces
     → (mext : Option (List ℕ)) × (rest : List (List ℕ)) × IsMarked pieces rest mext × (least ≤ length rest) × AllFit most (places later [] (length rest)) rest

@@ -14,7 +14,7 @@ use Rattle.scram_text.proofs.NameLemmas.{escape_cases, other_than}
 use Rattle.scram_text.proofs.PartLemmas.{cut_none, cut_text, cut_at, parts_front}
 use Rattle.scram_text.proofs.DecisionLemmas.{Decided, decided_by, decided_both, decided_same, run_decided}
 
--- the bytes that a saslname may spell: from 1 on, the byte behind `=` tells which is meant
+-- the bytes that a saslname may spell: from k = 1 on, the byte after `=` says which is meant
 decoded : ℕ → List ℕ → List ℕ
 decoded k [] = []
 decoded zero (c ∷ text) = if c == 61 then decoded 1 text else c ∷ decoded 0 text
@@ -36,7 +36,7 @@ unfolding decoded
 decoded-spelling [] = refl
 decoded-spelling (c ∷ name) = decoded-escape c (name_spelling name) ∙ ap (λ (n : List ℕ). c ∷ n) (decoded-spelling name)
 
--- a text can spell the name alone that it is decoded to
+-- a text can only spell the name that it is decoded to
 pub plain_name_decided : (spelled : List ℕ) → Decided ((name : List ℕ) × IsPlainName name × SpellsName name spelled)
 plain_name_decided spelled =
     let found = decoded 0 spelled in
@@ -51,7 +51,7 @@ pub name_decided : (spelled : List ℕ) → ((name : List ℕ) × IsPlainName na
     ⊎ ((name : List ℕ) → IsPlainName name → SpellsName name spelled → ⊥)
 name_decided spelled = elim (plain_name_decided spelled) [ inl there ↦ inl there | inr none ↦ inr (λ name plain spells. none (name, plain, spells)) ]
 
--- what stands before a comma in UTF-8, and what stands behind it
+-- the texts before and after a comma in UTF-8 are UTF-8
 utf8_pieces : (front back : List ℕ) → IsUtf8 (front ++ 44 ∷ back) → IsUtf8 front × IsUtf8 back
 utf8_pieces front back utf8 =
     let within : length front < length (front ++ 44 ∷ back) = omega (arith, length-append front (44 ∷ back)) in

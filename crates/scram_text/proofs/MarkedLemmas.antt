@@ -39,7 +39,7 @@ is_headed-first (a ∷ b ∷ text) = elim (cases_Bool (is_comma a)) [
   ]
 ]
 
--- one fixed place and one part more in front
+-- one more fixed place and one more part at the front
 pub places-cons : (place : TextWhy) (front back : List TextWhy) (n : ℕ) → places (place ∷ front) back (suc n) ≡ place ∷ places front back n
 places-cons place front back n =
     let same : suc n - (suc (length front) + length back) ≡ n - (length front + length back) = omega arith in rw same refl
@@ -55,7 +55,7 @@ pub mext_misfit : (k : ℕ) (mext : List ℕ) (rest : List (List ℕ)) → is_he
 mext_misfit k mext rest headed no_fit = λ most later.
     rw (headed, places-cons Mandatory later [] (length rest)) (misfit_here most k Mandatory _ mext rest no_fit)
 
--- a misfit behind a mandatory extension
+-- a misfit after a mandatory extension
 pub marked_misfit : (most k j : ℕ) (later : List TextWhy) (pieces rest : List (List ℕ)) (mext : Option (List ℕ)) (f : TextFault)
     → IsMarked pieces rest mext → j ≡ k + length (mext_parts mext) → IsFirstMisfit most (places later [] (length rest)) j rest f
     → IsFirstMisfit most (places (marked_places pieces later) [] (length pieces)) k pieces f
@@ -81,13 +81,13 @@ marked_fit most later pieces rest (Some value) marked fit =
     subst (λ (ps : List (List ℕ)). AllFit most (places (marked_places ps later) [] (length ps)) ps) (sym marked.cut)
     (rw (places-cons Mandatory later [] (length rest)) (fits_cons most Mandatory _ (codes "m=" ++ value) rest (value, refl, marked.value) fit))
 
--- how many fixed places there are
+-- the number of fixed places
 pub marked_length : (later : List TextWhy) (pieces rest : List (List ℕ)) (mext : Option (List ℕ)) → IsMarked pieces rest mext
     → (length (marked_places pieces later) ≡ length (mext_parts mext) + length later) × (length pieces ≡ length (mext_parts mext) + length rest)
 marked_length later pieces rest None marked = (rw marked.headed (omega arith), rw marked.cut (omega arith))
 marked_length later pieces rest (Some value) marked = (rw marked.headed (omega arith), rw marked.cut (omega arith))
 
--- a misfit behind a mandatory extension at the front of a message
+-- a misfit after a mandatory extension that a message begins with
 pub marked_fault : (most : ℕ) (later : List TextWhy) (pieces rest : List (List ℕ)) (mext : Option (List ℕ)) (f : TextFault)
     → IsMarked pieces rest mext → length later ≤ length rest → IsFirstMisfit most (places later [] (length rest)) (length (mext_parts mext)) rest f
     → IsPartFault most (marked_places pieces later) [] pieces f
@@ -98,7 +98,7 @@ marked_fault most later pieces rest mext f marked enough misfit =
       marked_misfit most 0 (length (mext_parts mext)) later pieces rest mext f marked (omega arith) misfit,
     )
 
--- pieces behind a mandatory extension, or without one
+-- parts after a mandatory extension, or without one
 pub marked_of : (mext : Option (List ℕ)) (piece : List ℕ) (rest : List (List ℕ)) → is_headed 109 piece ≡ false → IfSome mext IsValue
     → IsMarked (mext_parts mext ++ piece ∷ rest) (piece ∷ rest) mext
 marked_of None piece rest headed value = record { cut = refl; value = value; headed = headed }
@@ -113,7 +113,7 @@ pub marked_some : (mext : Option (List ℕ)) (piece : List ℕ) (rest : List (Li
 marked_some None piece rest = omega arith
 marked_some (Some v) piece rest = omega arith
 
--- whether a mandatory extension stands in front is seen from the pieces
+-- the parts show whether they begin with a mandatory extension
 pub marked_once : (one other : Option (List ℕ)) (a b : List ℕ) (x y : List (List ℕ)) → is_headed 109 a ≡ false → is_headed 109 b ≡ false
     → mext_parts one ++ a ∷ x ≡ mext_parts other ++ b ∷ y → (one ≡ other) × (a ∷ x ≡ b ∷ y)
 marked_once None None a b x y ha hb same = (refl, same)

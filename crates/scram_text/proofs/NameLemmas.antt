@@ -30,7 +30,7 @@ heads a b x y e = (cc, cc)
 heads_3 : (a b c a' b' c' : ℕ) (x y : List ℕ) → a ∷ b ∷ c ∷ x ≡ a' ∷ b' ∷ c' ∷ y → (b ≡ b') × (x ≡ y)
 heads_3 a b c a' b' c' x y e = (cc, cc)
 
--- the first byte of what is spelled
+-- the first byte that a spelling spells
 pub escape_first : (b c : ℕ) (x y : List ℕ) → escape b ++ x ≡ escape c ++ y → (b ≡ c) × (x ≡ y)
 escape_first b c x y e = elim (escape_cases b) [
   | inl p ↦ elim (escape_cases c) [
@@ -71,7 +71,7 @@ escape_nonempty b x e = elim (escape_cases b) [
 cons_both : (b c : ℕ) (x y : List ℕ) → b ≡ c → x ≡ y → c ∷ y ≡ b ∷ x
 cons_both b c x y first rest = cc
 
--- where the spelling of a front was read, the rest spells the other bytes
+-- where the spelling of the first bytes was read, the rest spells the others
 pub spelling_rest : (front rest name : List ℕ) → name_spelling front ++ rest ≡ name_spelling name
     → (more : List ℕ) × (name ≡ front ++ more) × (rest ≡ name_spelling more)
 spelling_rest [] rest name e = (name, refl, e)

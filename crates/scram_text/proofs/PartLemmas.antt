@@ -38,7 +38,7 @@ onto_first-append : (c : ℕ) (pieces more : List (List ℕ)) → 1 ≤ length p
 onto_first-append c [] more h = absurd (omega (arith, h))
 onto_first-append c (piece ∷ pieces) more h = refl
 
--- a comma separates the parts before it and those behind it
+-- a comma separates the parts before it and those after it
 pub parts-append : (front back : List ℕ) → parts (front ++ 44 ∷ back) ≡ parts front ++ parts back
 parts-append [] back = refl
 parts-append (c ∷ front) back =
@@ -55,7 +55,7 @@ parts_front front back h = rw (parts-append front back, parts_whole front h) ref
 take_more : (n c : ℕ) (text : List ℕ) → take (1 + n) (c ∷ text) ≡ c ∷ take n text
 take_more n c text = let one : 1 + n ≡ suc n = omega arith in rw one refl
 
--- no comma stands before the first one
+-- no comma comes before the first one
 before_lacks : (text : List ℕ) → LacksComma (take (position_or_len is_comma text) text)
 before_lacks [] = refl
 before_lacks (c ∷ text) = elim (cases_Bool (is_comma c)) [
@@ -78,7 +78,7 @@ position_cuts text = let at = position_or_len is_comma text in elim (cases_lt at
   | inr none ↦ rw (le-ltb at (length text) none) (rw (take_all at text none) at (before_lacks text))
 ]
 
--- the two parts of a cut, in the words of `&text[..at]` and `&text[at + 1..]`
+-- the two parts of a cut, as `&text[..at]` and `&text[at + 1..]` give them
 pub cut_at : (text : List ℕ) (at : ℕ) → position is_comma text ≡ Some at
     → (parts text ≡ take at text ∷ parts (take (length text - (at + 1)) (drop (at + 1) text))) × LacksComma (take at text)
 cut_at text at found =
@@ -103,7 +103,7 @@ pub misfit_later : (most k : ℕ) (place : TextWhy) (places : List TextWhy) (par
 unfolding IsFirstMisfit
 misfit_later most k place places part pieces f fits later = inr (fits, later)
 
--- the last part of a text stands behind its last comma
+-- the last part of a text follows its last comma
 pub parts_last : (text front back : List ℕ) → text ≡ front ++ 44 ∷ back → LacksComma back → parts text ≡ parts front ++ back ∷ []
 parts_last text front back spelled lacks = rw spelled (rw (parts-append front back, parts_whole back lacks) refl)
 

@@ -1,4 +1,4 @@
--- Parts against their places, whichever the message.
+-- Parts and their places, in each of the messages.
 use Rattle.std.proofs.Common.{◌≡◌, inl, inr, ℕ, ◌+◌, ◌-◌, ◌≤◌, Bool, true, false, List, [], ◌∷◌, ◌++◌, length, replicate, refl, sym, ◌∙◌, ap, arith, subst}
 use Rattle.std.specs.List.{AllByRecursion, list_all}
 use Rattle.std.proofs.lemmas.Bool.{cases_Bool, eqb-true, both_ways}
@@ -38,7 +38,7 @@ no_misfit most (place ∷ later) k (part ∷ pieces) f fit misfit = elim misfit 
   | inr behind ↦ no_misfit most later (k + 1) pieces f fit.1 behind.1
 ]
 
--- more places and parts behind
+-- more places and parts after these
 pub misfit-append : (most : ℕ) (later more : List TextWhy) (k : ℕ) (pieces others : List (List ℕ)) (f : TextFault)
     → IsFirstMisfit most later k pieces f → IsFirstMisfit most (later ++ more) k (pieces ++ others) f
 unfolding IsFirstMisfit
@@ -49,7 +49,7 @@ misfit-append most (place ∷ later) more k (part ∷ pieces) others f misfit = 
   | inr behind ↦ inr (behind.0, misfit-append most later more (k + 1) pieces others f behind.1)
 ]
 
--- extensions before
+-- extensions before these parts
 pub misfit_behind : (most : ℕ) (later : List TextWhy) (k j : ℕ) (extensions pieces : List (List ℕ)) (f : TextFault)
     → j ≡ k + length extensions → AreExtensions extensions → IsFirstMisfit most later j pieces f
     → IsFirstMisfit most (replicate (length extensions) Extension ++ later) k (extensions ++ pieces) f
@@ -78,7 +78,7 @@ pub fault_of : (most : ℕ) (front back : List TextWhy) (text : List ℕ) (piece
 fault_of most front back text pieces f short is_text cut misfit =
     inr (short, is_text, subst (λ (ps : List (List ℕ)). IsPartFault most front back ps f) (sym cut) misfit)
 
--- the same, where the parts settle the places
+-- a fault of the parts is one of the text, where the places follow from the parts
 pub fault_at : (most : ℕ) (front : List (List ℕ) → List TextWhy) (text : List ℕ) (pieces : List (List ℕ)) (f : TextFault)
     → length text ≤ 2048 → IsText text → parts text ≡ pieces → IsPartFault most (front pieces) [] pieces f
     → IsFault most (front (parts text)) [] text f
@@ -101,7 +101,7 @@ no_fault most front back text pieces f short is_text cut enough fit faulty = eli
       ]
 ]
 
--- the same, where the parts settle the places
+-- a text whose parts fit has no fault, where the places follow from the parts
 pub no_fault_at : (most : ℕ) (front : List (List ℕ) → List TextWhy) (text : List ℕ) (pieces : List (List ℕ)) (f : TextFault)
     → length text ≤ 2048 → IsText text → parts text ≡ pieces → length (front pieces) ≤ length pieces
     → AllFit most (places (front pieces) [] (length pieces)) pieces → IsFault most (front (parts text)) [] text f → ⊥
@@ -137,12 +137,12 @@ pub parts-joined_list : (pieces : List (List ℕ)) → 1 ≤ length pieces → A
 parts-joined_list [] some lack = absurd (omega (arith, some))
 parts-joined_list (piece ∷ pieces) some lack = parts-joined piece pieces lack
 
--- the same misfit at an index that is written in another way
+-- a misfit at an index that is written in another way
 pub misfit_at : (most j k : ℕ) (later : List TextWhy) (pieces : List (List ℕ)) (f : TextFault) → j ≡ k
     → IsFirstMisfit most later j pieces f → IsFirstMisfit most later k pieces f
 misfit_at most j k later pieces f same misfit = subst (λ (i : ℕ). IsFirstMisfit most later i pieces f) same misfit
 
--- a last element more
+-- equal lists have equal last elements, and are equal before them
 pub last_once : (xs ys : List (List ℕ)) (x y : List ℕ) → xs ++ x ∷ [] ≡ ys ++ y ∷ [] → (xs ≡ ys) × (x ≡ y)
 last_once [] [] x y same = (refl, cc)
 last_once [] (b ∷ []) x y same = absurd (cc same)

@@ -66,7 +66,7 @@ server_final_no_fault text p f is =
     no_fault_at 512 server_final_places text (outcome_text p.outcome ∷ p.extensions) f is.short is.is_text (parts_server_final text p is)
     (omega arith) (server_final_fit (outcome_text p.outcome) p.extensions (outcome_fits p.outcome is.outcome) is.extensions)
 
--- what is found is all that can be
+-- the parts that were found are all that a text can have
 pub server_final_only : (text : List ℕ) (r : Result ServerFinal TextFault)
     → IfOk r (λ m. (p : ServerFinalParts) × IsServerFinal text p × ShowsServerFinal m p) → IfErr r (λ f. IsServerFinalFault text f)
     → (p : ServerFinalParts) → IsServerFinal text p → IsOkAnd r (λ m. ShowsServerFinal m p)

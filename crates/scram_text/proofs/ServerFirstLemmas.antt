@@ -21,7 +21,7 @@ use Rattle.scram_text.proofs.PlaceLemmas.{AllFit, fits_cons, fits_end, fit_behin
 use Rattle.scram_text.proofs.MarkedLemmas.{places_front, marked_of, marked_lack, marked_some, marked_once, marked_fit, marked_fault, marked_length}
 use Rattle.scram_text.proofs.CountLemmas.{decimal_lacks, below_64}
 
--- the parts behind a mandatory extension
+-- the parts after a mandatory extension
 abbrev pub later_parts : ServerFirstParts → List (List ℕ)
 later_parts p = (codes "r=" ++ p.nonce) ∷ (codes "s=" ++ base64 p.salt) ∷ (codes "i=" ++ decimal p.count) ∷ p.extensions
 
@@ -38,7 +38,7 @@ parts_server_first text p is =
       ),
     )))
 
--- and begins with a mandatory extension where it has one
+-- a message begins with a mandatory extension where it has one
 pub is_marked : (text : List ℕ) (p : ServerFirstParts) → IsServerFirst text p → IsMarked (parts text) (later_parts p) p.mext
 is_marked text p is =
     subst (λ (ps : List (List ℕ)). IsMarked ps (later_parts p) p.mext) (sym (parts_server_first text p is))
@@ -91,7 +91,7 @@ server_first_no_fault text p f is =
     no_fault_at 512 server_first_places text (parts text) f is.short is.is_text refl (omega (arith, lengths.0, lengths.1))
     (server_first_fit text p is)
 
--- what is found is all that can be
+-- the parts that were found are all that a text can have
 pub server_first_only : (text : List ℕ) (r : Result ServerFirst TextFault)
     → IfOk r (λ m. (p : ServerFirstParts) × IsServerFirst text p × ShowsServerFirst m p) → IfErr r (λ f. IsServerFirstFault text f)
     → (p : ServerFirstParts) → IsServerFirst text p → IsOkAnd r (λ m. ShowsServerFirst m p)
@@ -99,7 +99,7 @@ server_first_only text (Ok m) found fault p is =
     subst (λ (q : ServerFirstParts). ShowsServerFirst m q) (server_first_once text found.0 p found.1 is) found.2
 server_first_only text (Err f) found fault p is = server_first_no_fault text p f is fault
 
--- a misfit behind the mandatory extension is a fault of the text; k is the index of the nonce
+-- a misfit after the mandatory extension is a fault of the text; k is the index of the nonce
 later_fault : (text nonce salt count : List ℕ) (extensions : List (List ℕ)) (mext : Option (List ℕ)) (k : ℕ) (f : TextFault)
     → length text ≤ 2048 → IsText text → IsMarked (parts text) (nonce ∷ salt ∷ count ∷ extensions) mext → k ≡ length (mext_parts mext)
     → IsFirstMisfit 512 (Nonce ∷ Salt ∷ Count ∷ replicate (length extensions) Extension) k (nonce ∷ salt ∷ count ∷ extensions) f

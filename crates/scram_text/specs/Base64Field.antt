@@ -15,7 +15,7 @@ base64 bytes = encode_of standard bytes
 unfoldable pub reading : List ℕ → Result (List ℕ) DecodeError
 reading text = decode_of standard text
 
--- the text is the base64 of these bytes, is decoded to them, and holds no comma
+-- the text is the base64 of these bytes, is decoded to them, and has no comma
 pub record IsBase64Of (text bytes : List ℕ) : Type 0 where
   pub spelled : text ≡ base64 bytes
   pub back : reading (base64 bytes) ≡ Ok bytes

@@ -42,7 +42,7 @@ IsPassword password = IsRunOf is_plain 1024 password
 abbrev pub IsNonce : ℕ → List ℕ → Type 0
 IsNonce most nonce = IsRunOf is_printable most nonce
 
--- what one end gives of its own to a nonce: 1 to 256 characters
+-- what one end adds to a nonce: 1 to 256 characters
 abbrev pub IsNoncePart : List ℕ → Type 0
 IsNoncePart nonce = IsNonce 256 nonce
 
@@ -52,7 +52,7 @@ pub record IsSalt (salt : List ℕ) : Type 0 where
   pub at_most : length salt ≤ 64
 
 -- a text: UTF-8, with no NUL in it. The value-chars of a message are the characters of such a text
--- that are not commas, and its value-safe-chars those that are no `=` either.
+-- except the comma, and its value-safe-chars those except `=` too.
 pub record IsText (bytes : List ℕ) : Type 0 where
   pub utf8 : IsUtf8 bytes
   pub no_nul : IsTrue (list_all (λ c. not (c == 0)) bytes)

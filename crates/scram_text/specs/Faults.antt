@@ -1,5 +1,5 @@
--- What is wrong with a text that is no message: the first fault that holds. It is a condition on the
--- text as a whole or on its parts, and the four messages differ in the places of their parts alone.
+-- What is wrong with a text that is no message: the first fault that it has. A fault is one of the
+-- whole text or of its parts, and the four messages differ only in the places of their parts.
 use Rattle.std.specs.Prelude.{ℕ, ◌≡◌, ◌<◌, ◌≤◌, ◌+◌, ◌-◌, ◌⊎◌, List, [], ◌∷◌, ◌++◌, length, drop, replicate, IfSome, if◌then◌else◌, IsTrue}
 use Rattle.std.specs.declared.option.Option.{Option}
 use Rattle.scram_text.specs.Class.{IsNonce, IsText}
@@ -71,7 +71,7 @@ IsFirstMisfit most (place ∷ places) k (part ∷ pieces) f =
     ((Fits most place part → ⊥) × (f ≡ fault k place))
     ⊎ (Fits most place part × IsFirstMisfit most places (k + 1) pieces f)
 
--- the same of extensions alone
+-- the first part that is no extension, where all have to be, with parts counted from k
 abbrev pub IsExtensionMisfit : ℕ → List (List ℕ) → TextFault → Type 0
 IsExtensionMisfit k pieces f =
     (most : ℕ) → IsFirstMisfit most (replicate (length pieces) Extension) k pieces f
@@ -104,7 +104,7 @@ abbrev pub first_of : List (List ℕ) → List ℕ
 first_of [] = []
 first_of (part ∷ pieces) = part
 
--- the places behind a mandatory extension, which is there where the first part begins with "m="
+-- the place of a mandatory extension, where the first part begins with "m=", and then the later places
 abbrev pub marked_places : List (List ℕ) → List TextWhy → List TextWhy
 marked_places pieces later = if is_headed 109 (first_of pieces) then Mandatory ∷ later else later
 

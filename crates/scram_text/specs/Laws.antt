@@ -1,5 +1,5 @@
 -- The laws of the grammar: that base64 has its usual form, that parts are UTF-8, that a text is a message
--- with one list of parts at most, and that it is decided whether it is one.
+-- with at most one list of parts, and that it is decided whether it is one.
 use Rattle.std.specs.Prelude.{ℕ, ◌≡◌, ◌≤◌, ◌⊎◌, List, length}
 use Rattle.std.specs.List.{AllByRecursion}
 use Rattle.std.specs.Str.{IsUtf8}
@@ -10,7 +10,7 @@ use Rattle.scram_text.specs.Base64Field.{IsField, HasUsualBase64}
 use Rattle.scram_text.specs.Parts.{parts}
 use Rattle.scram_text.specs.Messages.{ClientFirstParts, IsClientFirst, ServerFirstParts, IsServerFirst, ClientFinalParts, IsClientFinal, ServerFinalParts, IsServerFinal}
 
--- where base64 has its usual form, bytes within the limits may stand in a field
+-- where base64 has its usual form, bytes within the limits fit a field
 abbrev pub FieldsHoldBytes : Type 0
 FieldsHoldBytes = HasUsualBase64 → (most : ℕ) (bytes : List ℕ) → most ≤ 1536 → IsBytes bytes → 1 ≤ length bytes → length bytes ≤ most
     → IsField most bytes

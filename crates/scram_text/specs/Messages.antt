@@ -113,7 +113,7 @@ pub record IsClientFinal (text : List ℕ) (p : ClientFinalParts) : Type 0 where
   pub is_text : IsText text
   pub short : length text ≤ most_bytes
 
--- what server-final tells: the server's signature, or why the login failed
+-- what server-final says: the server's signature, or why the login failed
 pub data Outcome : Type 0 where
   verified : (signature : List ℕ) → Outcome
   failed : (value : List ℕ) → Outcome

@@ -7,7 +7,7 @@ use Rattle.scram_text.specs.Class.{is_comma}
 abbrev pub LacksComma : List ℕ → Type 0
 LacksComma bytes = IsTrue (list_all (λ c. not (is_comma c)) bytes)
 
--- "2C" or "3D" stands in front, which is what may follow `=` in a saslname
+-- the text begins with "2C" or "3D", as what follows `=` in a saslname does
 abbrev pub ends_escape : List ℕ → Bool
 ends_escape [] = false
 ends_escape (a ∷ []) = false

@@ -1,5 +1,5 @@
--- What commas cut a message into, and the classes of its parts (RFC 5802, section 7). No value holds a
--- comma, so a message is cut in one way.
+-- What commas cut a message into, and the classes of its parts (RFC 5802, section 7). No value has a
+-- comma in it, so a message is cut in one way.
 use Rattle.std.specs.Prelude.{ℕ, ◌≡◌, ◌≤◌, ◌==◌, nat_le, Bool, false, ◌&&◌, ◌||◌, IsTrue, List, [], ◌∷◌, ◌++◌, length, codes, decimal}
 use Rattle.std.specs.List.{list_all, list_any, slice_split, join_with_byte, AllByRecursion}
 use Rattle.std.specs.declared.option.Option.{Option}
@@ -16,7 +16,7 @@ parts text = slice_split is_comma text
 abbrev pub joined : List (List ℕ) → List ℕ
 joined pieces = join_with_byte 44 pieces
 
--- the parts of the text where there is one, and none where there is not
+-- the parts of a text where there is one, else no parts
 abbrev pub parts_of_some : Option (List ℕ) → List (List ℕ)
 parts_of_some None = []
 parts_of_some (Some text) = parts text

@@ -28,13 +28,13 @@ pub record IsCutFinal (message : List ℕ) (pieces : Pieces) : Type 0 where
   pub channel_len : length pieces.channel.now ≤ 2048
   pub proof_len : length pieces.proof.now ≤ 2048
 
--- parts are a mandatory extension, where they begin with one, and the others
+-- parts are a mandatory extension, where they begin with "m=", and the others
 pub record IsMarked (pieces rest : List (List ℕ)) (mext : Option (List ℕ)) : Type 0 where
   pub cut : pieces ≡ mext_parts mext ++ rest
   pub value : IfSome mext IsValue
   pub headed : is_headed 109 (first_of pieces) ≡ is_some mext
 
--- the first part begins with "m=" and is no mandatory extension
+-- the first part begins with "m=" and is no mandatory extension: it is the first misfit
 abbrev pub IsMextMisfit : ℕ → List (List ℕ) → TextFault → Type 0
 IsMextMisfit k pieces f =
     (most : ℕ) (later : List TextWhy) → IsFirstMisfit most (places (marked_places pieces later) [] (length pieces)) k pieces f

@@ -36,7 +36,7 @@ pub record ShowsServerFirst (m : ServerFirst) (p : ServerFirstParts) : Type 0 wh
   pub count : m.count ≡ p.count
   pub extensions : m.extensions.now ≡ joined p.extensions
 
--- the message shows these parts of client-final, and what stands before its proof
+-- the message shows these parts of client-final, and the text before its proof
 pub record ShowsClientFinal (m : ClientFinal) (p : ClientFinalParts) : Type 0 where
   pub without_proof : m.without_proof.now ≡ final_front p
   pub mandatory : m.mandatory ≡ client_final_mandatory p
@@ -45,7 +45,7 @@ pub record ShowsClientFinal (m : ClientFinal) (p : ClientFinalParts) : Type 0 wh
   pub extensions : m.extensions.now ≡ joined p.extensions
   pub proof : m.proof.items ≡ p.proof
 
--- what a result tells
+-- what a result says
 abbrev pub outcome_of : FinalResult → Outcome
 outcome_of (Verifier signature) = verified signature.items
 outcome_of (ErrorValue value) = failed value.now

@@ -11,7 +11,7 @@ use Rattle.scram_text.specs.Messages.{ClientFirstParts, ServerFirstParts, Client
 use Rattle.scram_text.specs.Shown.{flag_text}
 use Rattle.scram_text.specs.declared.client_first.Flag.{Flag}
 
--- the attr-vals of a text of extensions: none of the empty text
+-- the attr-vals of a text of extensions: none where it is empty
 abbrev pub extension_parts : List ℕ → List (List ℕ)
 extension_parts [] = []
 extension_parts (c ∷ text) = parts (c ∷ text)
@@ -21,7 +21,7 @@ pub record IsExtensionText (extensions : List ℕ) : Type 0 where
   pub is_text : IsText extensions
   pub each : AreExtensions (extension_parts extensions)
 
--- the parts of the client-first message that is written: names are given in plain bytes
+-- the parts of the client-first message that is written; names are given in plain bytes
 abbrev pub client_first_of : Flag → Option (List ℕ) → List ℕ → List ℕ → List ℕ → ClientFirstParts
 client_first_of flag authzid name nonce extensions = record {
   flag = flag_text flag;
@@ -32,7 +32,7 @@ client_first_of flag authzid name nonce extensions = record {
   extensions = extension_parts extensions;
 }
 
--- the arguments for client-first that a type does not keep in their classes
+-- the arguments for client-first whose types do not keep them in their classes are in them
 pub record CanBeClientFirst (flag : Flag) (extensions : List ℕ) : Type 0 where
   pub flag_class : IsTrue (is_flag (flag_text flag))
   pub extensions_class : IsExtensionText extensions
@@ -74,7 +74,7 @@ pub record CanBeClientFinal (channel nonce extensions proof : List ℕ) : Type 0
 abbrev pub server_final_of : Outcome → List ℕ → ServerFinalParts
 server_final_of outcome extensions = record { outcome = outcome; extensions = extension_parts extensions }
 
--- what is told is in its class: an error value is a text as well
+-- an outcome is in its class: an error value is a text as well
 abbrev pub CanBeTold : Outcome → Type 0
 CanBeTold (verified signature) = IsField 64 signature
 CanBeTold (failed value) = IsValue value × IsText value

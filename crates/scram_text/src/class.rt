@@ -4,21 +4,21 @@ ghost use Rattle.std.specs.List.{list_all};
 ghost use Rattle.scram_text.specs.Class.{is_printable, is_plain, is_letter, is_cb_char, IsNonce, IsRunOf, IsText};
 ghost use Rattle.scram_text.specs.Parts.{is_cb_name};
 
-/// printable = %x21-2B / %x2D-7E
+/// Whether the byte is printable = %x21-2B / %x2D-7E.
 pub(crate) fn is_printable(byte: u8) -> bool
     ensures { result ≡ is_printable byte }
 {
     (0x21..=0x7E).contains(&byte) && byte != b','
 }
 
-/// %x20-7E
+/// Whether the byte is one of %x20-7E.
 pub(crate) fn is_plain(byte: u8) -> bool
     ensures { result ≡ is_plain byte }
 {
     (0x20..=0x7E).contains(&byte)
 }
 
-/// 1 to `most` bytes of %x20-7E.
+/// Whether these are 1 to `most` bytes of %x20-7E.
 pub(crate) fn is_plain_run(bytes: &[u8], most: usize) -> bool
     ensures { IsTrue result ↔ IsRunOf is_plain most bytes.now }
 {
@@ -31,7 +31,7 @@ fn are_plain(bytes: &[u8]) -> bool
     bytes.iter().all(|byte| is_plain(*byte))
 }
 
-/// 1 to `most` printable characters.
+/// Whether these are 1 to `most` printable characters.
 pub(crate) fn is_nonce(bytes: &[u8], most: usize) -> bool
     ensures { IsTrue result ↔ IsNonce most bytes.now }
 {
@@ -44,14 +44,14 @@ fn are_printable(bytes: &[u8]) -> bool
     bytes.iter().all(|byte| is_printable(*byte))
 }
 
-/// ALPHA
+/// Whether the byte is ALPHA.
 pub(crate) fn is_letter(byte: u8) -> bool
     ensures { result ≡ is_letter byte }
 {
     byte.is_ascii_alphabetic()
 }
 
-/// gs2-cbind-flag's name: 1*(ALPHA / DIGIT / "." / "-")
+/// Whether this is the name of a channel binding: cb-name = 1*(ALPHA / DIGIT / "." / "-").
 pub(crate) fn is_cb_name(name: &[u8]) -> bool
     ensures { result ≡ is_cb_name name.now }
 {
@@ -70,7 +70,7 @@ fn is_cb_char(byte: u8) -> bool
     byte.is_ascii_alphanumeric() || byte == b'.' || byte == b'-'
 }
 
-/// UTF-8 with no NUL.
+/// Whether this is UTF-8 with no NUL.
 pub(crate) fn is_text(bytes: &[u8]) -> bool
     ensures { IsTrue result ↔ IsText bytes.now }
 {

@@ -5,7 +5,7 @@
 //! client-final-message = client-final-message-without-proof "," proof
 //! ```
 //!
-//! as `c=biws,r=abcdef,p=v0X8v3Bz2T0CJGbJQyF0X+HI4Ts=`. The last part is the proof, also where an
+//! as `c=biws,r=abcdef,p=v0X8v3Bz2T0CJGbJQyF0X+HI4Ts=`. The last part is the proof, even where an
 //! extension is named `p`.
 ghost use Rattle.std.specs.Prelude.{◌≡◌, ◌≤◌, ◌<◌, ◌+◌, ◌↔◌, [], ◌++◌, length, codes, vec_len, vec_capacity, IsTrue, IfOk, IfErr, OnOk, OnErr, IsOkAnd, IsErrOf};
 ghost use Rattle.scram_text.specs.Class.{IsNonce};
@@ -27,10 +27,10 @@ use std::alloc::Allocator;
 /// A client-final message that was read. Slices are slices of the message.
 #[derive(Drop)]
 pub struct ClientFinal<'a> {
-    /// All before the comma of the last part: client-final-message-without-proof.
+    /// The text before the comma of the last part: client-final-message-without-proof.
     pub without_proof: &'a [u8],
 
-    /// An extension is named `m`, so the receiver has to fail.
+    /// Whether an extension is named `m`: the receiver has to fail.
     pub mandatory: bool,
 
     /// The bytes of the channel field, 1 to 1536.
@@ -46,8 +46,9 @@ pub struct ClientFinal<'a> {
     pub proof: Tag,
 }
 
-/// Reads a client-final message, or answers the first fault of the text: 1 TooLong, 2 NotText or
-/// 3 Missing for the whole, else from the left 11 Channel, 8 Nonce, 12 Extension or 13 Proof.
+/// Reads a client-final message (RFC 5802, section 7), or answers the first fault of the text: 1
+/// TooLong, 2 NotText or 3 Missing for the whole text, else the first part from the left that is not
+/// as it has to be: 11 Channel, 8 Nonce, 12 Extension or 13 Proof. It takes no memory.
 pub fn read_client_final(message: &[u8]) -> Result<ClientFinal<'_>, TextFault>
     // The text is a message with the parts that are returned.
     ensures found { IfOk result (λ m. (p : ClientFinalParts) × IsClientFinal message.now p
@@ -133,11 +134,11 @@ fn pieces_of(message: &[u8]) -> Result<Pieces<'_>, TextFault>
     })
 }
 
-/// Appends a client-final message to `out`: the channel field of 1 to 1536 bytes, the nonce of 1 to
-/// 512 printable characters, the extensions as attr-vals with commas between them or empty, and the
-/// proof of 1 to 64 bytes. Answers 16 Unwritable where an argument is outside its class, else
-/// 17 OverLimit where the message would have more than 2048 bytes, else 99 NoMemory, which does not
-/// come where `out` has reserved room for the message; `out` is then unchanged.
+/// Appends a client-final message (RFC 5802, section 7) to `out`: the channel field of 1 to 1536
+/// bytes, the nonce of 1 to 512 printable characters, the extensions as attr-vals with commas
+/// between them or empty, and the proof of 1 to 64 bytes. Answers 16 Unwritable where an argument is
+/// outside its class, else 17 OverLimit where the message would have more than 2048 bytes, else 99
+/// NoMemory, only where `out` had no room reserved for the message; `out` is then unchanged.
 pub fn write_client_final<A: Allocator>(
     channel: &[u8],
     nonce: &[u8],

@@ -31,10 +31,10 @@ pub enum Flag<'a> {
     /// `n`: the client has no channel binding.
     NoBinding,
 
-    /// `y`: the client has it, and thinks that the server has not.
+    /// `y`: the client has it, and thinks that the server does not.
     NotOffered,
 
-    /// `p=` and the name of the binding that the client asks for, at least one letter, digit, `.` or
+    /// `p=` and the name of the binding that the client asks for: one or more letters, digits, `.` or
     /// `-`.
     Binding(&'a [u8]),
 }
@@ -45,7 +45,7 @@ pub struct ClientFirst<'a> {
     /// The gs2-header with its last comma.
     pub header: &'a [u8],
 
-    /// All that follows the header: client-first-message-bare.
+    /// The text after the header: client-first-message-bare.
     pub bare: &'a [u8],
 
     /// The flag.
@@ -54,7 +54,7 @@ pub struct ClientFirst<'a> {
     /// The authorisation name of `a=`, where there is one.
     pub authzid: Option<SaslText<'a>>,
 
-    /// The bare message begins with `m=` or an extension is named `m`, so the receiver has to fail.
+    /// Whether the bare message begins with `m=` or an extension is named `m`: the receiver has to fail.
     pub mandatory: bool,
 
     /// The name of `n=`.
@@ -67,9 +67,9 @@ pub struct ClientFirst<'a> {
     pub extensions: &'a [u8],
 }
 
-/// Reads a client-first message, or answers the first fault of the text: 1 TooLong, 2 NotText or
-/// 3 Missing for the whole, else from the left 4 Flag, 5 Authzid, 6 Mandatory, 7 Name, 8 Nonce or
-/// 12 Extension.
+/// Reads a client-first message (RFC 5802, section 7), or answers the first fault of the text: 1
+/// TooLong, 2 NotText or 3 Missing for the whole text, else the first part from the left that is not as
+/// it has to be: 4 Flag, 5 Authzid, 6 Mandatory, 7 Name, 8 Nonce or 12 Extension. It takes no memory.
 pub fn read_client_first(message: &[u8]) -> Result<ClientFirst<'_>, TextFault>
     // The text is a message with the parts that are returned.
     ensures found { IfOk result (λ m. (p : ClientFirstParts) × IsClientFirst message.now p
@@ -175,7 +175,7 @@ fn authzid_of(part: &[u8]) -> Result<Option<SaslText<'_>>, TextFault>
     }
 }
 
-// What is read of client-first-message-bare.
+// The parts of client-first-message-bare as they were read.
 #[derive(Drop)]
 struct Bare<'a> {
     mandatory: bool,
@@ -213,7 +213,7 @@ fn read_bare(bare: &[u8]) -> Result<Bare<'_>, TextFault>
     })
 }
 
-// The parts behind a mandatory extension: the first of them has this index in the message.
+// The parts after a mandatory extension: the first of them has this index in the message.
 #[derive(Drop)]
 struct BarePieces<'a> {
     marked: bool,
@@ -239,11 +239,11 @@ fn bare_pieces_of(bare: &[u8]) -> Result<BarePieces<'_>, TextFault>
     })
 }
 
-/// Appends a client-first message to `out`: the flag, the authorisation name and the name in plain
-/// bytes, which are spelled, the nonce, and the extensions as attr-vals with commas between them or
-/// empty. Answers 16 Unwritable where the flag's name or the extensions are outside their class, else
-/// 17 OverLimit where the message would have more than 2048 bytes, else 99 NoMemory, which does not
-/// come where `out` has reserved room for the message; `out` is then unchanged.
+/// Appends a client-first message (RFC 5802, section 7) to `out`: the flag, the authorisation name and
+/// the name in plain bytes, which are spelled, the nonce, and the extensions as attr-vals with commas
+/// between them or empty. Answers 16 Unwritable where the flag's name or the extensions are outside
+/// their class, else 17 OverLimit where the message would have more than 2048 bytes, else 99 NoMemory,
+/// only where `out` had no room reserved for the message; `out` is then unchanged.
 pub fn write_client_first<A: Allocator>(
     flag: Flag<'_>,
     authzid: Option<&PlainName>,

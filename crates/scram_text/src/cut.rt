@@ -1,4 +1,4 @@
-//! A message is cut at its commas into parts, and a part into its letter and its value.
+//! Cuts a message at its commas into parts, and a part into its letter and its value.
 ghost use Rattle.std.specs.Prelude.{◌≡◌, ◌≤◌, ◌<◌, ◌+◌, ℕ, [], ◌∷◌, ◌++◌, length, position, count_by, List, ◌↔◌, IsTrue, IfOk, IfSome, is_some, OnOk, IfErr, MatchOption, true, false};
 ghost use Rattle.std.specs.Option.{option_copied};
 ghost use Rattle.std.specs.declared.option.Option.{Option};
@@ -13,7 +13,7 @@ ghost use Rattle.scram_text.specs.Pieces.{IsMarked, IsMextMisfit};
 use crate::fault::{TextFault, TextWhy};
 use crate::{class, field};
 
-/// The number of parts of a message, where it is a text within the limit.
+/// The number of parts of a message. TooLong where it has over 2048 bytes, NotText where it is no text.
 pub(crate) fn count_of(message: &[u8]) -> Result<usize, TextFault>
     ensures short { IfOk result (λ _. length message.now ≤ 2048) }
     ensures is_text { IfOk result (λ _. IsText message.now) }
@@ -52,7 +52,7 @@ fn comma_count(text: &[u8]) -> usize
     text.iter().filter(|byte| **byte == b',').count()
 }
 
-/// The first part, and the text behind its comma where there is one.
+/// The first part, and the text after its comma where there is one.
 pub(crate) fn cut(text: &[u8]) -> (&[u8], Option<&[u8]>)
     ensures parts { parts text.now ≡ result.0.now ∷ parts_of_some (option_copied result.1) }
     ensures no_comma { LacksComma result.0.now }
@@ -72,7 +72,7 @@ fn comma(text: &[u8]) -> Option<usize>
     text.iter().position(|byte| *byte == b',')
 }
 
-/// What stands before the last comma and behind it, or None where there is none.
+/// The texts before and after the last comma, or None where there is none.
 pub(crate) fn cut_last(text: &[u8]) -> Option<(&[u8], &[u8])>
     ensures whole { MatchOption result (length (parts text.now) ≡ 1)
         (λ cut. text.now ≡ cut.0.now ++ 44 ∷ cut.1.now) }
@@ -90,7 +90,7 @@ pub(crate) fn cut_last(text: &[u8]) -> Option<(&[u8], &[u8])>
     None
 }
 
-/// The value of a part with this letter, or None where it is another part.
+/// The value of a part with this letter, or None where the part has another form.
 pub(crate) fn headed(part: &[u8], letter: u8) -> Option<&[u8]>
     ensures { MatchOption result (is_headed letter part.now ≡ false)
         (λ value. part.now ≡ letter ∷ 61 ∷ value.now) }
@@ -101,14 +101,14 @@ pub(crate) fn headed(part: &[u8], letter: u8) -> Option<&[u8]>
     }
 }
 
-/// The part is named `m`.
+/// Whether the part is named `m`.
 pub(crate) fn is_mandatory(part: &[u8]) -> bool
     ensures { result ≡ is_headed 109 part.now }
 {
     matches!(part, [b'm', b'=', ..])
 }
 
-// attr-val = ALPHA "=" value
+// Whether the part is attr-val = ALPHA "=" value.
 fn is_attribute(part: &[u8]) -> bool
     ensures { result ≡ is_attribute part.now }
 {
@@ -125,7 +125,7 @@ pub(crate) struct Extensions<'a> {
     pub(crate) mandatory: bool,
 }
 
-/// The extensions of a text where there is one. Its first part has this index in the message.
+/// The extensions of a text, where there is one. Its first part has this index in the message.
 pub(crate) fn extensions_of(text: Option<&[u8]>, first: usize) -> Result<Extensions<'_>, TextFault>
     requires few { first + length (parts_of_some (option_copied text)) < 10000 }
     ensures found { OnOk result (AreExtensions (parts_of_some (option_copied text.entry))) }
@@ -145,7 +145,7 @@ pub(crate) fn extensions_of(text: Option<&[u8]>, first: usize) -> Result<Extensi
     Ok(Extensions { text, mandatory })
 }
 
-// Each part is an attr-val; answers whether one is named `m`.
+// Checks that each part is an attr-val, and returns whether one is named `m`.
 fn attributes(text: &[u8], first: usize) -> Result<bool, TextFault>
     requires few { first + length (parts text.now) < 10000 }
     ensures found { OnOk result (AreExtensions (parts text.now)) }
@@ -170,7 +170,7 @@ fn attributes(text: &[u8], first: usize) -> Result<bool, TextFault>
     Ok(mandatory)
 }
 
-/// The first two parts, and the text behind them where there is one.
+/// The first two parts, and the text after them where there is one.
 pub(crate) fn two_of(text: &[u8]) -> (&[u8], &[u8], Option<&[u8]>)
     requires { 2 ≤ length (parts text.now) }
     ensures parts { parts text.now ≡ result.0.now ∷ result.1.now ∷ parts_of_some (option_copied result.2) }
@@ -186,14 +186,14 @@ pub(crate) fn two_of(text: &[u8]) -> (&[u8], &[u8], Option<&[u8]>)
     (first, second, rest)
 }
 
-/// The message begins with `m=`, so its first part does.
+/// Whether the message, and so its first part, begins with `m=`.
 pub(crate) fn is_marked(text: &[u8]) -> bool
     ensures { result ≡ is_headed 109 (first_of (parts text.now)) }
 {
     is_mandatory(text)
 }
 
-/// The least number of parts of a message: one more than the fixed ones where it begins with `m=`.
+/// The least number of parts of a message: the fixed ones, and one more where it begins with `m=`.
 pub(crate) fn least_of(text: &[u8], fixed: usize) -> usize
     requires { fixed < 10 }
     ensures { result ≡ length (marked_places (parts text.now) []) + fixed }
@@ -201,7 +201,7 @@ pub(crate) fn least_of(text: &[u8], fixed: usize) -> usize
     if is_marked(text) { fixed + 1 } else { fixed }
 }
 
-/// What follows a mandatory extension at the front of a text, or the whole text where there is none.
+/// The text after a mandatory extension at its beginning, or the whole text where there is none.
 #[derive(Drop)]
 pub(crate) struct Marked<'a> {
     pub(crate) marked: bool,
@@ -209,7 +209,7 @@ pub(crate) struct Marked<'a> {
     pub(crate) index: usize,
 }
 
-/// Reads reserved-mext, "m=" and a value, where it is there. The text's first part has this index.
+/// Reads reserved-mext, "m=" and a value, where there is one. The text's first part has this index.
 pub(crate) fn mext_of(text: &[u8], index: usize) -> Result<Marked<'_>, TextFault>
     requires few { index < 10 }
     requires enough { is_headed 109 (first_of (parts text.now)) ≡ true
@@ -242,7 +242,7 @@ pub(crate) fn mext_of(text: &[u8], index: usize) -> Result<Marked<'_>, TextFault
     })
 }
 
-/// The text is empty, or attr-vals with commas between them, in UTF-8 with no NUL.
+/// Whether the text is empty, or attr-vals with commas between them, in UTF-8 with no NUL.
 pub(crate) fn are_extensions(text: &[u8]) -> bool
     ensures { IsTrue result ↔ IsExtensionText text.now }
 {

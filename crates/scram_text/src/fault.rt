@@ -4,7 +4,7 @@ ghost use Rattle.scram_text.specs.Faults.{why_number, write_number};
 
 use thiserror::Error;
 
-/// What is wrong with a text, each with its number.
+/// What is wrong with a text, with the fault's number.
 #[derive(Clone, Copy, Debug, PartialEq, Eq, Error)]
 pub enum TextWhy {
     /// It has more than 2048 bytes.
@@ -27,7 +27,7 @@ pub enum TextWhy {
     #[error("the authorisation name is not `a=` and a name: write `,` as `=2C` and `=` as `=3D`")]
     Authzid = 5,
 
-    /// The part begins with `m=` and has nothing behind it.
+    /// The part begins with `m=` and has no value.
     #[error("the mandatory extension has no value")]
     Mandatory = 6,
 
@@ -63,7 +63,7 @@ pub enum TextWhy {
     #[error("the verifier is not `v=` and the base64 of 1 to 64 bytes")]
     Verifier = 14,
 
-    /// The part is `e=` with nothing behind it.
+    /// The part is `e=` with no value.
     #[error("the error value is empty")]
     ErrorValue = 15,
 }
@@ -98,7 +98,7 @@ impl TextFault {
     }
 }
 
-/// Why a message is not written. What it was to be appended to is unchanged.
+/// Why a message is not written. The vector that it was to be appended to is unchanged.
 #[derive(Clone, Copy, Debug, PartialEq, Eq, Error)]
 pub enum WriteFault {
     /// An argument is outside its class.
@@ -109,7 +109,7 @@ pub enum WriteFault {
     #[error("the message would have more than 2048 bytes: pass shorter extensions")]
     OverLimit = 17,
 
-    /// There is no memory for the message.
+    /// Memory ran out for the message.
     #[error("no memory for the message: reserve room for it first")]
     NoMemory = 99,
 }

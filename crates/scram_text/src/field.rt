@@ -1,4 +1,4 @@
-//! The parts whose values are decoded or have a class of their own, each read by its letter.
+//! Reads the parts whose values are decoded or have a class of their own, each by its letter.
 ghost use Rattle.std.specs.Prelude.{◌≡◌, ◌≤◌, ℕ, List, ◌∷◌, ◌++◌, length, take, decimal, codes, IfNone, IfSome, IsTrue, ◌↔◌};
 ghost use Rattle.scram_text.specs.Class.{IsNonce};
 ghost use Rattle.scram_text.specs.Name.{IsSaslName, LacksComma};
@@ -13,7 +13,7 @@ use base64::engine::general_purpose::STANDARD;
 use itoa::Buffer;
 use mac_core::Tag;
 
-/// The nonce of `r=` and 1 to `most` printable characters.
+/// The nonce of a part that is `r=` and 1 to `most` printable characters.
 pub(crate) fn nonce_of(part: &[u8], most: usize) -> Option<&[u8]>
     ensures none { IfNone result (IsHeaded 114 (IsNonce most) part.now → ⊥) }
     ensures spelled { IfSome result (λ nonce. part.now ≡ codes "r=" ++ nonce.now) }
@@ -27,7 +27,7 @@ pub(crate) fn nonce_of(part: &[u8], most: usize) -> Option<&[u8]>
     }
 }
 
-/// The name of `n=` or `a=` and a saslname.
+/// The name of a part that is `n=` or `a=` and a saslname.
 pub(crate) fn name_of(part: &[u8], letter: u8) -> Option<SaslText<'_>>
     ensures none { IfNone result (IsHeaded letter IsSaslName part.now → ⊥) }
     ensures spelled { IfSome result (λ name. part.now ≡ letter ∷ 61 ∷ name) }
@@ -37,7 +37,7 @@ pub(crate) fn name_of(part: &[u8], letter: u8) -> Option<SaslText<'_>>
     SaslText::new(spelled)
 }
 
-/// The value of `m=` or `e=` and one or more value-chars, in a part of a text.
+/// The value of a part of a text that is `m=` or `e=` and one or more value-chars.
 pub(crate) fn value_of(part: &[u8], letter: u8) -> Option<&[u8]>
     requires { LacksComma part.now }
     ensures none { IfNone result (IsHeaded letter IsValue part.now → ⊥) }
@@ -48,21 +48,21 @@ pub(crate) fn value_of(part: &[u8], letter: u8) -> Option<&[u8]>
     if value.is_empty() { None } else { Some(value) }
 }
 
-/// One or more value-chars, in a text.
+/// Whether this is one or more value-chars, in a text.
 pub(crate) fn is_value(value: &[u8]) -> bool
     ensures { IsTrue result ↔ IsValue value.now }
 {
     name::lacks_comma(value) && !value.is_empty()
 }
 
-/// A number from 1 to 4294967295.
+/// Whether the number is from 1 to 4294967295.
 pub(crate) fn is_count(count: u32) -> bool
     ensures { IsTrue result ↔ IsCount count }
 {
     count > 0
 }
 
-/// The count of `i=` and a number from 1 to 4294967295.
+/// The count of a part that is `i=` and a number from 1 to 4294967295.
 pub(crate) fn count_of(part: &[u8]) -> Option<u32>
     ensures none { IfNone result (IsHeaded 105 SpellsCount part.now → ⊥) }
     ensures spelled { IfSome result (λ count. part.now ≡ codes "i=" ++ decimal count) }
@@ -90,14 +90,14 @@ fn count(digits: &[u8]) -> Option<u32>
     }
 }
 
-// The digits are those of the number, with no sign and no leading zero.
+// Whether the digits are those of the number, with no sign and no leading zero.
 fn is_decimal(digits: &[u8], number: u32) -> bool
     ensures { IsTrue result ↔ (digits.now ≡ decimal number) }
 {
     digits == Buffer::new().format(number).as_bytes()
 }
 
-/// The bytes of `c=` and the base64 of 1 to 1536 bytes.
+/// The bytes of a part that is `c=` and the base64 of 1 to 1536 bytes.
 pub(crate) fn channel_of(part: &[u8]) -> Option<ArrayVec<u8, 1536>>
     requires { length part.now ≤ 2048 }
     ensures none { IfNone result (IsHeaded 99 (SpellsField 1536) part.now → ⊥) }
@@ -108,7 +108,7 @@ pub(crate) fn channel_of(part: &[u8]) -> Option<ArrayVec<u8, 1536>>
     long_field(text)
 }
 
-/// The bytes of a letter and the base64 of 1 to 64 bytes.
+/// The bytes of a part that is a letter, `=` and the base64 of 1 to 64 bytes.
 pub(crate) fn tag_of(part: &[u8], letter: u8) -> Option<Tag>
     requires { length part.now ≤ 2048 }
     ensures none { IfNone result (IsHeaded letter (SpellsField 64) part.now → ⊥) }
@@ -119,7 +119,7 @@ pub(crate) fn tag_of(part: &[u8], letter: u8) -> Option<Tag>
     short_field(text)
 }
 
-/// The salt of `s=` and the base64 of 1 to 64 bytes.
+/// The salt of a part that is `s=` and the base64 of 1 to 64 bytes.
 pub(crate) fn salt_of(part: &[u8]) -> Option<Salt>
     requires { length part.now ≤ 2048 }
     ensures none { IfNone result (IsHeaded 115 (SpellsField 64) part.now → ⊥) }
@@ -158,15 +158,15 @@ fn short_field(text: &[u8]) -> Option<Tag>
     Some(field)
 }
 
-/// 1 to `most` bytes, which a base64 field may hold.
+/// Whether these are 1 to `most` bytes, which a base64 field may hold.
 pub(crate) fn is_field(bytes: &[u8], most: usize) -> bool
     ensures { IsTrue result ↔ IsField most bytes.now }
 {
     !bytes.is_empty() && bytes.len() <= most
 }
 
-// The number of bytes that the base64 text stands for, which are then at the front of `buffer`. It is
-// None where the text is not the base64 of 1 to 1536 bytes.
+// Decodes the base64 text to the front of `buffer`, and returns the number of bytes; None where the
+// text is not the base64 of 1 to 1536 bytes.
 fn decode(text: &[u8], buffer: &mut [u8; 1536]) -> Option<usize>
     requires { length text.now ≤ 2048 }
     ensures none { IfNone result (SpellsField 1536 text.now → ⊥) }

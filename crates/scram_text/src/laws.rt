@@ -1,4 +1,4 @@
-//! Laws of the grammar, for proofs that stand on this crate: each is what a function ensures that
+//! Laws of the grammar, for proofs that rest on this crate: each is the promise of a function that
 //! does nothing.
 ghost use Rattle.scram_text.specs.Base64Field.{HasUsualBase64};
 ghost use Rattle.scram_text.specs.Laws.{FieldsHoldBytes, PartsAreUtf8, SpellsOneName, NameIsDecided, HasOneClientFirst, ClientFirstIsDecided, HasOneServerFirst, ServerFirstIsDecided, HasOneClientFinal, ClientFinalIsDecided, HasOneServerFinal, ServerFinalIsDecided};
@@ -30,42 +30,42 @@ pub fn name_is_decided()
     ensures { NameIsDecided }
 {}
 
-/// A text is a client-first message with one list of parts at most.
+/// A text is a client-first message with at most one list of parts.
 pub fn has_one_client_first()
     ensures { HasOneClientFirst }
 {}
 
-/// For every text there are parts of client-first that it has, or there are none.
+/// For every text there are parts of a client-first message that it has, or there are none.
 pub fn client_first_is_decided()
     ensures { ClientFirstIsDecided }
 {}
 
-/// A text is a server-first message with one list of parts at most.
+/// A text is a server-first message with at most one list of parts.
 pub fn has_one_server_first()
     ensures { HasOneServerFirst }
 {}
 
-/// For every text there are parts of server-first that it has, or there are none.
+/// For every text there are parts of a server-first message that it has, or there are none.
 pub fn server_first_is_decided()
     ensures { ServerFirstIsDecided }
 {}
 
-/// A text is a client-final message with one list of parts at most.
+/// A text is a client-final message with at most one list of parts.
 pub fn has_one_client_final()
     ensures { HasOneClientFinal }
 {}
 
-/// For every text there are parts of client-final that it has, or there are none.
+/// For every text there are parts of a client-final message that it has, or there are none.
 pub fn client_final_is_decided()
     ensures { ClientFinalIsDecided }
 {}
 
-/// A text is a server-final message with one list of parts at most.
+/// A text is a server-final message with at most one list of parts.
 pub fn has_one_server_final()
     ensures { HasOneServerFinal }
 {}
 
-/// For every text there are parts of server-final that it has, or there are none.
+/// For every text there are parts of a server-final message that it has, or there are none.
 pub fn server_final_is_decided()
     ensures { ServerFinalIsDecided }
 {}

@@ -1,13 +1,13 @@
 //! The four messages of a SCRAM login (RFC 5802, section 7): read exactly where the grammar has
 //! them, with their only parts, and written in their one form.
 //!
-//! Each reader's contract says that it answers the parts of a message or the first fault of a text
-//! that is none. Readers take no memory: what they answer are slices of the message and fixed
+//! Each reader's contract says that it returns the parts of a message, or the first fault of a text
+//! that is none. Readers take no memory: what they return are slices of the message and fixed
 //! buffers. Each writer's contract says which text it appends and when it refuses; after a refusal
 //! nothing was appended.
 //!
-//! Where the RFC leaves a choice or sets no limit, this crate has its own. Letters of literals count
-//! in one case: `N=`, `=2c` and the flag `Y` are refused. A message has at most 2048 bytes, a nonce
+//! Where the RFC leaves a choice or sets no limit, this crate has its own. Literals are matched with
+//! their case: `N=`, `=2c` and the flag `Y` are refused. A message has at most 2048 bytes, a nonce
 //! of client-first at most 256 characters and any other at most 512, a salt, a proof and a verifier
 //! at most 64 bytes, and a count is at most 4294967295. A base64 text is padded and has no unused
 //! bits set. An extension that is named `m` makes a message mandatory: it is read, and the receiver

@@ -43,7 +43,7 @@ impl PlainName {
         Some(PlainName { bytes })
     }
 
-    /// Its bytes, 1 to 255.
+    /// The bytes of the name, 1 to 255.
     pub fn bytes(&self) -> &[u8]
         ensures value { result.now ≡ self.now }
         ensures fits { IsPlainName self.now }
@@ -51,7 +51,7 @@ impl PlainName {
         self.bytes.as_slice()
     }
 
-    /// Its bytes as a text.
+    /// The bytes of the name as a text.
     pub fn text(&self) -> &str
         ensures value { result.now ≡ self.now }
         ensures fits { IsPlainName self.now }
@@ -62,7 +62,7 @@ impl PlainName {
         }
     }
 
-    /// A second value of this name.
+    /// A copy of the name.
     pub fn copy(&self) -> PlainName
         ensures { result ≡ self.now }
     {
@@ -89,7 +89,7 @@ impl<'a> Model for SaslText<'a> {
 }
 
 impl<'a> SaslText<'a> {
-    /// The saslname of these bytes, or None where they are none.
+    /// The saslname of these bytes, or None where they are no saslname.
     pub(crate) fn new(spelled: &'a [u8]) -> Option<SaslText<'a>>
         ensures { SomeIff result (IsSaslName spelled.now) spelled.now }
     {
@@ -100,7 +100,7 @@ impl<'a> SaslText<'a> {
         }
     }
 
-    /// Its bytes, as they stand in the message.
+    /// The saslname's bytes, as they stand in the message.
     pub fn spelled(&self) -> &'a [u8]
         ensures value { result.now ≡ self.now }
         ensures fits { IsSaslName self.now }
@@ -118,7 +118,7 @@ impl<'a> SaslText<'a> {
     }
 }
 
-// The bytes of the name, or None where they are more than 255.
+// The bytes of the name, or None where there are more than 255.
 fn unescaped(spelled: &[u8]) -> Option<ArrayVec<u8, 255>>
     requires escaped { IsTrue (is_escaped spelled.now) }
     requires no_comma { LacksComma spelled.now }
@@ -154,21 +154,21 @@ fn unescape(text: &[u8]) -> Option<(u8, &[u8])>
     }
 }
 
-// 1*(value-safe-char / "=2C" / "=3D"), in a text.
+// Whether this is 1*(value-safe-char / "=2C" / "=3D"), in a text.
 fn is_saslname(spelled: &[u8]) -> bool
     ensures { IsTrue result ↔ IsSaslName spelled.now }
 {
     lacks_comma(spelled) && is_escaped(spelled) && !spelled.is_empty()
 }
 
-/// No byte is a comma.
+/// Whether no byte is a comma.
 pub(crate) fn lacks_comma(bytes: &[u8]) -> bool
     ensures { result ≡ list_all (λ c. not (is_comma c)) bytes.now }
 {
     bytes.iter().all(|byte| *byte != b',')
 }
 
-// Each `=` begins `=2C` or `=3D`.
+// Whether each `=` begins `=2C` or `=3D`.
 fn is_escaped(text: &[u8]) -> bool
     ensures { result ≡ is_escaped text.now }
 {
@@ -182,7 +182,7 @@ fn is_escaped(text: &[u8]) -> bool
     true
 }
 
-// `2C` or `3D` stands in front.
+// Whether the text begins with `2C` or `3D`.
 fn ends_escape(text: &[u8]) -> bool
     ensures { result ≡ ends_escape text.now }
 {
@@ -190,8 +190,8 @@ fn ends_escape(text: &[u8]) -> bool
 }
 
 /// Appends the spelling of a name to `out`, with `=2C` for each comma and `=3D` for each equals sign
-/// (RFC 5802, section 5.1). Answers 99 NoMemory alone, which does not come where `out` has reserved
-/// room for the spelling; `out` is then unchanged.
+/// (RFC 5802, section 5.1). Answers no fault but 99 NoMemory, and only where `out` had no room
+/// reserved for the spelling; `out` is then unchanged.
 pub fn write_name<A: Allocator>(name: &PlainName, out: &mut Vec<u8, A>) -> Result<(), WriteFault>
     ensures ok { OnOk result (out.new.items ≡ out.old.items ++ name_spelling name.now) }
     ensures related { IsSaslName (name_spelling name.now) }

@@ -36,7 +36,7 @@ impl Password {
         Some(Password { bytes })
     }
 
-    /// Its bytes.
+    /// The bytes of the password, 1 to 1024.
     pub fn bytes(&self) -> &[u8]
         ensures value { result.now ≡ self.now }
         ensures fits { IsPassword self.now }
@@ -45,8 +45,8 @@ impl Password {
     }
 }
 
-/// What one end gives of its own to the nonce: 1 to 256 printable characters (RFC 5802, section 7),
-/// which are the bytes 21 to 7E hex but for the comma. Contracts see it as its bytes.
+/// What one end adds to the nonce: 1 to 256 printable characters (RFC 5802, section 7), which are
+/// the bytes 21 to 7E hex except the comma. Contracts see it as its bytes.
 #[derive(Drop)]
 pub struct NoncePart {
     bytes: ArrayVec<u8, 256>,
@@ -74,7 +74,7 @@ impl NoncePart {
         Some(NoncePart { bytes })
     }
 
-    /// Its bytes, 1 to 256.
+    /// The bytes of the nonce part, 1 to 256.
     pub fn bytes(&self) -> &[u8]
         ensures value { result.now ≡ self.now }
         ensures fits { IsNoncePart self.now }
@@ -111,7 +111,7 @@ impl Salt {
         Some(Salt { bytes })
     }
 
-    /// Its bytes, 1 to 64.
+    /// The bytes of the salt, 1 to 64.
     pub fn bytes(&self) -> &[u8]
         ensures value { result.now ≡ self.now }
         ensures fits { IsSalt self.now }
@@ -119,7 +119,7 @@ impl Salt {
         self.bytes.as_slice()
     }
 
-    /// A second value of this salt.
+    /// A copy of the salt.
     pub fn copy(&self) -> Salt
         ensures { result ≡ self.now }
     {

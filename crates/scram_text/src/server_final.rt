@@ -22,7 +22,7 @@ use crate::{class, cut, field};
 use mac_core::Tag;
 use std::alloc::Allocator;
 
-/// What the server's final message tells.
+/// What the server's final message says: the `v=` or `e=` of RFC 5802, section 7.
 #[derive(Drop)]
 pub enum FinalResult<'a> {
     /// The bytes of the verifier `v=`, 1 to 64: the server's signature.
@@ -35,7 +35,7 @@ pub enum FinalResult<'a> {
 /// A server-final message that was read. Slices are slices of the message.
 #[derive(Drop)]
 pub struct ServerFinal<'a> {
-    /// An extension is named `m`, so the receiver has to fail.
+    /// Whether an extension is named `m`: the receiver has to fail.
     pub mandatory: bool,
 
     /// The verifier or the error.
@@ -45,9 +45,10 @@ pub struct ServerFinal<'a> {
     pub extensions: &'a [u8],
 }
 
-/// Reads a server-final message, or answers the first fault of the text: 1 TooLong or 2 NotText for
-/// the whole, else from the left 15 ErrorValue where it begins with `e=` or 14 Verifier where it
-/// does not, or 12 Extension.
+/// Reads a server-final message (RFC 5802, section 7), or answers the first fault of the text: 1
+/// TooLong or 2 NotText for the whole text, else the first part from the left that is not as it has
+/// to be: 15 ErrorValue where it begins with `e=` or 14 Verifier where it does not, or 12 Extension.
+/// It takes no memory.
 pub fn read_server_final(message: &[u8]) -> Result<ServerFinal<'_>, TextFault>
     // The text is a message with the parts that are returned.
     ensures found { IfOk result (λ m. (p : ServerFinalParts) × IsServerFinal message.now p
@@ -110,11 +111,11 @@ fn is_error(part: &[u8]) -> bool
     matches!(part, [b'e', b'=', ..])
 }
 
-/// Appends a server-final message to `out`: the verifier of 1 to 64 bytes or the error value of one
-/// or more value-chars, and the extensions as attr-vals with commas between them or empty. Answers
-/// 16 Unwritable where an argument is outside its class, else 17 OverLimit where the message would
-/// have more than 2048 bytes, else 99 NoMemory, which does not come where `out` has reserved room for
-/// the message; `out` is then unchanged.
+/// Appends a server-final message (RFC 5802, section 7) to `out`: the verifier of 1 to 64 bytes or
+/// the error value of one or more value-chars, and the extensions as attr-vals with commas between
+/// them or empty. Answers 16 Unwritable where an argument is outside its class, else 17 OverLimit
+/// where the message would have more than 2048 bytes, else 99 NoMemory, only where `out` had no room
+/// reserved for the message; `out` is then unchanged.
 pub fn write_server_final<A: Allocator>(
     outcome: FinalResult<'_>,
     extensions: &[u8],

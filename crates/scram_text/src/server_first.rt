@@ -22,7 +22,7 @@ use std::alloc::Allocator;
 /// A server-first message that was read. Slices are slices of the message.
 #[derive(Drop)]
 pub struct ServerFirst<'a> {
-    /// The message begins with `m=` or an extension is named `m`, so the receiver has to fail.
+    /// Whether the message begins with `m=` or an extension is named `m`: the receiver has to fail.
     pub mandatory: bool,
 
     /// The nonce, 1 to 512 printable characters.
@@ -31,16 +31,16 @@ pub struct ServerFirst<'a> {
     /// The salt.
     pub salt: Salt,
 
-    /// The iteration count, at least 1.
+    /// The iteration count, 1 to 4294967295.
     pub count: u32,
 
     /// The attr-vals with the commas between them, or empty.
     pub extensions: &'a [u8],
 }
 
-/// Reads a server-first message, or answers the first fault of the text: 1 TooLong, 2 NotText or
-/// 3 Missing for the whole, else from the left 6 Mandatory, 8 Nonce, 9 Salt, 10 Count or
-/// 12 Extension.
+/// Reads a server-first message (RFC 5802, section 7), or answers the first fault of the text: 1
+/// TooLong, 2 NotText or 3 Missing for the whole text, else the first part from the left that is not
+/// as it has to be: 6 Mandatory, 8 Nonce, 9 Salt, 10 Count or 12 Extension. It takes no memory.
 pub fn read_server_first(message: &[u8]) -> Result<ServerFirst<'_>, TextFault>
     // The text is a message with the parts that are returned.
     ensures found { IfOk result (λ m. (p : ServerFirstParts) × IsServerFirst message.now p
@@ -87,7 +87,7 @@ fn read_parts(message: &[u8]) -> Result<ServerFirst<'_>, TextFault>
     })
 }
 
-// The parts behind a mandatory extension: the first of them has this index.
+// The parts after a mandatory extension: the first of them has this index.
 #[derive(Drop)]
 struct Pieces<'a> {
     marked: bool,
@@ -123,11 +123,11 @@ fn pieces_of(message: &[u8]) -> Result<Pieces<'_>, TextFault>
     })
 }
 
-/// Appends a server-first message to `out`: the nonce of 1 to 512 printable characters, the salt, the
-/// count, which is at least 1, and the extensions as attr-vals with commas between them or empty.
-/// Answers 16 Unwritable where an argument is outside its class, else 17 OverLimit where the message
-/// would have more than 2048 bytes, else 99 NoMemory, which does not come where `out` has reserved
-/// room for the message; `out` is then unchanged.
+/// Appends a server-first message (RFC 5802, section 7) to `out`: the nonce of 1 to 512 printable
+/// characters, the salt, the count, which is at least 1, and the extensions as attr-vals with commas
+/// between them or empty. Answers 16 Unwritable where an argument is outside its class, else 17
+/// OverLimit where the message would have more than 2048 bytes, else 99 NoMemory, only where `out`
+/// had no room reserved for the message; `out` is then unchanged.
 pub fn write_server_first<A: Allocator>(
     nonce: &[u8],
     salt: &Salt,

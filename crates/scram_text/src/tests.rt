@@ -1,5 +1,5 @@
 //! What no contract shows: that the definitions are those of RFC 5802, by its messages and those of
-//! other software, and that each call has an answer other than want of memory.
+//! other software, and that each call can succeed where there is memory.
 use crate::{
     FinalResult, Flag, NoncePart, Password, PlainName, Salt, TextFault, TextWhy, WriteFault,
     compose_front, read_client_final, read_client_first, read_server_final, read_server_first,
@@ -400,7 +400,7 @@ fn classes(rt: HostRuntime) {
     );
 }
 
-// A message of `front`, so many letters, and `back`.
+// `front`, so many letters, and `back`.
 fn long(alloc: Global, front: &[u8], letters: usize, back: &[u8]) -> Result<Vec<u8>, Fail> {
     let mut message = Vec::from_slice(alloc, front)?;
     message.extend_from_slice(vec![in alloc; b'A'; letters]?.as_slice())?;

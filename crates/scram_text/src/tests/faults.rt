@@ -1,4 +1,4 @@
-//! What a user reads of each fault.
+//! The text that a user reads for each fault.
 use super::*;
 
 #[test]
@@ -62,7 +62,7 @@ fn texts_of_faults(rt: HostRuntime) -> Result<(), Fail> {
     Ok(())
 }
 
-// The part stands before what is wrong there.
+// The part is named before what is wrong there.
 #[test]
 fn text_of_a_part_at_fault(rt: HostRuntime) -> Result<(), Fail> {
     let fault = read_client_first(b"n,,n=user,r=x,").err().ok_or("a fault")?;

@@ -3,7 +3,7 @@ use Rattle.scram_text.specs.Name.{escape, name_spelling}
 use Rattle.scram_text.proofs.NameLemmas.{escape_nonempty, spelling_rest}
 use Rattle.scram_text.proofs.name.unescaped.Goals as goal
 
--- a name of at most 255 bytes has no byte behind its first 255
+-- a name of at most 255 bytes has no byte after its first 255
 no_more : (front more rest later : List ℕ) (byte : ℕ) → 255 ≤ length front → length (front ++ more) ≤ 255
     → rest ≡ name_spelling more → rest ≡ escape byte ++ later → ⊥
 no_more front [] rest later byte full short spelled next = escape_nonempty byte later (sym next ∙ spelled)

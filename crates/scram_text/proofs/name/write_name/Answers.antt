@@ -10,7 +10,7 @@ use Rattle.scram_text.proofs.name.write_name.Goals as goal
 pub returns-clause-related : goal.returns-clause-related
 returns-clause-related g c = spelling_saslname c.args.name.now c.add_name.ensures.plain.at_least
 
--- a fault is the one that is left
+-- of three faults two are excluded, so a fault is NoMemory
 memory_alone : {T : Type 0} (r : Result T WriteFault) (Room : Type 0) → (r ≡ Err Unwritable → ⊥) → (r ≡ Err OverLimit → ⊥)
     → (r ≡ Err NoMemory → Room) → IfErr r (λ f. (f ≡ NoMemory) × Room)
 memory_alone (Ok done) Room unwritable over_limit room = tt

@@ -8,7 +8,7 @@ use Rattle.scram_text.specs.Name.{SpellsName}
 use Rattle.scram_text.proofs.NameLemmas.{name_once}
 use Rattle.scram_text.proofs.name.SaslText.plain.Goals as goal
 
--- where the one name that is spelled is not plain, no plain name is
+-- where the one name that is spelled is not plain, no plain name is spelled
 none_plain : (o : Option (List ℕ)) (found spelled : List ℕ) → SpellsName found spelled → SomeIff o (IsPlainName found) found
     → IfNone o ((name : List ℕ) → IsPlainName name → SpellsName name spelled → ⊥)
 none_plain None found spelled spells not_plain = λ name plain also. not_plain (subst IsPlainName (name_once name found (sym also ∙ spells)) plain)
