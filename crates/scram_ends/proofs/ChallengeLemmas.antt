@@ -1,4 +1,4 @@
--- The nonce of a challenge against the client's own, and that a challenge to answer is not refused.
+-- The nonce of a challenge and the client's own, and that a challenge to answer is not refused.
 use Rattle.std.proofs.Common.{◌≡◌, ℕ, ◌≤◌, true, false, inl, inr, List, ◌++◌, length, length-append, sym, ◌∙◌, ap, subst, arith, eqb, append-nil}
 use Rattle.std.specs.Prelude.{◌≢◌}
 use Rattle.std.proofs.lemmas.List.{nil_from_length}
@@ -35,7 +35,7 @@ pub longer : (own nonce sent prefix rest : List ℕ) → sent ≡ nonce → pref
 longer own nonce sent prefix rest same is cut some =
     (rest, sym same ∙ (cut ∙ ap (λ (front : List ℕ). front ++ rest) is), some_length (length rest) some)
 
--- what is refused is no challenge to answer
+-- a challenge that is refused is not one to answer
 pub not_refused : (limits : Limits) (own t2 : List ℕ) (fault : ClientFault) (c : ServerFirstParts)
     → IsChallengeFault limits own t2 fault → IsAnswerable limits own t2 c → ⊥
 not_refused limits own t2 (Text fault) c h a = h.0 c a.is_challenge
@@ -59,7 +59,7 @@ not_refused limits own t2 CountOutside c h a =
 not_refused limits own t2 ServerRefused c h a = h
 not_refused limits own t2 WrongSignature c h a = h
 
--- a fault by what the client keeps is one by what it stands for
+-- a fault by the limits and the nonce that the client keeps is one by those that it stands for
 pub fault_of : (w : ClientOne) (m : Mechanism) (limits : Limits) (name : List ℕ) (authz : Option (List ℕ)) (own t1 t2 : List ℕ) (fault : ClientFault)
     → IsStarted w m limits name authz own t1 → IsChallengeFault w.limits w.nonce.items t2 fault → IsChallengeFault limits own t2 fault
 fault_of w m limits name authz own t1 t2 fault started is =

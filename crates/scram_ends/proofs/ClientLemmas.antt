@@ -29,7 +29,7 @@ use Rattle.scram_ends.specs.declared.client.ClientOne.{ClientOne}
 use Rattle.scram_ends.specs.declared.client.ClientTwo.{ClientTwo}
 use Rattle.scram_ends.proofs.DigestLemmas.{AreBytes}
 
--- a writer that is given what it can write wants memory alone
+-- a writer that is given what it can write fails only where memory runs out
 only_memory : {T : Type 0} (r : Result T WriteFault) (f : WriteFault) → r ≡ Err f → (r ≡ Err Unwritable → ⊥) → (r ≡ Err OverLimit → ⊥) → f ≡ NoMemory
 only_memory r Unwritable failed unwritable over = absurd (unwritable failed)
 only_memory r OverLimit failed unwritable over = absurd (over failed)
@@ -72,7 +72,7 @@ authz_of : (authz : Option (List ℕ)) → IfSome authz IsPlainName → IsAuthzO
 authz_of None is = tt
 authz_of (Some name) is = record { plain = is; spelled = refl }
 
--- what is written is honest
+-- a client-first message that is written is honest
 pub honest_first : (authz : Option (List ℕ)) (name nonce t1 : List ℕ) → IfSome authz IsPlainName → IsPlainName name
     → IsClientFirst t1 (client_first_of NoBinding authz name nonce [])
     → IsHonestFirst name authz nonce t1 (client_first_of NoBinding authz name nonce [])
@@ -86,7 +86,7 @@ honest_first authz name nonce t1 is_authz is_name is_first = record {
   own = refl;
 }
 
--- what was appended is what stands behind the old end
+-- what was appended is what follows the old end
 pub appended : (whole written front text : List ℕ) (start : ℕ) → whole ≡ written → written ≡ front ++ text → start ≡ length front
     → take (length whole - start) (drop start whole) ≡ text
 appended whole written front text start same is at =
@@ -95,7 +95,7 @@ appended whole written front text start same is at =
     ∙ (ap (λ (xs : List ℕ). drop (length front) xs) (same ∙ is)
     ∙ drop-append_seam front text))
 
--- its bare message and its gs2-header
+-- the bare message and the gs2-header of client-first
 
 pub bare_length : (text bare : List ℕ) (p : ClientFirstParts) → IsClientFirst text p → bare ≡ bare_text p → length bare ≤ 2048
 unfolding client_first_text
@@ -163,7 +163,7 @@ unfolding final_front
 front_short header nonce short is_nonce =
     omega (arith, length-append (codes "c=" ++ base64 header) (44 ∷ (codes "r=" ++ nonce)), field_bound header 257 (omega arith))
 
--- the front does not say the proof
+-- the front is the same for every proof
 pub same_front : (header nonce proof : List ℕ) → final_front (client_final_of header nonce [] []) ≡ final_front (client_final_of header nonce [] proof)
 unfolding final_front
 same_front header nonce proof = refl
@@ -188,7 +188,7 @@ answer_fails r f header nonce proof failed can short unwritable over =
     only_memory r f failed (λ e. unwritable e can)
     (λ e. let long = over e in omega (arith, long.1, answer_short header nonce proof short can.nonce_class.at_most can.proof_class.at_most))
 
--- the client's own header
+-- the length of the client's own header
 pub header_range : (w : ClientOne) (m : Mechanism) (limits : Limits) (name : List ℕ) (authz : Option (List ℕ)) (own t1 header : List ℕ)
     → IsStarted w m limits name authz own t1 → header ≡ w.header.items → (1 ≤ length header) × (length header ≤ 770)
 header_range w m limits name authz own t1 header started same =
@@ -204,7 +204,7 @@ same_signature : (m n : Mechanism) (password salt other auth text : List ℕ) (c
     → signature_of m password salt count auth ≡ signature_of n password other also text
 same_signature m n password salt other auth text count also e f g h = λ i. signature_of (e i) password (f i) (g i) (h i)
 
--- what is written is honest, and its signature is the one to expect
+-- a client-final message that is written is honest, and its signature is the one to expect
 pub expecting : (w : ClientOne) (two : ClientTwo) (m : Mechanism) (limits : Limits) (name : List ℕ) (authz : Option (List ℕ)) (own t1 t2 password header nonce salt front proof : List ℕ) (count : ℕ) (p : ServerFirstParts)
     → (started : IsStarted w m limits name authz own t1) → IsServerFirst t2 p
     → header ≡ w.header.items → nonce ≡ p.nonce → salt ≡ p.salt → count ≡ p.count

@@ -1,4 +1,4 @@
--- Behind an opening some verdict is due to every text: each row is decided.
+-- After an opening some verdict is due to every text: each row is decided.
 use Rattle.std.proofs.Common.{◌≡◌, ℕ, ◌<◌, ◌≤◌, ◌+◌, ◌⊎◌, inl, inr, true, List, length, sym, subst, refl, arith}
 use Rattle.std.specs.List.{Contains, list_any}
 use Rattle.std.specs.Str.{bytes_eq}
@@ -87,7 +87,7 @@ decided_passes Channel e m t1 t2 t3 o is_opening = decided_meets Channel e m t1 
 decided_passes InvalidProof e m t1 t2 t3 o is_opening = decided_meets InvalidProof e m t1 t2 t3 o is_opening
 decided_passes NotAuthorised e m t1 t2 t3 o is_opening = decided_meets NotAuthorised e m t1 t2 t3 o is_opening
 
--- each row is one of these
+-- the number of each row is from 1 to 6
 row_range : (q : Refusal) → (1 ≤ row q) × (row q ≤ 6)
 row_range InvalidEncoding = (omega arith, omega arith)
 row_range ExtensionsNotSupported = (omega arith, omega arith)
@@ -96,14 +96,14 @@ row_range Channel = (omega arith, omega arith)
 row_range InvalidProof = (omega arith, omega arith)
 row_range NotAuthorised = (omega arith, omega arith)
 
--- a fact of each row before this one and of this one is one of each row before the next
+-- a fact of each row before this one, and of this one, is one of each row before the next
 one_more : (P : Refusal → Type 0) (r : Refusal) → ((q : Refusal) → row q < row r → P q) → P r → (q : Refusal) → row q < row r + 1 → P q
 one_more P r earlier here q below = elim (cases_lt (row q) (row r)) [
   | inl before ↦ earlier q before
   | inr not_before ↦ let same : row r ≡ row q = omega arith in subst P (same_row r q same) here
 ]
 
--- the first row of which a decided fact does not hold, or it holds of all
+-- a decided fact has a first row for which it does not hold, or holds for all
 first_refused : (P : Refusal → Type 0) → ((r : Refusal) → Decided (P r))
     → ((r : Refusal) × (P r → ⊥) × ((q : Refusal) → row q < row r → P q)) ⊎ ((q : Refusal) → P q)
 first_refused P decided =

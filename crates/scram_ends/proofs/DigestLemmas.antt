@@ -1,5 +1,4 @@
--- The MACs of a mechanism: how long they are, that they are bytes, and that what is xor-ed with one twice
--- is as before.
+-- The MACs of a mechanism: how long they are, that they are bytes, and that xor twice by one changes nothing.
 use Rattle.std.proofs.Common.{◌≡◌, ℕ, zero, suc, ◌<◌, ◌/◌, ◌^◌, List, [], ◌∷◌, ◌++◌, length, refl, ◌∙◌, ap, arith}
 use Rattle.std.proofs.Math.Nat.{mod-lt}
 use Rattle.std.specs.Prelude.{bit_xor, slice_index}

@@ -33,7 +33,7 @@ final_short : (signature : List ℕ) → length signature ≤ 64 → length (ser
 unfolding server_final_text
 final_short signature within = omega (arith, within, length-base64 signature)
 
--- the message that tells a signature bears it
+-- the message with a signature bears it
 shown : (signature : List ℕ) → AreBytes signature → 1 ≤ length signature → length signature ≤ 64
     → IsAuthentic (due_text (accept signature)) signature
 shown signature fits some within = record {
@@ -58,7 +58,7 @@ proved m password salt auth proof count is =
       opens = ap (λ (p : List ℕ). stored_key_by m (xor_bytes p signature)) is ∙ ap (λ (k : List ℕ). stored_key_by m k) (xor_back key signature same);
     }
 
--- what an honest client and the account's challenge open
+-- what an honest client's first message and the account's challenge open
 opened : (e : Entry) (m : Mechanism) (password name : List ℕ) (authz : Option (List ℕ)) (nonce own t1 t2 t3 : List ℕ)
     → 1 ≤ length own → IsChallengeTo e t1 own t2 → (honest : IsHonest password m name authz nonce t1 t2 t3)
     → IsOpening e t1 t2 (record { first = honest.first; name = name; authz = authz; challenge = honest.challenge })

@@ -1,4 +1,4 @@
--- Two texts open a login of an account in one way at most.
+-- Two texts open a login of an account in at most one way.
 use Rattle.std.proofs.Common.{◌≡◌, ℕ, List, sym, ◌∙◌, ap, refl}
 use Rattle.std.specs.declared.option.Option.{Option}
 use Rattle.std.specs.declared.option.Option.TheVariants.{None, Some}
@@ -16,7 +16,7 @@ same_name one other part also same is is_also = name_once one other (sym is.spel
 some_inside : (part also : List ℕ) → Some part ≡ Some also → part ≡ also
 some_inside part also same = cc
 
--- so does that of an authorisation name, where there is one
+-- the saslname of an authorisation name spells one plain name, where there is one
 pub same_authz : (one other part also : Option (List ℕ)) → part ≡ also → IsAuthzOf one part → IsAuthzOf other also → one ≡ other
 same_authz None None part also same is is_also = refl
 same_authz (Some one) (Some other) (Some part) (Some also) same is is_also =
@@ -30,7 +30,7 @@ same_authz (Some one) (Some other) (Some part) None same is is_also = absurd is_
 same_authz (Some one) None None also same is is_also = absurd is
 same_authz (Some one) None (Some part) (Some also) same is is_also = absurd is_also
 
--- these parts and names
+-- the opening of these parts and names
 abbrev opened : ClientFirstParts → List ℕ → Option (List ℕ) → ServerFirstParts → Opening
 opened first name authz challenge = record { first = first; name = name; authz = authz; challenge = challenge }
 

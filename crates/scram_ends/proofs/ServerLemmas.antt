@@ -16,7 +16,7 @@ use Rattle.scram_ends.specs.Opening.{Opening, IsOpening}
 use Rattle.scram_ends.specs.First.{ShowsTaken, ShowsOpening}
 use Rattle.scram_ends.specs.declared.first.Taken.{Taken}
 
--- a client-first message that is taken up and a challenge to it are an opening, that of what was taken
+-- a client-first message that is taken up and a challenge to it are an opening, of the parts that were taken
 pub challenge_opens : (e : Entry) (t1 own t2 sent : List ℕ) (first : ClientFirstParts) (taken : Taken)
     → IsClientFirst t1 first → ShowsTaken taken first → sent ≡ taken.nonce.now ++ own → 1 ≤ length own
     → IsServerFirst t2 (server_first_of sent e.salt e.count [])
@@ -29,17 +29,17 @@ challenge_opens e t1 own t2 sent first taken is_first shows same some is_challen
       record { header = shows.header; bare = shows.bare; name = refl; authz = refl; nonce = refl },
     )
 
--- what stands behind the front of a list
+-- what follows the front of a list
 pub behind : (items front text : List ℕ) (start : ℕ) → items ≡ front ++ text → start ≡ length front
     → take (length items - start) (drop start items) ≡ text
 behind items front text start same at = rw (same, at) (grind (arith, common_steps))
 
--- what has the length of a MAC is not empty
+-- a signature as long as a MAC is not empty
 is_signed : (m : Mechanism) (mac signature : List ℕ) → length mac ≡ length_by m → signature ≡ mac → length signature ≡ 0 → ⊥
 is_signed ScramSha1 mac signature len same none = omega (arith, len, ap length same, none)
 is_signed ScramSha256 mac signature len same none = omega (arith, len, ap length same, none)
 
--- a verdict that is due has a signature to write, so memory alone can be wanting
+-- a verdict that is due has a signature to write, so the only fault is that memory runs out
 pub memory_alone : (e : Entry) (m : Mechanism) (t1 t2 t3 : List ℕ) (d : Due) (fault : WriteFault) → IsDue e m t1 t2 t3 d
     → (fault ≡ Unwritable → (signature : List ℕ) × (d ≡ accept signature) × (length signature ≡ 0)) → (fault ≡ OverLimit → ⊥)
     → fault ≡ NoMemory

@@ -41,14 +41,14 @@ same_row r q same = sym (at_row r) ∙ (ap refusal_at same ∙ at_row q)
 some_keys : (one other : Keys) → Some one ≡ Some other → one ≡ other
 some_keys one other same = cc
 
--- what the texts meet by some parts they meet by all that they have
+-- a row that the texts meet by some parts they meet by all parts that they have
 pub asked_of : (r : Refusal) (e : Entry) (m : Mechanism) (t1 t2 t3 : List ℕ) (o : Opening) (p : ClientFinalParts)
     → IsOpening e t1 t2 o → IsClientFinal t3 p → Meets r e m t1 t2 t3 → Asks r e m t2 o p
 asked_of r e m t1 t2 t3 o p is_opening is_final meets =
     subst (λ (q : ClientFinalParts). Asks r e m t2 o q) (client_final_once t3 meets.final p meets.is_final is_final)
     (subst (λ (q : Opening). Asks r e m t2 q meets.final) (same_opening e t1 t2 meets.opening o meets.is_opening is_opening) meets.asked)
 
--- the signature of three texts is one
+-- three texts have one signature
 same_signature : (e : Entry) (m : Mechanism) (t1 t2 t3 one other : List ℕ)
     → IsSignature e m t1 t2 t3 one → IsSignature e m t1 t2 t3 other → one ≡ other
 same_signature e m t1 t2 t3 one other is also =
@@ -74,7 +74,7 @@ at_most_one e m t1 t2 t3 (refuse r) (refuse q) due also = elim (cases_lt (row r)
   ]
 ]
 
--- what parts meet their texts pass
+-- a row that the parts meet is one that the texts pass
 pub passes_of : (q : Refusal) (e : Entry) (m : Mechanism) (t1 t2 t3 : List ℕ) (o : Opening) (p : ClientFinalParts)
     → IsOpening e t1 t2 o → IsClientFinal t3 p → Asks q e m t2 o p → Passes q e m t1 t2 t3
 passes_of InvalidEncoding e m t1 t2 t3 o p is_opening is_final asked = (p, is_final)
@@ -84,7 +84,7 @@ passes_of Channel e m t1 t2 t3 o p is_opening is_final asked = record { opening 
 passes_of InvalidProof e m t1 t2 t3 o p is_opening is_final asked = record { opening = o; final = p; is_opening = is_opening; is_final = is_final; asked = asked }
 passes_of NotAuthorised e m t1 t2 t3 o p is_opening is_final asked = record { opening = o; final = p; is_opening = is_opening; is_final = is_final; asked = asked }
 
--- what the texts pass their parts meet
+-- a row that the texts pass is one that their parts meet
 pub asked_by : (q : Refusal) (e : Entry) (m : Mechanism) (t1 t2 t3 : List ℕ) (o : Opening) (p : ClientFinalParts)
     → IsOpening e t1 t2 o → IsClientFinal t3 p → Passes q e m t1 t2 t3 → Asks q e m t2 o p
 asked_by InvalidEncoding e m t1 t2 t3 o p is_opening is_final passes = tt
@@ -156,7 +156,7 @@ refusal_is_not_acceptance r signature same = cc
 told_refused : (r : Refusal) → told.Refused r ≡ told.Accepted → ⊥
 told_refused r same = cc
 
--- with the message due, acceptance makes a valid login and a refusal none
+-- acceptance by the message due makes a valid login, and a refusal makes none
 pub valid_iff : (e : Entry) (m : Mechanism) (t1 t2 t3 : List ℕ) (d : Due) → IsDue e m t1 t2 t3 d → IsServerFinal (due_text d) (final_due d)
     → (verdict_of d ≡ told.Accepted) ↔ IsValidLogin e m t1 t2 t3 (due_text d)
 valid_iff e m t1 t2 t3 (accept signature) due is_last =

@@ -6,12 +6,12 @@ use Rattle.mac_core.specs.declared.chosen.Mechanism.{Mechanism}
 use Rattle.scram_text.specs.Messages.{ClientFirstParts, bare_text, ClientFinalParts, final_front}
 use Rattle.scram_ends.specs.Entry.{Keys, password_keys}
 
--- AuthMessage as far as the challenge: client-first-bare, comma, server-first, comma. A text is that of
--- its parts, so each stands here as it was sent.
+-- AuthMessage as far as the challenge: client-first-bare, comma, server-first, comma. A message's text
+-- is that of its parts, so each is here as it was sent.
 abbrev pub auth_front : ClientFirstParts → List ℕ → List ℕ
 auth_front first challenge = bare_text first ++ 44 ∷ [] ++ challenge ++ 44 ∷ []
 
--- AuthMessage: behind these, client-final-without-proof
+-- AuthMessage: after these, client-final-without-proof
 abbrev pub auth_message : ClientFirstParts → List ℕ → ClientFinalParts → List ℕ
 auth_message first challenge final = auth_front first challenge ++ final_front final
 

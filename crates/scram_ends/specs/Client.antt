@@ -35,7 +35,7 @@ pub record IsExpecting (w : ClientTwo) (m : Mechanism) (password name : List ℕ
   pub signed : signature ≡ signature_of m password honest.challenge.salt honest.challenge.count (auth_message honest.first t2 honest.final)
   pub expected : w.expected.items ≡ signature
 
--- the nonce is the client's own and something of the server's
+-- the nonce is the client's own, followed by something of the server's
 abbrev pub IsLonger : List ℕ → List ℕ → Type 0
 IsLonger own nonce = (more : List ℕ) × (nonce ≡ own ++ more) × (1 ≤ length more)
 
@@ -51,9 +51,9 @@ pub record IsAnswerable (limits : Limits) (own t2 : List ℕ) (challenge : Serve
 abbrev pub IsOutside : Limits → ℕ → Type 0
 IsOutside limits count = (count < limits.least) ⊎ (limits.most < count)
 
--- why a client with this nonce of its own does not answer a challenge, the first that is so: the text is
--- no server-first message, with its first fault; it is mandatory; its nonce does not begin with the
--- client's; it is the client's; its count is outside the limits
+-- why a client with this nonce of its own does not answer a challenge, the first reason that holds: the
+-- text is no server-first message, with its first fault; it is mandatory; its nonce does not begin with
+-- the client's; it is the client's; its count is outside the limits
 abbrev pub IsChallengeFault : Limits → List ℕ → List ℕ → ClientFault → Type 0
 IsChallengeFault limits own t2 (Text fault) = ((p : ServerFirstParts) → IsServerFirst t2 p → ⊥) × IsServerFirstFault t2 fault
 IsChallengeFault limits own t2 Mandatory = (p : ServerFirstParts) × IsServerFirst t2 p × (server_first_mandatory p ≡ true)
@@ -86,9 +86,9 @@ IfBack (Ok two) fact = Unit {0}
 IfBack (Err (Back client fault)) fact = fact client fault
 IfBack (Err (Spent fault)) fact = Unit {0}
 
--- why a client that expects this signature does not take the server for authentic, the first that is so:
--- the text is no server-final message, with its first fault; it is mandatory; it is an error; its verifier
--- is another
+-- why a client that expects this signature does not take the server for authentic, the first reason that
+-- holds: the text is no server-final message, with its first fault; it is mandatory; it is an error; its
+-- verifier is another
 abbrev pub IsLastFault : List ℕ → List ℕ → ClientFault → Type 0
 IsLastFault signature t4 (Text fault) = ((p : ServerFinalParts) → IsServerFinal t4 p → ⊥) × IsServerFinalFault t4 fault
 IsLastFault signature t4 Mandatory = (p : ServerFinalParts) × IsServerFinal t4 p × (server_final_mandatory p ≡ true)

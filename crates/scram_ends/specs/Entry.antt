@@ -12,14 +12,14 @@ pub record Keys : Type 0 where
   pub server : List ℕ
 
 -- an account for one mechanism: its salt, its iteration count, its keys, and the other names that it
--- may act as. A decoy, which stands in for a name that has no keys, has none.
+-- may act as. A decoy, which stands in for a name without keys, has none.
 pub record Entry : Type 0 where
   pub salt : List ℕ
   pub count : ℕ
   pub keys : Option Keys
   pub act_as : List (List ℕ)
 
--- the keys, as bytes
+-- the bytes of the keys
 abbrev pub keys_of : ScramKeys → Keys
 keys_of keys = record { stored = keys.stored.items; server = keys.server.items }
 

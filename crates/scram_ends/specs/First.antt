@@ -12,8 +12,8 @@ use Rattle.scram_ends.specs.declared.first.FirstFault.TheVariants.{Text, Mandato
 use Rattle.scram_ends.specs.declared.recorded.RecordedFault.{RecordedFault}
 use Rattle.scram_ends.specs.declared.recorded.RecordedFault.TheVariants.{First, NotThisChallenge}
 
--- the server's challenge to a client-first message: the client's nonce with the server's own part behind
--- it, the account's salt and count, and no extensions
+-- the server's challenge to a client-first message: the client's nonce followed by the server's own
+-- part, the account's salt and count, and no extensions
 pub record IsChallengeTo (e : Entry) (t1 own t2 : List ℕ) : Type 0 where
   pub first : ClientFirstParts
   pub is_first : IsClientFirst t1 first
@@ -34,8 +34,8 @@ pub record ShowsOpening (taken : Taken) (sent : List ℕ) (o : Opening) : Type 0
   pub authz : taken.authzid ≡ o.authz
   pub nonce : sent ≡ o.challenge.nonce
 
--- why a server takes up no login, the first that is so: the text is no client-first message, with its
--- first fault; it is mandatory; its flag is "p=" and a name; a name in it is not plain
+-- why a server takes up no login, the first reason that holds: the text is no client-first message, with
+-- its first fault; it is mandatory; its flag is "p=" and a name; a name in it is not plain
 abbrev pub IsFirstFault : List ℕ → FirstFault → Type 0
 IsFirstFault t1 (Text fault) = ((p : ClientFirstParts) → IsClientFirst t1 p → ⊥) × IsClientFirstFault t1 fault
 IsFirstFault t1 Mandatory = (p : ClientFirstParts) × IsClientFirst t1 p × (client_first_mandatory p ≡ true)
@@ -46,8 +46,8 @@ IsFirstFault t1 OutsideProfile =
     (p : ClientFirstParts) × IsClientFirst t1 p × (client_first_mandatory p ≡ false) × IsUnbound p.flag
     × ((name : List ℕ) (authz : Option (List ℕ)) → IsNameOf name p.name → IsAuthzOf authz p.authz → ⊥)
 
--- why two recorded texts open no login of this account, the first that is so: a server does not take up
--- the first text, or it does and the second is no challenge to it
+-- why two recorded texts open no login of this account, the first reason that holds: a server does not
+-- take up the first text, or it does and the second is no challenge to it
 abbrev pub IsRecordedFault : Entry → List ℕ → List ℕ → RecordedFault → Type 0
 IsRecordedFault e t1 t2 (First fault) = IsFirstFault t1 fault
 IsRecordedFault e t1 t2 NotThisChallenge =

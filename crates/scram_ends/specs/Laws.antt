@@ -17,7 +17,7 @@ abbrev pub AtMostOneIsDue : Type 0
 AtMostOneIsDue = (e : Entry) (m : Mechanism) (t1 t2 t3 : List ℕ) (d other : Due)
     → IsDue e m t1 t2 t3 d → IsDue e m t1 t2 t3 other → d ≡ other
 
--- behind an opening, some verdict is due to every text
+-- after an opening, some verdict is due to every text
 abbrev pub SomeIsDue : Type 0
 SomeIsDue = (e : Entry) (m : Mechanism) (t1 t2 t3 : List ℕ) (o : Opening) → IsOpening e t1 t2 o
     → (d : Due) × IsDue e m t1 t2 t3 d

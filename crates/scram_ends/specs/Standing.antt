@@ -20,7 +20,8 @@ pub record IsSigning (s : Signing) (m : Mechanism) (keys : Keys) (front : List �
   pub client : IsScramMac m s.client keys.stored front
   pub server : IsScramMac m s.server keys.server front
 
--- the same where the account has keys; a decoy has none at work
+-- where the account has keys, they are at work and both MACs have taken in AuthMessage as far as the
+-- challenge; a decoy has none at work
 abbrev pub IsSigningFor : Option Signing → Mechanism → Option Keys → List ℕ → Type 0
 IsSigningFor None m None front = Unit {0}
 IsSigningFor (Some s) m (Some keys) front = IsSigning s m keys front

@@ -23,7 +23,7 @@ row Channel = 4
 row InvalidProof = 5
 row NotAuthorised = 6
 
--- what each row asks of the parts of client-final, given the opening: nothing beside the grammar; no
+-- what each row asks of the parts of client-final, given the opening: nothing besides the grammar; no
 -- extension that must be known; the nonce that was sent; the gs2-header of client-first as channel
 -- field; a proof by keys that the account has; a name that it may act as
 abbrev pub Asks : Refusal → Entry → Mechanism → List ℕ → Opening → ClientFinalParts → Type 0
@@ -43,7 +43,7 @@ pub record Meets (r : Refusal) (e : Entry) (m : Mechanism) (t1 t2 t3 : List ℕ)
   pub is_final : IsClientFinal t3 final
   pub asked : Asks r e m t2 opening final
 
--- the three texts pass a row: the first asks the third text alone to be in the grammar
+-- the three texts pass a row; the first row only asks that the third text is in the grammar
 abbrev pub Passes : Refusal → Entry → Mechanism → List ℕ → List ℕ → List ℕ → Type 0
 Passes InvalidEncoding e m t1 t2 t3 = (final : ClientFinalParts) × IsClientFinal t3 final
 Passes ExtensionsNotSupported e m t1 t2 t3 = Meets ExtensionsNotSupported e m t1 t2 t3
@@ -62,7 +62,7 @@ pub record IsSignature (e : Entry) (m : Mechanism) (t1 t2 t3 signature : List �
   pub has_keys : e.keys ≡ Some keys
   pub signed : signature ≡ server_signature m keys (auth_message opening.first t2 final)
 
--- what a server may say to client-final
+-- what a server may answer to client-final
 pub data Due : Type 0 where
   accept : (signature : List ℕ) → Due
   refuse : Refusal → Due
@@ -93,7 +93,7 @@ error_value Channel = codes "channel-bindings-dont-match"
 error_value InvalidProof = codes "invalid-proof"
 error_value NotAuthorised = codes "other-error"
 
--- what server-final tells
+-- the outcome that server-final bears
 abbrev pub outcome_due : Due → Outcome
 outcome_due (accept signature) = verified signature
 outcome_due (refuse r) = failed (error_value r)
@@ -106,12 +106,12 @@ final_due d = record { outcome = outcome_due d; extensions = [] }
 abbrev pub due_text : Due → List ℕ
 due_text d = server_final_text (final_due d)
 
--- the verdict that the client is told
+-- the verdict that the client is sent
 abbrev pub verdict_of : Due → Verdict
 verdict_of (accept signature) = told.Accepted
 verdict_of (refuse r) = told.Refused r
 
--- what a judgement says
+-- the verdict of a judgement
 abbrev pub due_of : Judged → Due
 due_of (judged.Accepted signature) = accept signature.items
 due_of (judged.Refused r) = refuse r

@@ -1,5 +1,5 @@
-//! The client's end of a login: client-first with `Client::start`, client-final with
-//! `ClientOne::first`, and with `ClientTwo::last` whether the server has the account's keys.
+//! The client's end of a login: `Client::start` makes client-first, `ClientOne::first` makes client-final,
+//! and `ClientTwo::last` says whether the server has the account's keys.
 //!
 //! A client sends the flag `n` and no extensions. It answers no challenge whose iteration count is outside
 //! its limits: under a small one its proof would be cheap to try passwords on, and a large one would keep
@@ -24,7 +24,7 @@ pub struct Client;
 /// The iteration counts that a client accepts.
 #[derive(Clone, Copy, Debug, PartialEq, Eq)]
 pub struct Limits {
-    /// The least, at least 1.
+    /// The least count that it accepts, at least 1.
     pub least: u32,
 
     /// The most.
@@ -45,34 +45,34 @@ impl Limits {
     }
 }
 
-/// Why a client ends a login: the first of these that is so.
+/// Why a client ends a login: the first of these that holds.
 #[derive(Clone, Copy, Debug, PartialEq, Eq, Error)]
 pub enum ClientFault {
-    /// The text is no message of the server's: its first fault.
+    /// 24: the text is no message of the server, with its first fault.
     #[error("no message of the server's: {0}")]
     Text(TextFault),
 
-    /// The message begins with `m=` or an extension is named `m`.
+    /// 25: the message begins with `m=` or an extension is named `m`.
     #[error("the server asks for an extension that is not known here")]
     Mandatory,
 
-    /// The nonce does not begin with the client's own.
+    /// 26: the nonce does not begin with the client's own.
     #[error("the nonce does not begin with the client's own: another login's challenge")]
     NonceNotMine,
 
-    /// The nonce is the client's own, with nothing of the server's.
+    /// 27: the nonce is the client's own, and the server added nothing.
     #[error("the nonce has no part of the server's")]
     NonceNotLonger,
 
-    /// The iteration count is outside the client's limits.
+    /// 28: the iteration count is outside the client's limits.
     #[error("the iteration count is outside the client's limits")]
     CountOutside,
 
-    /// The server has refused the login: its message is an `e=`.
+    /// 29: the server has refused the login, by a message `e=`.
     #[error("the server refuses the login")]
     ServerRefused,
 
-    /// The signature is not the one that the password's own server key makes.
+    /// 30: the signature is not the one that the password's own server key makes.
     #[error("the signature is wrong: the other end does not have the account's keys")]
     WrongSignature,
 }
@@ -114,22 +114,22 @@ pub struct ClientOne {
     nonce: ArrayVec<u8, 256>,
 }
 
-/// A challenge that a client does not answer.
+/// Why a challenge is not answered.
 #[derive(Drop)]
 pub enum OneRefused {
     /// The client has ended the login.
     Spent(ClientFault),
 
-    /// Its answer is not written, and the client is as before.
+    /// The answer could not be written, and the client is unchanged.
     Back(ClientOne, WriteFault),
 }
 
-/// A client that has sent its proof and waits for the server's.
+/// A client that has sent its proof and waits for the server's signature.
 #[derive(Drop)]
 pub struct ClientTwo {
     expected: Tag,
 }
 
-/// The server has shown that it has the keys of the client's password.
+/// The proof that the server has the keys of the client's password.
 #[derive(Clone, Copy, Debug, PartialEq, Eq)]
 pub struct Authenticated;

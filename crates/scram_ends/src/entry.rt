@@ -8,11 +8,11 @@ pub struct KeysView<'a> {
     /// The salt that the server sends.
     pub salt: Salt,
 
-    /// The iteration count that it sends, at least 1.
+    /// The iteration count that the server sends, at least 1.
     pub count: u32,
 
     /// The keys, each as long as the mechanism's values. None is a decoy: it gets a challenge as
-    /// others do, and no proof passes.
+    /// every name does, and no proof passes.
     pub keys: Option<ScramKeys>,
 
     /// The other names that the account may act as.

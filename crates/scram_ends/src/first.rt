@@ -16,22 +16,22 @@ ghost use Rattle.scram_ends.specs.declared.first.FirstFault.TheVariants.{Text};
 use scram_text::{Flag, PlainName, SaslText, TextFault, read_client_first};
 use thiserror::Error;
 
-/// Why a client-first message is refused: the first of these that is so.
+/// Why a client-first message is refused: the first of these that holds.
 #[derive(Clone, Copy, Debug, PartialEq, Eq, Error)]
 pub enum FirstFault {
-    /// The text is no client-first message: its first fault.
+    /// 20: the text is no client-first message, with its first fault.
     #[error("no client-first message: {0}")]
     Text(TextFault),
 
-    /// The message begins with `m=` or an extension is named `m`.
+    /// 21: the message begins with `m=` or an extension is named `m`.
     #[error("the message asks for an extension that is not known here: send none named `m`")]
     Mandatory,
 
-    /// The flag is `p=`: the client asks for a channel binding.
+    /// 22: the flag is `p=`: the client asks for a channel binding.
     #[error("channel binding is not offered: send the flag `n` or `y`")]
     BindingAsked,
 
-    /// The name or the authorisation name is not 1 to 255 bytes of 20 to 7E hex.
+    /// 23: the name or the authorisation name is not 1 to 255 bytes of 20 to 7E hex.
     #[error("a name is not 1 to 255 bytes from space to tilde")]
     OutsideProfile,
 }
@@ -58,9 +58,9 @@ impl From<TextFault> for FirstFault {
     }
 }
 
-/// The name that a client-first message gives, in plain bytes: whose account a server looks up. Refused
-/// are, in this order, 20 a text that is no client-first message, 21 a mandatory one, 22 the flag `p=` and
-/// 23 a name or an authorisation name outside its limits.
+/// The name that a client-first message gives, in plain bytes: a server looks its account up. Answers the
+/// first of these faults: 20 where the text is no client-first message, 21 where it is mandatory, 22 where
+/// its flag is `p=`, and 23 where a name or an authorisation name is outside its limits.
 pub fn first_name(t1: &[u8]) -> Result<PlainName, FirstFault>
     ensures ok { IfOk result (λ name. (first : ClientFirstParts) × (authz : Option (List ℕ))
         × IsClientFirst t1.now first × IsTakenUp first name authz) }
@@ -116,7 +116,7 @@ fn is_unbound(flag: &Flag<'_>) -> bool
     }
 }
 
-// The names that are spelled, where they are plain.
+// The names that are spelled, or None where one is not plain.
 fn names_of(
     name: &SaslText<'_>,
     authzid: &Option<SaslText<'_>>,
@@ -132,7 +132,7 @@ fn names_of(
     }
 }
 
-// The name that is spelled, where it is plain.
+// The name that is spelled, or None where it is not plain.
 fn plain_of(spelled: &SaslText<'_>) -> Option<PlainName>
     ensures some { IfSome result (λ name. IsNameOf name spelled.now) }
     ensures none { IfNone result ((name : List ℕ) → IsNameOf name spelled.now → ⊥) }

@@ -14,7 +14,7 @@ pub(crate) fn copy_of<const N: usize>(bytes: &[u8]) -> ArrayVec<u8, N>
     copy
 }
 
-/// The bytes of `front` and then those of `back`.
+/// The bytes of `front`, followed by those of `back`.
 pub(crate) fn joined<const N: usize>(front: &[u8], back: &[u8]) -> ArrayVec<u8, N>
     requires { length front.now + length back.now ≤ N }
     ensures { result.items ≡ front.now ++ back.now }
@@ -26,7 +26,7 @@ pub(crate) fn joined<const N: usize>(front: &[u8], back: &[u8]) -> ArrayVec<u8, 
     bytes
 }
 
-/// Whether the bytes are the same. `==` says so too, but no proof can read it.
+/// Whether the bytes are the same. `==` says so too, but a proof can't use that.
 pub(crate) fn are_same(one: &[u8], other: &[u8]) -> bool
     ensures { IsTrue result ↔ (one.now ≡ other.now) }
 {

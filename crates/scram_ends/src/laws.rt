@@ -1,4 +1,4 @@
-//! Laws of logins, for proofs that stand on this crate: each is what a function ensures that does
+//! Laws of logins, for proofs that rest on this crate: the promises of functions that do
 //! nothing.
 ghost use Rattle.scram_ends.specs.Laws.{AtMostOneIsDue, SomeIsDue, AcceptsExactlyValid};
 
@@ -7,7 +7,7 @@ pub fn at_most_one_verdict_is_due()
     ensures { AtMostOneIsDue }
 {}
 
-/// Behind an opening some verdict is due to every text.
+/// After an opening some verdict is due to every text.
 pub fn some_verdict_is_due()
     ensures { SomeIsDue }
 {}

@@ -1,12 +1,12 @@
 //! Both ends of a SCRAM login (RFC 5802, RFC 7677), without channel binding.
 //!
 //! A server finds the account by `first_name`, answers the client-first message by `server_first`, and the
-//! client-final message by `ServerWait::finish`. That accepts exactly the valid logins, and refuses each
+//! client-final message by `ServerWait::finish`, which accepts exactly the valid logins, and refuses every
 //! other for the first reason of a fixed order. `ServerWait::recorded` and `judge` give the same verdict on
 //! a login that was recorded, and take no memory.
 //!
-//! `specs/` says what a login is by its whole messages: which verdict is due to it, when it is valid, and
-//! what an honest client sends. `laws` has what follows from that alone: exactly one verdict is due to
+//! `specs/` defines a login by its whole messages: which verdict is due to it, when it is valid, and what
+//! an honest client sends. `laws` has what follows from these definitions: exactly one verdict is due to
 //! every client-final message, and acceptance exactly to valid logins.
 //!
 //! ```rust

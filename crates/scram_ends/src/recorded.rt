@@ -1,5 +1,5 @@
-//! A server's place in a login that was recorded, for an audit. A recorded challenge may have extensions
-//! and a longer own part, which `server_first` does not write, so it is taken as it stands.
+//! A server's place in a recorded login, for an audit. A recorded challenge may have extensions and a
+//! longer own part of the nonce, which `server_first` does not write, so it is taken as it is.
 ghost use Rattle.std.specs.Prelude.{◌≡◌, ◌≤◌, ◌↔◌, ℕ, List, ◌++◌, length, IsTrue, IfOk, IfErr};
 ghost use Rattle.std.specs.Bool.{OnTrue, OnFalse};
 ghost use Rattle.scram_text.specs.Messages.{ClientFirstParts, IsClientFirst, ServerFirstParts, IsServerFirst};
@@ -19,14 +19,14 @@ use mac_core::Mechanism;
 use scram_text::{ServerFirst, read_server_first};
 use thiserror::Error;
 
-/// Why two recorded messages do not open a login: the first of these that is so.
+/// Why two recorded messages do not open a login: the first of these that holds.
 #[derive(Clone, Copy, Debug, PartialEq, Eq, Error)]
 pub enum RecordedFault {
-    /// A server refuses the client-first message.
+    /// 20 to 23: a server refuses the client-first message.
     #[error("{0}")]
     First(FirstFault),
 
-    /// The second text is no challenge to the client-first message for this account.
+    /// 31: the second text is no challenge to the client-first message for this account.
     #[error("the second text is no challenge for this account and client-first message")]
     NotThisChallenge,
 }
@@ -52,10 +52,10 @@ impl From<FirstFault> for RecordedFault {
 }
 
 impl ServerWait {
-    /// A server behind a recorded client-first message and challenge. Refused are a client-first message,
-    /// as by `first_name`, else 31 where the second text is no server-first message, or a mandatory one, or
-    /// its nonce does not begin with the client's or is the client's, or its salt or count is not the
-    /// account's.
+    /// A server after a recorded client-first message and challenge. Answers a fault of the client-first
+    /// message as `first_name` does, else 31 where the second text is no server-first message, or a
+    /// mandatory one, or its nonce does not begin with the client's or is the client's, or its salt or
+    /// count is not the account's.
     pub fn recorded(
         mechanism: Mechanism,
         view: &KeysView<'_>,
@@ -76,7 +76,7 @@ impl ServerWait {
     }
 }
 
-// A challenge that was read is one to this nonce, for this account.
+// Whether a challenge that was read is one to this nonce, for this account.
 fn is_challenge_to(view: &KeysView<'_>, nonce: &[u8], challenge: &ServerFirst<'_>) -> bool
     ensures opens { OnTrue result ((t1 t2 : List ℕ) (o : Opening) → IsClientFirst t1 o.first
         → IsTakenUp o.first o.name o.authz → IsServerFirst t2 o.challenge
@@ -93,7 +93,7 @@ fn is_challenge_to(view: &KeysView<'_>, nonce: &[u8], challenge: &ServerFirst<'_
         && challenge.count == view.count
 }
 
-// The nonce begins with the client's and goes on.
+// Whether the nonce begins with the client's and is longer.
 fn is_longer(nonce: &[u8], client: &[u8]) -> bool
     ensures { IsTrue result ↔ ((own : List ℕ) × (nonce.now ≡ client.now ++ own) × (1 ≤ length own)) }
 {

@@ -7,9 +7,9 @@
 //! server-final   v=.. or e=..                          ServerWait::finish, judge
 //! ```
 //!
-//! The RFC lets a server name the fault of a client-first message in an `e=`. This one answers the fault to
-//! its caller alone, who may say nothing of it. Of the RFC's error values it sends five; a name that has no
-//! keys is never told apart from a wrong proof.
+//! The RFC lets a server name the fault of a client-first message in an `e=`. This one returns the fault to
+//! its caller alone, who need not name it. Of the RFC's error values it sends five; it refuses a name that
+//! has no keys as it refuses a wrong proof.
 ghost use Rattle.std.specs.Prelude.{◌≡◌, ◌≢◌, ◌≤◌, ◌<◌, ◌+◌, ◌↔◌, ℕ, List, ◌++◌, length, IsTrue, IfOk, IfErr, OnErr, IsErrAnd, vec_len, vec_capacity, Contains};
 ghost use Rattle.std.specs.declared.option.Option.{Option};
 ghost use Rattle.mac_core.specs.declared.chosen.Mechanism.{Mechanism};
@@ -39,11 +39,11 @@ use thiserror::Error;
 /// Why a server sends no challenge.
 #[derive(Clone, Copy, Debug, PartialEq, Eq, Error)]
 pub enum FirstRefused {
-    /// It refuses the client-first message.
+    /// 20 to 23: the server refuses the client-first message.
     #[error("{0}")]
     First(FirstFault),
 
-    /// The challenge is not written.
+    /// 16, 17 or 99: the challenge could not be written. `server_first` answers only 99.
     #[error("{0}")]
     Write(WriteFault),
 }
@@ -73,9 +73,9 @@ pub struct ServerWait {
     spent: Option<WriteFault>,
 }
 
-/// Appends the challenge to a client-first message to `out`: the client's nonce with `own` behind it, the
-/// account's salt and its count. Refused are a client-first message, as by `first_name`, and else 99 where
-/// `out` has no room for the challenge reserved and cannot grow; `out` is then unchanged.
+/// Appends the challenge to a client-first message to `out`: the client's nonce with `own` after it, the
+/// account's salt and its count. Answers a fault of the client-first message as `first_name` does, else 99
+/// NoMemory, only where `out` had no room reserved for the challenge; `out` is then unchanged.
 pub fn server_first<A: Allocator>(
     mechanism: Mechanism,
     view: &KeysView<'_>,
@@ -91,7 +91,7 @@ pub fn server_first<A: Allocator>(
     ensures err { OnErr result (out.new.items ≡ out.old.items) }
     ensures capacity { vec_capacity out.old ≤ vec_capacity out.new }
     ensures first { IfErr result (λ r. (f : FirstFault) → r ≡ FirstRefused.First f → IsFirstFault t1.now f) }
-    // Behind a client-first message that is taken up, memory alone can be wanting.
+    // After a client-first message that is taken up, the only fault is that memory ran out.
     ensures taken { IfErr result (λ r. (f : WriteFault) → r ≡ FirstRefused.Write f
         → (f ≡ WriteFault.NoMemory) × ((first : ClientFirstParts) × (name : List ℕ)
         × (authz : Option (List ℕ)) × IsClientFirst t1.now first × IsTakenUp first name authz)) }
@@ -112,7 +112,7 @@ pub fn server_first<A: Allocator>(
     }
 }
 
-/// A server that waits behind this challenge, which has this nonce.
+/// A server that waits after this challenge, which has this nonce.
 pub(crate) fn wait_for(
     mechanism: Mechanism,
     view: &KeysView<'_>,
@@ -168,12 +168,12 @@ fn signing_for(
 }
 
 impl ServerWait {
-    /// The verdict on a client-final message, of which nobody is told. The first of these that is so
-    /// decides: the text is no client-final message (InvalidEncoding), an extension is named `m`
-    /// (ExtensionsNotSupported), the nonce is not exactly the one that was sent (OtherNonce), the channel
-    /// field is not exactly the gs2-header of client-first (Channel), the account has no keys or the proof
-    /// is not by them (InvalidProof), the account may not act as the authorisation name (NotAuthorised).
-    /// Else the login is accepted, with the server's signature. A spent value refuses as InvalidProof.
+    /// The verdict on a client-final message, where no message is written (RFC 5802, section 5). The first of these
+    /// that holds decides: the text is no client-final message (InvalidEncoding), an extension is named `m`
+    /// (ExtensionsNotSupported), the nonce is not exactly the one that was sent (OtherNonce), the channel field is
+    /// not exactly the gs2-header of client-first (Channel), the account has no keys or the proof is not by them
+    /// (InvalidProof), the account may not act as the authorisation name (NotAuthorised). Else the login is
+    /// accepted, with the server's signature. A spent value refuses as InvalidProof. It takes no memory.
     pub fn judge(self, t3: &[u8]) -> Judged
         ensures due { (e : Entry) (m : Mechanism) (t1 t2 : List ℕ) → StandsFor self e m t1 t2
             → IsDue e m t1 t2 t3.now (due_of result) }
@@ -223,22 +223,22 @@ impl ServerWait {
         Judged::Accepted(signing.signature(last.without_proof))
     }
 
-    /// Appends the server's final message to `out`, and says what it tells: that the login is accepted, or
-    /// why not, as `judge` decides.
+    /// Appends the server's final message to `out`, and returns the verdict that it bears: that the login
+    /// is accepted, or why not, as `judge` decides.
     ///
-    /// Else `out` is unchanged. Behind 99 NoMemory, which does not come where `out` has reserved room for
-    /// 2048 bytes, the value that is handed back is as before. Behind 16 or 17, which no value that stands
-    /// for a login meets, it is spent, and answers that fault to each further call.
+    /// After a fault `out` is unchanged. After 99 NoMemory, which comes only where `out` had no room reserved for the
+    /// message, of at most 2048 bytes, the value that is handed back is as before. After 16 or 17, which no value
+    /// that stands for a login meets, it is spent, and answers this fault to every later call.
     pub fn finish<A: Allocator>(
         self,
         t3: &[u8],
         out: &mut Vec<u8, A>,
     ) -> Result<Verdict, (ServerWait, WriteFault)>
-        // The message due is appended, and the verdict is what it tells.
+        // The message due is appended, and the verdict is the one that it bears.
         ensures ok { IfOk result (λ v. (e : Entry) (m : Mechanism) (t1 t2 : List ℕ)
             → StandsFor self e m t1 t2 → (d : Due) × IsDue e m t1 t2 t3.now d × (v ≡ verdict_of d)
             × (out.new.items ≡ out.old.items ++ due_text d)) }
-        // Accepted are exactly the valid logins.
+        // A login is accepted exactly where it is valid.
         ensures valid { IfOk result (λ v. (e : Entry) (m : Mechanism) (t1 t2 : List ℕ)
             → StandsFor self e m t1 t2 → (t4 : List ℕ) × (out.new.items ≡ out.old.items ++ t4)
             × ((v ≡ Verdict.Accepted) ↔ IsValidLogin e m t1 t2 t3.now t4)) }
@@ -248,7 +248,7 @@ impl ServerWait {
         ensures spent { IfErr result (λ r. r.1 ≢ WriteFault.NoMemory → IsSpent r.0 r.1) }
         ensures again { (fault : WriteFault) → IsSpent self fault
             → IsErrAnd result (λ r. (r.0 ≡ self) × (r.1 ≡ fault)) }
-        // A value that stands for a login is refused for want of memory alone.
+        // Where the value stands for a login, the only fault is that memory ran out.
         ensures memory { IfErr result (λ r. (e : Entry) (m : Mechanism) (t1 t2 : List ℕ)
             → StandsFor self e m t1 t2 → r.1 ≡ WriteFault.NoMemory) }
         ensures no_memory { IfErr result (λ r. (e : Entry) (m : Mechanism) (t1 t2 : List ℕ)

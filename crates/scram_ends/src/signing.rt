@@ -1,5 +1,5 @@
 //! The keys of an account at work on one login: AuthMessage (RFC 5802, section 3) is never kept, but two
-//! MACs take it in as it comes, by StoredKey to check the client's proof and by ServerKey to sign.
+//! MACs take it in as it comes: one by StoredKey checks the client's proof, one by ServerKey signs.
 ghost use Rattle.std.specs.Prelude.{◌≡◌, ◌≤◌, ◌↔◌, ℕ, List, [], ◌∷◌, ◌++◌, length, IsTrue};
 ghost use Rattle.mac_core.specs.Chosen.{length_by, hmac_by, IsScramMac};
 ghost use Rattle.scram_text.specs.Messages.{ClientFirstParts, bare_text};
@@ -38,7 +38,8 @@ impl Signing {
         }
     }
 
-    /// The proof is that of the account's keys, where AuthMessage ends with client-final-without-proof.
+    /// Whether the proof is that of the account's keys, where AuthMessage ends with
+    /// client-final-without-proof.
     pub(crate) fn is_proof(&self, without_proof: &[u8], proof: &Tag) -> bool
         ensures { (m : Mechanism) (keys : Keys) (front : List ℕ) → IsSigning self.now m keys front
             → (IsTrue result ↔ IsProof m keys (front ++ without_proof.now) proof.now.items) }
@@ -73,7 +74,7 @@ fn running(mechanism: Mechanism, key: &Tag, bare: &[u8], challenge: &[u8]) -> Sc
     mac
 }
 
-// The MAC with `rest` behind what it has taken in.
+// The MAC of the text that it has taken in, followed by `rest`.
 fn signed(mac: &ScramMac, rest: &[u8]) -> Tag
     ensures value { (m : Mechanism) (key front : List ℕ) → IsScramMac m mac.now key front
         → result.items ≡ hmac_by m key (front ++ rest.now) }

@@ -1,5 +1,5 @@
 //! What no contract shows: that the definitions are those of RFC 5802, by its login, that of RFC 7677 and
-//! those of other software, and that each call has an answer other than a refusal.
+//! those of other software, and that each call can succeed.
 ghost use Rattle.std.specs.Prelude.{◌≤◌, IfSome};
 
 use crate::{
@@ -9,13 +9,14 @@ use crate::{
 use linked_list_allocator::LocalHeap;
 use mac_core::{ScramMac, Tag, xor};
 use scram_text::{
-    FinalResult, NoncePart, PlainName, TextFault, TextWhy, WriteFault, compose_front,
+    FinalResult, NoncePart, PlainName, Salt, TextFault, TextWhy, WriteFault, compose_front,
     read_client_first, read_server_first, write_client_final, write_server_final,
 };
 use std::alloc::Global;
 use std::process::Abort;
 use std::test::Fail;
 
+mod both_ends;
 mod client;
 mod exchanges;
 mod faults;
@@ -59,7 +60,7 @@ fn view_of<'a>(
     })
 }
 
-// RFC 5802's account.
+// The account of RFC 5802's example.
 fn pencil(act_as: &[PlainName]) -> Option<KeysView<'_>>
     ensures { IfSome result (λ view. 1 ≤ view.count) }
 {

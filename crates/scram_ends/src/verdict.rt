@@ -1,10 +1,10 @@
-//! What a server says to a client-final message.
+//! The verdict of a server on a client-final message.
 ghost use Rattle.std.specs.Prelude.{◌≡◌};
 ghost use Rattle.scram_ends.specs.Verdict.{error_value, due_of, verdict_of};
 
 use mac_core::Tag;
 
-/// Why a login is refused: the first of these that is so.
+/// Why a login is refused: the first of these that holds.
 #[derive(Clone, Copy, Debug, PartialEq, Eq)]
 pub enum Refusal {
     /// The text is no client-final message.
@@ -27,7 +27,7 @@ pub enum Refusal {
 }
 
 impl Refusal {
-    /// The value of `e=` that tells the refusal (RFC 5802, section 7).
+    /// The value of `e=` that is sent for the refusal (RFC 5802, section 7).
     pub fn error_value(&self) -> &'static str
         ensures { result.now ≡ error_value self.now }
     {
@@ -41,7 +41,7 @@ impl Refusal {
     }
 }
 
-/// What a login came to, of which the client was told.
+/// The verdict on a login, whose message was written for the client.
 #[derive(Clone, Copy, Debug, PartialEq, Eq)]
 pub enum Verdict {
     /// The login is valid.
@@ -51,7 +51,7 @@ pub enum Verdict {
     Refused(Refusal),
 }
 
-/// What a login comes to, of which nobody was told.
+/// The verdict on a login, whose message was not written.
 #[derive(Drop)]
 pub enum Judged {
     /// The login is valid, and this is the server's signature.

@@ -1,5 +1,5 @@
 //! The server's two messages as they are written. Their fields are within the limits and base64 has its
-//! usual form, so that memory alone can be wanting.
+//! usual form, so the only fault is that memory runs out.
 ghost use Rattle.std.specs.Prelude.{◌≡◌, ◌≤◌, ◌<◌, ◌+◌, ℕ, List, [], ◌++◌, length, OnOk, OnErr, IsErrOf, vec_len, vec_capacity};
 ghost use Rattle.scram_text.specs.Class.{IsNonce};
 ghost use Rattle.scram_text.specs.Base64Field.{IsField};
@@ -37,14 +37,14 @@ pub(crate) fn write_challenge<A: Allocator>(
     write_server_first(nonce, salt, count, b"", out)
 }
 
-// 1 to 64 bytes may stand in a field: a law, for the writer's fault alone.
+// 1 to 64 bytes fit a field: a law, which rules out the writer's other faults.
 fn fits_a_field(bytes: &[u8])
     requires some { 1 ≤ length bytes.now }
     requires most { length bytes.now ≤ 64 }
     ensures { IsField 64 bytes.now }
 {}
 
-/// Appends the server's final message with this judgement.
+/// Appends the server's final message of this judgement.
 pub(crate) fn write_judgement<A: Allocator>(
     judged: &Judged,
     out: &mut Vec<u8, A>,
@@ -54,7 +54,7 @@ pub(crate) fn write_judgement<A: Allocator>(
         OnOk result (IsServerFinal (due_text d) (final_due d)) }
     ensures err { OnErr result (out.new.items ≡ out.old.items) }
     ensures capacity { vec_capacity out.old ≤ vec_capacity out.new }
-    // A signature that is empty cannot be written, and no key makes one.
+    // An empty signature could not be written, but no key makes one.
     ensures unwritable { IsErrOf result WriteFault.Unwritable
         → (signature : List ℕ) × (due_of judged.now ≡ accept signature) × (length signature ≡ 0) }
     ensures over_limit { IsErrOf result WriteFault.OverLimit → ⊥ }

@@ -17,14 +17,14 @@ use scram_text::{
 use std::alloc::Allocator;
 
 impl ClientOne {
-    /// Answers the challenge `t2`: appends the client-final message with the proof of `password` to
-    /// `out`, at most 1592 bytes. It takes time in proportion to the challenge's iteration count, once
-    /// nothing is wrong with the challenge.
+    /// Answers the challenge `t2` (RFC 5802, section 3): appends the client-final message with the proof of
+    /// `password` to `out`, at most 1592 bytes. Where nothing is wrong with the challenge, this takes time
+    /// in proportion to its iteration count.
     ///
     /// Spent has the first of these: 24 for a text that is no server-first message, 25 for a mandatory one,
     /// 26 for a nonce that does not begin with the client's, 27 for one that is the client's, and 28 for a
-    /// count outside the limits. Back has 99 NoMemory alone, which does not come where `out` has reserved
-    /// room for the message. After both `out` is unchanged.
+    /// count outside the limits. Back has 99 NoMemory, only where `out` had no room reserved for the
+    /// message. After both `out` is unchanged.
     pub fn first<A: Allocator>(
         self,
         password: &Password,
@@ -37,11 +37,11 @@ impl ClientOne {
             × IsExpecting two m password.now name authz own t1 t2.now t3) }
         ensures err { OnErr result (out.new.items ≡ out.old.items) }
         ensures capacity { vec_capacity out.old ≤ vec_capacity out.new }
-        // What is answered is a challenge to this client.
+        // Where it is answered, or would have been, it is a challenge to this client with nothing wrong.
         ensures answerable { IsAnswered result → (m : Mechanism) (limits : Limits) (name : List ℕ)
             (authz : Option (List ℕ)) (own t1 : List ℕ) → IsStarted self m limits name authz own t1
             → (challenge : ServerFirstParts) × IsAnswerable limits own t2.now challenge }
-        // Each challenge to this client is answered.
+        // Each such challenge is answered, or its answer could not be written.
         ensures only { (m : Mechanism) (limits : Limits) (name : List ℕ) (authz : Option (List ℕ))
             (own t1 : List ℕ) (challenge : ServerFirstParts) → IsStarted self m limits name authz own t1
             → IsAnswerable limits own t2.now challenge → IsAnswered result }
@@ -65,7 +65,7 @@ impl ClientOne {
         }
     }
 
-    // The challenge, where nothing is wrong with it.
+    // Reads the challenge, or says what is wrong with it.
     fn take_up<'a>(&self, t2: &'a [u8]) -> Result<ServerFirst<'a>, ClientFault>
         ensures ok { IfOk result (λ challenge. (p : ServerFirstParts) × ShowsServerFirst challenge p
             × IsAnswerable self.now.limits self.now.nonce.items t2.now p) }
@@ -87,7 +87,7 @@ impl ClientOne {
         Ok(challenge)
     }
 
-    // Appends client-final, where it is written.
+    // Appends client-final to `out`.
     fn answer<A: Allocator>(
         &self,
         password: &Password,
@@ -120,7 +120,7 @@ impl ClientOne {
         })
     }
 
-    // `front` is client-final-message-without-proof.
+    // The proof and the signature to expect; `front` is client-final-message-without-proof.
     fn prove(
         &self,
         password: &Password,
@@ -150,7 +150,7 @@ impl ClientOne {
         }
     }
 
-    // The HMAC of AuthMessage, which ends with `front`.
+    // The HMAC of AuthMessage, of which `front` is the end.
     fn sign(&self, key: &Tag, t2: &[u8], front: &[u8]) -> Tag
         ensures value { (first : ClientFirstParts) → self.now.bare.items ≡ bare_text first
             → result.items ≡ hmac_by self.now.mechanism key.now.items (auth_front first t2.now ++ front.now) }
@@ -173,7 +173,7 @@ struct Answer {
     expected: Tag,
 }
 
-// Elements of a slice are bytes by their type, which is for the proof alone.
+// The elements of a slice are bytes by their type; the proof alone needs this.
 fn are_bytes(bytes: &[u8])
     ensures { (i : ℕ) → slice_index bytes.now i < 256 }
 {}

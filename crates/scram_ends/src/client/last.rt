@@ -9,10 +9,11 @@ use mac_core::Mechanism;
 use scram_text::{FinalResult, read_server_final};
 
 impl ClientTwo {
-    /// Whether `t4` shows that the server has the keys of the client's password: it is a server-final
-    /// message, which may have extensions, and its verifier is the server signature of the three messages
-    /// before it. Else the answer is the first of these: 24 for a text that is no server-final message, 25
-    /// for a mandatory one, 29 for an error and 30 for another verifier.
+    /// Checks that `t4` shows that the server has the keys of the client's password (RFC 5802, section
+    /// 5): it is a server-final message, which may have extensions, and its verifier is the server
+    /// signature of the three messages before it. Else the fault is the first of these: 24 for a text
+    /// that is no server-final message, 25 for a mandatory one, 29 for an error and 30 for another
+    /// verifier.
     pub fn last(self, t4: &[u8]) -> Result<Authenticated, ClientFault>
         ensures ok { OnOk result ((m : Mechanism) (password name : List ℕ) (authz : Option (List ℕ))
             (own t1 t2 t3 : List ℕ) → (x : IsExpecting self m password name authz own t1 t2 t3)

@@ -15,8 +15,8 @@ use std::alloc::Allocator;
 impl Client {
     /// Appends the client-first message of this name, authorisation name and nonce to `out`: at most
     /// 1796 bytes, with the flag `n` and no extensions. `limits` are the counts that the client will
-    /// accept, the least at least 1. Answers 99 NoMemory alone, which does not come where `out` has
-    /// reserved room for the message; `out` is then unchanged.
+    /// accept, the least at least 1. Answers no fault but 99 NoMemory, and only where `out` had no
+    /// room reserved for the message; `out` is then unchanged.
     pub fn start<A: Allocator>(
         mechanism: Mechanism,
         name: &PlainName,
@@ -51,7 +51,7 @@ impl Client {
     }
 }
 
-// Names and nonces are in their classes by their types, which is for the proof alone.
+// Names and nonces are in their classes by their types; the proof alone needs this.
 fn are_in_class(name: &PlainName, authzid: Option<&PlainName>, nonce: &NoncePart)
     ensures name { IsPlainName name.now }
     ensures authzid { IfSome (option_copied authzid.entry) IsPlainName }

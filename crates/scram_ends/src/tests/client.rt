@@ -1,4 +1,4 @@
-//! The client's end.
+//! Tests of the client's end.
 ghost use Rattle.std.specs.Prelude.{◌≤◌};
 
 use crate::tests::logins::{Exchange, OTHERS, PUBLISHED};
@@ -75,7 +75,8 @@ fn logins_of_other_software(rt: HostRuntime) {
     }
 }
 
-// The fault of a client with this nonce and these limits at a challenge, where it ends the login.
+// The fault by which a client with this nonce and these limits ends the login at a challenge, if
+// any.
 fn refused(
     nonce: &'static str,
     limits: Limits,
@@ -112,6 +113,15 @@ fn faults_of_a_challenge(rt: HostRuntime) {
         ("b", "r=ab,s=QQ==,i=4096", ClientFault::NonceNotMine),
         ("abc", "r=ab,s=QQ==,i=1", ClientFault::NonceNotMine),
         ("ab", "r=ab,s=QQ==,i=1", ClientFault::NonceNotLonger),
+        ("b", "r=ab,s=QQ==,i=4294967295", ClientFault::NonceNotMine),
+        (
+            "ab",
+            "r=ab,s=QQ==,i=4294967295",
+            ClientFault::NonceNotLonger,
+        ),
+        ("bb", "r=abb,s=QQ==,i=4294967295", ClientFault::NonceNotMine),
+        ("a", "r=abb,s=QQ==,i=4294967295", ClientFault::CountOutside),
+        ("ab", "r=abb,s=QQ==,i=4294967295", ClientFault::CountOutside),
         ("a", "r=ab,s=QQ==,i=4294967295", ClientFault::CountOutside),
         ("a", "r=ab,s=QQ==,i=1000001", ClientFault::CountOutside),
         ("a", "r=ab,s=QQ==,i=4095", ClientFault::CountOutside),
@@ -176,7 +186,7 @@ fn outcomes_at_the_client(rt: HostRuntime) {
     }
 }
 
-// The authorisation name stands in the gs2-header, and so in the channel field.
+// The authorisation name is in the gs2-header, and so in the channel field.
 #[test]
 fn authorisation_name(rt: HostRuntime) {
     let exchange = &PUBLISHED[0];

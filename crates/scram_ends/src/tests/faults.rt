@@ -1,4 +1,4 @@
-//! The text of each fault of both ends, which says what is wrong and where it can be set right.
+//! The text of each fault of both ends, which says what is wrong and what to do about it.
 use super::*;
 use crate::ClientFault;
 

@@ -38,8 +38,8 @@ pub(super) const PUBLISHED: [Exchange; 2] = [
     },
 ];
 
-/// Logins of Cyrus SASL's and GNU SASL's clients. The last message is empty where the password was wrong and
-/// the server told so by the outcome alone.
+/// Logins of Cyrus SASL's and GNU SASL's clients. The last message is empty where the password was wrong,
+/// and the server sent no message that said so.
 pub(super) const OTHERS: [Exchange; 6] = [
     Exchange {
         mechanism: Mechanism::ScramSha256,

@@ -22,7 +22,7 @@ fn refused_client_first(rt: HostRuntime) {
         ("p=tls-unique,,n=user,r=x", FirstFault::BindingAsked),
         ("n,,n=a\x7F,r=x", FirstFault::OutsideProfile),
         ("n,a=a\x7F,n=user,r=x", FirstFault::OutsideProfile),
-        // Two at once: the first of the order.
+        // Two faults at once: the first in the order counts.
         ("p=tls-unique,,m=x,n=a\x7F,r=x", FirstFault::Mandatory),
         ("p=tls-unique,,n=a\x7F,r=x", FirstFault::BindingAsked),
     ] {

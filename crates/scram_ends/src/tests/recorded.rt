@@ -62,7 +62,7 @@ fn refused_records(rt: HostRuntime) -> Result<(), Fail> {
     Ok(())
 }
 
-// What is due to RFC 5802's client where the challenge is recorded so.
+// The verdict due to RFC 5802's client where this challenge is recorded.
 fn due_behind(alloc: Global, challenge: &str) -> Result<Option<Refusal>, Fail> {
     let view = pencil(&[]).ok_or("an account")?;
     let [first, _, _, _] = SHA1;

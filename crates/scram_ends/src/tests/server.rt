@@ -1,6 +1,34 @@
+ghost use Rattle.std.specs.Prelude.{◌≤◌};
+
 use super::*;
 
-// A login with a published server's own part of the nonce.
+// The server's end of a login with these four messages, where `own` is its part of the nonce.
+fn check_login(
+    rt: &impl Abort,
+    alloc: Global,
+    mechanism: Mechanism,
+    view: &KeysView<'_>,
+    own: &str,
+    messages: &[&str; 4],
+) -> Result<(), Fail>
+    requires { 1 ≤ view.now.count }
+{
+    let [first, challenge, last, outcome] = *messages;
+    let own = NoncePart::new(own.as_bytes()).ok_or("a nonce")?;
+    let mut out = Vec::new(alloc);
+    let Ok(wait) = server_first(mechanism, view, first.as_bytes(), &own, &mut out) else {
+        return Err(Fail::from("no challenge"));
+    };
+    assert_eq!(rt; out.as_slice(), challenge.as_bytes());
+    out.clear();
+    let verdict = wait.finish(last.as_bytes(), &mut out).ok();
+    assert_eq!(rt; out.as_slice(), outcome.as_bytes(), "{first}: {last}");
+    let is_accepted = verdict == Some(Verdict::Accepted);
+    assert_eq!(rt; is_accepted, outcome.starts_with("v="), "{first}: {last}");
+    Ok(())
+}
+
+// Runs a published login, with its server's own part of the nonce.
 fn check_published(
     rt: &impl Abort,
     alloc: Global,
@@ -8,19 +36,8 @@ fn check_published(
     own: &str,
     messages: &[&str; 4],
 ) -> Result<(), Fail> {
-    let [first, challenge, last, outcome] = *messages;
-    let view = view_of(mechanism, b"pencil", challenge.as_bytes(), &[]).ok_or("an account")?;
-    let own = NoncePart::new(own.as_bytes()).ok_or("a nonce")?;
-    let mut out = Vec::new(alloc);
-    let Ok(wait) = server_first(mechanism, &view, first.as_bytes(), &own, &mut out) else {
-        return Err(Fail::from("no challenge"));
-    };
-    assert_eq!(rt; out.as_slice(), challenge.as_bytes());
-    out.clear();
-    let verdict = wait.finish(last.as_bytes(), &mut out).ok();
-    assert_eq!(rt; verdict, Some(Verdict::Accepted));
-    assert_eq!(rt; out.as_slice(), outcome.as_bytes());
-    Ok(())
+    let view = view_of(mechanism, b"pencil", messages[1].as_bytes(), &[]).ok_or("an account")?;
+    check_login(rt, alloc, mechanism, &view, own, messages)
 }
 
 #[test]
@@ -79,7 +96,7 @@ const LAST: [(&str, &str); 13] = [
         "c=biws,r=fyko+d2lbbFgONRv9qkxdawL3rfcNHYJY1ZVvWVs7j,x=1,p=v0X8v3Bz2T0CJGbJQyF0X+HI4Ts=",
         "e=invalid-proof",
     ),
-    // Two at once: the first of the order.
+    // Two faults at once: the first in the order counts.
     (
         "c=biws,r=fyko+d2lbbFgONRv9qkxdawL3rfcNHYJY1ZVvWVs7j,m=1,p=",
         "e=invalid-encoding",
@@ -121,7 +138,7 @@ fn each_refusal(rt: HostRuntime) -> Result<(), Fail> {
     Ok(())
 }
 
-// A decoy answers a proof, also the right one of another account, as a wrong one is answered.
+// A decoy answers every proof, also the right one of another account, as a wrong one is answered.
 #[test]
 fn decoy(rt: HostRuntime) -> Result<(), Fail> {
     let alloc = rt.alloc();
@@ -146,7 +163,8 @@ fn decoy(rt: HostRuntime) -> Result<(), Fail> {
     Ok(())
 }
 
-// What is due to an honest client of this header, whose proof is over `signed` as client-first-bare.
+// The verdict due to an honest client with this header, whose proof is over `signed` as
+// client-first-bare.
 fn due_to(
     alloc: Global,
     header: &str,
@@ -189,7 +207,7 @@ fn headers_and_authorisation_names(rt: HostRuntime) -> Result<(), Fail> {
         due_to(alloc, "n,a=a=2Cb=3Dc,", BARE, BARE, &odd)?,
         accepted
     );
-    // A wrong proof is told before a name that is not allowed.
+    // A wrong proof counts before a name that is not allowed.
     assert_eq!(rt;
         due_to(alloc, "n,a=root,", BARE, "n=user,r=fyko", &[])?,
         Some(Refusal::InvalidProof)
@@ -206,6 +224,60 @@ fn the_proof_covers_extensions(rt: HostRuntime) -> Result<(), Fail> {
         due_to(alloc, "n,,", extended, BARE, &[])?,
         Some(Refusal::InvalidProof)
     );
+    Ok(())
+}
+
+// By Python: hashlib.pbkdf2_hmac("sha256", b"open sesame", b"salt", 4096), and then each key and signature by
+// hmac.digest(key, text, "sha256"). The second proof leaves `,x=1` out of AuthMessage.
+#[test]
+fn an_extension_is_signed(rt: HostRuntime) -> Result<(), Fail> {
+    let sha256 = Mechanism::ScramSha256;
+    let challenge = "r=abcdef,s=c2FsdA==,i=4096";
+    let view = view_of(sha256, b"open sesame", challenge.as_bytes(), &[]).ok_or("an account")?;
+    for (last, outcome) in [
+        (
+            "c=biws,r=abcdef,p=TZdtRyHCpCuZdIdnPBlpAbIwqT6VUuwd2aV8Z4lkHyE=",
+            "v=koIyyYIISGwtXbiR6QjT//gwhZ9OBZYDS9hG+FLLFWA=",
+        ),
+        (
+            "c=biws,r=abcdef,p=GayEeS7jGMCUVgctIdeVJDyzbF/482FxbT34bSX7U/U=",
+            "e=invalid-proof",
+        ),
+    ] {
+        let messages = ["n,,n=user,r=abc,x=1", challenge, last, outcome];
+        check_login(&rt, rt.alloc(), sha256, &view, "def", &messages)?;
+    }
+    Ok(())
+}
+
+// A client's `a` and the server's `bb` give the nonce `abb`, and so do `ab` and `b`: the challenges are equal, and each
+// proof is right in its own login alone. By Python as above, with "sha1", b"pencil", b"A" and 1: as many rounds as the
+// challenge says would take hours.
+#[test]
+fn nonces_that_join_alike(rt: HostRuntime) -> Result<(), Fail> {
+    let sha1 = Mechanism::ScramSha1;
+    let view = KeysView {
+        salt: Salt::new(b"A").ok_or("a salt")?,
+        count: 4294967295,
+        keys: Some(sha1.scram_keys(b"pencil", b"A", 1)),
+        act_as: &[],
+    };
+    let [first_a, first_ab] = ["n,,n=user,r=a", "n,,n=user,r=ab"];
+    let [last_a, last_ab] = [
+        "c=biws,r=abb,p=QWm98tpWXJLePSAGs9pqVsFG7aY=",
+        "c=biws,r=abb,p=20eu7pJHMJPBsO8hysyWq0wz/k0=",
+    ];
+    for (first, own, last, outcome) in [
+        (first_a, "bb", last_a, "v=xx+jew+BeJLNwZeV8s3Edjni0Wo="),
+        (first_a, "bb", last_ab, "e=invalid-proof"),
+        (first_ab, "b", last_a, "e=invalid-proof"),
+        (first_ab, "b", last_ab, "v=NEhJ1Yp78A4n8V8mMI60F1s4oqg="),
+        // The nonce that was sent merely begins with this one.
+        (first_ab, "b", "c=biws,r=ab,p=AA==", "e=other-error"),
+    ] {
+        let messages = [first, "r=abb,s=QQ==,i=4294967295", last, outcome];
+        check_login(&rt, rt.alloc(), sha1, &view, own, &messages)?;
+    }
     Ok(())
 }
 

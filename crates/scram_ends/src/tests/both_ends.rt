@@ -1,0 +1,43 @@
+//! Both ends in one login: each is given what the other wrote.
+use super::logins::{Exchange, PUBLISHED};
+use super::*;
+use crate::{Authenticated, Client, Limits};
+use scram_text::Password;
+
+// Each message is the published one, where `own` is the server's part of the nonce.
+fn check_both(rt: &impl Abort, alloc: Global, exchange: &Exchange, own: &str) -> Result<(), Fail> {
+    let [first, challenge, last, outcome] = exchange.messages;
+    let mechanism = exchange.mechanism;
+    let name = PlainName::new(exchange.name.as_bytes()).ok_or("a name")?;
+    let password = Password::new(exchange.password.as_bytes()).ok_or("a password")?;
+    let nonce = NoncePart::new(exchange.nonce.as_bytes()).ok_or("a nonce")?;
+    let own = NoncePart::new(own.as_bytes()).ok_or("a nonce")?;
+    let view = view_of(mechanism, password.bytes(), challenge.as_bytes(), &[]).ok_or("an account")?;
+
+    let mut t1 = Vec::new(alloc);
+    let client = Client::start(mechanism, &name, None, &nonce, Limits::usual(), &mut t1)?;
+    assert_eq!(rt; t1.as_slice(), first.as_bytes());
+    let mut t2 = Vec::new(alloc);
+    let Ok(server) = server_first(mechanism, &view, t1.as_slice(), &own, &mut t2) else {
+        return Err(Fail::from("no challenge"));
+    };
+    assert_eq!(rt; t2.as_slice(), challenge.as_bytes());
+    let mut t3 = Vec::new(alloc);
+    let Ok(client) = client.first(&password, t2.as_slice(), &mut t3) else {
+        return Err(Fail::from("no answer"));
+    };
+    assert_eq!(rt; t3.as_slice(), last.as_bytes());
+    let mut t4 = Vec::new(alloc);
+    let verdict = server.finish(t3.as_slice(), &mut t4).ok();
+    assert_eq!(rt; verdict, Some(Verdict::Accepted));
+    assert_eq!(rt; t4.as_slice(), outcome.as_bytes());
+    assert_eq!(rt; client.last(t4.as_slice()), Ok(Authenticated));
+    Ok(())
+}
+
+#[test]
+fn published_logins(rt: HostRuntime) -> Result<(), Fail> {
+    let [sha1, sha256] = &PUBLISHED;
+    check_both(&rt, rt.alloc(), sha1, "3rfcNHYJY1ZVvWVs7j")?;
+    check_both(&rt, rt.alloc(), sha256, "%hvYDpWUa2RaTCAfuxFIlj)hNlF$k0")
+}
