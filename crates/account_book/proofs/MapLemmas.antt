@@ -31,7 +31,7 @@ pub map_found : (r : Option (Bor AccountFields)) (book : BookFields) (name : Lis
     → option_copied r ≡ map.get (accounts_of book) name
 map_found r book name found = found ∙ sym (map_get book.accounts name)
 
--- what answers each look-up alike is one map
+-- a list and a map that answer each look-up alike are the same map
 map_same : (es : List (List ℕ × AccountFields)) (m : map.FinMap name_cmp AccountFields)
     → ((name : List ℕ) → lookup (is_at (name_cmp name)) es ≡ map.get m name) → from_entries es ≡ m
 map_same es m alike =

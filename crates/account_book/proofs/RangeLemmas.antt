@@ -34,7 +34,7 @@ pub found : (test : List ℕ → Bool) (es : List (List ℕ × AccountFields)) �
 found test [] h = tt
 found test (e ∷ es) h = some_either (test e.0) e.1 (lookup test es) h.0 (found test es h.1)
 
--- the same, of a reference to it
+-- the account that a reference found by a look-up shows
 pub shown : (r : Option (Bor AccountFields)) (o : Option AccountFields) → option_copied r ≡ o → IfSome o IsAccount
     → IfSome r (λ account. IsAccount account.now)
 shown None o e h = tt
@@ -60,14 +60,14 @@ all_put cmp (e ∷ es) name account h k =
     one_of (cmp name e.0) ((name, account) ∷ e ∷ es) ((e.0, account) ∷ es) (e ∷ insert_entry cmp es name account)
     (k, h) (k, h.1) (h.0, all_put cmp es name account h.1 k)
 
--- the accounts after an insertion, whether it found memory or not
+-- the accounts after an insertion, whether there was memory for it or not
 pub all_inserted : {X Y : Type 0} (r : Result X Y) (cmp : List ℕ → List ℕ → Ordering) (es new : List (List ℕ × AccountFields))
     (name : List ℕ) (account : AccountFields) → OnOk r (new ≡ insert_entry cmp es name account) → OnErr r (new ≡ es)
     → AreAccounts es → IsAccount account → AreAccounts new
 all_inserted (Ok old) cmp es new name account e f h k = subst AreAccounts (sym e) (all_put cmp es name account h k)
 all_inserted (Err fault) cmp es new name account e f h k = subst AreAccounts (sym f) h
 
--- an account with another token, and with other names to act as
+-- an account with another token
 pub token_put : (token : Fields) (account : AccountFields) → IsAccount account → IsAccount (with_token token account)
 token_put token account h = record { sha1 = h.sha1; sha256 = h.sha256; names = h.names }
 
@@ -75,6 +75,6 @@ pub act_as_set : (names : List (List ℕ)) (account : AccountFields) → length 
     → IsAccount (with_act_as names account)
 act_as_set names account few h = record { sha1 = h.sha1; sha256 = h.sha256; names = few }
 
--- what is true of a value is true of what an option of it holds
+-- a fact of a value is one of the value that an option holds
 pub for_some : {X : Type 0} (P : X → Type 0) (x : X) → P x → ForSome (Some x) P
 for_some P x h y e = subst P (ap (λ o. unwrap_or o x) e) h

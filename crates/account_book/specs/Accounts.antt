@@ -1,4 +1,4 @@
--- A book as accounts by their names: what is at a name, and the books in which one account is another.
+-- A book as accounts by their names: the account at a name, and books in which one account changes.
 use Rattle.std.specs.Prelude.{ℕ, ◌≡◌, List, Option}
 use Rattle.std.specs.Option.{option_map_or}
 use Rattle.std.specs.FinMap as map
@@ -19,7 +19,7 @@ name_cmp = slice_cmp nat_cmp
 abbrev pub account_at : BookFields → List ℕ → Option AccountFields
 account_at book name = lookup (is_at (name_cmp name)) book.accounts
 
--- the book with this account more, at a name that is free
+-- the book with one more account, at a name that is free
 abbrev pub with_account : BookFields → List ℕ → AccountFields → BookFields
 with_account book name account = record book { accounts = insert_entry name_cmp book.accounts name account }
 
@@ -55,12 +55,12 @@ pub record IsChanged (old : BookFields) (name : List ℕ) (change : AccountField
   pub book : new ≡ with_changed old name change
   pub accounts : accounts_of new ≡ map_changed (accounts_of old) name change
 
--- this account comes to a name that is free, and nothing else changes
+-- this account is added at a name that is free, and nothing else changes
 pub record IsAdded (old : BookFields) (name : List ℕ) (account : AccountFields) (new : BookFields) : Type 0 where
   pub book : new ≡ with_account old name account
   pub accounts : accounts_of new ≡ map.insert (accounts_of old) name account
 
--- the account of this name, where there is one, goes, and nothing else changes
+-- the account of this name, where there is one, is removed, and nothing else changes
 pub record IsRemoved (old : BookFields) (name : List ℕ) (new : BookFields) : Type 0 where
   pub book : new ≡ without_account old name
   pub accounts : accounts_of new ≡ map.remove (accounts_of old) name

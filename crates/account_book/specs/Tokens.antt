@@ -20,9 +20,9 @@ token_at book name = option_and_then (λ account. account.token) (account_at boo
 abbrev pub with_token : Fields → AccountFields → AccountFields
 with_token token account = record account { token = Some token }
 
--- what an attempt does that is made on the token of the account of this name: for every start and history
--- that lead to the token, the reply is the one due after them, and they lead, with this attempt added, to the
--- token that the account has then
+-- what an attempt on the token of the account of this name does: for every start and history that lead to the
+-- token, the reply is the one due after them, and with this attempt added they lead to the token that the
+-- account has afterwards
 pub record IsAttempt (old : BookFields) (name : List ℕ) (token : Fields) (moment : ℕ) (text : List ℕ) (reply : Reply)
     (new : BookFields) : Type 0 where
   pub due : (start : Fields) (history : List Attempt) → IsAfter start history token → IsDue start history moment (OneText text) reply

@@ -1,4 +1,4 @@
-//! An account book: accounts by their names, and what decoys are made of.
+//! An account book: accounts by their names, and what decoys are made from.
 ghost use Rattle.std.specs.Prelude.{◌≡◌, ◌≤◌, [], length, is_some, option_copied, IfSome};
 ghost use Rattle.std.specs.FinMap as map;
 ghost use Rattle.book_format.specs.Account.{IsAccount};
@@ -33,8 +33,8 @@ impl Model for Book {
 }
 
 impl Book {
-    /// A book without accounts. The salts of its decoys are made of `decoy_key`, which nobody else may know,
-    /// and their iteration count is `decoy_count`, at least 1.
+    /// A book without accounts. The salts of its decoys are made from `decoy_key`, which nobody else may
+    /// know, and their iteration count is `decoy_count`, at least 1.
     pub fn new(alloc: Global, decoy_key: [u8; 32], decoy_count: u32) -> Book
         requires { 1 ≤ decoy_count }
         ensures { result ≡ record { decoy_key = decoy_key; decoy_count = decoy_count; accounts = [] } }
@@ -49,7 +49,7 @@ impl Book {
         }
     }
 
-    /// Each book is in its ranges: a law, for those who see the book's value alone.
+    /// Each book is in its ranges: a law, for proofs that only know a book's value.
     pub(crate) fn is_in_range(&self)
         ensures { IsBook self.now }
     {
@@ -66,7 +66,7 @@ impl Book {
         self.contents.accounts.get(name)
     }
 
-    /// Takes the account of this name out. It answers whether there was one; else nothing changes.
+    /// Removes the account of this name. Returns whether there was one; else nothing changes.
     pub fn remove(&mut self, name: &PlainName) -> bool
         ensures found { result ≡ is_some (account_at self.old name.now) }
         ensures removed { IsRemoved self.old name.now self.new }
@@ -74,7 +74,7 @@ impl Book {
         self.contents.accounts.remove(name).is_some()
     }
 
-    /// Lets the account of this name act as these names, at most 16, and no others but its own. It answers
+    /// Lets the account of this name act as these names, at most 16, and no others except its own. Returns
     /// whether there is such an account; else nothing changes.
     pub fn set_act_as(&mut self, name: &PlainName, act_as: Vec<PlainName>) -> bool
         requires { length act_as.items ≤ 16 }

@@ -1,9 +1,9 @@
 //! An account book: accounts by their names, each with SCRAM keys, names to act as and a token, and
 //! where the book's text is kept.
 //!
-//! `Book::read` and `Book::write` know its text, `Book::enrol` adds an account, `Book::view` says what a
-//! SCRAM server keeps of a name, and `Book::attempt` judges a code. A name without keys is seen as a decoy.
-//! Each call's contract says which account changes and how; every other stays as it was.
+//! `Book::read` and `Book::write` read and write its text, `Book::enrol` adds an account, `Book::view`
+//! shows what a SCRAM server keeps of a name, and `Book::attempt` judges a code. A name without keys is
+//! seen as a decoy. Each call's contract says which account changes and how; every other stays as it was.
 //!
 //! ```rust
 //! use account_book::Book;

@@ -1,4 +1,4 @@
--- What stands in the tree of a book is read.
+-- The tree of a book is read as the book.
 use Rattle.std.proofs.Common.{◌≡◌, ◌≤◌, ◌+◌, ◌&&◌, nat_le, le-leb, nat_abs, ℕ, List, [], ◌∷◌, length, map, true, Option, Some, None, Ok, refl, arith, inl, inr}
 use Rattle.std.proofs.lemmas.Bool.Decides.{nat_tests}
 use Rattle.toml.specs.Data.{Data, string, integer, Members, no_members, member, get_member}

@@ -1,4 +1,4 @@
--- What is read stands in the tree.
+-- A book that was read is that of the tree.
 use Rattle.std.proofs.Common.{◌≡◌, ◌≤◌, ◌+◌, ◌&&◌, nat_le, ◌==◌, nat_abs, ℤ, pos, negsuc, ℕ, List, [], ◌∷◌, length, map, codes, true, Option, Some, None, ok_or, Result, Ok, Err, refl, sym, ap, subst, ◌∙◌, arith, inl, inr}
 use Rattle.std.specs.Option.{option_and_then, unwrap_or}
 use Rattle.std.proofs.lemmas.Bool.{cases_Bool, and_parts}
@@ -113,7 +113,7 @@ number_found key least most why ms n h =
     let (value, enough, few) = within_said least most z n (ok_or_ok _ why n within) in
     record { there = integer_said (get_member key ms) z said ∙ ap (λ y. Some (integer y)) value; enough = enough; few = few }
 
--- what is read of a value that may be missing
+-- a value that may be missing is as it was read
 option_found : {T : Type 0} (key : List ℕ) (read : Data → Result T BookWhy) (Is : Data → T → Type 0) (found : (d : Data) (x : T) → read d ≡ Ok x → Is d x)
     (ms : Members) (there : Option Data) (o : Option T) → get_member key ms ≡ there → optional read there ≡ Ok o → HoldsOption key Is o ms
 option_found key read Is found ms None None at h = at
@@ -378,7 +378,7 @@ one_said (Some (integer (pos n))) h = ap (λ n. Some (integer (pos n))) (is_one_
 one_said (Some (integer (negsuc n))) h = absurd (cc h)
 one_said (Some d) h = absurd (cc h)
 
--- a book that is read has its tree
+-- the tree that a book is read from is that of the book
 pub book_found : (ms : Members) (book : BookFields) → book_of ms ≡ Ok book → IsBookTree ms book
 unfolding book_of top_of
 book_found ms book h =

@@ -1,4 +1,4 @@
--- A book's tree is no deeper than the parser goes, and holds no dates.
+-- A book's tree is no deeper than the parser goes, and has no dates.
 use Rattle.std.proofs.Common.{◌≡◌, ℕ, ◌≤◌, List, [], ◌∷◌, map, codes, true, Option, Some, None, option_map, refl, arith}
 use Rattle.toml.specs.Data.{Data, string, Members, member, depth, items_depth, members_depth, has_valid_dates, items_have_valid_dates, members_have_valid_dates}
 use Rattle.toml.specs.View.{items_of}

@@ -1,4 +1,4 @@
--- What an insert into a table puts, and keys that are put behind or among others.
+-- What an insert into a table does, and keys that are put after or among others.
 use Rattle.std.proofs.Common.{◌≡◌, ℕ, List, [], ◌∷◌, ◌++◌, String, Global, Ordering, Less, Equal, Greater, nat_cmp, string_bytes, string_cmp, codes, Option, Some, None, option_map, refl, ap, ◌∙◌}
 use Rattle.std.proofs.lemmas.Cmp.{nat_list_cmp_total}
 use Rattle.std.specs.Cmp.Lexicographic.{slice_cmp}
@@ -41,7 +41,7 @@ put_above (first ∷ done) e more h =
     let above : slice_cmp nat_cmp e.0 first.0 ≡ Greater = nat_list_cmp_total.antisymm e.0 first.0 ∙ ap ordering_reverse (below_middle first done e more h.0) in
     rw above (ap (member first.0 (account_tree first.1)) (put_above done e more h.1))
 
--- the keys of an account that it need not have
+-- the keys of an account that may be missing
 pub put_account : (names : Data) (sha1 sha256 token : Option Data)
     → put_some (codes "token") token (put_some (codes "sha256") sha256 (put_some (codes "sha1") sha1 (member (codes "act_as") names no_members)))
     ≡ member (codes "act_as") names (perhaps (codes "sha1") sha1 (perhaps (codes "sha256") sha256 (perhaps (codes "token") token no_members)))
@@ -58,6 +58,6 @@ with_last : (t : TotpFields) (last : Option ℕ) → put_some (codes "last") (op
 with_last t None = refl
 with_last t (Some last) = refl
 
--- the key of a TOTP token that it need not have
+-- the key of a TOTP token that may be missing
 pub put_totp : (t : TotpFields) → put_some (codes "last") (option_map number_tree t.last) (totp_members (record t { last = None })) ≡ totp_members t
 put_totp t = with_last t t.last

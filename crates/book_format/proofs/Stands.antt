@@ -114,7 +114,7 @@ pub account_among : (done : List (List ℕ × AccountFields)) (e : List ℕ × A
 account_among [] e more h = h.0
 account_among (first ∷ done) e more h = account_among done e more h.1
 
--- one more account behind the others
+-- one more account after the others
 pub accounts_stand : (done : List (List ℕ × AccountFields)) (e : List ℕ × AccountFields) → AreAccountTrees (accounts_tree done) done
     → IsPlainName e.0 → IsAccountTree (account_tree e.1) e.1 → AreAccountTrees (accounts_tree (done ++ e ∷ [])) (done ++ e ∷ [])
 unfolding accounts_tree
@@ -132,7 +132,7 @@ book_stands b fits key back accounts = record {
   accounts = inr (accounts_tree b.accounts, refl, accounts);
 }
 
--- one more name behind the others
+-- one more name after the others
 pub names_more : (done : List (List ℕ)) (name : List ℕ) → AreNames done → IsPlainName name → AreNames (done ++ name ∷ [])
 names_more [] name h plain = (plain, tt)
 names_more (first ∷ done) name h plain = (h.0, names_more done name h.1 plain)

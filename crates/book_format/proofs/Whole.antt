@@ -1,4 +1,4 @@
--- A book's text, from its parts.
+-- The text of a whole book, from its parts.
 use Rattle.std.proofs.Common.{◌≡◌, ℕ, List, Some, None, Ok, Err, refl, inl, inr}
 use Rattle.std.proofs.lemmas.Str.{IsUtf8-from_is_utf8, is_utf8-from_IsUtf8}
 use Rattle.std.proofs.lemmas.Bool.{cases_Bool}
@@ -41,7 +41,7 @@ tree_found bytes ms h = elim (cases_Bool (is_utf8 bytes)) [
       let none = rw not at h in absurd (cc none)
 ]
 
--- what is read of a text is the book that it is the text of
+-- the book that is read from a text is the one that it is the text of
 pub text_found : (bytes : List ℕ) (book : BookFields) → book_in bytes ≡ Ok book → IsBookText bytes book
 unfolding book_in
 text_found bytes book h =
@@ -49,7 +49,7 @@ text_found bytes book h =
     let (utf8, parsed) = tree_found bytes ms (at_top_ok (tree_in bytes) ms tree) in
     record { tree = ms; utf8 = utf8; parsed = parsed; of_book = book_found ms book rest }
 
--- and the text of a book is read as it
+-- the text of a book is read as that book
 pub text_held : (bytes : List ℕ) (book : BookFields) → IsBookText bytes book → book_in bytes ≡ Ok book
 unfolding book_in tree_in
 text_held bytes book h = rw (is_utf8-from_IsUtf8 bytes h.utf8, h.parsed) (book_held h.tree book h.of_book)

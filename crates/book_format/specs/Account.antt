@@ -1,4 +1,4 @@
--- What is kept of an account, and the ranges of it.
+-- What is kept of an account, and its ranges.
 use Rattle.std.specs.Prelude.{ℕ, ◌≤◌, ◌≡◌, List, length, Option}
 use Rattle.std.specs.Option.{ForSome}
 use Rattle.hex.specs.Hex.{IsBytes}
@@ -13,8 +13,8 @@ pub record AccountFields : Type 0 where
   pub act_as : List (List ℕ)
   pub token : Option Fields
 
--- keys as long as the digests of a hash function of so many bytes, with a salt and an iteration count in the
--- ranges that a challenge can show
+-- keys as long as the digests, of `len` bytes, of their hash function, with a salt and an iteration count in
+-- the ranges that a challenge can show
 pub record AreKeys (len : ℕ) (keys : MechKeys) : Type 0 where
   pub salt : IsSalt keys.salt
   pub salt_bytes : IsBytes keys.salt

@@ -10,7 +10,7 @@ put_member key value no_members = member key value no_members
 put_member key value (member k d rest) =
     match_ordering (slice_cmp nat_cmp key k) (member key value (member k d rest)) (member k value rest) (member k d (put_member key value rest))
 
--- the same where there is a value
+-- the members with a value at a key where there is a value, else unchanged
 abbrev pub put_some : List ℕ → Option Data → Members → Members
 put_some key None members = members
 put_some key (Some value) members = put_member key value members

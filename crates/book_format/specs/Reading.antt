@@ -1,6 +1,6 @@
--- How a book's text is read, with the first fault where it is none: what is missing or of another type
--- in a table comes behind its unknown keys, key by key in the order of the format. Of the document `format`, and
--- of a token `kind`, comes before the unknown keys.
+-- How a book's text is read, with the first fault where it is none: in each table unknown keys come first, then
+-- what is missing or of another type, key by key in the order of the format. Of the document `format`, and of a
+-- token `kind`, comes before the unknown keys.
 use Rattle.std.specs.Prelude.{ℕ, ◌+◌, ◌-◌, ◌^◌, ◌≡◌, ◌⊎◌, ◌==◌, ◌&&◌, nat_le, ℤ, pos, negsuc, nat_abs, Bool, true, false, if◌then◌else◌, List, [], ◌∷◌, length, codes, Option, Some, None, is_some, option_and_then, ok_or, Result, Ok, Err, MatchResult}
 use Rattle.std.specs.List.{list_all}
 use Rattle.std.specs.Str.{is_utf8, bytes_eq}
@@ -50,34 +50,34 @@ text_of key ms = ok_or (option_and_then as_str (get_member key ms)) Key
 unfoldable pub integer_of : List ℕ → Members → Result ℤ BookWhy
 integer_of key ms = ok_or (option_and_then as_integer (get_member key ms)) Key
 
--- a whole number between two others
+-- a whole number from one number to another
 abbrev pub number_within : ℕ → ℕ → ℤ → Option ℕ
 number_within least most (pos n) = if nat_le least n && nat_le n most then Some n else None
 number_within least most (negsuc n) = None
 
--- the whole number at a key, between two others
+-- the whole number at a key, from one number to another
 unfoldable pub number_of : List ℕ → ℕ → ℕ → BookWhy → Members → Result ℕ BookWhy
 number_of key least most why ms = do
   number ← integer_of key ms
   ok_or (number_within least most number) why
 
--- bytes, so many at least and at most
+-- bytes, where their number is from `least` to `most`
 abbrev pub bytes_in : {E : Type 0} → ℕ → ℕ → Result (List ℕ) E → Option (ArrayVec ℕ)
 bytes_in least most (Ok bytes) =
     if nat_le least (length bytes) && nat_le (length bytes) most then Some (record { items = bytes }) else None
 bytes_in least most (Err e) = None
 
--- the bytes of a hexadecimal text, so many at least and at most
+-- the bytes of a hexadecimal text, where their number is from `least` to `most`
 unfoldable pub bytes_within : ℕ → ℕ → List ℕ → Option (ArrayVec ℕ)
 bytes_within least most text = bytes_in least most (decode_of text)
 
--- the bytes whose hexadecimal text stands at a key, so many at least and at most
+-- the bytes, `least` to `most` of them, whose hexadecimal text is at a key
 unfoldable pub bytes_of : List ℕ → ℕ → ℕ → BookWhy → Members → Result (ArrayVec ℕ) BookWhy
 bytes_of key least most why ms = do
   text ← text_of key ms
   ok_or (bytes_within least most text) why
 
--- what is kept for a mechanism whose keys have so many bytes
+-- what is kept for a mechanism whose keys have `len` bytes
 unfoldable pub mech_of : ℕ → Data → Result MechKeys BookWhy
 mech_of len d = do
   ms ← table_of d
@@ -100,7 +100,7 @@ hotp_of ms = do
   failures ← number_of (codes "failures") 0 limit Token ms
   Ok (record { secret = secret.items; digits = digits; next = next; look_ahead = look_ahead; limit = limit; failures = failures })
 
--- the hash function of a name
+-- the hash function of this name
 abbrev pub hash_named : List ℕ → Option OtpHash
 hash_named name =
     if bytes_eq name (codes "sha1") then Some Sha1
@@ -108,13 +108,13 @@ hash_named name =
     else if bytes_eq name (codes "sha512") then Some Sha512
     else None
 
--- the hash function whose name stands at a key
+-- the hash function whose name is at a key
 unfoldable pub hash_of : List ℕ → Members → Result OtpHash BookWhy
 hash_of key ms = do
   name ← text_of key ms
   ok_or (hash_named name) Token
 
--- what is read of a value, or None where there is none
+-- what is read from a value, or None where there is none
 abbrev pub optional : {A E : Type 0} → (Data → Result A E) → Option Data → Result (Option A) E
 optional read None = Ok None
 optional read (Some d) = read d >>= λ x. Ok (Some x)
@@ -125,7 +125,7 @@ last_of d = do
   number ← ok_or (as_integer d) Key
   ok_or (number_within 0 (2 ^ 63 - 2) number) Token
 
--- the drift of a TOTP token, so many steps at most
+-- the drift of a TOTP token, at most `most` steps to either side
 unfoldable pub drift_of : List ℕ → ℕ → Members → Result ℤ BookWhy
 drift_of key most ms = do
   drift ← integer_of key ms
@@ -164,17 +164,17 @@ token_of d = do
   kind ← text_of (codes "kind") ms
   kind_of kind ms
 
--- each of a list is a text
+-- each value of a list is a text
 abbrev pub are_texts : Items → Bool
 are_texts no_items = true
 are_texts (item d ds) = is_some (as_str d) && are_texts ds
 
--- how many a list has
+-- the number of values of a list
 abbrev pub item_count : Items → ℕ
 item_count no_items = 0
 item_count (item d ds) = item_count ds + 1
 
--- the name in plain bytes
+-- the name, where it is plain
 abbrev pub plain_name_of : List ℕ → Result (List ℕ) BookWhy
 plain_name_of name =
     if nat_le 1 (length name) && nat_le (length name) 255 && list_all is_plain name then Ok name else Err Name
@@ -201,7 +201,7 @@ act_as_of d = do
   list ← ok_or (as_array d) Key
   names_of list
 
--- the same of a value that may be missing
+-- the names that an account may act as, none where the value is missing
 abbrev pub act_as_at : Option Data → Result (List (List ℕ)) BookWhy
 act_as_at None = Ok []
 act_as_at (Some d) = act_as_of d
@@ -224,7 +224,7 @@ named_account_of key d = do
   account ← account_of d
   Ok (name, account)
 
--- a fault in the account of an index
+-- a fault in the account of this index
 abbrev pub in_account : {A : Type 0} → ℕ → Result A BookWhy → Result A BookFault
 in_account index (Ok x) = Ok x
 in_account index (Err why) = Err (record { why = why; account = Some index })
@@ -242,18 +242,18 @@ accounts_from index (member key d ms) = do
   entries ← accounts_from (index + 1) ms
   Ok (entry ∷ entries)
 
--- the same of a table that may be missing
+-- the accounts of a table, none where it is missing
 abbrev pub accounts_in : Option Members → Result (List (List ℕ × AccountFields)) BookFault
 accounts_in None = Ok []
 accounts_in (Some ms) = accounts_from 0 ms
 
--- the number 1
+-- the value is the number 1
 abbrev pub is_one : Option ℤ → Bool
 is_one None = false
 is_one (Some (pos n)) = n == 1
 is_one (Some (negsuc n)) = false
 
--- what stands in the document itself, with the table of its accounts unread
+-- the keys of the document itself, with the table of its accounts unread
 pub record TopFields : Type 0 where
   pub decoy_key : List ℕ
   pub decoy_count : ℕ
@@ -294,16 +294,16 @@ book_in bytes = do
 abbrev pub IsFirstFault : List ℕ → BookFault → Type 0
 IsFirstFault bytes fault = book_in bytes ≡ Err fault
 
--- what a reader answers, looked at so, is what is read; for want of memory it may say so at any place
+-- a reader answers what is read here, seen through a function; or, at any place, that memory ran out
 abbrev pub Gives : {X Y : Type 0} → (X → Y) → Result X BookWhy → Result Y BookWhy → Type 0
 Gives look result read = MatchResult result (λ x. read ≡ Ok (look x)) (λ why. (why ≡ NoMemory) ⊎ (read ≡ Err why))
 
--- the same where a fault says in which account it is
+-- a reader answers what is read here, where a fault has its account; or, at any place, that memory ran out
 abbrev pub GivesFault : {X Y : Type 0} → (X → Y) → Result X BookFault → Result Y BookFault → Type 0
 GivesFault look result read =
     MatchResult result (λ x. read ≡ Ok (look x)) (λ fault. (fault.why ≡ NoMemory) ⊎ (read ≡ Err fault))
 
--- a result that is looked at so
+-- a result, seen through a function
 abbrev pub seen : {X Y E : Type 0} → (X → Y) → Result X E → Result Y E
 seen look (Ok x) = Ok (look x)
 seen look (Err e) = Err e

@@ -1,5 +1,5 @@
--- Which TOML tree is that of a book: for each table of the format, which keys stand there and with
--- which values, that no other keys do, and what a missing key means.
+-- Which TOML tree is that of a book: for each table of the format, which keys it has and with which
+-- values, that it has no others, and what a missing key means.
 use Rattle.std.specs.Prelude.{ℕ, ◌≤◌, ◌-◌, ◌^◌, ◌≡◌, ◌⊎◌, pos, nat_abs, List, [], ◌∷◌, length, map, codes, Option, Some, None, Ok, IsTrue}
 use Rattle.std.specs.Str.{IsUtf8}
 use Rattle.hex.specs.Hex.{decode_of}
@@ -16,11 +16,11 @@ use Rattle.book_format.specs.Book.{BookFields}
 use Rattle.book_format.specs.Keys.{top_keys, account_keys, mech_table_keys, hotp_keys, totp_keys, hash_name, is_among, has_only}
 use Rattle.book_format.specs.declared.account.MechKeys.{MechKeys}
 
--- at a key stands a text
+-- the table has this text at a key
 abbrev pub HoldsText : List ℕ → List ℕ → Members → Type 0
 HoldsText key text ms = get_member key ms ≡ Some (string text)
 
--- at a key stand bytes, as hexadecimal text in either case, so many at least and at most
+-- the table has `least` to `most` bytes at a key, as hexadecimal text in either case
 pub record HoldsBytes (key : List ℕ) (least most : ℕ) (bytes : List ℕ) (ms : Members) : Type 0 where
   pub text : List ℕ
   pub there : HoldsText key text ms
@@ -28,18 +28,18 @@ pub record HoldsBytes (key : List ℕ) (least most : ℕ) (bytes : List ℕ) (ms
   pub enough : least ≤ length bytes
   pub few : length bytes ≤ most
 
--- at a key stands a whole number between two others
+-- the table has a whole number at a key, from one number to another
 pub record HoldsNumber (key : List ℕ) (least most n : ℕ) (ms : Members) : Type 0 where
   pub there : get_member key ms ≡ Some (integer (pos n))
   pub enough : least ≤ n
   pub few : n ≤ most
 
--- at a key stands what is asked of a value, or the key is missing
+-- the table has at a key what is asked of a value, or it has no such key
 abbrev pub HoldsOption : {T : Type 0} → List ℕ → (Data → T → Type 0) → Option T → Members → Type 0
 HoldsOption key Is None ms = get_member key ms ≡ None
 HoldsOption key Is (Some x) ms = (d : Data) × (get_member key ms ≡ Some d) × Is d x
 
--- the table of what is kept for a mechanism whose keys have so many bytes
+-- the table of what is kept for a mechanism whose keys have `len` bytes
 pub record IsMechTree (len : ℕ) (d : Data) (keys : MechKeys) : Type 0 where
   pub members : Members
   pub is_table : d ≡ table members
@@ -103,7 +103,7 @@ pub record IsNameList (d : Data) (names : List (List ℕ)) : Type 0 where
   pub plain : AreNames names
   pub few : length names ≤ 16
 
--- at a key stand names; a missing key is none
+-- the table has names at a key; where it has no such key there are none
 abbrev pub HoldsNames : List ℕ → List (List ℕ) → Members → Type 0
 HoldsNames key names ms =
     ((get_member key ms ≡ None) × (names ≡ []))
@@ -127,7 +127,7 @@ AreAccountTrees (member name d ms) [] = ⊥
 AreAccountTrees (member name d ms) (entry ∷ entries) =
     (name ≡ entry.0) × IsPlainName entry.0 × IsAccountTree d entry.1 × AreAccountTrees ms entries
 
--- at a key stand the accounts; a missing key is none
+-- the table has the accounts at a key; where it has no such key there are none
 abbrev pub HoldsAccounts : List ℕ → List (List ℕ × AccountFields) → Members → Type 0
 HoldsAccounts key accounts ms =
     ((get_member key ms ≡ None) × (accounts ≡ []))

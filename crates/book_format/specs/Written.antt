@@ -21,7 +21,7 @@ hex_tree bytes = string (encode_lower bytes)
 abbrev pub number_tree : ℕ → Data
 number_tree n = integer (pos n)
 
--- a key that stands there only with a value
+-- a key that is there only with a value
 abbrev pub perhaps : List ℕ → Option Data → Members → Members
 perhaps key None rest = rest
 perhaps key (Some value) rest = member key value rest
@@ -75,7 +75,7 @@ token_tree (Totp t) = totp_tree t
 abbrev pub names_tree : List (List ℕ) → Data
 names_tree names = array (items_of (map string names))
 
--- an account: `act_as` also where it is empty, and each other key only where it has a value
+-- an account: `act_as` even where it is empty, and each other key only where it has a value
 unfoldable pub account_tree : AccountFields → Data
 account_tree a = table (
     member (codes "act_as") (names_tree a.act_as) (

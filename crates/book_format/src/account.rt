@@ -1,4 +1,4 @@
-//! What is kept of an account.
+//! What a book keeps of an account.
 use mac_core::ScramKeys;
 use otp_core::Token;
 use scram_text::{PlainName, Salt};
@@ -7,17 +7,17 @@ use std::marker::Model;
 /// What is kept of a password for one mechanism (RFC 5802, section 3).
 #[derive(Drop)]
 pub struct MechKeys {
-    /// The salt that the keys were made with.
+    /// The salt that the keys were made with, 1 to 64 bytes.
     pub salt: Salt,
 
-    /// The iteration count that they were made with, at least 1.
+    /// The iteration count that the keys were made with, at least 1.
     pub count: u32,
 
     /// StoredKey and ServerKey: 20 bytes each for SCRAM-SHA-1, 32 for SCRAM-SHA-256.
     pub keys: ScramKeys,
 }
 
-/// An account. It may have no keys, for either mechanism, and no token.
+/// An account. It may lack keys for either mechanism, and a token.
 #[derive(Drop)]
 pub struct Account {
     /// The keys of SCRAM-SHA-1.
@@ -26,10 +26,10 @@ pub struct Account {
     /// The keys of SCRAM-SHA-256.
     pub sha256: Option<MechKeys>,
 
-    /// The other names that it may act as, at most 16.
+    /// The other names that the account may act as, at most 16.
     pub act_as: Vec<PlainName>,
 
-    /// The token that gives its codes.
+    /// The token that judges the account's codes.
     pub token: Option<Token>,
 }
 

@@ -19,7 +19,7 @@ use toml::{Table, Value};
 // The most names that an account may act as.
 const MOST_NAMES: usize = 16;
 
-/// The accounts of a table in byte order of names, each wholly read before the next. A fault says the
+/// The accounts of a table in byte order of names, each wholly read before the next. A fault has the
 /// index of its account.
 #[tactic(auto, unfolding(crate::specs::Reading::accounts_from))]
 pub(crate) fn accounts_from(
@@ -129,8 +129,8 @@ fn act_as_of(alloc: Global, value: &Value) -> Result<Vec<PlainName>, BookWhy>
     names_of(alloc, list.as_slice())
 }
 
-// The names, judged by the types of all before the value of any. Their number comes before their values
-// too, since both faults are `Name`.
+// The names: the types of all are judged before the value of any. Their number is judged before their
+// values too, since both faults are `Name`.
 fn names_of(alloc: Global, list: &[Value]) -> Result<Vec<PlainName>, BookWhy>
     ensures { Gives (λ v. v.items) result (names_of (items_view list.now)) }
 {

@@ -1,13 +1,13 @@
-//! What an account book holds.
+//! The contents of an account book.
 use crate::account::Account;
 use scram_text::PlainName;
 use std::collections::BTreeMap;
 use std::marker::Model;
 
-/// What an account book holds. Each account is in its ranges, as `Account` and `MechKeys` say.
+/// The contents of an account book. Each account is in its ranges, as `Account` and `MechKeys` say.
 #[derive(Drop)]
 pub struct Contents {
-    /// The key that the salts of decoys are made of.
+    /// The key that the salts of decoys are made from.
     pub decoy_key: [u8; 32],
 
     /// The iteration count of decoys, at least 1.

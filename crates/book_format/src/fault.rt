@@ -5,7 +5,7 @@ ghost use Rattle.book_format.specs.Faults.{why_number};
 use std::fmt;
 use thiserror::Error;
 
-/// What is wrong with a book's text, each with its number.
+/// What is wrong with a book's text, with the fault's number.
 #[derive(Clone, Copy, Debug, PartialEq, Eq, Error)]
 pub enum BookWhy {
     /// It is not UTF-8, or no TOML document.
@@ -16,11 +16,11 @@ pub enum BookWhy {
     #[error("`format` is not 1")]
     Format = 61,
 
-    /// A key is missing, unknown, or of another type.
+    /// A key of a table is missing, unknown, or has a value of another type.
     #[error("a key is missing, unknown, or of another type")]
     Key = 62,
 
-    /// A name has other than 1 to 255 bytes of 20 to 7E hex, or `act_as` has more than 16 names.
+    /// A name is not 1 to 255 bytes of 20 to 7E hex, or `act_as` has more than 16 names.
     #[error("a name is not 1 to 255 bytes of 20 to 7E hex, or `act_as` has more than 16")]
     Name = 63,
 
@@ -32,15 +32,16 @@ pub enum BookWhy {
     #[error("a count is not 1 to 4294967295")]
     Count = 65,
 
-    /// A key is no hexadecimal text, or has another length than its hash function's or the decoy key's.
+    /// The text of `stored`, `server` or `decoy_key` is not hexadecimal, or spells another number of
+    /// bytes than it has to.
     #[error("a key is not the hexadecimal text of as many bytes as it has to have")]
     KeyLength = 66,
 
-    /// A token is of another kind, or has a setting that is out of its range.
+    /// A token is of an unknown kind or hash function, or has a setting that is out of its range.
     #[error("a token is of another kind, or a setting of it is out of its range")]
     Token = 67,
 
-    /// There is no memory for the book.
+    /// Memory ran out for the book.
     #[error("no memory for the book")]
     NoMemory = 99,
 }
@@ -54,15 +55,15 @@ impl BookWhy {
     }
 }
 
-/// Why a text is no account book: the first fault, the book's own keys first, and then account by
-/// account in byte order of their names.
+/// Why a text is no account book: the first fault. The book's own keys are judged first, and then
+/// account after account, in byte order of their names.
 #[derive(Clone, Copy, Debug, PartialEq, Eq)]
 pub struct BookFault {
     /// What is wrong.
     pub why: BookWhy,
 
-    /// The index of the account at fault, from 0 in byte order of names. It is None where the fault
-    /// lies in no account.
+    /// The index of the account at fault, from 0 in byte order of names; None where no account is at
+    /// fault.
     pub account: Option<usize>,
 }
 

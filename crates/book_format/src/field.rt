@@ -26,7 +26,7 @@ pub(crate) fn table_of(value: &Value) -> Result<&Table, BookWhy>
     value.as_table().ok_or(BookWhy::Key)
 }
 
-/// `Key` where a key of the table is not among these.
+/// Answers `Key` where the table has a key that is not among these.
 pub(crate) fn known_keys(table: &Table, keys: &[&str]) -> Result<(), BookWhy>
     ensures { result ≡ known_keys (λ key. list_any (λ k. bytes_eq k.now key) keys.now) (table_view table.now) }
 {
@@ -55,7 +55,7 @@ fn is_among(keys: &[&str], key: &str) -> bool
     keys.iter().any(|known| *known == key)
 }
 
-/// The text at a key. `Key` where it is missing or of another type.
+/// The text at a key. `Key` where it is missing or the value has another type.
 #[tactic(auto, unfolding(crate::specs::Reading::text_of))]
 pub(crate) fn text_of<'a>(table: &'a Table, key: &str) -> Result<&'a str, BookWhy>
     ensures { seen (λ t. t.now) result ≡ text_of key.now (table_view table.now) }
@@ -66,7 +66,7 @@ pub(crate) fn text_of<'a>(table: &'a Table, key: &str) -> Result<&'a str, BookWh
     }
 }
 
-/// The whole number at a key. `Key` where it is missing or of another type.
+/// The whole number at a key. `Key` where it is missing or the value has another type.
 #[tactic(auto, unfolding(crate::specs::Reading::integer_of))]
 pub(crate) fn integer_of(table: &Table, key: &str) -> Result<i64, BookWhy>
     ensures { result ≡ integer_of key.now (table_view table.now) }
@@ -77,7 +77,7 @@ pub(crate) fn integer_of(table: &Table, key: &str) -> Result<i64, BookWhy>
     }
 }
 
-/// The number, where it is one from `least` to `most`.
+/// The number, where it is from `least` to `most`.
 pub(crate) fn number_within(least: u64, most: u64, number: i64) -> Option<u64>
     ensures { result ≡ number_within least most number }
 {
@@ -92,8 +92,8 @@ pub(crate) fn number_within(least: u64, most: u64, number: i64) -> Option<u64>
     }
 }
 
-/// The whole number from `least` to `most` at a key. `Key` where it is missing or of another type, and
-/// `why` where it is another number.
+/// The whole number from `least` to `most` at a key. `Key` where it is missing or the value has another
+/// type, and `why` where it is another number.
 #[tactic(auto, unfolding(crate::specs::Reading::number_of))]
 pub(crate) fn number_of(
     table: &Table,
@@ -110,7 +110,7 @@ pub(crate) fn number_of(
     number_within(least, most, number).ok_or(why)
 }
 
-/// The bytes of a hexadecimal text in either case, where they are from `least` to `most`.
+/// The bytes of a hexadecimal text in either case, where their number is from `least` to `most`.
 #[tactic(auto, unfolding(crate::specs::Reading::bytes_within))]
 fn bytes_within(least: usize, most: usize, text: &str) -> Option<Tag>
     requires { most ≤ 64 }
@@ -127,8 +127,8 @@ fn bytes_within(least: usize, most: usize, text: &str) -> Option<Tag>
     ArrayVec::try_from(&buffer[..count]).ok()
 }
 
-/// The bytes, from `least` to `most`, whose hexadecimal text in either case stands at a key. `Key` where
-/// it is missing or of another type, and `why` where the text is another one.
+/// The bytes, `least` to `most` of them, whose hexadecimal text, in either case, is at a key. `Key`
+/// where it is missing or the value has another type, and `why` for another text.
 #[tactic(auto, unfolding(crate::specs::Reading::bytes_of))]
 pub(crate) fn bytes_of(
     table: &Table,

@@ -1,9 +1,9 @@
 //! Account books and their text, a TOML document with `format = 1`.
 //!
-//! `Contents::read` takes a text exactly where it is that of a book, and else answers the first fault:
-//! of the document, of its own keys, then of account by account in byte order of names. In each table
-//! unknown keys come first, then its keys in the order below; but `format`, and the `kind` of a token, come
-//! before the unknown keys. `Contents::write` gives a text that is that of the book.
+//! `Contents::read` takes a text exactly where it is that of a book, and else answers its first fault: of the
+//! document, of its own keys, then of account after account in byte order of names. In each table unknown keys come
+//! first, then its keys in the order below; except that `format`, and the `kind` of a token, come before the
+//! unknown keys. `Contents::write` makes a text that is that of the book.
 //!
 //! | Table | Keys |
 //! |---|---|

@@ -1,4 +1,4 @@
-//! A book's text, read from the document down.
+//! Reads a book's text, from the document down.
 ghost use Rattle.std.specs.Prelude.{◌≡◌, ◌⊎◌, IfOk, IfErr, IsErrAnd, option_map, Ok, Some, None, codes, length, option_and_then};
 ghost use Rattle.toml.specs.Data.{get_member, as_integer};
 ghost use Rattle.toml.specs.View.{table_view};
@@ -19,7 +19,7 @@ use std::alloc::Global;
 use std::collections::BTreeMap;
 use toml::Table;
 
-// What stands in the document itself.
+// The keys of the document itself, with the accounts unread.
 #[derive(Drop)]
 struct Top<'a> {
     decoy_key: [u8; 32],
@@ -28,10 +28,10 @@ struct Top<'a> {
 }
 
 impl Contents {
-    /// The contents that `bytes` are the text of, or the first fault: of the document, of `format`, of
-    /// the document's keys, then of account by account in byte order of names. In each table unknown
-    /// keys come first, and then its keys in the order of the format; of a token, `kind` comes before
-    /// both. `NoMemory` may come at any place.
+    /// Reads the contents that `bytes` are the text of, or answers the first fault (60 to 67): of the
+    /// document, of `format`, of the document's keys, then of account after account in byte order of
+    /// names. In each table unknown keys come first, and then its keys in the order of the format; of
+    /// a token, `kind` comes before both. 99 NoMemory may come at any place.
     pub fn read(alloc: Global, bytes: &[u8]) -> Result<Contents, BookFault>
         ensures found { IfOk result (λ c. IsBookText bytes.now c) }
         ensures only { (c : BookFields) → IsBookText bytes.now c → (result ≡ Ok c) ⊎ IsErrAnd result (λ f. f.why ≡ NoMemory) }
@@ -68,7 +68,7 @@ fn at_top(why: BookWhy) -> BookFault
     BookFault { why, account: None }
 }
 
-// The TOML document.
+// The TOML document of the bytes.
 #[tactic(auto, unfolding(crate::specs::Reading::tree_in))]
 fn document_of(alloc: Global, bytes: &[u8]) -> Result<Table, BookWhy>
     ensures { Gives table_view result (tree_in bytes.now) }
@@ -103,7 +103,7 @@ fn top_of(table: &Table) -> Result<Top<'_>, BookWhy>
     })
 }
 
-// `format = 1`
+// Whether the table has `format = 1`.
 fn is_format(table: &Table) -> bool
     ensures { result ≡ is_one (option_and_then as_integer (get_member (codes "format") (table_view table.now))) }
 {

@@ -28,7 +28,7 @@ const USER: &str = concat!(
     "server = \"0fe09258b3ac852ba502cc62ba903eaacdbf7d31\"\n\n",
 );
 
-// Its token: the secret is that of RFC 4226, appendix D.
+// The account's token: its secret is that of RFC 4226, appendix D.
 const HOTP: &str = concat!(
     "[accounts.user.token]\n",
     "kind = \"hotp\"\n",
@@ -40,7 +40,7 @@ const HOTP: &str = concat!(
     "failures = 0\n",
 );
 
-// A token by time in its place.
+// A TOTP token in the place of the HOTP one.
 const TOTP: &str = concat!(
     "[accounts.user.token]\n",
     "kind = \"totp\"\n",
@@ -57,7 +57,7 @@ const TOTP: &str = concat!(
     "failures = 0\n",
 );
 
-// A book's text: the document's keys, then these parts, with what stands first for `old` put right.
+// A book's text: the document's keys and these parts, where the first `old` is replaced by `new`.
 fn edited(alloc: Global, parts: [&str; 2], old: &str, new: &str) -> Result<String, Fail> {
     let text = format!(in alloc; "{TOP}{}{}", parts[0], parts[1])?;
     let (front, back) = text

@@ -14,7 +14,7 @@ use otp_core::Token;
 use toml::{Table, Value};
 use totp::{totp_of, totp_token};
 
-/// A token.
+/// Reads a token.
 #[tactic(auto, unfolding(crate::specs::Reading::token_of))]
 pub(crate) fn token_of(value: &Value) -> Result<Token, BookWhy>
     ensures { result ≡ token_of (view value.now) }

@@ -1,4 +1,4 @@
-//! The text of an account book, written.
+//! Writes the text of an account book.
 ghost use Rattle.std.specs.Prelude.{◌≡◌, false, codes, length, Ok, IfOk, OnOk, string_bytes};
 ghost use Rattle.hex.specs.Hex.{decode_of, encode_lower};
 ghost use Rattle.toml.specs.Text.{IsDocumentText};
@@ -26,8 +26,8 @@ use toml::{Table, Value};
 
 impl Contents {
     /// The book's text, which `read` reads as these contents. It has each key that has a value, in
-    /// byte order of the keys, with bytes in lower-case hexadecimal; `act_as` stands there also where
-    /// it is empty. `AllocError` comes only where memory is refused.
+    /// byte order of the keys, with bytes in lower-case hexadecimal; `act_as` is written even where
+    /// it is empty. `AllocError` comes only where memory runs out.
     pub fn write(&self, alloc: Global) -> Result<String, AllocError>
         ensures stands { IfOk result (λ s. IsBookText (string_bytes s) self.now) }
         ensures text { IfOk result (λ s. IsDocumentText false (book_tree self.now) (string_bytes s)) }
@@ -58,7 +58,7 @@ fn book_table(alloc: Global, book: &Contents) -> Result<Table, AllocError>
     Ok(table)
 }
 
-// Puts the decoy key, whose length its type says.
+// Puts the decoy key into the table; its type says its length.
 fn put_decoy_key(alloc: Global, table: &mut Table, key: &[u8; 32]) -> Result<(), AllocError>
     ensures tree { OnOk result (table_view table.new
         ≡ put_member (codes "decoy_key") (hex_tree key.now) (table_view table.old)) }

@@ -1,4 +1,4 @@
-//! A new account, of a password.
+//! Adds an account with a password.
 ghost use Rattle.std.specs.Prelude.{◌≡◌, ◌≤◌, None, IfErr, OnOk, OnErr, MatchOption};
 ghost use Rattle.hex.specs.Hex.{IsBytes};
 ghost use Rattle.mac_core.specs.Chosen.{length_by};
@@ -14,14 +14,14 @@ use scram_text::{Password, PlainName, Salt};
 use std::alloc::Global;
 use thiserror::Error;
 
-/// Why an account is not enrolled.
+/// Why no account is enrolled.
 #[derive(Clone, Copy, Debug, PartialEq, Eq, Error)]
 pub enum EnrolFault {
-    /// There is an account of this name.
+    /// 50: there is an account of this name.
     #[error("there is an account of this name")]
     NameTaken = 50,
 
-    /// There is no memory for the account.
+    /// 99: memory ran out for the account.
     #[error("no memory for the account")]
     NoMemory = 99,
 }
@@ -38,8 +38,8 @@ impl EnrolFault {
 impl Book {
     /// Adds an account of this name, with the keys of `password` for both mechanisms: those of SCRAM-SHA-1
     /// under `salt1`, those of SCRAM-SHA-256 under `salt256`, and both under `count`, at least 1. It acts as
-    /// no other name and has no token. Refused are a name that has an account (50 NameTaken), and else only
-    /// want of memory (99 NoMemory); then nothing changes.
+    /// no other name and has no token. Answers 50 NameTaken where the name has an account, else 99 NoMemory
+    /// only where memory runs out; then nothing changes.
     pub fn enrol(
         &mut self,
         alloc: Global,
@@ -86,7 +86,7 @@ fn made_keys(mechanism: Mechanism, password: &Password, salt: &Salt, count: u32)
     }
 }
 
-// A slice of bytes has bytes.
+// The elements of a slice are bytes by their type; the proof alone needs this.
 fn are_bytes(bytes: &[u8])
     ensures { IsBytes bytes.now }
 {

@@ -14,9 +14,8 @@ use scram_text::{PlainName, Salt};
 
 impl Book {
     /// What a server keeps of this name for this mechanism: the account of the name where it has keys for
-    /// the mechanism, and else a decoy. A decoy's salt is the first 16 bytes of an HMAC-SHA-256 of the
-    /// mechanism and the name, so it is the same each time, and a client cannot tell by it that the name has
-    /// no keys.
+    /// the mechanism, else a decoy. A decoy's salt is the first 16 bytes of the HMAC-SHA-256, under the
+    /// decoy key, of the mechanism's name, a byte 00 and the name: a name has the same salt each time.
     pub fn view(&self, name: &PlainName, mechanism: Mechanism) -> KeysView<'_>
         ensures entry { entry_of result ≡ entry_in self.now mechanism name.now }
         ensures count { 1 ≤ result.count }

@@ -1,4 +1,4 @@
-//! A book's text, a TOML document.
+//! The text of a book, a TOML document.
 ghost use Rattle.std.specs.Prelude.{◌≡◌, ◌⊎◌, false, Ok, IfOk, IfErr, IsErrAnd, string_bytes};
 ghost use Rattle.toml.specs.Text.{IsDocumentText};
 ghost use Rattle.book_format.specs.Book.{BookFields};
@@ -12,10 +12,10 @@ use book_format::{BookFault, Contents};
 use std::alloc::{AllocError, Global};
 
 impl Book {
-    /// The book that `bytes` are the text of, or the first fault (60 to 67): of the document, of `format`,
-    /// of the document's keys, then of account by account in byte order of names. In each table unknown
-    /// keys come first, and then its keys in the order of the format; of a token, `kind` comes before
-    /// both. 99 NoMemory may come at any place.
+    /// Reads the book that `bytes` are the text of, or answers the first fault (60 to 67): of the
+    /// document, of `format`, of the document's keys, then of account after account in byte order of
+    /// names. In each table unknown keys come first, and then its keys in the order of the format; of a
+    /// token, `kind` comes before both. 99 NoMemory may come at any place.
     pub fn read(alloc: Global, bytes: &[u8]) -> Result<Book, BookFault>
         ensures found { IfOk result (λ book. IsBookText bytes.now book) }
         ensures only { (book : BookFields) → IsBookText bytes.now book
@@ -28,9 +28,9 @@ impl Book {
         }
     }
 
-    /// The book's text, which `Book::read` reads as the same book, want of memory aside. It has every key
+    /// The book's text, which `Book::read` reads as the same book unless memory runs out. It has every key
     /// that has a value, one table for each account, mechanism and token, and bytes in lower-case
-    /// hexadecimal. `AllocError` comes only where memory is refused.
+    /// hexadecimal. `AllocError` comes only where memory runs out.
     pub fn write(&self, alloc: Global) -> Result<String, AllocError>
         ensures stands { IfOk result (λ text. IsBookText (string_bytes text) self.now) }
         ensures text { IfOk result (λ text. IsDocumentText false (book_tree self.now) (string_bytes text)) }

@@ -1,4 +1,4 @@
-//! The tokens of accounts, and attempts to pass them.
+//! The tokens of accounts, and attempts to pass with a code.
 ghost use Rattle.std.specs.Prelude.{◌≡◌, None, Some, is_some, MatchOption};
 ghost use Rattle.otp_core.specs.Settings.{unlocked};
 ghost use Rattle.otp_core.specs.declared.token.answer.Reply.{Reply as TheReply};
@@ -10,8 +10,8 @@ use otp_core::{Moment, Reply, Token};
 use scram_text::PlainName;
 
 impl Book {
-    /// A second token like that of the account of this name, or None where there is no account of the name
-    /// or it has no token.
+    /// A copy of the token of the account of this name, or None where there is no account of the name or it
+    /// has no token.
     pub fn token(&self, name: &PlainName) -> Option<Token>
         ensures { result ≡ token_at self.now name.now }
     {
@@ -20,8 +20,8 @@ impl Book {
         Some(token.copy())
     }
 
-    /// Gives the account of this name this token, in the place of any that it had. It answers whether there
-    /// is such an account; else nothing changes.
+    /// Gives the account of this name this token, in place of any that it had. Returns whether there is
+    /// such an account; else nothing changes.
     pub fn put_token(&mut self, name: &PlainName, token: Token) -> bool
         ensures found { result ≡ is_some (account_at self.old name.now) }
         ensures put { IsChanged self.old name.now (with_token token) self.new }
@@ -36,8 +36,8 @@ impl Book {
     }
 
     /// Judges `text` as a code at `moment` by the token of the account of this name, as `Token::attempt`
-    /// does, and keeps the token as it is then. None where there is no account of the name or it has no
-    /// token; then nothing changes.
+    /// does, and keeps the token as it is afterwards. None where there is no account of the name or it has
+    /// no token; then nothing changes.
     pub fn attempt(&mut self, name: &PlainName, moment: Moment, text: &[u8]) -> Option<Reply>
         ensures { MatchOption (token_at self.old name.now)
             ((result ≡ None) × (self.new ≡ self.old))
@@ -50,8 +50,8 @@ impl Book {
         Some(reply)
     }
 
-    /// Sets the failures of the token of the account of this name to 0. It answers whether there is an
-    /// account of the name that has a token; else nothing changes.
+    /// Sets the failures of the token of the account of this name to 0. Returns whether there is an account
+    /// of the name that has a token; else nothing changes.
     pub fn unlock(&mut self, name: &PlainName) -> bool
         ensures found { result ≡ is_some (token_at self.old name.now) }
         ensures unlocked { MatchOption (token_at self.old name.now) (self.new ≡ self.old)

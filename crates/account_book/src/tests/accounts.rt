@@ -1,4 +1,4 @@
-//! Accounts that come, change and go.
+//! Accounts that are added, changed and removed.
 use crate::tests::{DECOY_KEY, enrol, name, two_accounts};
 use crate::{Account, Book, EnrolFault, MechKeys};
 use scram_text::PlainName;
@@ -27,8 +27,8 @@ fn has_keys(
     )
 }
 
-// The keys of RFC 5802, section 5, and those of RFC 7677, section 3, by Python's hashlib, of which its
-// messages are made.
+// Whether the account has the keys of RFC 5802, section 5, and those of RFC 7677, section 3; the
+// latter are from Python's hashlib, and the RFC's messages are made with them.
 fn is_published(rt: &impl AllocGlobal, account: Option<&Account>) -> Result<bool, Fail> {
     let Some(account) = account else {
         return Ok(false);

@@ -4,7 +4,7 @@ ghost use Rattle.std.specs.Prelude.{◌≡◌, ◌<◌, ◌+◌, ◌^◌, false,
 use crate::{BookStore, StoreFault};
 use std::test::Fail;
 
-// What the device of a store does in its next save.
+// How the device of a store does its next save.
 #[derive(Clone, Copy)]
 enum Device {
     Works,
@@ -12,11 +12,11 @@ enum Device {
     FailsBehind,
 }
 
-// A store whose device is memory, and fails as it is told.
+// A store whose device is memory, which fails where `device` says so.
 #[derive(Drop)]
 struct Memory {
     saved: String,
-    // None where it is the text that is saved
+    // None where it is the text that was saved
     asked: Option<String>,
     failed: bool,
     saves: u64,
@@ -95,7 +95,7 @@ fn a_save_is_held(rt: HostRuntime) -> Result<(), Fail> {
     Ok(())
 }
 
-// A device that fails before the text stands leaves the old one.
+// A device that fails before the new text is in place leaves the old one.
 #[test]
 fn a_failed_save_leaves_the_old_text(rt: HostRuntime) -> Result<(), Fail> {
     let (store, answer) = saved_once(&rt, Device::FailsBefore)?;
@@ -105,7 +105,7 @@ fn a_failed_save_leaves_the_old_text(rt: HostRuntime) -> Result<(), Fail> {
     Ok(())
 }
 
-// One that fails behind it leaves the new one. Then nothing is taken up.
+// A device that fails after the new text is in place leaves the new one. Then no save is taken up.
 #[test]
 fn a_failed_store_stays_as_it_is(rt: HostRuntime) -> Result<(), Fail> {
     let (mut store, answer) = saved_once(&rt, Device::FailsBehind)?;
@@ -128,7 +128,7 @@ fn text_of_the_fault(rt: HostRuntime) -> Result<(), Fail> {
     Ok(())
 }
 
-// A count of saves that comes to its end fails the store.
+// A store fails when its count of saves comes to its end.
 #[test]
 fn the_last_count_fails(rt: HostRuntime) -> Result<(), Fail> {
     let mut store = Memory::new(String::from_str(rt.alloc(), "old")?);

@@ -1,4 +1,4 @@
-//! A book's text.
+//! The text of a book.
 use crate::Book;
 use crate::laws::written_is_read;
 use crate::tests::{name, two_accounts};

@@ -6,7 +6,7 @@ use scram_text::PlainName;
 use std::process::Abort;
 use std::test::Fail;
 
-// A token of the RFC's secret that locks at three failures and looks three counters ahead.
+// A token with the RFC's secret: three failures lock it; it looks three counters ahead.
 fn token() -> Result<Token, OtpFault> {
     Token::hotp(HotpFields {
         secret: Secret::new(b"12345678901234567890")?,

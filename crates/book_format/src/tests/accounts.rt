@@ -1,7 +1,7 @@
 //! Faults of accounts, of their mechanisms and of the names that they may act as.
 use super::*;
 
-const ACCOUNT_EDITS: [(&str, &str, u16); 34] = [
+const ACCOUNT_EDITS: [(&str, &str, u16); 35] = [
     ("act_as = []", "act_as = []\nx = 1", 62),
     ("act_as = []", "sha256 = 1", 62),
     ("act_as = []", "token = 1", 62),
@@ -41,6 +41,7 @@ const ACCOUNT_EDITS: [(&str, &str, u16); 34] = [
     ("stored = ", "x = 1\nstored = ", 62),
     ("stored = ", "# ", 62),
     ("stored = \"", "stored = 1 # ", 62),
+    ("e9d94660c39d65c38fbad91c358f14da0eef2bd6", "00", 66),
     ("stored = \"e9", "stored = \"", 66),
     ("stored = \"e9", "stored = \"e9e9", 66),
     ("stored = \"e9", "stored = \"e9000000000000000000000000", 66),
@@ -64,7 +65,7 @@ fn faults_of_an_account(rt: HostRuntime) -> Result<(), Fail> {
     Ok(())
 }
 
-// The keys of one mechanism are not those of the other.
+// Keys of SCRAM-SHA-1 have another length than those of SCRAM-SHA-256.
 #[test]
 fn keys_of_the_other_length(rt: HostRuntime) -> Result<(), Fail> {
     let text = edited(rt.alloc(), [USER, ""], "user.sha1", "user.sha256")?;
@@ -105,7 +106,7 @@ fn faults_of_tables_of_accounts(rt: HostRuntime) -> Result<(), Fail> {
     Ok(())
 }
 
-// So many names that are `"a"`, as a list's text.
+// The text of a list of `count` names, each `"a"`.
 fn names(alloc: Global, count: usize) -> Result<String, AllocError> {
     let mut text = String::from_str(alloc, "[")?;
     for _ in 0..count {
@@ -125,7 +126,7 @@ fn sixteen_names_at_most(rt: HostRuntime) -> Result<(), Fail> {
     Ok(())
 }
 
-// So many letters.
+// `count` letters.
 fn letters(alloc: Global, count: usize) -> Result<String, AllocError> {
     let mut text = String::new(alloc);
     for _ in 0..count {

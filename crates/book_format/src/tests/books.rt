@@ -1,7 +1,7 @@
-//! Books and what stands in them.
+//! Books, and what is read from them.
 use super::*;
 
-// The contents of a text that is a book's.
+// The contents of the text of a book.
 fn book_of(alloc: Global, text: &str) -> Result<Contents, Fail> {
     Ok(Contents::read(alloc, text.as_bytes())?)
 }
@@ -98,7 +98,7 @@ fn account_with_a_totp_token(rt: HostRuntime) -> Result<(), Fail> {
     Ok(())
 }
 
-// Hexadecimal text in the other case stands for the same bytes.
+// Hexadecimal text in upper case spells the same bytes.
 #[test]
 fn hex_in_upper_case(rt: HostRuntime) -> Result<(), Fail> {
     let rows = [
@@ -122,7 +122,7 @@ fn hex_in_upper_case(rt: HostRuntime) -> Result<(), Fail> {
     Ok(())
 }
 
-// Keys have 32 bytes for SCRAM-SHA-256, and stand in any order.
+// Keys have 32 bytes for SCRAM-SHA-256, and come in any order.
 #[test]
 fn keys_of_the_other_mechanism(rt: HostRuntime) -> Result<(), Fail> {
     let text = format!(in rt.alloc();

@@ -21,7 +21,9 @@ fn texts_of_no_book(rt: HostRuntime) -> Result<(), Fail> {
     Ok(())
 }
 
-const DOCUMENT_EDITS: [(&str, &str, u16); 24] = [
+const DECOY_KEY: &str = "000102030405060708090a0b0c0d0e0f101112131415161718191a1b1c1d1e1f";
+
+const DOCUMENT_EDITS: [(&str, &str, u16); 25] = [
     ("format = 1\n", "", 61),
     ("format = 1", "format = 2", 61),
     ("format = 1", "format = -1", 61),
@@ -31,6 +33,7 @@ const DOCUMENT_EDITS: [(&str, &str, u16); 24] = [
     ("format = 1", "format = 1\nx = 1", 62),
     ("format = 1", "format = 1\nFormat = 1", 62),
     ("decoy_key", "decoy_keys", 62),
+    (DECOY_KEY, "00", 66),
     ("decoy_key = \"00", "decoy_key = \"", 66),
     ("decoy_key = \"00", "decoy_key = \"0", 66),
     ("decoy_key = \"00", "decoy_key = \"0000", 66),
@@ -73,14 +76,27 @@ fn faults_of_the_document(rt: HostRuntime) -> Result<(), Fail> {
     Ok(())
 }
 
+// A fault of the document is no account's, also where there is one.
 #[test]
-fn decoy_key_of_one_byte(rt: HostRuntime) -> Result<(), Fail> {
-    let text = "format = 1\ndecoy_key = \"00\"\ndecoy_count = 4096\n";
-    assert_eq!(rt; fault_of(rt.alloc(), text.as_bytes()), Some((66, None)));
+fn faults_before_those_of_an_account(rt: HostRuntime) -> Result<(), Fail> {
+    for (old, new, number) in [
+        ("format = 1", "format = 1\nx = 1", 62),
+        (DECOY_KEY, "00", 66),
+        ("decoy_count = 4096", "decoy_count = 0", 65),
+    ] {
+        for token in ["", HOTP] {
+            let text = edited(rt.alloc(), [USER, token], old, new)?;
+            assert_eq!(rt;
+                fault_of(rt.alloc(), text.as_bytes()),
+                Some((number, None)),
+                "{new}"
+            );
+        }
+    }
     Ok(())
 }
 
-// What a user reads of each fault.
+// The text that a user reads for each fault.
 #[test]
 fn texts_of_faults(rt: HostRuntime) -> Result<(), Fail> {
     let rows = [

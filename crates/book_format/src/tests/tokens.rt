@@ -1,7 +1,7 @@
 //! Faults of tokens.
 use super::*;
 
-// What is wrong of each key: it is missing, of another type, or out of its range.
+// Faults of each key: missing, of another type, or out of its range.
 const HOTP_EDITS: [(&str, &str, u16); 33] = [
     ("kind = \"hotp\"\n", "", 62),
     ("kind = \"hotp\"", "kind = 1", 62),
@@ -104,7 +104,7 @@ fn faults_of_a_totp_token(rt: HostRuntime) -> Result<(), Fail> {
     Ok(())
 }
 
-// The last values that are in their ranges.
+// The first and last values in each range.
 #[test]
 fn settings_at_their_ends(rt: HostRuntime) -> Result<(), Fail> {
     let rows = [

@@ -11,7 +11,8 @@ use crate::token::setting::{MOST_COUNTER, digits_of, secret_of};
 use otp_core::{HotpFields, Token};
 use toml::Table;
 
-/// The settings and the state of a HOTP token, whose table says that kind.
+/// Reads the settings and the state of a HOTP token, from a table whose `kind`
+/// says that it is one.
 #[tactic(auto, unfolding(crate::specs::Reading::hotp_of))]
 pub(super) fn hotp_of(table: &Table) -> Result<HotpFields, BookWhy>
     ensures value { result ≡ hotp_of (table_view table.now) }

@@ -1,4 +1,4 @@
-//! Settings that have types of their own, made of values in their ranges.
+//! Settings with types of their own, from values in their ranges.
 ghost use Rattle.std.specs.Prelude.{◌≡◌, ◌≤◌, length};
 ghost use Rattle.otp_core.specs.Secret.{IsDigitCount, IsMoment};
 
@@ -19,7 +19,7 @@ pub(super) fn secret_of(bytes: &Tag) -> Secret
     secret
 }
 
-/// Codes of 6 to 8 digits.
+/// The number of digits, 6 to 8.
 pub(super) fn digits_of(count: u64) -> Digits
     requires { IsDigitCount count }
     ensures { result ≡ count }
@@ -30,7 +30,7 @@ pub(super) fn digits_of(count: u64) -> Digits
     digits
 }
 
-/// The moment so many seconds after the start of 1970.
+/// The moment `seconds` after the start of 1970.
 pub(super) fn moment_of(seconds: u64) -> Moment
     requires { IsMoment seconds }
     ensures { result ≡ seconds }

@@ -15,7 +15,7 @@ use crate::token::setting::{MOST_COUNTER, digits_of, moment_of, secret_of};
 use otp_core::{OtpHash, Token, TotpFields};
 use toml::{Table, Value};
 
-/// The settings and the state of a TOTP token, whose table says that kind.
+/// Reads the settings and the state of a TOTP token, from a table whose `kind` says that it is one.
 #[tactic(auto, unfolding(crate::specs::Reading::totp_of))]
 pub(super) fn totp_of(table: &Table) -> Result<TotpFields, BookWhy>
     ensures value { result ≡ totp_of (table_view table.now) }
@@ -123,7 +123,7 @@ fn last_of(value: &Value) -> Result<u64, BookWhy>
     number_within(0, MOST_COUNTER, number).ok_or(BookWhy::Token)
 }
 
-// The drift, at most so many steps to either side.
+// The drift, at most `most` steps to either side.
 #[tactic(auto, unfolding(crate::specs::Reading::drift_of))]
 fn drift_of(table: &Table, key: &str, most: u64) -> Result<i64, BookWhy>
     ensures value { result ≡ drift_of key.now most (table_view table.now) }

@@ -1,4 +1,4 @@
-//! Values put into a table.
+//! Puts values into a table.
 ghost use Rattle.std.specs.Prelude.{◌≡◌, OnOk, Ok};
 ghost use Rattle.hex.specs.Hex.{decode_of, encode_lower};
 ghost use Rattle.toml.specs.Data.{string, integer};
@@ -59,7 +59,7 @@ pub(super) fn put_count(
     put(alloc, table, key, Value::Integer(i64::from(count)))
 }
 
-/// Puts bytes at a key, in lower-case hexadecimal, which gives them back.
+/// Puts bytes at a key as lower-case hexadecimal text, which is read as the same bytes.
 pub(super) fn put_hex(
     alloc: Global,
     table: &mut Table,

@@ -59,7 +59,7 @@ fn totp_token(hash: OtpHash, last: Option<u64>, drift: i64) -> Result<Token, Fai
     })?)
 }
 
-// The text of a table that has the account at a name.
+// Checks the text of a table that has the account at a name.
 fn shows(
     rt: &(impl AllocGlobal + Abort),
     name: &str,
@@ -188,7 +188,7 @@ t0 = 253402300799
     Ok(())
 }
 
-// The greatest `next`, at which no counter can pass.
+// The greatest `next`, at which no counter can pass any more.
 #[test]
 fn hotp_token_at_its_end(rt: HostRuntime) -> Result<(), Fail> {
     let mut account = empty_account(rt.alloc());
@@ -298,7 +298,7 @@ step = 30
 t0 = 0
 ";
 
-// What is read of the text is written as `want`, and so is what is read of that.
+// Checks that the text, read and written, is `want`, and that `want` is written again as it is.
 fn writes(rt: &(impl AllocGlobal + Abort), text: &str, want: &str) -> Result<(), Fail> {
     let alloc = rt.alloc();
     let written = Contents::read(alloc, text.as_bytes())?.write(alloc)?;

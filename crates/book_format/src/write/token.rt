@@ -1,4 +1,4 @@
-//! The value of a token.
+//! The values that a token is written as.
 ghost use Rattle.std.specs.Prelude.{◌≡◌, ◌≤◌, ◌-◌, ◌^◌, None, IfOk, OnOk, codes, option_map};
 ghost use Rattle.std.specs.Option.{ForSome};
 ghost use Rattle.toml.specs.View.{view, table_view};
@@ -56,7 +56,7 @@ fn totp_value(alloc: Global, fields: &TotpFields) -> Result<Value, AllocError>
     Ok(Value::Table(table))
 }
 
-// The table of a TOTP token but for its last step.
+// The table of a TOTP token, except its last step.
 fn settings_table(alloc: Global, fields: &TotpFields) -> Result<Table, AllocError>
     requires { IsTotpInRange fields.now }
     ensures tree { IfOk result (λ t. table_view t ≡ totp_members (record fields.now { last = None })) }
