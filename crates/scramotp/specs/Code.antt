@@ -1,12 +1,12 @@
--- What the command `code` is asked for, and what it prints.
+-- What the command `code` is asked for, and the code that it prints.
 use Rattle.std.specs.Prelude.{◌≡◌, ℕ, suc, ◌≤◌, List}
 use Rattle.otp_core.specs.Code.{hotp_text_by, steps_from}
 use Rattle.otp_core.specs.declared.hash.OtpHash.TheVariants.{Sha1}
 use Rattle.scramotp.specs.declared.asked.Asked.{Asked}
 use Rattle.scramotp.specs.declared.asked.Asked.TheVariants.{Hotp, Totp}
 
--- the code that is asked for: HOTP's of a counter, with SHA-1 (RFC 4226), or TOTP's of a moment from t0 on
--- (RFC 6238)
+-- the code that is asked for: HOTP's of a counter, with SHA-1 (RFC 4226), or TOTP's of a moment, whose
+-- steps begin at t0 (RFC 6238)
 abbrev pub IsCodeOf : Asked → ℕ → List ℕ → List ℕ → Type 0
 IsCodeOf (Hotp counter) digits secret code = code ≡ hotp_text_by Sha1 digits secret counter
 IsCodeOf (Totp t) digits secret code =

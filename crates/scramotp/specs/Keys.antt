@@ -5,7 +5,7 @@ use Rattle.mac_core.specs.declared.chosen.Mechanism.{Mechanism}
 use Rattle.mac_core.specs.Chosen.{hi_by, client_key_by, stored_key_by, server_key_by}
 
 -- the two lines of `keys`: StoredKey and ServerKey of a password (RFC 5802, section 3) in lower-case
--- hexadecimal, each behind its name and an equals sign
+-- hexadecimal, each after its name and an equals sign
 abbrev pub printed_keys : Mechanism → List ℕ → List ℕ → ℕ → List ℕ
 printed_keys mechanism password salt count =
     let salted = hi_by mechanism password salt count in

@@ -1,3 +1,4 @@
+pub mod Audit
 pub mod Code
 pub mod Keys
 pub mod Verify

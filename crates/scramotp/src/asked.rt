@@ -3,7 +3,8 @@ ghost use Rattle.std.specs.Prelude.{◌≤◌};
 
 use otp_core::{Moment, OtpHash};
 
-/// A moment of TOTP, and how its steps are counted.
+/// A moment of TOTP, and how its steps are counted
+/// (RFC 6238, section 4).
 #[derive(Drop)]
 pub struct Steps {
     /// The hash function.
@@ -15,13 +16,13 @@ pub struct Steps {
     /// The moment at which step 0 begins.
     pub t0: Moment,
 
-    /// The seconds of a step.
+    /// The length of a step in seconds, at least 1.
     pub step: u64,
 
     ghost at_least: { 1 ≤ step },
 }
 
-/// Which code the words ask for.
+/// The code that the words ask for.
 #[derive(Drop)]
 pub enum Asked {
     /// HOTP's of this counter.

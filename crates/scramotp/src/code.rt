@@ -1,4 +1,4 @@
-//! The command `code`: a one-time code of a counter or a moment.
+//! The command `code`: prints the one-time code of a counter or a moment.
 ghost use Rattle.std.specs.Prelude.{◌≡◌, IfErr, IfOk};
 ghost use Rattle.scramotp.specs.Code.{IsCodeOf, IsTooEarly};
 
@@ -17,7 +17,7 @@ const MOST_COUNTER: u64 = 9_223_372_036_854_775_807 - 1;
 /// The longest step in seconds.
 const MOST_STEP: u64 = 3600;
 
-// The code that is asked for, or BeforeFirstStep where the moment is before t0.
+// The code that the words ask for, or BeforeFirstStep where the moment is before t0.
 fn answer(secret: &Secret, digits: Digits, asked: &Asked) -> Result<Code, Fault>
     ensures ok { IfOk result (λ code. IsCodeOf asked.now digits secret.now code) }
     ensures err { IfErr result (λ fault. (fault ≡ Fault.BeforeFirstStep) × IsTooEarly asked.now) }
@@ -31,7 +31,7 @@ fn answer(secret: &Secret, digits: Digits, asked: &Asked) -> Result<Code, Fault>
     }
 }
 
-// Judges the options that say which code, in their order.
+// Judges the options that say which code is meant, in their order.
 fn judge(words: &ArgMatches<'_>) -> Result<Asked, Fault> {
     let counter = match optional(words, Judged::Counter) {
         Some(text) => Some(value::within(Judged::Counter, text, 0, MOST_COUNTER)?),
@@ -56,8 +56,8 @@ fn judge(words: &ArgMatches<'_>) -> Result<Asked, Fault> {
     }
 }
 
-/// Judges the options in their order and prints the code. Faults: BadValue, NoCounterOrMoment,
-/// BeforeFirstStep, CannotWriteOutput and NoMemory.
+/// Judges the options in their order and prints the code. Faults: BadValue, NoCounterOrMoment and
+/// BeforeFirstStep, in this order, CannotWriteOutput and NoMemory.
 pub fn code<O: Write>(alloc: Global, words: &ArgMatches<'_>, output: &mut O) -> Result<(), Fault> {
     let secret = value::secret(alloc, given(words, Judged::Secret))?;
     let digits = value::digits(given(words, Judged::Digits))?;

@@ -1,71 +1,114 @@
-//! The command `enrol`: a new account, of a password.
-use crate::held_book::{Found, HeldBook};
+//! The command `enrol`: adds an account with a password to a book.
+ghost use Rattle.std.specs.Prelude.{◌≤◌};
+
+use crate::held_book::HeldBook;
 use crate::random::Random;
 use crate::words::given;
 use crate::{held_book, input};
 use account_book::Book;
-use book_file::{FileStore, Lockable};
+use book_file::{BookFile, FileStore, Lockable};
 use clap::ArgMatches;
 use command_line::value::Judged;
 use command_line::{Fault, value};
-use scram_text::{Password, Salt};
+use scram_text::{Password, PlainName, Salt};
+use std::alloc::Global;
 use std::fs::Files;
 use std::io::{BufRead, Write};
 use std::time::Clock;
 
-/// The iteration count of a new book's decoys, which is that of an account where no other is given.
+/// The iteration count of a new book's decoys; it is the default of `--count` too.
 const DECOY_COUNT: u32 = 4096;
 
-/// Judges the options in their order, reads the password, holds and reads the book, reads the random
-/// bytes, and adds the account. A book is made where the file is not there. Faults: BadValue, BadPassword,
-/// CannotRead, BadBook, NameTaken and CannotWrite, in this order, CannotReadInput, CannotWriteOutput and
-/// NoMemory.
-pub fn enrol<R, I, O>(
+// The account that the words and the input describe.
+#[derive(Drop)]
+struct Asked {
+    name: PlainName,
+    password: Password,
+    count: u32,
+
+    ghost at_least: { 1 ≤ count },
+}
+
+/// Judges the options in their order, reads the password, the book and the random bytes, and adds the account. A book
+/// is made where the file is not there. The keys are made while others may use the book; where it has changed by
+/// then, they are made once more. Faults: BadValue, BadPassword, CannotRead, BadBook, NameTaken and CannotWrite, in this
+/// order, CannotReadInput, CannotWriteOutput and NoMemory.
+pub fn enrol<R, I, O, E>(
     rt: &R,
     words: &ArgMatches<'_>,
     input: &mut I,
     output: &mut O,
+    faults: &mut E,
 ) -> Result<(), Fault>
 where
     R: Files + Clock + AllocGlobal,
     R::File: Lockable,
     I: BufRead,
     O: Write,
+    E: Write,
 {
-    let alloc = rt.alloc();
+    let asked = judge(rt.alloc(), words, input)?;
+    let path = given(words, Judged::Book);
+    let seen = held_book::look(rt, path, faults)?;
+    let mut random = Random::open(rt, given(words, Judged::Random))?;
+    let (book, text) = match seen {
+        Some(seen) => (seen.book, Some(seen.text)),
+        None => (Book::new(rt.alloc(), random.bytes()?, DECOY_COUNT), None),
+    };
+    let salts = (salt(random.bytes()?), salt(random.bytes()?));
+    save(rt, path, book, text, &asked, &salts, faults)?;
+    writeln!(output, "enrolled {}", asked.name.text()).map_err(|_| Fault::CannotWriteOutput)
+}
+
+// Judges the options that describe the account, and reads the password.
+fn judge<I: BufRead>(alloc: Global, words: &ArgMatches<'_>, input: &mut I) -> Result<Asked, Fault> {
     let name = value::name(given(words, Judged::Name))?;
     let count = value::count(given(words, Judged::Count))?;
     let line = input::first_line(alloc, input)?;
-    let Some(password) = Password::new(line.as_slice()) else {
-        return Err(Fault::BadPassword);
-    };
-    let (mut held, mut random) = book_and_random(rt, words)?;
-    let salt1 = salt(random.bytes()?);
-    let salt256 = salt(random.bytes()?);
-    held.enrol(alloc, &name, &password, &salt1, &salt256, count)?;
-    writeln!(output, "enrolled {}", name.text()).map_err(|_| Fault::CannotWriteOutput)
+    match Password::new(line.as_slice()) {
+        Some(password) => Ok(Asked {
+            name,
+            password,
+            count,
+        }),
+        None => Err(Fault::BadPassword),
+    }
 }
 
-// The book, made where there is none, and behind it the random file.
-fn book_and_random<'r, 'w, R>(
-    rt: &'r R,
-    words: &ArgMatches<'w>,
-) -> Result<(HeldBook<'w, FileStore<'r, R>>, Random<'w, R::File>), Fault>
+// Adds the account to the book, whose file had this text, or None where there was no file. Then holds the file and
+// saves the book; where the file has another text by then, adds the account to that book instead.
+fn save<R, E>(
+    rt: &R,
+    path: &str,
+    mut book: Book,
+    text: Option<String>,
+    asked: &Asked,
+    salts: &(Salt, Salt),
+    faults: &mut E,
+) -> Result<(), Fault>
 where
     R: Files + Clock + AllocGlobal,
     R::File: Lockable,
+    E: Write,
 {
-    let path = given(words, Judged::Book);
-    let found = held_book::find(rt, path)?;
-    let mut random = Random::open(rt, given(words, Judged::Random))?;
-    let held = match found {
-        Found::Book(held) => held,
-        Found::Nothing(file) => {
-            let book = Book::new(rt.alloc(), random.bytes()?, DECOY_COUNT);
-            HeldBook::new(book, FileStore::new(file, String::new(rt.alloc())), path)
-        }
+    let (name, password, count) = (&asked.name, &asked.password, asked.count);
+    let alloc = rt.alloc();
+    held_book::add(alloc, &mut book, name, password, &salts.0, &salts.1, count)?;
+    let held = match text {
+        Some(_) => BookFile::hold(rt, path),
+        None => BookFile::hold_or_make(rt, path),
     };
-    Ok((held, random))
+    let (file, found) = held_book::hold(rt, path, held, faults)?;
+    match found {
+        Some(found) if text.as_ref() != Some(&found) => {
+            let mut held = held_book::read_text(alloc, file, found, path)?;
+            held.enrol(alloc, name, password, &salts.0, &salts.1, count)
+        }
+        _ => {
+            let store = FileStore::new(file, text.unwrap_or(String::new(alloc)));
+            HeldBook::new(book, store, path).save(alloc)
+        }
+    }
 }
 
 // The salt of these bytes.

@@ -1,5 +1,5 @@
-//! A book that this run holds, and the store where each change is saved before anyone is told of it.
-ghost use Rattle.std.specs.Prelude.{◌≡◌, ◌≢◌, ◌≤◌, ◌⊎◌, true, is_some, None, IfErr, IfOk, IfSome, MatchOption, OnOk, string_bytes};
+//! A book that this run holds, and its store: each change is saved before it is reported.
+ghost use Rattle.std.specs.Prelude.{◌≡◌, ◌≢◌, ◌≤◌, ◌⊎◌, true, is_some, None, IfErr, IfOk, IfSome, MatchOption, OnOk, length, string_bytes};
 ghost use Rattle.otp_core.specs.Settings.{unlocked};
 ghost use Rattle.book_format.specs.Reading.{IsFirstFault};
 ghost use Rattle.book_format.specs.Trees.{IsBookText};
@@ -7,16 +7,18 @@ ghost use Rattle.book_format.specs.declared.fault.BookFault.{BookFault};
 ghost use Rattle.account_book.specs.Accounts.{account_at, IsAdded, IsChanged};
 ghost use Rattle.account_book.specs.Enrolled.{enrolled};
 ghost use Rattle.account_book.specs.Tokens.{IsAttempt, token_at, with_token};
+ghost use Rattle.book_file.specs.declared.file.TheConstants.{MOST_BOOK};
 ghost use Rattle.command_line.specs.Fault.{IsTokenFault, IsUnwritten, of_book};
 
+use crate::shown::Shown;
 use account_book::{Book, BookStore, BookWhy, EnrolFault, Reply};
-use book_file::{BookFile, FileStore, Lockable};
+use book_file::{BookFile, FileStore, HoldFault, Lockable, MOST_BOOK};
 use command_line::Fault;
 use otp_core::Moment;
 use scram_text::{Password, PlainName, Salt};
-use std::alloc::Global;
+use std::alloc::{AllocError, Global};
 use std::fs::Files;
-use std::io;
+use std::io::Write;
 use std::time::Clock;
 
 /// A book, and the store that has its text.
@@ -25,42 +27,136 @@ pub struct HeldBook<'a, S> {
     book: Book,
     store: S,
 
-    // The book's file as it was given, for faults.
+    // The path of the book's file as it was given, for faults.
     path: &'a str,
 }
 
-/// What is at a book's path.
+/// A book, and the text that it was read from.
 #[derive(Drop)]
-pub enum Found<'a, 'r, R: Files> {
-    /// A book.
-    Book(HeldBook<'a, FileStore<'r, R>>),
+pub struct Seen {
+    /// The book.
+    pub book: Book,
 
-    /// No file.
-    Nothing(BookFile<'r, R>),
+    /// Its file's text.
+    pub text: String,
 }
 
-/// Takes hold of the book at `path` and reads it. Faults: CannotRead, BadBook and NoMemory.
-pub fn find<'a, 'r, R>(rt: &'r R, path: &'a str) -> Result<Found<'a, 'r, R>, Fault>
+/// Takes hold of the book at `path`, reads it and lets it go; None where there is no file. Faults: CannotRead where
+/// the file can't be read or other runs hold it for 30 seconds, CannotWrite where the file of the next text can't
+/// be made, BadBook where the text is no book, and NoMemory.
+pub fn look<R, E>(rt: &R, path: &str, faults: &mut E) -> Result<Option<Seen>, Fault>
+where
+    R: Files + Clock + AllocGlobal,
+    R::File: Lockable,
+    E: Write,
+{
+    let mut file = match BookFile::hold(rt, path) {
+        Ok(file) => file,
+        Err(HoldFault::Missing) => return Ok(None),
+        Err(fault) => return Err(unheld(rt.alloc(), path, fault, faults)?),
+    };
+    let Some(text) = text_of(rt.alloc(), &mut file, path)? else {
+        return Ok(None);
+    };
+    let book = Book::read(rt.alloc(), text.as_bytes())?;
+    Ok(Some(Seen { book, text }))
+}
+
+/// Takes hold of the book at `path`, which has to be there, and reads it. Faults: as `look`, and CannotRead where
+/// there is no file.
+pub fn open<'a, 'r, R, E>(
+    rt: &'r R,
+    path: &'a str,
+    faults: &mut E,
+) -> Result<HeldBook<'a, FileStore<'r, R>>, Fault>
+where
+    R: Files + Clock + AllocGlobal,
+    R::File: Lockable,
+    E: Write,
+{
+    let (file, text) = hold(rt, path, BookFile::hold(rt, path), faults)?;
+    match text {
+        Some(text) => read_text(rt.alloc(), file, text, path),
+        None => Err(Fault::CannotRead(String::from_str(rt.alloc(), path)?)),
+    }
+}
+
+/// Returns the file that is held and its text, or None for the text where there is no file yet. `held` is the
+/// attempt to hold the file at `path`. Faults: CannotRead, CannotWrite, BadBook where the text is not UTF-8, and
+/// NoMemory.
+pub fn hold<'r, R, E>(
+    rt: &'r R,
+    path: &str,
+    held: Result<BookFile<'r, R>, HoldFault>,
+    faults: &mut E,
+) -> Result<(BookFile<'r, R>, Option<String>), Fault>
+where
+    R: Files + Clock + AllocGlobal,
+    R::File: Lockable,
+    E: Write,
+{
+    let mut file = match held {
+        Ok(file) => file,
+        Err(fault) => return Err(unheld(rt.alloc(), path, fault, faults)?),
+    };
+    let text = text_of(rt.alloc(), &mut file, path)?;
+    Ok((file, text))
+}
+
+// The fault of a command that could not hold the book at `path`: that it can't be read, or that a file can't be
+// written. Where other runs held the book, or it belongs to another user, a line on `faults` says so first. The error
+// is that memory ran out.
+fn unheld<E: Write>(
+    alloc: Global,
+    path: &str,
+    fault: HoldFault,
+    faults: &mut E,
+) -> Result<Fault, AllocError> {
+    let file = String::from_str(alloc, path)?;
+    Ok(match fault {
+        HoldFault::Unreadable(error) => Fault::of_reading(file, &error),
+        HoldFault::Missing => Fault::CannotRead(file),
+        HoldFault::Unwritable(_) => Fault::CannotWrite(file),
+        HoldFault::InTheWay(next) => Fault::CannotWrite(next),
+        HoldFault::OfAnother => {
+            let shown = Shown(path);
+            let _ = writeln!(
+                faults,
+                "scramotp: {shown} belongs to another user, who alone can save it"
+            );
+            Fault::CannotWrite(file)
+        }
+        HoldFault::Held => {
+            let shown = Shown(path);
+            let _ = writeln!(faults, "scramotp: other runs held {shown} for 30 seconds");
+            Fault::CannotRead(file)
+        }
+    })
+}
+
+// The text of a book's file, or None where there is no file.
+fn text_of<R>(
+    alloc: Global,
+    file: &mut BookFile<'_, R>,
+    path: &str,
+) -> Result<Option<String>, Fault>
 where
     R: Files + Clock + AllocGlobal,
     R::File: Lockable,
 {
-    let alloc = rt.alloc();
-    let (file, bytes) = match read_held(rt, path) {
-        Ok(held) => held,
+    let bytes = match file.read() {
+        Ok(Some(bytes)) => bytes,
+        Ok(None) => return Ok(None),
         Err(error) => return Err(Fault::of_reading(String::from_str(alloc, path)?, &error)),
     };
-    let Some(bytes) = bytes else {
-        return Ok(Found::Nothing(file));
-    };
-    let Ok(text) = String::from_utf8(bytes) else {
-        return Err(Fault::BadBook(BookWhy::Toml.number()));
-    };
-    Ok(Found::Book(read_text(alloc, file, text, path)?))
+    match String::from_utf8(bytes) {
+        Ok(text) => Ok(Some(text)),
+        Err(_) => Err(Fault::BadBook(BookWhy::Toml.number())),
+    }
 }
 
-// The book of this text, which is that of the file.
-fn read_text<'a, 'r, R>(
+/// Reads the book of `file`, whose text this is. Faults: BadBook where the text is no book, and NoMemory.
+pub fn read_text<'a, 'r, R>(
     alloc: Global,
     file: BookFile<'r, R>,
     text: String,
@@ -79,32 +175,32 @@ where
     Ok(HeldBook::new(book, store, path))
 }
 
-// Takes hold of the book's file, and reads it where it is there.
-fn read_held<'r, R>(rt: &'r R, path: &str) -> io::Result<(BookFile<'r, R>, Option<Vec<u8>>)>
-where
-    R: Files + Clock + AllocGlobal,
-    R::File: Lockable,
+/// Adds an account with the keys of a password to a book. Faults: NameTaken and NoMemory.
+pub fn add(
+    alloc: Global,
+    book: &mut Book,
+    name: &PlainName,
+    password: &Password,
+    salt1: &Salt,
+    salt256: &Salt,
+    count: u32,
+) -> Result<(), Fault>
+    requires { 1 ≤ count }
+    ensures added { OnOk result (IsAdded book.old name.now
+        (enrolled password.now salt1.now salt256.now count) book.new) }
+    ensures free { OnOk result (account_at book.old name.now ≡ None) }
+    ensures err { IfErr result (λ fault. MatchOption (account_at book.old name.now)
+        (fault ≡ Fault.NoMemory) (λ account. fault ≡ Fault.NameTaken)) }
 {
-    let file = BookFile::hold(rt, path)?;
-    let bytes = file.read()?;
-    Ok((file, bytes))
-}
-
-/// Takes hold of the book at `path`, which has to be there, and reads it. Faults: CannotRead, BadBook and
-/// NoMemory.
-pub fn open<'a, 'r, R>(rt: &'r R, path: &'a str) -> Result<HeldBook<'a, FileStore<'r, R>>, Fault>
-where
-    R: Files + Clock + AllocGlobal,
-    R::File: Lockable,
-{
-    match find(rt, path)? {
-        Found::Book(held) => Ok(held),
-        Found::Nothing(_) => Err(Fault::CannotRead(String::from_str(rt.alloc(), path)?)),
+    match book.enrol(alloc, name, password, salt1, salt256, count) {
+        Ok(()) => Ok(()),
+        Err(EnrolFault::NameTaken) => Err(Fault::NameTaken),
+        Err(EnrolFault::NoMemory) => Err(Fault::NoMemory),
     }
 }
 
 impl<'a, S: BookStore> HeldBook<'a, S> {
-    /// A book that is to be saved in `store`, which stands for the file at `path`.
+    /// The held book whose changes are saved in `store`, which stands for the file at `path`.
     pub fn new(book: Book, store: S, path: &'a str) -> HeldBook<'a, S>
         ensures book { result.book ≡ book }
         ensures store { result.store ≡ store }
@@ -113,8 +209,8 @@ impl<'a, S: BookStore> HeldBook<'a, S> {
         HeldBook { book, store, path }
     }
 
-    /// Adds an account with the keys of a password, and saves the book. Faults: NameTaken, CannotWrite and
-    /// NoMemory.
+    /// Adds an account with the keys of a password for both mechanisms, and saves the book. Faults: NameTaken,
+    /// CannotWrite and NoMemory.
     pub fn enrol(
         &mut self,
         alloc: Global,
@@ -133,17 +229,13 @@ impl<'a, S: BookStore> HeldBook<'a, S> {
         ensures unasked { IfErr result (λ fault. fault ≡ Fault.NoMemory → self.new.store ≡ self.old.store) }
         ensures saved { OnOk result (IsBookText (S.facts self.new.store).saved self.new.book) }
     {
-        match self
-            .book
-            .enrol(alloc, name, password, salt1, salt256, count)
-        {
+        match add(alloc, &mut self.book, name, password, salt1, salt256, count) {
             Ok(()) => self.save(alloc),
-            Err(EnrolFault::NameTaken) => Err(Fault::NameTaken),
-            Err(EnrolFault::NoMemory) => Err(Fault::NoMemory),
+            Err(fault) => Err(fault),
         }
     }
 
-    /// That the account of this name is there and has a token. Faults: NoSuchAccount and NoToken.
+    /// Checks that there is an account of this name, and that it has a token. Faults: NoSuchAccount and NoToken.
     pub fn check_token(&self, name: &PlainName) -> Result<(), Fault>
         ensures ok { OnOk result (is_some (token_at self.now.book name.now) ≡ true) }
         ensures err { IfErr result (λ fault. MatchOption (account_at self.now.book name.now)
@@ -157,8 +249,8 @@ impl<'a, S: BookStore> HeldBook<'a, S> {
         }
     }
 
-    /// Judges `text` as a code at `moment` by the account's token, and saves the book unless the token is
-    /// locked. Faults: NoSuchAccount, NoToken, CannotWrite and NoMemory.
+    /// Judges `text` as a code at `moment` by the account's token, and saves the book unless the token is locked.
+    /// Faults: NoSuchAccount, NoToken, CannotWrite and NoMemory.
     pub fn attempt(
         &mut self,
         alloc: Global,
@@ -199,15 +291,20 @@ impl<'a, S: BookStore> HeldBook<'a, S> {
         self.save(alloc)
     }
 
-    // Saves the book's text. Where memory runs out the store is not asked.
-    fn save(&mut self, alloc: Global) -> Result<(), Fault>
+    /// Saves the book's text. Faults: CannotWrite where the save fails or the text has more than 16777216 bytes,
+    /// and NoMemory; where memory runs out the store is not asked.
+    pub fn save(&mut self, alloc: Global) -> Result<(), Fault>
         ensures book { self.new.book ≡ self.old.book }
         ensures err { IfErr result (IsUnwritten self.old.path.now) }
         ensures unasked { IfErr result (λ fault. fault ≡ Fault.NoMemory → self.new.store ≡ self.old.store) }
         ensures saved { OnOk result (IsBookText (S.facts self.new.store).saved self.new.book) }
+        ensures most { OnOk result (length (S.facts self.new.store).saved ≤ MOST_BOOK) }
     {
         let text = self.book.write(alloc)?;
         let file = String::from_str(alloc, self.path)?;
+        if text.len() > MOST_BOOK {
+            return Err(Fault::CannotWrite(file));
+        }
         match self.store.save(text) {
             Ok(()) => Ok(()),
             Err(_) => Err(Fault::CannotWrite(file)),

@@ -20,8 +20,8 @@ fn without_lf(mut line: Vec<u8>) -> Vec<u8>
     line
 }
 
-// The bytes of `input` through its first LF, all where it has none. CannotReadInput where a read fails,
-// and where they are more than `most`.
+// The bytes of `input` through its first LF, or all where it has none. CannotReadInput where a read
+// fails, and where they are more than `most`.
 fn read_line<I: BufRead>(alloc: Global, input: &mut I, most: usize) -> Result<Vec<u8>, Fault>
     requires { most ≤ MOST_INPUT }
     ensures line { IfOk result (λ line. IfSome (I.remaining input.old) (λ bytes. line.items ≡ take_through 10 bytes)) }
@@ -37,9 +37,9 @@ fn read_line<I: BufRead>(alloc: Global, input: &mut I, most: usize) -> Result<Ve
     }
 }
 
-/// The first line of `input` without its LF, all of it where it has none. Nothing behind the line is
-/// looked at. CannotReadInput where a read fails, and where more than 16777216 bytes come before an
-/// LF or with it; NoMemory where memory runs out.
+/// The first line of `input` without its LF, or all of `input` where it has no LF. Nothing after the line
+/// is looked at. CannotReadInput where a read fails, and where the line and its LF have more than
+/// 16777216 bytes; NoMemory where memory runs out.
 pub fn first_line<I: BufRead>(alloc: Global, input: &mut I) -> Result<Vec<u8>, Fault>
     ensures line { IfOk result (λ line. IfSome (I.remaining input.old) (λ bytes. line.items ≡ first_piece 10 bytes)) }
     ensures most { IfOk result (λ line. vec_len line ≤ MOST_INPUT) }
@@ -48,7 +48,7 @@ pub fn first_line<I: BufRead>(alloc: Global, input: &mut I) -> Result<Vec<u8>, F
     Ok(without_lf(read_line(alloc, input, MOST_INPUT)?))
 }
 
-/// The lines of an input, of which a command reads 16777216 bytes at most.
+/// The lines of an input, of which a command reads at most 16777216 bytes.
 #[derive(Drop)]
 pub struct Lines<'a, I> {
     input: &'a mut I,
@@ -66,9 +66,9 @@ impl<'a, I: BufRead> Lines<'a, I> {
         }
     }
 
-    /// The next line without its LF, or None at the end of the input; a last line without LF is one where
-    /// it has a byte. CannotReadInput where a read fails, and where the lines so far come to more than
-    /// 16777216 bytes; NoMemory where memory runs out.
+    /// The next line without its LF, or None at the end of the input; a last line without an LF counts
+    /// where it has a byte. CannotReadInput where a read fails, and where the lines so far have more than
+    /// 16777216 bytes with their LFs; NoMemory where memory runs out.
     pub fn next(&mut self, alloc: Global) -> Result<Option<Vec<u8>>, Fault>
         ensures line { IfOk result (λ found. IfSome (I.remaining self.old.input.now)
             (λ bytes. MatchOption found (bytes ≡ []) (λ line. line.items ≡ first_piece 10 bytes))) }

@@ -1,4 +1,4 @@
-//! The command `keys`: the two keys that a server stores of a password.
+//! The command `keys`: prints the two keys that a server stores of a password.
 ghost use Rattle.std.specs.Prelude.{◌≡◌, ◌≤◌, ◌↔◌, ◌⊎◌, ◌++◌, IsTrue, IfErr, IfOk, IfSome, OnOk, Some, string_bytes};
 ghost use Rattle.std.specs.Io.BufRead.{first_piece};
 ghost use Rattle.scram_text.specs.Class.{IsPassword};
@@ -14,7 +14,7 @@ use scram_text::{Password, Salt};
 use std::alloc::Global;
 use std::io::{BufRead, Write};
 
-// The two lines to print for a password line, or BadPassword where it is none.
+// The two lines to print for a password line, or BadPassword where the line is no password.
 fn answer(
     alloc: Global,
     mechanism: Mechanism,
@@ -48,12 +48,12 @@ fn print_keys<I: BufRead, O: Write>(
 ) -> Result<(), Fault>
     requires { 1 ≤ count }
 
-    // Where the streams tell their bytes: the first line's keys stand behind what was written before.
+    // Where the bytes of the streams are known, the keys of the first line follow what was there before.
     ensures ok { OnOk result (IfSome (I.remaining input.old) (λ bytes. IsPassword (first_piece 10 bytes)
         × IfSome (O.contents output.old) (λ before. O.contents output.new
         ≡ Some (before ++ printed_keys mechanism (first_piece 10 bytes) salt.now count)))) }
 
-    // A stream that fails, want of memory, or a first line that is no password.
+    // A stream failed, memory ran out, or the first line is no password.
     ensures err { IfErr result (λ fault. (fault ≡ Fault.CannotReadInput) ⊎ ((fault ≡ Fault.CannotWriteOutput)
         ⊎ ((fault ≡ Fault.NoMemory) ⊎ ((fault ≡ Fault.BadPassword)
         × IfSome (I.remaining input.old) (λ bytes. IsPassword (first_piece 10 bytes) → ⊥))))) }

@@ -1,17 +1,20 @@
-//! `scramotp`: the keys of SCRAM logins (RFC 5802, RFC 7677), one-time codes (RFC 4226, RFC 6238), and a book of
-//! accounts that have them, on the command line.
+//! `scramotp`: the keys of SCRAM logins (RFC 5802, RFC 7677), one-time codes (RFC 4226, RFC 6238), a book of accounts
+//! that have them, and the audit of a recorded log, on the command line.
 //!
 //! `main` hands the words, the streams and the runtime to `run`, which does all the work.
 #![tactic(auto)]
 
 mod asked;
+mod audit;
 mod code;
 mod enrol;
 mod held_book;
 mod input;
 mod keys;
+mod progress;
 mod random;
 mod run;
+mod shown;
 #[cfg(test)]
 mod tests;
 mod unlock;
@@ -44,7 +47,7 @@ fn main(rt: HostRuntime) -> ExitCode {
     ExitCode::from(status)
 }
 
-// Ends a run for which there is not even memory for its words and streams.
+// Ends a run that has no memory even for its words and streams.
 fn no_memory(rt: &impl Eprint) -> ExitCode {
     let fault = Fault::NoMemory;
     let _ = eprintln!(rt; "scramotp: {fault}");

@@ -26,8 +26,8 @@ impl<'a, F: Read + Drop> Random<'a, F> {
         }
     }
 
-    /// The file's next bytes. CannotRead where it has fewer, and where a read fails; NoMemory where memory
-    /// runs out.
+    /// The next `N` bytes of the file. CannotRead where it has fewer, and where a read fails; NoMemory
+    /// where memory runs out.
     pub fn bytes<const N: usize>(&mut self) -> Result<[u8; N], Fault> {
         let mut bytes = [0u8; N];
         match self.file.read_exact(&mut bytes) {

@@ -1,9 +1,11 @@
-//! Tests of `run`: each command once, and what failing streams and files come to. What the program prints, case
-//! by case, is tested on the built program, by the scripts in the repository's folder `tests`.
+//! Tests of `run`: each command once, and how a run ends where streams and files fail. What the program prints,
+//! case by case, is tested on the built program by the scripts in the repository's folder `tests`.
 mod books;
 
+use crate::progress::Watched;
 use crate::run;
 use book_file::Lockable;
+use std::alloc::Allocator;
 use std::fs::Files;
 use std::io;
 use std::io::{BufReader, ErrorKind, Read, Write};
@@ -11,7 +13,7 @@ use std::process::Abort;
 use std::test::Fail;
 use std::time::Clock;
 
-// The words of RFC 5802's example, and what they print for the password `pencil`.
+// The words of RFC 5802's example, and what the program prints for them and the password `pencil`.
 const KEYS: [&str; 8] = [
     "scramotp",
     "keys",
@@ -29,7 +31,14 @@ server=0fe09258b3ac852ba502cc62ba903eaacdbf7d31
 
 const CANNOT_WRITE: &str = "scramotp: cannot write output\n";
 
-// A reader whose every read fails in this way.
+// Faults that are kept in memory: no terminal.
+impl<A: Allocator> Watched for Vec<u8, A> {
+    fn is_watched(&self) -> bool {
+        false
+    }
+}
+
+// A reader whose every read fails with this kind of error.
 #[derive(Drop)]
 struct Broken(ErrorKind);
 
@@ -39,7 +48,7 @@ impl Read for Broken {
     }
 }
 
-// A writer that takes this many bytes and then fails.
+// A writer that takes `room` bytes and then fails.
 #[derive(Drop)]
 struct Full {
     room: usize,
@@ -60,7 +69,7 @@ impl Write for Full {
     }
 }
 
-// A writer that takes all bytes, and fails where it has to hand them on.
+// A writer that takes all bytes, and fails when it is flushed.
 #[derive(Drop)]
 struct Stuck;
 
@@ -74,7 +83,7 @@ impl Write for Stuck {
     }
 }
 
-// Runs the words on the input, and compares status, output and faults.
+// Runs the words with the input, and compares status, output and faults.
 fn check<R>(rt: &R, words: &[&str], input: &str, want: (u8, &str, &str))
 where
     R: Abort + Files + Clock + AllocGlobal,
@@ -143,7 +152,7 @@ fn failing_input(rt: HostRuntime) -> Result<(), Fail> {
     Ok(())
 }
 
-// A failing read behind the first line is never made.
+// No read is made after the first line: here it would fail.
 #[test]
 fn input_behind_the_first_line(rt: HostRuntime) -> Result<(), Fail> {
     let alloc = rt.alloc();

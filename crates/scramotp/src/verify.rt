@@ -1,4 +1,4 @@
-//! The command `verify`: each input line judged as a one-time code.
+//! The command `verify`: judges each input line as a one-time code.
 ghost use Rattle.std.specs.Prelude.{◌≡◌, ◌&&◌, IfErr, IfOk, string_bytes};
 ghost use Rattle.scramotp.specs.Verify.{is_pass, printed_reply};
 
@@ -18,25 +18,28 @@ use std::fs::Files;
 use std::io::{BufRead, Write};
 use std::time::Clock;
 
-/// Judges the options in their order, holds and reads the book, and answers each input line, with whether
-/// all were right. Faults: BadValue, CannotRead, BadBook, NoSuchAccount and NoToken, in this order, then of
-/// each line CannotReadInput, CannotWrite and CannotWriteOutput, and NoMemory.
-pub fn verify<R, I, O>(
+/// Judges the options in their order, holds and reads the book, answers each input line, and returns
+/// whether every code passed. Faults: BadValue, CannotRead or CannotWrite where the book can't be held,
+/// BadBook, NoSuchAccount and NoToken, in this order, then for each line CannotReadInput, CannotWrite and
+/// CannotWriteOutput, and NoMemory.
+pub fn verify<R, I, O, E>(
     rt: &R,
     words: &ArgMatches<'_>,
     input: &mut I,
     output: &mut O,
+    faults: &mut E,
 ) -> Result<bool, Fault>
 where
     R: Files + Clock + AllocGlobal,
     R::File: Lockable,
     I: BufRead,
     O: Write,
+    E: Write,
 {
     let alloc = rt.alloc();
     let name = value::name(given(words, Judged::Name))?;
     let moment = value::moment(Judged::Moment, given(words, Judged::Moment))?;
-    let mut held = held_book::open(rt, given(words, Judged::Book))?;
+    let mut held = held_book::open(rt, given(words, Judged::Book), faults)?;
     held.check_token(&name)?;
     answer_lines(alloc, &mut held, &name, moment, input, output)
 }
@@ -70,7 +73,7 @@ fn and_passed(so_far: bool, reply: Reply) -> bool
     so_far && matches!(reply, Reply::Pass(_))
 }
 
-// Prints a reply at once.
+// Prints a reply, and flushes it.
 fn print_reply<O: Write>(
     alloc: Global,
     moment: Moment,

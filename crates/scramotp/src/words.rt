@@ -25,14 +25,16 @@ const ENROL_EXAMPLE: &str =
 made, readable by its owner alone, where the file is not there. The account gets keys for
 SCRAM-SHA-1 and SCRAM-SHA-256.
 
+Put the book into a folder that nobody else can write, nor the folders above it.
+
 Example:
   scramotp enrol --book book.toml --name user < password.txt";
 
 const VERIFY_EXAMPLE: &str =
     "Each line of standard input is an attempt. Its reply is PASS, the moment and the counter that
 passed, or FAIL or LOCKED and the moment. PASS and FAIL are printed once the book is saved; LOCKED
-saves nothing. The book's folder is locked until the input ends; other runs wait for it, up to 30
-seconds. Exit status 0 means that every reply was PASS.
+saves nothing. The book is locked until the input ends; other runs wait for it, up to 30 seconds.
+Exit status 0 means that every reply was PASS.
 
 Example:
   scramotp verify --book book.toml --name user --moment \"$(date +%s)\"";
@@ -43,6 +45,15 @@ const UNLOCK_EXAMPLE: &str =
 Example:
   scramotp unlock --book book.toml --name user";
 
+const AUDIT_EXAMPLE: &str =
+    "The book is the one that the log began with, so keep a copy of it: a token has moved on since. It
+is read as it is, without a lock, and nothing is written. Prints `clean` and the counts of sessions,
+accepted logins and codes that passed, or the first line at fault, why, and what was due. Exit
+status 0 means that the log is clean, 3 also that a read of it failed.
+
+Example:
+  scramotp audit --book before.toml --log log.txt";
+
 // An option that takes one value.
 fn option<'a>(alloc: Global, name: &'a str, value: &'a str, help: &'a str) -> Arg<'a> {
     Arg::new(alloc, name)
@@ -52,7 +63,7 @@ fn option<'a>(alloc: Global, name: &'a str, value: &'a str, help: &'a str) -> Ar
         .action(ArgAction::Set)
 }
 
-// An option that has to be there.
+// An option that has to be given.
 fn required<'a>(alloc: Global, name: &'a str, value: &'a str, help: &'a str) -> Arg<'a> {
     option(alloc, name, value, help).required(true)
 }
@@ -160,12 +171,22 @@ fn unlock<'a>(alloc: Global) -> Result<Command<'a>, AllocError> {
         .arg(name(alloc))
 }
 
+fn audit<'a>(alloc: Global) -> Result<Command<'a>, AllocError> {
+    Command::new(alloc, "audit")
+        .about("Judges a recorded log by the book that it began with")
+        .after_help(AUDIT_EXAMPLE)
+        .arg(book(alloc))?
+        .arg(required(alloc, "log", "FILE", "The log"))
+}
+
 /// The program's commands and their options.
 pub fn scramotp<'a>(alloc: Global) -> Result<Command<'a>, AllocError> {
     Command::new(alloc, "scramotp")
         .bin_name("scramotp")?
         .version("0.1.0")
-        .about("SCRAM keys, one-time codes, and a book of accounts that have them")
+        .about(
+            "SCRAM keys, one-time codes, a book of accounts that have them, and the audit of a log",
+        )
         .after_help(STATUSES)
         .subcommand_required(true)
         .disable_help_subcommand(true)
@@ -173,16 +194,17 @@ pub fn scramotp<'a>(alloc: Global) -> Result<Command<'a>, AllocError> {
         .subcommand(enrol(alloc)?)?
         .subcommand(code(alloc)?)?
         .subcommand(verify(alloc)?)?
-        .subcommand(unlock(alloc)?)
+        .subcommand(unlock(alloc)?)?
+        .subcommand(audit(alloc)?)
 }
 
-/// What the words give for an option, its default included, or None where it is not there.
+/// The value of an option, its default included, or None where none was given.
 pub fn optional<'a>(words: &ArgMatches<'a>, option: Judged) -> Option<&'a str> {
     let name = option.name();
     words.get_str(name)
 }
 
-/// What the words give for an option that is required or has a default.
+/// The value of an option that is required or has a default.
 pub fn given<'a>(words: &ArgMatches<'a>, option: Judged) -> &'a str {
     optional(words, option).unwrap_or("")
 }

@@ -29,7 +29,7 @@ limit = 3
 failures = 0
 ";
 
-// Makes a new folder for the test of this name, and gives the path of a book in it.
+// Makes a new folder for the test of this name, and returns the path of a book in it.
 fn path_of_book(rt: &HostRuntime, test: &str) -> Result<String, Fail> {
     let temp = env::temp_dir(rt)?;
     let id = process::id(rt.process());
@@ -87,7 +87,7 @@ fn each_command(rt: HostRuntime) -> Result<(), Fail> {
     remove(&rt, book)
 }
 
-// Whichever call of the file system fails, a code that was told as passed is spent, and a run that tells
+// Whichever call of the file system fails, a code that was reported as passed is spent, and a run that reports
 // nothing has status 3.
 #[test]
 fn verify_with_each_call_failing(rt: HostRuntime) -> Result<(), Fail> {
@@ -126,5 +126,52 @@ fn verify_with_each_call_failing(rt: HostRuntime) -> Result<(), Fail> {
         }
     }
     assert!(rt; passed_at_last);
+    remove(&rt, book)
+}
+
+// A session in which the client goes away at once, and what the audit prints for it.
+const LOG: &str = "SCRAMLOG 1
+S MECHS SCRAM-SHA-256 SCRAM-SHA-1
+C GONE
+E
+";
+
+const CLEAN: &str = "clean sessions=1 accepted=0 codes=0\n";
+
+// Whichever call of the file system fails, a run that could not read the whole log does not call it clean.
+#[test]
+fn audit_with_each_call_failing(rt: HostRuntime) -> Result<(), Fail> {
+    let path = path_of_book(&rt, "audit")?;
+    let book = path.as_str();
+    let log = format!(in rt.alloc(); "{book}.log")?;
+    fs::write(&rt, book, BOOK)?;
+    fs::write(&rt, log.as_str(), LOG)?;
+    let words = ["scramotp", "audit", "--book", book, "--log", log.as_str()];
+    let mut clean_at_last = false;
+    for failing in 1..60u32 {
+        let calls = Calls::new(rt.alloc(), failing);
+        let faulty = Faulty {
+            rt: &rt,
+            calls: &calls,
+        };
+        let mut output = Vec::new(rt.alloc());
+        let mut faults = Vec::new(rt.alloc());
+        let mut input = b"".as_slice();
+        let status = run::run(&faulty, &words, &mut input, &mut output, &mut faults);
+        if calls.are_over() {
+            assert_eq!(rt; status, 3, "{failing}");
+            let is_read_fault = output.as_slice() == b"read fault\n".as_slice()
+                && faults.is_empty();
+            let is_unread = output.is_empty()
+                && faults.as_slice().starts_with(b"scramotp: cannot read ");
+            assert!(rt; is_read_fault || is_unread, "{failing}");
+        } else {
+            assert_eq!(rt; status, 0, "{failing}");
+            assert!(rt; output.as_slice() == CLEAN.as_bytes(), "{failing}");
+            clean_at_last = true;
+            break;
+        }
+    }
+    assert!(rt; clean_at_last);
     remove(&rt, book)
 }
