@@ -25,7 +25,7 @@ fn is_accepted(account: &KeysView<'_>, text: &[u8]) -> bool {
     }
 }
 
-/// Judges `text` so many times, and prints how often it was accepted.
+/// Judges `text` `count` times, and prints how often it was accepted.
 pub(crate) fn print_verdicts(rt: &impl Print, text: &[u8], count: u32) -> io::Result<()> {
     let Some(salt) = Salt::new(SALT) else {
         return Err(io::Error::from(ErrorKind::InvalidInput));

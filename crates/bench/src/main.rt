@@ -1,4 +1,4 @@
-//! Does one thing of the libraries many times over, for a script to time.
+//! Does one thing with the libraries many times over, for a script to time.
 //!
 //! `bench KIND COUNT TEXT` reads the message TEXT of that kind COUNT times, and prints how often it was
 //! read; `bench hotp COUNT SECRET` makes the codes of the counters below COUNT, and prints the last;
@@ -30,7 +30,7 @@ fn is_read(kind: &str, text: &[u8]) -> bool {
     }
 }
 
-// How often the text was read, of so many times.
+// How often the text was read as a message of this kind, of `count` times.
 fn readings(kind: &str, text: &[u8], count: u32) -> u32 {
     let mut read = 0u32;
     for _ in 0..count {
@@ -41,7 +41,7 @@ fn readings(kind: &str, text: &[u8], count: u32) -> u32 {
     read
 }
 
-// Makes the codes of six digits of the counters below `count`, and prints the last.
+// Makes the codes, of six digits, of the counters below `count`, and prints the last.
 fn print_codes(rt: &(impl Print + Alloc), secret: &[u8], count: u32) -> io::Result<()> {
     let (Ok(secret), Ok(digits)) = (Secret::new(secret), Digits::new(6)) else {
         return Err(io::Error::from(ErrorKind::InvalidInput));

@@ -1,0 +1,154 @@
+#!/usr/bin/env python3
+"""Times audits of long logs, by the processor time of the program's run, and measures its memory.
+
+Usage: audit.py PROGRAM
+
+Each log is made here, each message and each code by Python's hmac: logins of RFC 5802 and RFC 7677 by turns, each
+with nonces of its own; and sessions of many accounts in each of which many codes pass. Each audit has to answer
+with the log's own counts. Best of several turns, with the start of the program and the reading of the book.
+"""
+import base64
+import hashlib
+import hmac
+import os
+import pathlib
+import subprocess
+import sys
+import tempfile
+
+LOGINS = 142_000
+FEW = 1_000
+ACCOUNTS = 1_000
+CODES = 200  # of each account
+TURNS = 5
+SALT = b"0123456789ab"
+SECRET = b"12345678901234567890"
+HASHES = {"sha1": "SCRAM-SHA-1", "sha256": "SCRAM-SHA-256"}
+COUNT = 4096
+
+
+def keys(table):
+    """ClientKey, StoredKey and ServerKey of the password `pencil` (RFC 5802, section 3)."""
+    salted = hashlib.pbkdf2_hmac(table, b"pencil", SALT, COUNT)
+    client = hmac.digest(salted, b"Client Key", table)
+    return client, hashlib.new(table, client).digest(), hmac.digest(salted, b"Server Key", table)
+
+
+KEYS = {table: keys(table) for table in HASHES}
+
+
+def text_of(data):
+    return base64.b64encode(data).decode()
+
+
+def book(names, token):
+    """A book in which each name has both mechanisms' keys, and a token where one is wanted."""
+    parts = [f'format = 1\ndecoy_key = "{bytes(range(32)).hex()}"\ndecoy_count = {COUNT}\n']
+    for name in names:
+        for table, (_, stored, server) in KEYS.items():
+            parts.append(f'[accounts.{name}.{table}]\nsalt = "{SALT.hex()}"\ncount = {COUNT}\n')
+            parts.append(f'stored = "{stored.hex()}"\nserver = "{server.hex()}"\n')
+        if token:
+            parts.append(f'[accounts.{name}.token]\nkind = "hotp"\nsecret = "{SECRET.hex()}"\ndigits = 6\n')
+            parts.append("next = 0\nlook_ahead = 3\nlimit = 3\nfailures = 0\n")
+    return "".join(parts)
+
+
+def login(table, name, number):
+    """The lines of a login that is accepted, from MECHS to OK."""
+    client, stored, server = KEYS[table]
+    nonce = text_of(hashlib.md5(f"c{number}".encode()).digest() + b"!!")
+    whole = nonce + text_of(hashlib.md5(f"s{number}".encode()).digest() + b"!!")
+    bare, front = f"n={name},r={nonce}", f"c=biws,r={whole}"
+    challenge = f"r={whole},s={text_of(SALT)},i={COUNT}"
+    signed = f"{bare},{challenge},{front}".encode()
+    signature = hmac.digest(stored, signed, table)
+    proof = bytes(a ^ b for a, b in zip(client, signature))
+    return (
+        "S MECHS SCRAM-SHA-256 SCRAM-SHA-1\n"
+        f"C AUTH {HASHES[table]} :n,,{bare}\n"
+        f"S CONT :{challenge}\n"
+        f"C RESP :{front},p={text_of(proof)}\n"
+        f"S OK :v={text_of(hmac.digest(server, signed, table))}\n"
+    )
+
+
+def of_logins(count):
+    tables = list(HASHES)
+    sessions = (login(tables[i % 2], "user", i) + "C GONE\nE\n" for i in range(count))
+    return "SCRAMLOG 1\n" + "".join(sessions), f"clean sessions={count} accepted={count} codes=0\n"
+
+
+def code(counter):
+    """The HOTP code of six digits (RFC 4226, section 5.3)."""
+    mac = hmac.digest(SECRET, counter.to_bytes(8, "big"), "sha1")
+    at = mac[-1] & 15
+    return f"{(int.from_bytes(mac[at:at + 4], 'big') & 0x7fffffff) % 10**6:06}"
+
+
+def of_codes(names):
+    codes = "".join(f"C CODE {code(counter)}\nS PASS {counter} {counter}\n" for counter in range(CODES))
+    sessions = (login("sha256", name, i) + codes + "C GONE\nE\n" for i, name in enumerate(names))
+    count = len(names)
+    return "SCRAMLOG 1\n" + "".join(sessions), f"clean sessions={count} accepted={count} codes={count * CODES}\n"
+
+
+def same(words, got, want):
+    if got != want:
+        sys.exit(f"{words}: {got!r}, not {want!r}")
+
+
+def seconds(words, want):
+    """The processor time of one run that prints `want`."""
+    child = subprocess.Popen(words, stdout=subprocess.PIPE, text=True)
+    printed = child.stdout.read()
+    _, status, used = os.wait4(child.pid, 0)
+    child.returncode = status
+    same(words, (status, printed), (0, want))
+    return used.ru_utime + used.ru_stime
+
+
+def peak(words, log, want):
+    """The most memory in KiB of a run that reads the log from a pipe, taken once it has read nearly all."""
+    child = subprocess.Popen(words, stdin=subprocess.PIPE, stdout=subprocess.PIPE)
+    child.stdin.write(log.encode())
+    child.stdin.flush()
+    status = pathlib.Path(f"/proc/{child.pid}/status").read_text()
+    printed, _ = child.communicate()
+    same(words, (child.returncode, printed.decode()), (0, want))
+    return int(status.split("VmHWM:")[1].split()[0])
+
+
+def audit(program, folder, text, log):
+    """The words of an audit by the book of this text."""
+    (folder / "book").write_text(text)
+    return [program, "audit", "--book", str(folder / "book"), "--log", str(log)]
+
+
+def best(program, folder, text, log, want):
+    """The best of several turns."""
+    (folder / "log").write_text(log)
+    words = audit(program, folder, text, folder / "log")
+    return min(seconds(words, want) for _ in range(TURNS))
+
+
+def main():
+    program = os.path.abspath(sys.argv[1])
+    names = [f"user{i:04}" for i in range(ACCOUNTS)]
+    with tempfile.TemporaryDirectory() as name:
+        folder = pathlib.Path(name)
+        one = book(["user"], False)
+        log, want = of_logins(LOGINS)
+        taken = best(program, folder, one, log, want)
+        lines = log.count("\n")
+        print(f"{LOGINS} logins, {lines} lines, {len(log)} bytes: {taken:.2f} s, {LOGINS / taken:.0f} logins a second")
+        piped = audit(program, folder, one, "/dev/stdin")
+        few, many = peak(piped, *of_logins(FEW)), peak(piped, log, want)
+        print(f"peak memory: {few} KiB for {FEW} logins, {many} KiB for {LOGINS}, ratio {many / few:.3f}")
+        log, want = of_codes(names)
+        taken = best(program, folder, book(names, True), log, want)
+        lines = log.count("\n")
+        print(f"{ACCOUNTS} accounts, {ACCOUNTS * CODES} codes, {lines} lines: {taken:.2f} s, {lines / taken:.0f} lines a second")
+
+
+main()
