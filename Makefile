@@ -1,37 +1,68 @@
-# make run      proves and builds the program, and prints the keys of RFC 5802's own example
-# make test     the gate: every proof, every test, every run from nothing, then tests of the built program
-# make build    leaves the program at $(PROGRAM)
-# make install  copies it to $(DESTDIR)$(PREFIX)/bin
-# make bench    compares speeds with OpenSSL, with Python's re, base64, hmac and tomllib, and with oathtool
+# make help lists the targets.
 PREFIX ?= /usr/local
 DESTDIR ?=
+# The oldest processors that the program is built for: x86-64, x86-64-v2 or x86-64-v3.
+CPU ?= x86-64-v2
+JOBS ?= $(shell nproc)
 PROGRAM = crates/scramotp/out/scramotp
+# What the program stands on, lowest first. rt builds a library that is not named here before the one that needs it.
+LIBRARIES = mac_core otp_core scram_text scram_ends book_format account_book book_file command_line log_grammar sasl_log
 SOURCES = crates.txt HANDLES $(shell find crates \( -name out -prune \) -o \( -name '*.rt' -o -name '*.antt' \) -print)
+# Succeeds where the program is built and newer than its sources.
+IS_FRESH = test -x $(PROGRAM) && test -z "$$(find $(SOURCES) -newer $(PROGRAM))"
+# The example of RFC 5802, section 5; its password is pencil.
+EXAMPLE = keys --mechanism SCRAM-SHA-1 --salt 4125c247e43ab1e93c6dff76 --count 4096
+# The processors that the program was last built for; rt ci builds it for the default ones.
+BUILT_FOR := $(shell cat crates/scramotp/out/built_for 2>/dev/null || echo x86-64-v2)
 
-.PHONY: run test build install bench clean kit
+.PHONY: help run build install test bench clean kit FORCE
 
-run: build
-	echo pencil | $(PROGRAM) keys --mechanism SCRAM-SHA-1 --salt 4125c247e43ab1e93c6dff76 --count 4096
+help:
+	@echo 'make run      prints the keys of the example in RFC 5802, also before anything is built'
+	@echo 'make build    proves the program and leaves it at $(PROGRAM);'
+	@echo '              CPU=x86-64-v3 builds it for newer processors'
+	@echo 'make install  copies the built program to $$(DESTDIR)$$(PREFIX)/bin'
+	@echo 'make test     the gate: every proof, test and run from nothing, wrong bodies, and tests of the built program'
+	@echo 'make bench    compares speeds with OpenSSL, with Python, and with oathtool'
+	@echo 'make clean    removes what was built'
+
+# A program that is not built runs from its sources, which proves nothing.
+run:
+	@if $(IS_FRESH); then echo pencil | $(PROGRAM) $(EXAMPLE); else \
+		$(MAKE) --no-print-directory kit && mkdir -p crates/scramotp/out && cd crates/scramotp && \
+		echo 'Nothing is proved yet: make build does that. This runs the program from its sources, in about a minute.' >&2 && \
+		{ echo pencil | rt try -- $(EXAMPLE) 2>out/try.log || { cat out/try.log >&2; exit 1; }; }; fi
+
+build: $(PROGRAM)
+
+ifneq ($(CPU),$(BUILT_FOR))
+$(PROGRAM): FORCE
+endif
+
+$(PROGRAM): $(SOURCES)
+	@$(MAKE) --no-print-directory kit
+	@echo 'This proves $(words $(LIBRARIES)) libraries and the program, and builds it for $(CPU). From nothing, allow 20 minutes on 4 cores.'
+	@for it in $(LIBRARIES); do \
+		echo "$$(date +%T) $$it" && mkdir -p crates/$$it/out && cd crates/$$it && \
+		{ rt lib --jobs $(JOBS) >out/build.log 2>&1 || { cat out/build.log; exit 1; }; } && cd ../.. || exit 1; \
+	done
+	@echo "$$(date +%T) scramotp"
+	@mkdir -p $(@D) && cd crates/scramotp && \
+		{ rt run --jobs $(JOBS) $(addprefix --cpu=,$(filter-out x86-64-v2,$(CPU))) -- --version 2>out/build.log || { cat out/build.log; exit 1; }; }
+	@echo $(CPU) >$(@D)/built_for
+	@touch $@
+
+FORCE:
+
+install:
+	@$(IS_FRESH) || { echo 'The program is not built, or is older than its sources: run make build first.' >&2; exit 1; }
+	install -D -m 755 $(PROGRAM) $(DESTDIR)$(PREFIX)/bin/scramotp
 
 test: kit
 	rt ci
+	python3 tests/edits.py
 	$(MAKE) build
-	python3 tests/vectors.py $(PROGRAM)
-	python3 tests/commands.py $(PROGRAM)
-	sh tests/process.sh $(PROGRAM)
-	python3 tests/books.py $(PROGRAM)
-	python3 tests/book_faults.py $(PROGRAM)
-	python3 tests/book_commands.py $(PROGRAM)
-
-build: kit $(PROGRAM)
-
-# rt proves what the program stands on before it builds it.
-$(PROGRAM): $(SOURCES)
-	cd crates/scramotp && rt run -- --version
-	touch $@
-
-install: build
-	install -D -m 755 $(PROGRAM) $(DESTDIR)$(PREFIX)/bin/scramotp
+	python3 tests/run.py $(PROGRAM)
 
 bench: build
 	cd crates/bench && rt run -- hotp 1 12345678901234567890
@@ -39,6 +70,7 @@ bench: build
 	python3 bench/messages.py crates/bench/out/bench
 	python3 bench/verdicts.py crates/bench/out/bench
 	python3 bench/books.py $(PROGRAM) crates/bench/out/bench
+	python3 bench/audit.py $(PROGRAM)
 
 clean:
 	rm -rf crates/*/out tests/__pycache__

@@ -1,9 +1,9 @@
 #!/usr/bin/env python3
-"""What the commands on an account book say, in which order they look, and what they leave behind.
+"""What the commands on an account book print, in which order they look at things, and what they leave in its folder.
 
 Usage: book_commands.py PROGRAM
 
-As root, runs the program as nobody where permissions have to count. Takes the 30 seconds for which runs
+As root, runs the program as the user nobody where permissions matter. Takes the 30 seconds for which runs
 wait for a lock. Exits at the first difference.
 """
 import concurrent.futures
@@ -18,7 +18,7 @@ import sys
 import tempfile
 import tomllib
 
-# A copy of the program that nobody can run, wherever the program is.
+# A copy of the program that the user nobody can run, wherever the program is.
 COPY = tempfile.TemporaryDirectory()
 os.chmod(COPY.name, 0o755)
 PROGRAM = shutil.copy(sys.argv[1], COPY.name)
@@ -109,14 +109,14 @@ def access(path):
 
 
 def seen(path):
-    """What shows that a file was written or replaced."""
+    """What differs once a file was written or replaced."""
     found = os.stat(path)
     return found.st_ino, found.st_mtime_ns, access(path), pathlib.Path(path).read_bytes()
 
 
 def climb(command, options, text, rungs):
     """Runs a command that has many faults, and mends the one that it answers: each rung is an answer (status,
-    output, fault) and what is mended behind it, which is options, another input, or a call."""
+    output, fault) and what is mended after it, which is options, another input, or a call."""
     for answer, mended in rungs:
         says(f"{command} {options}", run(command, options, text), *answer)
         if isinstance(mended, dict):
@@ -186,7 +186,7 @@ def order_of_unlock(folder):
 
 
 def bad_values(folder):
-    """Each value that an option refuses, beside a book that is none."""
+    """Each value that an option refuses, with a book that is none."""
     book = put(os.path.join(folder, "book"), "")
     numbers = ["", "-1", "+1", "01", "1 ", "1.0", "1e3", "0x1", "one", "18446744073709551616"]
     bad = [("enrol", "count", value) for value in [*numbers, "0", "4294967296"]]
@@ -200,7 +200,7 @@ def bad_values(folder):
 
 
 def values_at_their_limits(folder):
-    """As many rounds as the greatest count asks for would take long, so there the password is a bad one."""
+    """The greatest count would take long, so the password is a bad one there."""
     book = put(os.path.join(folder, "book"))
     done = run("enrol", {"book": book, "name": "n" * 255, "count": "4294967295"}, "")
     says("the greatest count", done, 2, "", "bad password")
@@ -210,8 +210,8 @@ def values_at_their_limits(folder):
 
 
 def no_file(folder):
-    """No book is at a folder's name or a pipe's, behind a link to nothing, in a folder that is not there, or at no name.
-    A name with a slash behind it is a folder's, also where nothing is there yet."""
+    """No book is at the name of a folder or a pipe, at a link to nothing, in a folder that does not exist, or at no
+    name. A name with a slash after it is a folder's, even where there is nothing yet."""
     inner, pipe, link = (os.path.join(folder, name) for name in ["inner", "pipe", "link"])
     os.mkdir(inner)
     os.mkfifo(pipe)
@@ -237,7 +237,7 @@ def unreadable(folder):
 
 
 def longest(folder):
-    """A book of 16777216 bytes is read, and none that has one more."""
+    """A book of 16777216 bytes is read, and one of one more byte is not."""
     book = os.path.join(folder, "book")
     for command in GOOD:
         text = BOOK + "#" * (MOST - len(BOOK))
@@ -248,7 +248,7 @@ def longest(folder):
 
 
 def unwritable(folder):
-    """Where the folder may not be written the old book stays, and nobody is told of a change."""
+    """Where the folder may not be written the old book stays, and no change is reported."""
     book, new = put(os.path.join(folder, "book")), os.path.join(folder, "new")
     if ROOT:
         for path in [book, folder]:
@@ -266,7 +266,7 @@ def unwritable(folder):
 
 
 def full_output(folder):
-    """What a reply tells is saved before it; where it can't be told, nothing more is judged."""
+    """What a reply reports is saved before it is printed; where it can't be printed, nothing more is judged."""
     book = put(os.path.join(folder, "book"), LOCKED)
     with open("/dev/full", "w") as full:
         for command in ["unlock", "enrol"]:
@@ -279,7 +279,7 @@ def full_output(folder):
 
 
 def unsaved(folder):
-    """LOCKED saves nothing, nor what is refused, nor an empty input."""
+    """LOCKED saves nothing, nor does what is refused, nor an empty input."""
     book = put(os.path.join(folder, "book"), LOCKED)
     before = seen(book)
     user, bare = {"book": book, **GOOD["verify"][0]}, {"book": book, "name": "bare"}
@@ -291,7 +291,7 @@ def unsaved(folder):
 
 
 def unlocked(folder):
-    """`unlock` saves always, also where no code has failed."""
+    """`unlock` always saves, even where no code has failed."""
     book = put(os.path.join(folder, "book"), LOCKED)
     for _ in range(2):
         before = seen(book)
@@ -301,22 +301,78 @@ def unlocked(folder):
 
 
 def owner(folder):
-    """A book keeps its owner, its group and its mode, or it is not saved. Only root can try this."""
+    """A book keeps its owner and its group, or it is not saved. Only root can try this."""
     book = put(os.path.join(folder, "book"))
     os.chown(book, 1234, 4321)
-    os.chmod(book, 0o640)
+    os.chmod(book, 0o600)
     before = access(book)
     for command in GOOD:
         succeeds(command, book)
-        same(f"access behind {command}", access(book), before)
+        same(f"access after {command}", access(book), before)
     put(book)
+    os.chown(book, 0, 0)
     os.chmod(book, 0o666)
-    os.chmod(folder, 0o777)
+    os.chown(folder, NOBODY.pw_uid, NOBODY.pw_gid)
+    is_refused(book, AS_NOBODY)
+
+
+def shared_book(folder):
+    """A book of root that a group shares is not worked on by a member, who could not keep its owner; root works on it,
+    and the group then has no rights to it. Only root can try this."""
+    book = put(os.path.join(folder, "book"))
+    for path, mode in [(book, 0o660), (folder, 0o2770)]:
+        os.chown(path, 0, 4321)
+        os.chmod(path, mode)
+    is_refused(book, {**AS_NOBODY, "extra_groups": [4321]})
+    succeeds("verify", book)
+    same("access", (os.stat(book).st_uid, os.stat(book).st_gid, os.stat(book).st_mode & 0o7777), (0, 4321, 0o600))
+
+
+def is_refused(book, runner):
+    """Each command on a book of another says why it is not worked on, and leaves it as it was."""
     before = seen(book)
     for command in GOOD:
-        says(command, well(command, book, **AS_NOBODY), 3, "", f"cannot write {book}")
+        fault = f"{book} belongs to another user, who alone can save it\nscramotp: cannot write {book}"
+        says(command, well(command, book, **runner), 3, "", fault)
+    same("the book of another", seen(book), before)
+    same("its folder", os.listdir(os.path.dirname(book)), ["book"])
+
+
+def others_book(folder):
+    """In a folder that others may write, or that belongs to another, a book of another is not read. Only root can try
+    this."""
+    book = put(os.path.join(folder, "book"))
+    os.chown(book, 1234, 4321)
+    os.chmod(book, 0o666)
+    before = seen(book)
+    for owner, mode in [(0, 0o777), (0, 0o1777), (0, 0o775), (1234, 0o755)]:
+        os.chown(folder, owner, owner)
+        os.chmod(folder, mode)
+        for command in GOOD:
+            for user in [{}, AS_NOBODY]:
+                says(f"{command} in {mode:o}", well(command, book, **user), 3, "", f"cannot read {book}")
     same("another's book", seen(book), before)
-    same("the folder", os.listdir(folder), ["book"])
+    os.chown(folder, 0, 0)
+    os.chmod(folder, 0o755)
+    for command in GOOD:
+        succeeds(command, book)
+
+
+def others_next(folder):
+    """A file of another in the place of the next text, which can't be removed, is named in the fault. Only root can
+    try this."""
+    book, next_text = os.path.join(folder, "book"), put(os.path.join(folder, "book.new"))
+    os.chown(put(book), NOBODY.pw_uid, NOBODY.pw_gid)
+    os.chown(next_text, 1234, 4321)
+    os.chmod(next_text, 0o600)
+    os.chmod(folder, 0o1777)
+    before = seen(book)
+    for command in GOOD:
+        says(command, well(command, book, **AS_NOBODY), 3, "", f"cannot write {next_text}")
+    same("the book", seen(book), before)
+    os.remove(book)
+    says("a new book", well("enrol", book, **AS_NOBODY), 3, "", f"cannot write {next_text}")
+    same("the folder", os.listdir(folder), ["book.new"])
 
 
 # Names that TOML takes bare, has to quote, has to escape, or could take for something else.
@@ -329,7 +385,7 @@ NAMES = [
 
 
 def names(folder):
-    """Each name stands in the book as it was given, and is found there, also where a person's hand quoted it."""
+    """Each name is in the book as it was given, and is found there, even where a person quoted it in another way."""
     book = put(os.path.join(folder, "book"), TOP)
     for name in NAMES:
         options = {"book": book, "name": name}
@@ -362,18 +418,20 @@ def hard_links(folder):
 
 
 def start_waiting(folder, beside):
-    """Holds the folder, and starts each command in it, `enrol` also on a new book."""
+    """Holds a book, and the place of a new one, and starts each command, which then waits."""
     book, new = put(os.path.join(folder, "book")), os.path.join(folder, "new")
-    fcntl.flock(os.open(folder, os.O_RDONLY), fcntl.LOCK_EX)
+    for path in [book, put(new + ".new", "")]:
+        fcntl.flock(os.open(path, os.O_RDONLY), fcntl.LOCK_EX)
     runs = [*[(command, book) for command in GOOD], ("enrol", new)]
     return [(command, path, beside.submit(well, command, path)) for command, path in runs]
 
 
 def end_waiting(folder, started):
-    """Those that waited in vain leave the book as it was, and no further file."""
+    """The commands that waited in vain leave the book as it was, and no other file."""
     for command, path, running in started:
-        says(f"{command} in a held folder", running.result(), 3, "", f"cannot read {path}")
-    same("the held folder", os.listdir(folder), ["book"])
+        fault = f"other runs held {path} for 30 seconds\nscramotp: cannot read {path}"
+        says(f"{command} on a held book", running.result(), 3, "", fault)
+    same("the folder", sorted(os.listdir(folder)), ["book", "new.new"])
     same("the book", pathlib.Path(folder, "book").read_text(), BOOK)
 
 
@@ -395,7 +453,7 @@ TESTS = [
     hard_links,
 ]
 if ROOT:
-    TESTS.append(owner)
+    TESTS += [owner, shared_book, others_book, others_next]
 else:
     print("book_commands.py: not root, so owners and groups are not tested")
 

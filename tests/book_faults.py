@@ -1,11 +1,11 @@
 #!/usr/bin/env python3
-"""Compares what the built program says of account books, faulty ones for the most part, with a table.
+"""Compares what the built program answers to account books, most of them faulty, with a table.
 
 Usage: book_faults.py PROGRAM
 
-Beside this file, each row of book_faults.csv is a book: a file of book_faults/, in which `old` stands once
-and gets `new` in its place, and then `old2` gets `new2`. `\\n`, `\\\\` and `\\xNN` are written as in Python. The
-row's answer is a fault's number, as docs/FORMATS.md has it, or what `unlock` says of the account `user` in a
+Beside this file, each row of book_faults.csv is a book: a file of book_faults/, in which `old`, which is there
+once, is replaced by `new`, and then `old2` by `new2`. `\\n`, `\\\\` and `\\xNN` are written as in Python. The
+row's answer is a fault's number, as docs/FORMATS.md has it, or what `unlock` prints for the account `user` in a
 book that it reads. A book is judged before a name is looked up, and one that is refused is left as it is.
 Exits at the first row that differs.
 """
@@ -45,7 +45,7 @@ def due(answer):
 
 
 def check(program, path, row):
-    """Runs a row; None where all is as it should be, else what the program did."""
+    """Runs a row, and returns None where all is as it should be, else what the program did."""
     book = edited(row)
     path.write_bytes(book)
     done = subprocess.run([program, "unlock", "--book", path, "--name", "user"], capture_output=True)

@@ -1,19 +1,23 @@
 #!/usr/bin/env python3
 """What only processes show of the commands on an account book: runs at the same time, runs that are
-killed, links, modes, a save that can't be made, a lock that another run keeps, which files it opens.
+killed, links, modes, access lists, a save that can't be made, a lock that another run keeps, which files a run opens,
+files that take the book's place, and how paths are shown.
 
 Usage: books.py PROGRAM
 """
 import ctypes
+import errno
 import fcntl
 import hmac
 import os
 import random
 import re
 import select
+import shutil
 import struct
 import subprocess
 import sys
+import threading
 import time
 import tomllib
 
@@ -24,6 +28,8 @@ PROGRAM = os.path.abspath(sys.argv[1])
 BOOK = USER + hotp(look_ahead=3, limit=100)
 # RFC 4226, appendix D
 FIRST_CODE = "755224"
+# The user in those entries of an access list that name no user.
+NONE = 0xFFFFFFFF
 
 
 def write(path):
@@ -52,15 +58,63 @@ def start(path, text):
     return run
 
 
+def enrol(path, name, count):
+    words = [PROGRAM, "enrol", "--book", path, "--name", name, "--count", str(count)]
+    run = subprocess.Popen(words, stdin=subprocess.PIPE, stdout=subprocess.DEVNULL, text=True)
+    run.stdin.write("pencil\n")
+    run.stdin.close()
+    return run
+
+
+def locked(path):
+    """A descriptor that holds the lock of a file or a folder."""
+    held = os.open(path, os.O_RDONLY)
+    fcntl.flock(held, fcntl.LOCK_EX | fcntl.LOCK_NB)
+    return held
+
+
+def is_locked(path):
+    try:
+        os.close(locked(path))
+    except BlockingIOError:
+        return True
+    return False
+
+
+def waiting_verify(path, text=""):
+    """A run that holds the book, and waits for more input than this."""
+    run = subprocess.Popen(verify_words(path), stdin=subprocess.PIPE, stdout=subprocess.PIPE, stderr=subprocess.PIPE, text=True)
+    run.stdin.write(text)
+    run.stdin.flush()
+    for _ in range(1000):
+        if is_locked(path):
+            return run
+        time.sleep(0.01)
+    raise AssertionError("no run holds the book")
+
+
+def answered(run, text, want):
+    """Gives a run the rest of its input, and compares its status, output and faults."""
+    output, faults = run.communicate(text)
+    assert (run.returncode, output, faults) == want, (run.returncode, output, faults)
+
+
+def seen(path):
+    """What differs once a name was given to another file, or its file was written."""
+    found = os.lstat(path)
+    with open(path, "rb") as file:
+        return found.st_ino, found.st_mode, found.st_mtime_ns, found.st_ctime_ns, file.read()
+
+
 def code(counter):
-    """A code as RFC 4226, section 5.3, has it."""
+    """The code of a counter (RFC 4226, section 5.3)."""
     tag = hmac.digest(bytes.fromhex(SECRET), counter.to_bytes(8, "big"), "sha1")
     at = tag[19] & 15
     return f"{(int.from_bytes(tag[at:at + 4], 'big') & 0x7FFFFFFF) % 10**6:06}"
 
 
 def twenty_at_once(folder):
-    """One code passes once, whichever of the book's two names a run has."""
+    """A code passes once, whichever of the book's two names a run is given."""
     book, link = os.path.join(folder, "book"), os.path.join(folder, "link")
     os.symlink("book", link)
     for _ in range(5):
@@ -76,7 +130,7 @@ def twenty_at_once(folder):
 
 
 def killed_at_any_moment(folder):
-    """The book always reads, what was told as passed is spent, and no counter passes twice."""
+    """The book can always be read, what was reported as passed is spent, and no counter passes twice."""
     book = os.path.join(folder, "book")
     write(book)
     codes = [code(counter) for counter in range(2500)]
@@ -99,21 +153,40 @@ def killed_at_any_moment(folder):
 
 
 def modes(folder):
-    """A new book is its owner's alone, whatever the mask; a rewritten one keeps its mode."""
+    """Only its owner can read a new book, whatever the mask; of a rewritten one's mode the owner's bits stay."""
     book = os.path.join(folder, "book")
     for mask in [0o000, 0o022, 0o077]:
         old = os.umask(mask)
-        words = [PROGRAM, "enrol", "--book", book, "--name", "user", "--count", "1"]
-        subprocess.run(words, input="pencil\n", capture_output=True, text=True, check=True)
+        assert enrol(book, "user", 1).wait() == 0
         os.umask(old)
         assert os.stat(book).st_mode & 0o7777 == 0o600
         os.remove(book)
-    for mode in [0o640, 0o604, 0o400]:
+    for before, after in [(0o640, 0o600), (0o604, 0o600), (0o600, 0o600), (0o444, 0o400)]:
         write(book)
-        os.chmod(book, mode)
+        os.chmod(book, before)
         assert verify(book, FIRST_CODE).stdout == "PASS 5 0\n"
-        assert os.stat(book).st_mode & 0o7777 == mode
+        assert os.stat(book).st_mode & 0o7777 == after
         os.remove(book)
+
+
+def access_lists(folder):
+    """A save gives nobody more access by an access list: neither the group, whose bits in the mode are the list's mask,
+    nor those whom the folder's list names for new files."""
+    book = os.path.join(folder, "book")
+    write(book)
+    os.chmod(book, 0o600)
+    entries = [(1, 6, NONE), (2, 4, 1234), (4, 0, NONE), (16, 4, NONE), (32, 0, NONE)]
+    listed = struct.pack("<I", 2) + b"".join(struct.pack("<HHI", *entry) for entry in entries)
+    try:
+        os.setxattr(book, "system.posix_acl_access", listed)
+        os.setxattr(folder, "system.posix_acl_default", listed)
+    except OSError as error:
+        assert error.errno == errno.EOPNOTSUPP, error
+        print("books.py: this file system has no access lists, so they are not tested", file=sys.stderr)
+        return
+    assert os.stat(book).st_mode & 0o777 == 0o640
+    assert verify(book, FIRST_CODE).stdout == "PASS 5 0\n"
+    assert os.stat(book).st_mode & 0o777 == 0o600
 
 
 def unwritable(folder):
@@ -130,16 +203,16 @@ def unwritable(folder):
 
 
 def locked_by_another(folder):
-    """A run waits for 30 seconds, and goes on at once where the lock comes free."""
+    """A run waits for up to 30 seconds, and goes on at once where the lock becomes free."""
     book = os.path.join(folder, "book")
     write(book)
-    lock = os.open(folder, os.O_RDONLY)
-    fcntl.flock(lock, fcntl.LOCK_EX)
+    lock = locked(book)
     begun = time.monotonic()
     run = verify(book, FIRST_CODE)
     waited = time.monotonic() - begun
-    assert (run.returncode, run.stdout, run.stderr) == (3, "", f"scramotp: cannot read {book}\n"), run
-    assert 29 < waited < 60, waited
+    faults = f"scramotp: other runs held {book} for 30 seconds\nscramotp: cannot read {book}\n"
+    assert (run.returncode, run.stdout, run.stderr) == (3, "", faults), run
+    assert 29 < waited < 33, waited
     run = start(book, FIRST_CODE)
     time.sleep(0.5)
     assert run.poll() is None
@@ -148,11 +221,23 @@ def locked_by_another(folder):
     assert run.wait() == 0
 
 
+def locked_folder(folder):
+    """A lock of the folder keeps no run from the book; nor does a lock of another book in it."""
+    book, other = os.path.join(folder, "book"), os.path.join(folder, "other")
+    write(book)
+    write(other)
+    lock = locked(folder)
+    waiting = waiting_verify(other)
+    assert verify(book, FIRST_CODE).stdout == "PASS 5 0\n"
+    answered(waiting, FIRST_CODE, (0, "PASS 5 0\n", ""))
+    os.close(lock)
+
+
 def one_lock(folder):
-    """The folder is opened once, to lock it, before the book is; it is closed behind the last save."""
+    """The book is opened once, and each next file once: the run keeps its lock, even when it saves."""
     book = os.path.join(folder, "book")
     write(book)
-    kinds = {0x20: "open", 0x08: "close", 0x10: "close", 0x80: "take its place"}
+    kinds = {0x20: "open", 0x80: "take its place"}
     libc = ctypes.CDLL(None)
     told = libc.inotify_init()
     assert libc.inotify_add_watch(told, folder.encode(), sum(kinds)) >= 0
@@ -163,13 +248,164 @@ def one_lock(folder):
         events.append((kinds[mask & 0xFF], data[at + 16 : at + 16 + length].rstrip(b"\0").decode()))
         at += 16 + length
     os.close(told)
-    read = [("open", "book"), ("close", "book")]
-    saved = [("open", "book.new"), ("close", "book.new"), ("take its place", "book")]
-    assert events == [("open", ""), *read, *saved, *saved, ("close", "")], events
+    saved = [("open", "book.new"), ("take its place", "book")]
+    assert events == [("open", ""), ("open", "book"), *saved, *saved], events
+    run = waiting_verify(book, f"{code(2)}\n")
+    assert run.stdout.readline() == "PASS 5 2\n"
+    assert is_locked(book)
+    answered(run, "", (0, "", ""))
+    assert not is_locked(book)
+
+
+def swapped(folder):
+    """A file that takes the book's path while a run waits for input is not written, and the run ends."""
+    book, other, away = (os.path.join(folder, name) for name in ["book", "other", "away"])
+
+    def move():
+        os.rename(book, away)
+
+    def link():
+        move()
+        os.symlink("other", book)
+
+    def copy():
+        move()
+        shutil.copy(away, book)
+
+    def edit():
+        with open(book, "r+") as file:
+            file.write("#ormat")
+
+    def rename_folder():
+        os.rename(folder, folder + ".old")
+        os.mkdir(folder)
+        shutil.copy(os.path.join(folder + ".old", "book"), book)
+
+    for turn in [move, link, copy, edit, rename_folder]:
+        write(book)
+        write(other)
+        os.chmod(other, 0o644)
+        run = waiting_verify(book)
+        turn()
+        before = {name: seen(os.path.join(folder, name)) for name in os.listdir(folder)}
+        answered(run, FIRST_CODE, (3, "", f"scramotp: cannot write {book}\n"))
+        after = {name: seen(os.path.join(folder, name)) for name in os.listdir(folder)}
+        assert after == before, turn.__name__
+        for path in [book, away]:
+            if os.path.lexists(path):
+                os.remove(path)
+    shutil.rmtree(folder + ".old")
+
+
+def keys_before_the_lock(folder):
+    """`enrol` makes its keys while others use the book, or make it, and adds its account to the book as it is then."""
+    book, new = os.path.join(folder, "book"), os.path.join(folder, "new")
+    write(book)
+    slow = [enrol(path, "slow", 3000000) for path in [book, new]]
+    time.sleep(0.3)
+    assert verify(book, FIRST_CODE).stdout == "PASS 5 0\n"
+    assert enrol(new, "quick", 1).wait() == 0
+    assert [run.poll() for run in slow] == [None, None]
+    assert [run.wait() for run in slow] == [0, 0]
+    with open(book, "rb") as file:
+        accounts = tomllib.load(file)["accounts"]
+    assert (sorted(accounts), accounts["user"]["token"]["next"]) == (["slow", "user"], 1)
+    with open(new, "rb") as file:
+        assert sorted(tomllib.load(file)["accounts"]) == ["quick", "slow"]
+    assert sorted(os.listdir(folder)) == ["book", "new"]
+
+
+def made_at_once(folder):
+    """Runs that make a book at the same time find what the others have added, even where some are killed."""
+    book = os.path.join(folder, "book")
+    for _ in range(40):
+        runs = [enrol(book, f"user{number}", 1) for number in range(6)]
+        for run in runs[:2]:
+            time.sleep(random.uniform(0, 0.008))
+            run.kill()
+        statuses = [run.wait() for run in runs]
+        assert statuses[2:] == [0] * 4, statuses
+        assert verify(book, "").stderr == "scramotp: no such account\n"
+        assert os.listdir(folder) == ["book"]
+        with open(book, "rb") as text:
+            names = set(tomllib.load(text)["accounts"])
+        assert names >= {f"user{number}" for number in range(6) if statuses[number] == 0}, (statuses, names)
+        os.remove(book)
+
+
+def pipes(folder):
+    """In a folder that others may write, a pipe that takes the book's place at any moment keeps no run waiting."""
+    book, pipe, file = (os.path.join(folder, name) for name in ["book", "pipe", "file"])
+    os.chmod(folder, 0o777)
+    write(file)
+    os.mkfifo(pipe)
+    os.chmod(pipe, 0o666)
+    is_over = threading.Event()
+
+    def turn():
+        while not is_over.is_set():
+            for name in [file, pipe]:
+                os.link(name, book + ".next")
+                os.rename(book + ".next", book)
+
+    turning = threading.Thread(target=turn)
+    turning.start()
+    try:
+        for _ in range(300):
+            run = subprocess.run(verify_words(book), input="", capture_output=True, text=True, timeout=20)
+            refused = (3, "", f"scramotp: cannot read {book}\n")
+            assert (run.returncode, run.stdout, run.stderr) in [(0, "", ""), refused], run
+    finally:
+        is_over.set()
+        turning.join()
+
+
+def left_by_a_killed_run(folder):
+    """The next run removes the next text that a killed run left, even where it saves nothing."""
+    book = os.path.join(folder, "book")
+    write(book)
+    write(book + ".new")
+    assert verify(book, "").returncode == 0
+    assert os.listdir(folder) == ["book"]
+    os.remove(book)
+    write(book + ".new")
+    assert enrol(book, "user", 1).wait() == 0
+    assert os.listdir(folder) == ["book"]
+
+
+def too_long(folder):
+    """A text that no command would read is not saved: here accounts take three times the bytes once written."""
+    book = os.path.join(folder, "book")
+    with open(book, "w") as file:
+        file.write(BOOK + "[accounts]\n")
+        file.writelines(f"a{number} = {{}}\n" for number in range(560000))
+    assert os.stat(book).st_size < 16777216
+    before = seen(book)
+    run = verify(book, FIRST_CODE)
+    assert (run.returncode, run.stdout, run.stderr) == (3, "", f"scramotp: cannot write {book}\n"), run
+    assert seen(book) == before
+    assert os.listdir(folder) == ["book"]
+
+
+def shown_texts(folder):
+    """No path and no word sends control characters to a terminal, or begins a line of its own."""
+    book = os.path.join(folder, "a\n\x1b[2J\x7f\u009b\u00e9")
+    shown = os.path.join(folder, "a\\x0a\\x1b[2J\\x7f\\x9b\u00e9")
+    run = verify(book, "")
+    assert (run.returncode, run.stderr) == (3, f"scramotp: cannot read {shown}\n"), run
+    write(book)
+    lock = locked(book)
+    run = verify(book, "")
+    os.close(lock)
+    assert run.stderr == f"scramotp: other runs held {shown} for 30 seconds\nscramotp: cannot read {shown}\n", run
+    for words in [["a\n\x1b[2J"], ["verify", "--\x1b[2J\n"], ["verify", "--book", "x", "\x1b[2J\nscramotp: no token"]]:
+        run = subprocess.run([PROGRAM, *words], capture_output=True, text=True)
+        assert run.returncode == 2, run
+        assert "\\x1b[2J" in run.stderr and "\x1b" not in run.stderr and "\nscramotp" not in run.stderr, run
 
 
 def full_output(folder):
-    """A code is spent before anyone is told of it."""
+    """A code is spent before its reply is printed."""
     book = os.path.join(folder, "book")
     write(book)
     with open("/dev/full", "w") as full:
@@ -179,7 +415,7 @@ def full_output(folder):
 
 
 def input_limit(folder):
-    """All lines together may have 16777216 bytes; what was printed before them stands."""
+    """All lines together may have 16777216 bytes; the replies before that are printed."""
     book = os.path.join(folder, "book")
     write(book)
     run = verify(book, "x\n" + "a" * 16777214)
@@ -189,7 +425,7 @@ def input_limit(folder):
 
 
 def each_line(folder):
-    """Each line is a code as it stands, whatever came before, and one that is refused shows in the status."""
+    """Each line is a code as it is, whatever came before it; where one is refused the status says so."""
     book = os.path.join(folder, "book")
     for text, status, printed in [
         (f"000000\n{FIRST_CODE}\n", 1, "FAIL 5\nPASS 5 0\n"),
@@ -215,7 +451,7 @@ def no_token(folder):
 
 
 def told_at_once(folder):
-    """A reply is told while the input is still open."""
+    """A reply is printed while the input is still open."""
     book = os.path.join(folder, "book")
     write(book)
     run = subprocess.Popen(verify_words(book), stdin=subprocess.PIPE, stdout=subprocess.PIPE)
@@ -247,9 +483,18 @@ TESTS = [
     twenty_at_once,
     killed_at_any_moment,
     modes,
+    access_lists,
     unwritable,
     locked_by_another,
+    locked_folder,
     one_lock,
+    swapped,
+    keys_before_the_lock,
+    made_at_once,
+    pipes,
+    left_by_a_killed_run,
+    too_long,
+    shown_texts,
     full_output,
     input_limit,
     each_line,

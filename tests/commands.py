@@ -1,5 +1,5 @@
 #!/usr/bin/env python3
-"""What the built program prints and with which status it ends, case by case, and what it writes into a book.
+"""What the built program prints, with which status it ends, and what it writes into a book, case by case.
 
 Usage: commands.py PROGRAM
 """
@@ -48,7 +48,7 @@ def check(words, text, status, printed="", fault=""):
 
 
 def check_usage(words, begin):
-    """The same where the words are faulty: `begin` is how the fault begins."""
+    """Runs the program with faulty words, and compares its status and how its fault begins, which is `begin`."""
     run = subprocess.run([PROGRAM, *words], input="pencil\n", capture_output=True, text=True)
     assert (run.returncode, run.stdout) == (2, ""), (words, run)
     assert run.stderr.startswith(begin), (words, run)
@@ -94,7 +94,7 @@ def key_lines(name, password, salt, count):
 
 
 def values_at_their_limits(folder):
-    """The longest password and salts, the least count; of the greatest count only that it is one."""
+    """The longest password and salts, and the least count; of the greatest count only that it is taken."""
     for mechanism in ["SCRAM-SHA-1", "SCRAM-SHA-256"]:
         for salt, count in [("00", 1), (LONGEST, 2)]:
             printed = key_lines(mechanism, b"a" * 1024, bytes.fromhex(salt), count)
@@ -141,11 +141,12 @@ def codes(folder):
 
 
 def bad_codes(folder):
-    """Options are judged in the order secret, digits, counter, moment, hash, t0, step, and then looked at."""
+    """Options are judged in the order secret, digits, counter, moment, hash, t0, step, and only then used."""
     for secret, words, status, fault in [
         (SECRET, "", 2, "needs --counter or --moment"),
         (SECRET, "--moment 5 --t0 10", 1, "before the first step"),
         ("313233343536373839", "--digits 9", 2, "bad value for --secret"),
+        (SECRET, "--digits 9 --counter 0", 2, "bad value for --digits"),
         (SECRET, "--digits 9 --counter x", 2, "bad value for --digits"),
         (SECRET, "--digits 5", 2, "bad value for --digits"),
         (SECRET, "--digits 06", 2, "bad value for --digits"),
@@ -165,12 +166,14 @@ def usage(folder):
     """Words that name no command or option, or not all of them."""
     for words, begin in [
         ("", "error: 'scramotp' requires a subcommand but one was not provided"),
-        ("audit", "error: unrecognized subcommand 'audit'"),
+        ("nothing", "error: unrecognized subcommand 'nothing'"),
         ("help", "error: unrecognized subcommand 'help'"),
         (
             "keys --salt 00 --count 1",
             "error: the following required arguments were not provided:\n  --mechanism <NAME>",
         ),
+        ("audit --book book", "error: the following required arguments were not provided:\n  --log <FILE>"),
+        ("audit --log log", "error: the following required arguments were not provided:\n  --book <FILE>"),
         ("keys --salt 00 --salt 01", "error: the argument '--salt <HEX>' cannot be used multiple times"),
         ("keys --rounds 1", "error: unexpected argument '--rounds' found"),
         (f"code --secret {SECRET} --counter -1", "error: unexpected argument '-1' found"),
@@ -190,6 +193,7 @@ def help_and_version(folder):
                 "  code    Prints ",
                 "  verify  Judges ",
                 "  unlock  Lets ",
+                "  audit   Judges ",
                 "Exit status:",
             ],
         ),
@@ -197,6 +201,8 @@ def help_and_version(folder):
             ["keys", "--help"],
             ["--mechanism <NAME>  SCRAM-SHA-1", "--salt <HEX> ", "--count <N> ", "Example:\n  echo pencil |"],
         ),
+        (["enrol", "--help"], ["\nPut the book into a folder that nobody else can write"]),
+        (["verify", "--help"], ["The book is locked until the input ends"]),
     ]:
         run = subprocess.run([PROGRAM, *words], capture_output=True, text=True)
         assert (run.returncode, run.stderr) == (0, ""), run
@@ -211,7 +217,7 @@ def input_limit(folder):
 
 
 def server_signature(folder):
-    """The server key signs the messages of RFC 7677's example, section 3, as the RFC prints it."""
+    """The server key makes the signature that RFC 7677, section 3, prints for its example."""
     auth_message = (
         b"n=user,r=rOprNGfwEbeRWgbNEkqO,"
         b"r=rOprNGfwEbeRWgbNEkqO%hvYDpWUa2RaTCAfuxFIlj)hNlF$k0,s=W22ZaJ0SNY7soEsUEjb6gQ==,i=4096,"
@@ -239,17 +245,24 @@ def hotp_codes(folder):
 
 
 def totp_codes(folder):
-    """Codes of RFC 6238, appendix B: one of the next step passes, and then none of the step before."""
-    book = os.path.join(folder, "book")
+    """Codes of RFC 6238, appendix B: that of the next step passes too, and none passes again or after a later one."""
+    book, moment = os.path.join(folder, "book"), "1111111109"
     write(book, USER, TOTP)
-    verify(book, "1111111109", "14050471\n07081804\n", 1, "PASS 1111111109 37037037\nFAIL 1111111109\n")
+    verify(book, moment, "14050471\n07081804\n", 1, f"PASS {moment} 37037037\nFAIL {moment}\n")
+    write(book, USER, TOTP)
+    text = "07081804\n07081804\n14050471\n07081804\n14050471\n14050471x\n"
+    printed = "PASS {0} 37037036\nFAIL {0}\nPASS {0} 37037037\nFAIL {0}\nFAIL {0}\nFAIL {0}\n"
+    verify(book, moment, text, 1, printed.format(moment))
+    kept = token(book)
+    assert (kept["last"], kept["drift"], kept["failures"]) == (37037037, 1, 3), kept
+    verify(book, moment, "14050471", 1, f"LOCKED {moment}\n")
     write(book, USER, TOTP)
     verify(book, "59", "94287082", 0, "PASS 59 1\n")
     verify(book, "59", "94287082", 1, "FAIL 59\n")
 
 
 def locked_tokens(folder):
-    """A locked token takes no code until it is unlocked, and a code that has passed never again."""
+    """A locked token takes no code until it is unlocked, and never again a code that has passed."""
     book = os.path.join(folder, "book")
     write(book, USER, hotp(0, 2))
     verify(book, "3", "000000\n111111\n755224\n", 1, "FAIL 3\nFAIL 3\nLOCKED 3\n")
@@ -283,7 +296,7 @@ def enrolling(folder):
 
 
 def short_random_files(folder):
-    """A new book takes 64 random bytes, and one that is there 32."""
+    """A new book takes 64 random bytes, and an account in a book that exists 32."""
     book, file = os.path.join(folder, "book"), os.path.join(folder, "random")
     words, fault = on(book, "enrol", "other", "--random", file), f"cannot read {file}"
     check(words, "pencil", 3, fault=fault)
@@ -298,7 +311,7 @@ def short_random_files(folder):
 
 
 def faulty_books(folder):
-    """What each command says of a book, in the order in which it looks."""
+    """The fault that each command prints for a book, in the order in which it looks."""
     book = os.path.join(folder, "book")
     check(on(book, "unlock"), "", 3, fault=f"cannot read {book}")
     for text, fault in [

@@ -28,7 +28,7 @@ failures = 0
 
 
 def run_all(tests):
-    """Runs each test in an empty folder of its own, says which fail and how many pass, and exits: 1 where one fails."""
+    """Runs each test in an empty folder of its own, prints which fail and how many pass, and exits: 1 if one fails."""
     failed = 0
     for test in tests:
         with tempfile.TemporaryDirectory() as folder:

@@ -20,7 +20,7 @@ def keys(row):
 
 
 def codes(row):
-    """The same of codes.csv: HOTP where the row has a counter, else TOTP."""
+    """The words of a row of codes.csv, HOTP where it has a counter, else TOTP, and what is to be printed."""
     words = ["code", "--secret", row["secret_hex"], "--digits", row["digits"]]
     if row["counter"]:
         words += ["--counter", row["counter"]]
@@ -30,7 +30,7 @@ def codes(row):
 
 
 def check(program, name, case):
-    """Runs each row of a table; True where all are as they should be."""
+    """Runs each row of a table, and returns whether all are as they should be."""
     with open(pathlib.Path(__file__).with_name(name), newline="", encoding="utf-8") as table:
         rows = list(csv.DictReader(table))
     failed = 0

@@ -1,0 +1,423 @@
+#!/usr/bin/env python3
+"""Tries the wrong bodies in crates/NAME/must-fail/ and crates/NAME/edits/: the contract of what each changes must refuse it.
+By default it takes the crates that have a folder edits/; rt ci tries those in must-fail/ one by one.
+
+Usage: edits.py [--jobs N] [--self-test] [CRATE..]
+
+A function is proved from its own body and the contracts of what it calls, so a wrong body fails its own function and no
+other. Edits of different functions are therefore put into one copy of their crate and judged by one check, in which the
+function of each must fail at a goal of its own: that it calls what failed does not count. An edit that is not refused so
+is tried again alone. A batch that the check cannot read, or in which a function fails that none of them changes, is tried in halves.
+
+An edit has the form that `rt help` describes, and changes only src/. The script works in a temporary folder, over the
+libraries that `rt ci` or `rt lib` left in crates/NAME/out/, or else builds them there. Whether the crates are proved as
+they are, `rt ci` says.
+Each run begins with a test of the script: an edit without a change is let through, and one whose text is gone is unusable.
+"""
+import argparse
+import os
+import re
+import shutil
+import subprocess
+import sys
+import tempfile
+import time
+from collections.abc import Iterable
+from concurrent.futures import ThreadPoolExecutor
+from dataclasses import dataclass, field
+from functools import cache
+from pathlib import Path
+
+# The libraries that each crate uses, as crates.txt lists them.
+Uses = dict[str, list[str]]
+
+ROOT = Path(__file__).resolve().parent.parent
+FOLDERS = ("must-fail", "edits")
+# What a check reads of a crate.
+PARTS = ("src", "specs", "proofs")
+# More than a check of the largest crate here takes, in bytes.
+MEMORY = 3 << 30
+
+FUNCTION = re.compile(r"( *)(?:pub(?:\([a-z ]+\))? )?(?:(?:const|unsafe) )*fn (\w+)")
+IMPL = re.compile(r"impl(?:<.*?>)? (?:.* for )?(?:\w+::)*(\w+)")
+# What a check says of a place: an error in a file, or a goal of a function that has no proof.
+ERROR = re.compile(r"(?:\./)?(src|specs|proofs)/([^\s:]+):(\d+):\d+: error: (.*)")
+GOAL = re.compile(r"note: (src)/([^\s:]+):(\d+):\d+: (it is not proved that .*)")
+# The errors of a text that cannot be read, so that it makes no statement.
+UNREAD = re.compile(
+    r"is not in scope|has no field|has no `|is no name|was not admitted|operand is missing|expected the end|cannot continue"
+)
+
+
+class Unusable(Exception):
+    """An edit that cannot be applied, and why."""
+
+
+@dataclass(frozen=True)
+class Function:
+    """A function: the path of its module, its type or nothing, its name, and its first and last line in a file of src/."""
+
+    module: tuple[str, ...]
+    of: str
+    name: str
+    file: str
+    first: int
+    last: int
+
+    def __str__(self) -> str:
+        return "::".join([*self.module, *[self.of] * bool(self.of), self.name])
+
+    def holds(self, file: str, line: int) -> bool:
+        """Returns whether the line is one of its lines."""
+        return self.file == file and self.first <= line <= self.last
+
+    def is_proved_in(self, folder: tuple[str, ...]) -> bool:
+        """Returns whether this folder below proofs/ is its own. A method's is at the module of its type, which may be another
+        than its own; the name of a trait follows the type's in one word."""
+        if self.of:
+            return len(folder) > 1 and folder[-1] == self.name and folder[-2].startswith(self.of)
+        return folder == (*self.module, self.name)
+
+
+@dataclass
+class Edit:
+    """A wrong body: the lines that it writes, by file and number, and the functions from its first line to its last."""
+
+    name: str
+    lines: dict[tuple[str, int], str]
+    owners: set[Function]
+    is_inside: bool
+
+
+@dataclass
+class Report:
+    """What a check said: whether all is proved, whether it came to judge the functions, the goals refused, the first error."""
+
+    is_proved: bool
+    is_judged: bool
+    goals: dict[Function | None, list[str]] = field(default_factory=dict)
+    error: str = ""
+
+
+@dataclass
+class Outcome:
+    """How the trial of an edit ended."""
+
+    is_refused: bool
+    text: str
+
+
+def functions_of(crate: Path) -> list[Function]:
+    """Finds a crate's functions by the layout of `rt fmt`, in which a body ends with a brace below its first letter."""
+    found = []
+    for path in sorted((crate / "src").rglob("*.rt")):
+        file, of = path.relative_to(crate / "src").as_posix(), ""
+        module = () if file in ("lib.rt", "main.rt") else tuple(file.removesuffix(".rt").split("/"))
+        lines = path.read_text(encoding="utf-8").split("\n")
+        for at, line in enumerate(lines):
+            if line[:1].isalpha():
+                of = it[1] if (it := IMPL.match(line)) else ""
+            if it := FUNCTION.match(line):
+                found.append(Function(module, of, it[2], file, first_line(lines, at, it[1]), last_line(lines, at, it[1])))
+    return found
+
+
+def first_line(lines: list[str], at: int, indent: str) -> int:
+    """Returns the number of the first line of the function whose `fn` is at index `at`, with its attributes, after this indent."""
+    while at > 0 and lines[at - 1].startswith(indent + "#["):
+        at -= 1
+    return at + 1
+
+
+def last_line(lines: list[str], at: int, indent: str) -> int:
+    """Returns the number of the last line of the function that begins at index `at`, after this indent."""
+    if lines[at].endswith((";", "}")):
+        return at + 1
+    for below in range(at + 1, len(lines)):
+        if lines[below] == indent + "}":
+            return below + 1
+        if FUNCTION.match(lines[below]) or lines[below] and not lines[below].startswith(indent):
+            return below
+    return len(lines)
+
+
+def read_edit(path: Path, crate: Path, functions: list[Function]) -> Edit:
+    """Reads an edit and applies it to the crate's sources, or raises Unusable."""
+    file, old = "", ""
+    texts: dict[str, str] = {}
+    places: set[tuple[str, int]] = set()
+    for line in path.read_text(encoding="utf-8").split("\n"):
+        if line.startswith("file: "):
+            file = line.removeprefix("file: ").strip().removeprefix("src/")
+            source = crate / "src" / file
+            if not source.is_file() or not line.startswith("file: src/"):
+                raise Unusable(f"there is no source src/{file}")
+            texts.setdefault(file, source.read_text(encoding="utf-8"))
+        elif line.startswith("old: "):
+            old = line.removeprefix("old: ")
+        elif line.startswith("new:"):
+            if not file or not old:
+                raise Unusable("a line 'new:' has no 'file:' or no 'old:' above it")
+            before, *others = texts[file].split(old)
+            if len(others) != 1:
+                raise Unusable(f"an 'old:' text is in src/{file} {len(others)} times, and not once")
+            places.add((file, before.count("\n") + 1))
+            texts[file] = before + line.removeprefix("new:").removeprefix(" ") + others[0]
+            old = ""
+    if not places:
+        raise Unusable("it has no pair of 'old:' and 'new:'")
+    # no text has the end of a line in it, so lines keep their numbers
+    lines = {(file, at): texts[file].split("\n")[at - 1] for file, at in places}
+    owners = {it for it in functions for place in between(places) if it.holds(*place)}
+    return Edit(path.stem, lines, owners, all(any(it.holds(*place) for it in functions) for place in places))
+
+
+def between(places: set[tuple[str, int]]) -> Iterable[tuple[str, int]]:
+    """Returns each line from a file's first place to its last."""
+    for file in {file for file, _ in places}:
+        lines = [at for it, at in places if it == file]
+        yield from ((file, at) for at in range(min(lines), max(lines) + 1))
+
+
+def batches_of(edits: Iterable[Edit]) -> list[list[Edit]]:
+    """Puts edits of different functions together, into as few batches as one function has edits."""
+    batches: list[list[Edit]] = []
+    for edit in edits:
+        free = (batch for batch in batches if not any(edit.owners & it.owners for it in batch))
+        batch = next(free, None)
+        if batch is None:
+            batches.append([edit])
+        else:
+            batch.append(edit)
+    return batches
+
+
+class Room:
+    """A copy of one crate that is edited and checked, on top of what its earlier checks proved."""
+
+    def __init__(self, crate: str, uses: Uses, base: Path, at: Path) -> None:
+        self.crate, self.source, self.folder = crate, ROOT / "crates" / crate, at
+        self.functions = functions_of(self.source)
+        for part in PARTS:
+            if (self.source / part).is_dir():
+                shutil.copytree(self.source / part, at / part)
+        root = next(it for it in ("src/lib.rt", "src/main.rt") if (at / it).is_file())
+        self.words = [f"{kit()}/bin/rattle", "check", "--crate-name", crate, root, "--jobs", "1", "--incremental", "kept"]
+        self.words += ["--antt-project", f"{kit()}/rattle/logic/antt-project.json", "--logic-built", f"{kit()}/logic_built"]
+        for it in ["std", *uses[crate]]:
+            self.words += ["--extern", f"{it}={rlib_of(base, it) if it in uses else f'{kit()}/rlibs/{it}.rlib'}"]
+        for folder in [*[rlib_of(base, it).parent for it in below(crate, uses)], f"{kit()}/rlibs"]:
+            self.words += ["-L", f"dependency={folder}"]
+
+    def check(self, edits: list[Edit]) -> Report:
+        """Checks the crate with these edits, which change different lines, and no others."""
+        lines = {place: text for edit in edits for place, text in edit.lines.items()}
+        for path in (self.source / "src").rglob("*.rt"):
+            file = path.relative_to(self.source / "src").as_posix()
+            text = path.read_text(encoding="utf-8").split("\n")
+            text = [lines.get((file, at), line) for at, line in enumerate(text, 1)]
+            (self.folder / "src" / file).write_text("\n".join(text), encoding="utf-8")
+        return self.report(run(self.words, self.folder))
+
+    def report(self, ran: subprocess.CompletedProcess[str]) -> Report:
+        """Reads what a check said."""
+        said = ran.stdout.rstrip("\n").split("\n")
+        report = Report(ran.returncode == 0, ran.returncode in (0, 1) and any(it.startswith("logic=") for it in said))
+        for line in said:
+            it = GOAL.match(line) or ERROR.match(line)
+            if not it:
+                continue
+            report.error = report.error or line
+            if GOAL.match(line) or it[4].startswith("`") and not UNREAD.search(re.sub(r"`[^`]*`", "", it[4])):
+                report.goals.setdefault(self.owner(it[1], it[2], int(it[3])), []).append(goal_in(it[4]))
+            elif it[1] != "proofs":
+                report.is_judged = False
+        report.error = report.error or said[-1]
+        return report
+
+    def owner(self, part: str, file: str, line: int) -> Function | None:
+        """Returns the function to which a line of src/ or a file of proofs/ belongs, or None."""
+        folder = tuple(file.split("/")[:-1])
+        is_own = lambda it: it.holds(file, line) if part == "src" else part == "proofs" and it.is_proved_in(folder)
+        return max(filter(is_own, self.functions), key=lambda it: len(it.of), default=None)
+
+
+def goal_in(text: str) -> str:
+    """Returns the name of the goal in what a check says of it."""
+    it = re.search(r"\(`([^`]*)`\)", text) or re.match(r"`([^`]*)`", text)
+    return it[1] if it else text[:60]
+
+
+def try_together(room: Room, batch: list[Edit]) -> dict[str, Outcome]:
+    """Returns the outcomes of those edits that one check of them all refuses, each at a goal of its own function."""
+    report = room.check(batch)
+    strangers = [it for it in report.goals if not any(it in edit.owners for edit in batch)]
+    if not report.is_judged or strangers:
+        why = f"{strangers[0] or 'a shared proof'} fails too" if strangers else report.error
+        print(f"{room.crate}: {len(batch)} edits are tried in halves: {why[:200]}", file=sys.stderr, flush=True)
+        half = len(batch) // 2
+        return try_together(room, batch[:half]) | try_together(room, batch[half:]) if half else {}
+    return {it.name: refused(it, report) for it in batch if it.owners & report.goals.keys()}
+
+
+def try_alone(room: Room, edit: Edit) -> Outcome:
+    """Returns the outcome of one edit, which any goal may refuse, since nothing else is changed."""
+    report = room.check([edit])
+    names = ", ".join(sorted(map(str, edit.owners))) or "no function"
+    if report.is_proved:
+        return Outcome(False, f"{names}: LET THROUGH")
+    if not report.is_judged or not report.goals:
+        return Outcome(False, f"{names}: NOT JUDGED: {report.error[:200]}")
+    return refused(edit, report)
+
+
+def refused(edit: Edit, report: Report) -> Outcome:
+    """Returns the outcome of an edit that was refused, by its own function where that is among those that fail."""
+    owner = next((it for it in report.goals if it in edit.owners), next(iter(report.goals)))
+    return Outcome(True, f"{owner or 'outside its functions'}: refused at {', '.join(dict.fromkeys(report.goals[owner]))}")
+
+
+def try_crate(room: Room, is_first: bool, is_whole: bool) -> tuple[int, int]:
+    """Tries the edits of a crate, and returns how many were refused and how many not; the first begins with the script's test."""
+    began, edits, tried = time.monotonic(), [], set()
+    counts = [0, 0]
+
+    def tell(outcomes: dict[str, Outcome]) -> None:
+        for name, it in outcomes.items():
+            print(f"{room.crate}/{name}: {it.text}", flush=True)
+            counts[not it.is_refused] += 1
+            tried.add(name)
+
+    for path in edits_of(room.source):
+        try:
+            edits.append(read_edit(path, room.source, room.functions))
+        except Unusable as fault:
+            tell({path.stem: Outcome(False, f"DOES NOT APPLY: {fault}")})
+    if is_first:
+        self_test(room, edits)
+    batches = batches_of(it for it in edits if it.is_inside) if is_whole else []
+    for batch in batches:
+        tell(try_together(room, batch))
+    alone = [it for it in edits if is_whole and it.name not in tried]
+    for it in alone:
+        tell({it.name: try_alone(room, it)})
+    said = f"{room.crate}: {len(edits)} edits, {len(batches)} batches, {len(alone)} alone, {time.monotonic() - began:.0f} s"
+    print(said, file=sys.stderr, flush=True)
+    return counts[0], counts[1]
+
+
+def self_test(room: Room, edits: list[Edit]) -> None:
+    """Ends the run unless an edit without a change is let through, and one whose text is gone is unusable."""
+    wrong = next(it for it in edits if it.is_inside)
+    other = next(it for it in room.functions if it not in wrong.owners)
+    nothing = Edit("nothing", {}, {other}, True)
+    together, alone = try_together(room, [wrong, nothing]), try_alone(room, nothing)
+    if [*together] != [wrong.name] or alone != Outcome(False, f"{other}: LET THROUGH"):
+        sys.exit(f"edits.py: its own test fails with {wrong.name} in {room.crate}: {together}, {alone}")
+    gone = room.folder / "gone.edit"
+    gone.write_text(f"file: src/{other.file}\nold: a text that no file has\nnew: another\n", encoding="utf-8")
+    try:
+        read_edit(gone, room.source, room.functions)
+    except Unusable:
+        return
+    sys.exit("edits.py: its own test fails: an edit applies whose text is gone")
+
+
+def edits_of(crate: Path) -> list[Path]:
+    """Returns the files of a crate's edits."""
+    return [it for folder in FOLDERS for it in sorted((crate / folder).glob("*.edit"))]
+
+
+def read_uses() -> Uses:
+    """Reads crates.txt: the libraries that each crate uses."""
+    rows = [it.partition("#")[0].partition(":") for it in (ROOT / "crates.txt").read_text(encoding="utf-8").split("\n")]
+    return {left.split()[0]: right.split() for left, colon, right in rows if colon}
+
+
+def below(crate: str, uses: Uses) -> list[str]:
+    """Returns the repository's libraries that a crate uses, directly or not, each after those that it uses itself."""
+    lower = [it for it in uses[crate] if it in uses]
+    return list(dict.fromkeys(it for low in lower for it in [*below(low, uses), low]))
+
+
+def rlib_of(root: Path, name: str) -> Path:
+    """Returns where a library is when it is built."""
+    return root / "crates" / name / "out/rlib" / f"{name}.rlib"
+
+
+def build(base: Path, names: list[str], uses: Uses) -> None:
+    """Copies the sources of all crates, and these libraries where they are newer than their sources, or else builds them."""
+    for path in [ROOT / "crates.txt", ROOT / "HANDLES", *ROOT.glob("crates/*/*")]:
+        to = base / path.relative_to(ROOT)
+        to.parent.mkdir(parents=True, exist_ok=True)
+        if path.name in PARTS:
+            shutil.copytree(path, to)
+        elif path.parent == ROOT:
+            shutil.copyfile(path, to)
+    for name in names:
+        made = rlib_of(ROOT, name) / "format"
+        crates = [ROOT / "crates" / it for it in [*below(name, uses), name]]
+        sources = (it for crate in crates for part in PARTS for it in (crate / part).rglob("*") if it.is_file())
+        if made.is_file() and made.stat().st_mtime > max(it.stat().st_mtime for it in sources):
+            shutil.copytree(made.parent, rlib_of(base, name), copy_function=linked)
+    for name in names:
+        if not rlib_of(base, name).is_dir():
+            print(f"{name} is built first", file=sys.stderr, flush=True)
+            ran = run(["rt", "lib"], base / "crates" / name)
+            if ran.returncode:
+                sys.exit(f"edits.py: {name} is not proved:\n{ran.stdout[-2000:]}")
+
+
+def linked(source: str, to: str) -> None:
+    """Gives a file a second name, or copies it to another file system. No run writes into a file of a built library."""
+    try:
+        os.link(source, to)
+    except OSError:
+        shutil.copyfile(source, to)
+
+
+@cache
+def kit() -> Path:
+    """Returns the folder of the Rattle kit."""
+    return Path(run(["rt", "doc"], ROOT).stdout.strip()).parent
+
+
+def run(words: list[str], folder: Path) -> subprocess.CompletedProcess[str]:
+    """Runs a command without input and returns all that it said."""
+    ways = {"stdin": subprocess.DEVNULL, "stdout": subprocess.PIPE, "stderr": subprocess.STDOUT}
+    return subprocess.run(words, cwd=folder, text=True, **ways)
+
+
+def default_jobs() -> int:
+    """Returns how many checks run side by side: one for each core, as far as memory allows."""
+    with open("/proc/meminfo", encoding="ascii") as it:
+        free = next(int(line.split()[1]) * 1024 for line in it if line.startswith("MemAvailable:"))
+    return max(1, min(len(os.sched_getaffinity(0)), free // MEMORY))
+
+
+def main() -> int:
+    """Tries the edits, prints a line for each, and returns the exit status."""
+    parser = argparse.ArgumentParser(description="Tries the wrong bodies of each crate's must-fail/ and edits/.")
+    parser.add_argument("--jobs", type=int, default=default_jobs(), metavar="N", help="checks side by side (%(default)s)")
+    parser.add_argument("--self-test", action="store_true", help="only the test of this script, in the smallest crate")
+    parser.add_argument("crates", nargs="*", metavar="CRATE", help="the edits of these crates (those of each that has a folder edits/)")
+    options = parser.parse_args()
+    uses = read_uses()
+    listed = options.crates or [it for it in uses if (ROOT / "crates" / it / "edits").is_dir()]
+    edits = {it: len(edits_of(ROOT / "crates" / it)) for it in listed}
+    functions = {it: len(functions_of(ROOT / "crates" / it)) for it in edits if edits[it]}
+    first = min(functions, key=lambda it: (len(below(it, uses)), functions[it]))
+    # the longest work begins first: a check of a crate that stands on many others takes the longest
+    names = [first] if options.self_test else sorted(functions, key=lambda it: (-len(below(it, uses)), -functions[it] * edits[it]))
+    with tempfile.TemporaryDirectory(prefix="edits-") as temp, ThreadPoolExecutor(options.jobs) as pool:
+        base = Path(temp) / "base"
+        build(base, list(dict.fromkeys(low for it in names for low in below(it, uses))), uses)
+        rooms = [Room(it, uses, base, Path(temp) / it) for it in names]
+        tried = [pool.submit(try_crate, it, it.crate == first, not options.self_test) for it in rooms]
+        refusals, failures = (sum(it) for it in zip(*[it.result() for it in tried]))
+    print("the script's own test passed" if options.self_test else f"{refusals} refused, {failures} let through")
+    return 1 if failures else 0
+
+
+if __name__ == "__main__":
+    sys.exit(main())

@@ -1,0 +1,481 @@
+#!/usr/bin/env python3
+"""Runs each block of docs/OPERATING.md as it stands there, and looks at what it leaves and prints.
+
+Usage: recipes.py PROGRAM [OPERATING]
+
+Blocks are taken by their section and their language. Each is run by bash in a folder of its own that has an account book,
+with the program on the PATH; a block of TOML goes into a book, and of a unit of systemd the command and the credentials
+are used. Codes, keys and verifiers are those of RFC 4226 and RFC 7677, of keys.csv (made by Dovecot and GNU SASL), or of
+Python's hashlib. A block that no test runs is a fault. Takes the 30 seconds for which an edit waits for a book.
+"""
+import base64
+import csv
+import fcntl
+import hashlib
+import hmac
+import os
+import re
+import shlex
+import subprocess
+import sys
+import time
+import tomllib
+from concurrent.futures import ThreadPoolExecutor
+from pathlib import Path
+
+import suite
+from suite import SECRET, USER, hotp
+
+PROGRAM = os.path.abspath(sys.argv[1])
+HERE = Path(__file__).resolve().parent
+DOCUMENT = Path(sys.argv[2]) if len(sys.argv) > 2 else HERE.parent / "docs" / "OPERATING.md"
+NAME = "user@example.org"
+# RFC 4226, appendix D
+CODES = ["755224", "287082", "359152", "969429", "338314", "254676"]
+
+# The blocks that a test has used.
+used = set()
+
+
+def all_blocks():
+    """Each block of the document: its section's title, its language and its text."""
+    sections = re.split(r"^## (.*)\n", DOCUMENT.read_text(encoding="utf-8"), flags=re.M)
+    for title, text in zip(sections[1::2], sections[2::2]):
+        for language, block in re.findall(r"^```(\w*)\n(.*?)^```$", text, re.M | re.S):
+            yield title, language, block
+
+
+def blocks(title, language="sh"):
+    """The blocks of a language in the section of this title."""
+    found = [block for block in all_blocks() if block[:2] == (title, language)]
+    used.update(found)
+    return [block for _, _, block in found]
+
+
+def environment(folder, **more):
+    commands = Path(folder, "bin")
+    commands.mkdir(exist_ok=True)
+    if not os.path.lexists(commands / "scramotp"):
+        os.symlink(PROGRAM, commands / "scramotp")
+    return {**os.environ, "PATH": f"{commands}:{os.environ['PATH']}", **more}
+
+
+def start(folder, block, **more):
+    streams = dict.fromkeys(["stdin", "stdout", "stderr"], subprocess.PIPE)
+    return subprocess.Popen(["bash", "-c", block], cwd=folder, env=environment(folder, **more), text=True, **streams)
+
+
+def ran(folder, block, text="", **more):
+    """The status, the output and the faults of a block, run by bash."""
+    run = start(folder, block, **more)
+    output, faults = run.communicate(text, timeout=60)
+    return run.returncode, output, faults
+
+
+def does(folder, block, text="", printed="", **more):
+    """Runs a block that is to succeed and to print this."""
+    found = ran(folder, block, text, **more)
+    assert found == (0, printed, ""), (block, found)
+
+
+def book_of(folder):
+    with open(Path(folder, "book.toml"), "rb") as file:
+        return tomllib.load(file)
+
+
+def with_tools(folder, text):
+    """A folder with the two scripts that other recipes use, and a book with this text."""
+    for block in blocks("Edit a book"):
+        does(folder, block)
+    book = Path(folder, "book.toml")
+    book.write_text(text)
+    book.chmod(0o600)
+    return book
+
+
+def enrolled(folder):
+    """A folder with the scripts, and a book with two accounts that have passwords."""
+    with_tools(folder, "").unlink()
+    for name in [NAME, "other"]:
+        enrol = f"scramotp enrol --book book.toml --name {name}"
+        does(folder, enrol, "pencil\n", f"enrolled {name}\n")
+
+
+def totp(secret, moment):
+    """RFC 6238: six digits, SHA-1, steps of 30 seconds from 0."""
+    return code(secret, moment // 30)
+
+
+def code(secret, counter):
+    tag = hmac.digest(secret, counter.to_bytes(8, "big"), "sha1")
+    at = tag[19] & 15
+    return f"{(int.from_bytes(tag[at:at + 4], 'big') & 0x7FFFFFFF) % 10**6:06}"
+
+
+def keys_of(mechanism, password, salt, count):
+    """The stored key and the server key (RFC 5802, section 3), in hexadecimal."""
+    salted = hashlib.pbkdf2_hmac(mechanism, password, salt, count)
+    stored = hashlib.new(mechanism, hmac.digest(salted, b"Client Key", mechanism))
+    return stored.hexdigest(), hmac.digest(salted, b"Server Key", mechanism).hex()
+
+
+def verify(name, *codes, moment=5):
+    return f"printf '%s\\n' {' '.join(codes)} | scramotp verify --book book.toml --name {name} --moment {moment}"
+
+
+def until(is_so):
+    for _ in range(1000):
+        if is_so():
+            return
+        time.sleep(0.01)
+    raise AssertionError("it does not come to be so")
+
+
+def is_locked(path):
+    with open(path, "rb") as file:
+        try:
+            fcntl.flock(file, fcntl.LOCK_EX | fcntl.LOCK_NB)
+        except BlockingIOError:
+            return True
+    return False
+
+
+def an_editor_and_a_command(folder):
+    """An edit by an editor, and one by a command. The file keeps its owner, and nobody else can read it."""
+    book = with_tools(folder, USER)
+    if os.geteuid() == 0:
+        os.chown(book, 1234, 2345)
+    before = book.stat()
+    editor = Path(folder, "editor")
+    editor.write_text('#!/bin/sh\nprintf \'\\n[accounts."a@b"]\\n\' >>"$1"\n')
+    editor.chmod(0o755)
+    does(folder, "./edit-book book.toml", EDITOR=str(editor))
+    does(folder, "./edit-book book.toml sed s/4096/4097/")
+    assert book_of(folder)["decoy_count"] == 4097
+    assert set(book_of(folder)["accounts"]) == {"user", "a@b"}
+    after = book.stat()
+    assert (after.st_uid, after.st_gid, after.st_mode) == (before.st_uid, before.st_gid, before.st_mode)
+    assert {path.name for path in Path(folder).iterdir()} == {"bin", "book.toml", "drop-tables", "edit-book", "editor"}
+
+
+def an_edit_that_fails(folder):
+    """A text that is no book, and a command that fails, leave the book as it was."""
+    book = with_tools(folder, USER)
+    real = os.path.realpath(book)
+    status, output, faults = ran(folder, "./edit-book book.toml sed s/format/former/")
+    found = re.fullmatch(rf"scramotp: bad book: 61\nedit-book: {real} is as it was; look into (.*)\n", faults)
+    assert (status, output) == (1, "") and found, faults
+    assert Path(found[1]).read_text() == USER.replace("format", "former")
+    os.remove(found[1])
+    found = ran(folder, "./edit-book book.toml false")
+    assert found == (1, "", f"edit-book: {real} is as it was, since false failed\n"), found
+    assert book.read_text() == USER
+    assert len(os.listdir(folder)) == 4
+
+
+def an_edit_waits(folder):
+    """An edit that waits for a run works on the file that the run has put in the book's place."""
+    book = with_tools(folder, USER + hotp(look_ahead=3, limit=3))
+    run = start(folder, "exec scramotp verify --book book.toml --name user --moment 5")
+    until(lambda: is_locked(book))
+    edit = start(folder, "./edit-book book.toml sed s/4096/4097/")
+    time.sleep(0.5)
+    assert edit.poll() is None
+    assert run.communicate(CODES[0] + "\n") == ("PASS 5 0\n", "")
+    assert edit.communicate() == ("", "") and edit.returncode == 0
+    found = book_of(folder)
+    assert (found["decoy_count"], found["accounts"]["user"]["token"]["next"]) == (4097, 1), found
+
+
+def a_run_waits(folder):
+    """A run that waits for an edit works on the file that the edit has put in the book's place."""
+    book = with_tools(folder, USER + hotp(look_ahead=3, limit=3))
+    slow = start(folder, "./edit-book book.toml sh -c 'sed s/4096/4097/; sleep 1'")
+    until(lambda: is_locked(book))
+    does(folder, verify("user", CODES[0]), printed="PASS 5 0\n")
+    assert slow.communicate() == ("", "") and slow.returncode == 0
+    found = book_of(folder)
+    assert (found["decoy_count"], found["accounts"]["user"]["token"]["next"]) == (4097, 1), found
+
+
+def many_at_once(folder):
+    """Of edits and runs at the same time none loses what another has changed."""
+    with_tools(folder, USER + hotp(look_ahead=9, limit=99))
+    edits = [f"./edit-book book.toml sh -c 'cat; echo \"[accounts.a{number}]\"'" for number in range(20)]
+    enrols = [f"scramotp enrol --book book.toml --name b{number} --count 1" for number in range(20)]
+    with ThreadPoolExecutor(40) as pool:
+        found = list(pool.map(lambda block: ran(folder, block, "pencil\n"), [*edits, *enrols, verify("user", *CODES)]))
+    assert [status for status, _, _ in found] == [0] * 41, found
+    accounts = book_of(folder)["accounts"]
+    assert set(accounts) == {"user", *(f"{kind}{number}" for kind in "ab" for number in range(20))}, sorted(accounts)
+    assert accounts["user"]["token"]["next"] == 6
+
+
+def an_edit_gives_up(folder):
+    """An edit waits for 30 seconds, and then leaves the book alone."""
+    book = with_tools(folder, USER)
+    with open(book, "rb") as file:
+        fcntl.flock(file, fcntl.LOCK_EX)
+        found = ran(folder, "./edit-book book.toml sed s/4096/4097/")
+    assert found == (1, "", f"edit-book: {os.path.realpath(book)} is in use\n"), found
+    assert book.read_text() == USER
+
+
+def a_token(folder):
+    """The token that is set takes the codes of the secret that is printed, and is taken out again."""
+    enrolled(folder)
+    set_token, drop_token = blocks("Set a token")
+    status, output, faults = ran(folder, set_token)
+    assert (status, faults) == (0, ""), faults
+    secret = base64.b32decode(output.strip())
+    assert len(secret) == 20
+    assert not Path(folder, "token.toml").exists()
+    moment = 1234567890
+    does(folder, verify(NAME, totp(secret, moment), moment=moment), printed=f"PASS {moment} {moment // 30}\n")
+    assert ran(folder, verify("other", "000000"))[2] == "scramotp: no token\n"
+    twice = ran(folder, set_token)
+    assert twice[1] == "" and twice[2].startswith("scramotp: bad book: 60\n"), twice
+    before = book_of(folder)
+    does(folder, drop_token)
+    del before["accounts"][NAME]["token"]
+    assert book_of(folder) == before
+    assert ran(folder, verify(NAME, "000000"))[2] == "scramotp: no token\n"
+    status, output, faults = ran(folder, set_token)
+    assert (status, faults) == (0, "") and base64.b32decode(output.strip()) != secret, faults
+
+
+def a_hotp_token(folder):
+    """The HOTP token in the document has RFC 4226's secret: it takes that RFC's codes, and skips as many as it says."""
+    enrolled(folder)
+    [token] = blocks("Set a token", "toml")
+    Path(folder, "token.toml").write_text(token)
+    does(folder, "./edit-book book.toml cat - token.toml")
+    does(folder, verify(NAME, CODES[0], CODES[1]), printed="PASS 5 0\nPASS 5 1\n")
+    skipped = 2 + tomllib.loads(token)["accounts"][NAME]["token"]["look_ahead"]
+    does(folder, verify(NAME, code(bytes.fromhex(SECRET), skipped)), printed=f"PASS 5 {skipped}\n")
+
+
+def a_password(folder):
+    """New keys take the place of the old ones, by the new password; all else stays."""
+    enrolled(folder)
+    Path(folder, "token.toml").write_text(blocks("Set a token", "toml")[0])
+    does(folder, "./edit-book book.toml cat - token.toml")
+    before = book_of(folder)
+    [change] = blocks("Change a password")
+    does(folder, change, "another one\n", f"enrolled {NAME}\n")
+    after = book_of(folder)
+    for table, mechanism in [("sha1", "sha1"), ("sha256", "sha256")]:
+        old, new = before["accounts"][NAME].pop(table), after["accounts"][NAME].pop(table)
+        assert old["salt"] != new["salt"]
+        want = keys_of(mechanism, b"another one", bytes.fromhex(new["salt"]), new["count"])
+        assert (new["stored"], new["server"]) == want
+    assert after == before
+    assert not list(Path(folder).glob("*fresh*")) + list(Path(folder).glob("keys*"))
+    does(folder, verify(NAME, CODES[0]), printed="PASS 5 0\n")
+
+
+def a_removed_account(folder):
+    """The account goes with all its tables, with a token or without, and no other does."""
+    enrolled(folder)
+    [remove] = blocks("Remove an account")
+    Path(folder, "token.toml").write_text(blocks("Set a token", "toml")[0])
+    does(folder, "./edit-book book.toml cat - token.toml")
+    before = book_of(folder)
+    does(folder, verify(NAME, CODES[0]), printed="PASS 5 0\n")
+    does(folder, remove)
+    del before["accounts"][NAME]
+    assert book_of(folder) == before
+    does(folder, f"scramotp enrol --book book.toml --name {NAME}", "pencil\n", f"enrolled {NAME}\n")
+    does(folder, remove)
+    assert book_of(folder) == before
+    assert ran(folder, remove)[0] == 1
+    assert book_of(folder) == before
+
+
+def decoys(folder):
+    """Accounts that are as decoys are not told, others are."""
+    enrolled(folder)
+    [tell] = blocks("Keep decoys and accounts alike")
+    does(folder, tell)
+    does(folder, "scramotp enrol --book book.toml --name slow --count 5000", "pencil\n", "enrolled slow\n")
+    keys = f'\n[accounts.old.sha1]\ncount = 4096\nsalt = "00"\nserver = "{"00" * 20}"\nstored = "{"00" * 20}"\n'
+    Path(folder, "keys.toml").write_text(keys)
+    does(folder, "./edit-book book.toml cat - keys.toml")
+    status, output, faults = ran(folder, tell)
+    count = "has the count 5000, decoys have 4096"
+    want = {f"slow: sha1 {count}", f"slow: sha256 {count}", "old: sha1 has a salt of 1 bytes, decoys have 16"}
+    assert (status, set(output.splitlines()), faults) == (0, want, ""), output
+
+
+def texts(mechanism, count, salt, stored, server):
+    """The verifiers of PostgreSQL and of Dovecot."""
+    salt, stored, server = (base64.b64encode(bytes.fromhex(text)).decode() for text in (salt, stored, server))
+    return f"{mechanism}${count}:{salt}${stored}:{server}", f"{{{mechanism}}}{count},{salt},{stored},{server}"
+
+
+def verifiers_of_others(folder):
+    """Verifiers that Dovecot and GNU SASL made come into a book as they are."""
+    with open(HERE / "keys.csv", newline="", encoding="ascii") as table:
+        rows = [row for row in csv.DictReader(table) if "doveadm" in row["source"]][::6]
+    script, into, _ = blocks("Keys from PostgreSQL and Dovecot")
+    assert {row["mechanism"] for row in rows} == {"SCRAM-SHA-1", "SCRAM-SHA-256"}, rows
+    for number, row in enumerate(rows):
+        of_row = Path(folder, str(number))
+        of_row.mkdir()
+        with_tools(of_row, USER)
+        does(of_row, script)
+        fields = [row[name] for name in ["mechanism", "count", "salt_hex", "stored_hex", "server_hex"]]
+        does(of_row, into, texts(*fields)[1] + "\n")
+        table = {"SCRAM-SHA-1": "sha1", "SCRAM-SHA-256": "sha256"}[row["mechanism"]]
+        keys = {"count": int(row["count"]), "salt": row["salt_hex"], "stored": row["stored_hex"], "server": row["server_hex"]}
+        assert book_of(of_row)["accounts"][NAME] == {table: keys}
+        assert not Path(of_row, "keys.toml").exists()
+
+
+def a_verifier_there_and_back(folder):
+    """The verifier of RFC 7677's user comes in as PostgreSQL's, and goes out as both. The account logs in as that user does."""
+    with_tools(folder, USER.replace("user", "other"))
+    salt = base64.b64decode("W22ZaJ0SNY7soEsUEjb6gQ==").hex()
+    both = texts("SCRAM-SHA-256", 4096, salt, *keys_of("sha256", b"pencil", bytes.fromhex(salt), 4096))
+    script, into, out = blocks("Keys from PostgreSQL and Dovecot")
+    does(folder, script)
+    does(folder, into, both[0] + "\n")
+    does(folder, out, printed="\n".join(both) + "\n")
+    does(folder, into.replace(NAME, "user"), both[0] + "\n")
+    clean = "clean sessions=1 accepted=1 codes=0\n"
+    log = HERE / "data" / "audits" / "sha256.log"
+    does(folder, f"scramotp audit --book book.toml --log {log}", printed=clean)
+    name = "q\"\\'@ x"
+    does(folder, f"./from-verifier {shlex.quote(name)} >keys.toml && ./edit-book book.toml cat - keys.toml", both[1] + "\n")
+    assert book_of(folder)["accounts"][name] == book_of(folder)["accounts"]["user"]
+    before = book_of(folder)
+    for text in ["", "md5c0ffee", both[0].replace("256", "512"), both[0].replace("==", "=")]:
+        assert "Error" in ran(folder, into.replace(NAME, "new"), text + "\n")[2], text
+        assert book_of(folder) == before
+
+
+def a_code_in_a_script(folder):
+    """Only a code that passes lets in. A blank line is not asked for, and counts nowhere."""
+    token = hotp(look_ahead=0, limit=2)
+    with_tools(folder, USER + token + token.replace("user", "-x") + "\n[accounts.bare]\n")
+    [script] = blocks("Ask for a code in a script")
+    does(folder, script)
+
+    def lets_in(text, name="user", book="book.toml"):
+        return ran(folder, f"./check-code {book} {name}", text)[0]
+
+    for text in ["", "\n", "\r\n", " \n"]:
+        assert lets_in(text) == 1, text
+    token = book_of(folder)["accounts"]["user"]["token"]
+    assert (token["next"], token["failures"]) == (0, 0)
+    for text, status in [(CODES[0] + "\r\n", 0), (CODES[1][:3] + " " + CODES[1][3:], 0), (CODES[1], 1), (CODES[2], 0)]:
+        assert lets_in(text) == status, text
+    assert lets_in(f"000000\n{CODES[3]}\n") == 1
+    assert lets_in("PASS 1 1\n") == 1
+    assert lets_in(CODES[3]) == 1
+    does(folder, "scramotp unlock --book book.toml --name user", printed="unlocked user\n")
+    assert [lets_in(CODES[3]), lets_in(CODES[0], "-x"), lets_in(CODES[0], "-x")] == [0, 0, 1]
+    assert [lets_in(CODES[4], "bare"), lets_in(CODES[4], "nobody"), lets_in(CODES[4], book="none")] == [1, 1, 1]
+    silent = Path(folder, "silent", "scramotp")
+    silent.parent.mkdir()
+    silent.write_text("#!/bin/sh\n")
+    silent.chmod(0o755)
+    assert ran(folder, 'PATH="$PWD/silent:$PATH" ./check-code book.toml user', CODES[4])[0] == 1
+
+
+def spelled(text):
+    """The bytes that a cell of book_faults.csv spells."""
+    return text.encode("latin-1").decode("unicode_escape").encode("latin-1")
+
+
+def faulty(row):
+    """The book of a row of book_faults.csv."""
+    book = (HERE / "book_faults" / row["base"]).with_suffix(".toml").read_bytes()
+    for old, new in [(row["old"], row["new"]), (row["old2"], row["new2"])]:
+        book = book.replace(spelled(old), spelled(new), 1) if old else book
+    return book
+
+
+def keys_at_fault(folder):
+    """Something is told of each book that is refused with 62, and nothing of a book that is read."""
+    [script] = blocks("`bad book: 62`")
+    Path(folder, "book.toml").write_text(USER.replace("4096", '"4096"').replace("format = 1", "format = 1\nx = 1"))
+    for header, number in [("user@example.org", 60), ("example.org", 62), ('"user@example.org"', None)]:
+        Path(folder, "named.toml").write_text(USER + f"\n[accounts.{header}]\n")
+        fault = f"scramotp: bad book: {number}\n" if number else "scramotp: no token\n"
+        assert ran(folder, "scramotp unlock --book named.toml --name user") == (1, "", fault), header
+    wrong = {"the document: 'x' is unknown", "the document: 'decoy_count' is of another type"}
+    status, output, faults = ran(folder, script)
+    assert (status, set(output.splitlines()), faults) == (0, wrong, ""), output
+    with open(HERE / "book_faults.csv", newline="", encoding="ascii") as table:
+        rows = [row for row in csv.DictReader(table) if row["answer"] == "62" or not row["answer"].isdigit()]
+    for number, row in enumerate(rows):
+        Path(folder, str(number)).write_bytes(faulty(row))
+    with ThreadPoolExecutor(4) as pool:
+        found = list(pool.map(lambda number: ran(folder, f"./find-key {number}"), range(len(rows))))
+    for (status, output, faults), row in zip(found, rows):
+        assert (status, faults, output != "") == (0, "", row["answer"] == "62"), (row, status, output, faults)
+    assert {row["answer"] for row in rows} > {"62"}, rows
+
+
+def a_backup(folder):
+    """A copy has the book's text, and nobody else can read it."""
+    book = with_tools(folder, USER)
+    [copy] = blocks("Backups")
+    does(folder, copy)
+    [found] = Path(folder, "backups").iterdir()
+    assert found.read_bytes() == book.read_bytes()
+    assert (found.stat().st_mode & 0o777, found.parent.stat().st_mode & 0o777) == (0o600, 0o700)
+
+
+def units(folder):
+    """The commands of the two units do what they should, with the folders that systemd would give them."""
+    state, credentials = Path(folder, "state"), Path(folder, "credentials")
+    state.mkdir(0o700)
+    credentials.mkdir(0o700)
+    password = credentials / "password"
+    password.write_text("pencil\n")
+    where = {"STATE_DIRECTORY": str(state), "CREDENTIALS_DIRECTORY": str(credentials)}
+    answers = []
+    for unit in blocks("systemd", "ini"):
+        for name in re.findall(r"^LoadCredential\w*=([\w.]+):", unit, re.M):
+            source = HERE / "data" / "audits" / {"before.toml": "hotp.toml", "log.txt": "sha1.log"}.get(name, "")
+            if source.is_file():
+                (credentials / name).write_bytes(source.read_bytes())
+            assert (credentials / name).is_file(), name
+        [command] = re.findall(r"^ExecStart=(.*)$", unit, re.M)
+        done = subprocess.run(shlex.split(command), env=environment(folder, **where), capture_output=True, text=True)
+        answers.append((done.returncode, done.stdout, done.stderr))
+    assert answers == [(0, "enrolled user\n", ""), (0, "clean sessions=1 accepted=1 codes=0\n", "")], answers
+    with open(state / "book.toml", "rb") as file:
+        keys = tomllib.load(file)["accounts"]["user"]["sha256"]
+    assert keys["stored"] == keys_of("sha256", b"pencil", bytes.fromhex(keys["salt"]), keys["count"])[0]
+
+
+def every_block(folder):
+    """No block of the document is left out."""
+    assert set(all_blocks()) == used, set(all_blocks()) ^ used
+
+
+TESTS = [
+    an_editor_and_a_command,
+    an_edit_that_fails,
+    an_edit_waits,
+    a_run_waits,
+    many_at_once,
+    an_edit_gives_up,
+    a_token,
+    a_hotp_token,
+    a_password,
+    a_removed_account,
+    decoys,
+    verifiers_of_others,
+    a_verifier_there_and_back,
+    a_code_in_a_script,
+    keys_at_fault,
+    a_backup,
+    units,
+    every_block,
+]
+
+suite.run_all(TESTS)

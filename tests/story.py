@@ -1,0 +1,91 @@
+#!/usr/bin/env python3
+"""Runs the story of README.md as it stands there, and compares each line that it prints and each status.
+
+Usage: story.py PROGRAM [README]
+
+The story is what the shell blocks of the section "A story" have. In them a line with `#>` is one that the command above it
+prints, or `#> status N` where that command does not end with status 0. The story runs in a fresh folder, with the program
+on the PATH, the folder's tests/data that of the repository, and a password on standard input. Exits at the first difference.
+"""
+import os
+import re
+import subprocess
+import sys
+import tempfile
+from pathlib import Path
+
+ROOT = Path(__file__).resolve().parent.parent
+TITLE = "A story"
+SHOWN = "#>"
+PASSWORD = "pencil\n"
+
+# What a story has to have, so that a test of half of it can't pass: each of these stands in a command.
+NEEDED = ["mkdir -m 0700 ", "read -rs ", "enrol ", "<<'END'", "base32", "verify ", "unlock ", "audit "]
+
+
+def blocks(text, title):
+    """The shell blocks of the section of this title."""
+    section = re.search(rf"^## {re.escape(title)}\n(.*?)(?=^## |\Z)", text, re.M | re.S)
+    return re.findall(r"^```sh\n(.*?)^```$", section.group(1), re.M | re.S) if section else []
+
+
+def steps(block):
+    """Each command of a block, with the lines that it is to print and its status. One command ends before the first
+    line that is shown, or where bash finds it whole."""
+    found, command, printed, status = [], "", [], 0
+    for line in block.splitlines():
+        if line.startswith(SHOWN):
+            shown = line.removeprefix(SHOWN).removeprefix(" ")
+            if shown.startswith("status "):
+                status = int(shown.removeprefix("status "))
+            else:
+                printed.append(shown)
+            continue
+        if command and is_whole(command):
+            found.append((command, printed, status))
+            command, printed, status = "", [], 0
+        command += line + "\n"
+    return [*found, (command, printed, status)]
+
+
+def is_whole(command):
+    """Whether bash can run this as it is: no quote and no document is left open."""
+    read = subprocess.run(["bash", "-n"], input=command, capture_output=True, text=True)
+    return read.returncode == 0 and not read.stderr
+
+
+def ran(program, story):
+    """What each command of a story printed, faults too, and its status. All run in one bash."""
+    mark = f"{os.urandom(16).hex()} "
+    script = "".join(f"{command}printf '{mark}%d\\n' $?\n" for command, _, _ in story)
+    with tempfile.TemporaryDirectory() as folder:
+        os.symlink(ROOT / "tests", Path(folder, "tests"))
+        commands = Path(folder, "bin")
+        commands.mkdir()
+        os.symlink(os.path.abspath(program), commands / "scramotp")
+        path = f"{commands}:{os.environ['PATH']}"
+        done = subprocess.run(
+            ["bash", "-c", script], cwd=folder, env={**os.environ, "PATH": path}, input=PASSWORD,
+            stdout=subprocess.PIPE, stderr=subprocess.STDOUT, text=True, timeout=120,
+        )
+    parts = re.split(rf"{mark}(\d+)\n", done.stdout)
+    return list(zip(parts[0::2], map(int, parts[1::2])))
+
+
+def main():
+    program, *readme = sys.argv[1:]
+    text = Path(readme[0] if readme else ROOT / "README.md").read_text(encoding="utf-8")
+    story = [step for block in blocks(text, TITLE) for step in steps(block)]
+    missing = [word for word in NEEDED if not any(word in command for command, _, _ in story)]
+    if missing:
+        sys.exit(f"story.py: the story has no {missing}")
+    answers = ran(program, story)
+    for (command, printed, status), (output, ended) in zip(story, answers):
+        if (output.splitlines(), ended) != (printed, status):
+            sys.exit(f"story.py: {command}{output!r}, status {ended}; README has {printed}, status {status}")
+    if len(answers) != len(story):
+        sys.exit(f"story.py: {len(answers)} of {len(story)} commands ran")
+    print(f"story.py: {len(story)} commands do as README says")
+
+
+main()
