@@ -3,9 +3,9 @@ use Rattle.std.proofs.Common.{◌≡◌, ℕ, List, length}
 use Rattle.sha2.proofs.Facts256.{length-sha256}
 use Rattle.mac_core.specs.Digest.{length-sha1}
 use Rattle.mac_core.specs.Hmac.{hmac}
-use Rattle.mac_core.specs.Chosen.{length_by, hmac_by}
-use Rattle.mac_core.specs.declared.chosen.Mechanism.{Mechanism}
-use Rattle.mac_core.specs.declared.chosen.Mechanism.TheVariants.{ScramSha1, ScramSha256}
+use Rattle.mac_core.specs.Mechanism.{length_by, hmac_by}
+use Rattle.mac_core.specs.declared.mechanism.Mechanism.{Mechanism}
+use Rattle.mac_core.specs.declared.mechanism.Mechanism.TheVariants.{ScramSha1, ScramSha256}
 
 -- a MAC has the length of the mechanism's digests
 pub length-hmac_by : (m : Mechanism) (key text : List ℕ) → length (hmac_by m key text) ≡ length_by m

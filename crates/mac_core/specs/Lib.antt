@@ -1,4 +1,4 @@
 pub mod Digest
 pub mod Hmac
 pub mod Keys
-pub mod Chosen
+pub mod Mechanism

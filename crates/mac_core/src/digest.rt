@@ -68,7 +68,7 @@ pub trait HashFn: Drop {
 }
 
 /// These bytes as a tag.
-pub(crate) fn tag_of(bytes: &[u8]) -> Tag
+pub(crate) fn tag_from_bytes(bytes: &[u8]) -> Tag
     requires { length bytes.now ≤ 64 }
     ensures { result.items ≡ bytes.now }
 {
@@ -108,7 +108,7 @@ impl HashFn for HSha1 {
     }
 
     fn done(self) -> Tag {
-        tag_of(&self.hasher.finalize())
+        tag_from_bytes(&self.hasher.finalize())
     }
 
     fn copy(&self) -> HSha1 {
@@ -159,7 +159,7 @@ impl HashFn for HSha256 {
     }
 
     fn done(self) -> Tag {
-        tag_of(&self.hasher.finalize())
+        tag_from_bytes(&self.hasher.finalize())
     }
 
     fn copy(&self) -> HSha256 {
@@ -210,7 +210,7 @@ impl HashFn for HSha512 {
     }
 
     fn done(self) -> Tag {
-        tag_of(&self.hasher.finalize())
+        tag_from_bytes(&self.hasher.finalize())
     }
 
     fn copy(&self) -> HSha512 {

@@ -14,17 +14,15 @@
 ghost use Rattle.std.specs.Prelude.{◌≡◌, length};
 ghost use Rattle.mac_core.specs.Hmac.{hmac};
 
-mod chosen;
 mod digest;
 pub mod hmac;
 mod keys;
-#[cfg(test)]
-mod tests;
+mod mechanism;
 
-pub use chosen::{Mechanism, ScramMac};
 pub use digest::{HSha1, HSha256, HSha512, HashFn, Tag};
 pub use hmac::Prepared;
 pub use keys::{ScramKeys, client_key, hi, scram_keys, server_key, stored_key, xor};
+pub use mechanism::{Mechanism, ScramMac};
 
 /// The HMAC of `key` and `text`, of `H::LEN` bytes. The key may have any length: one longer than a
 /// block is replaced by its digest (RFC 2104, section 2).

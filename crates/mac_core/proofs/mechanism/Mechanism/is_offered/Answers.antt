@@ -3,9 +3,9 @@ use Rattle.std.specs.List.{slice_split}
 use Rattle.std.specs.Str.{bytes_eq}
 use Rattle.std.proofs.lemmas.Iterator.Search.{any_from_yields_List}
 use Rattle.std.proofs.lemmas.Iterator.Splits.{YieldsList-from_slice_split}
-use Rattle.mac_core.specs.Chosen.{name_of}
+use Rattle.mac_core.specs.Mechanism.{name_of}
 use Rattle.mac_core.proofs.AmongLemmas.{any_among}
-use Rattle.mac_core.proofs.chosen.Mechanism.is_offered.Goals as goal
+use Rattle.mac_core.proofs.mechanism.Mechanism.is_offered.Goals as goal
 
 pub returns : goal.returns
 returns c =

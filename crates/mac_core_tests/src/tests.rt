@@ -1,7 +1,7 @@
 //! Values from outside: RFC 2202, RFC 4231 and NIST's examples for HMAC, RFC 6070 and RFC 7914 for Hi,
 //! and the example of RFC 5802 for the keys.
-use crate::hmac::Mac;
-use crate::{
+use mac_core::hmac::Mac;
+use mac_core::{
     HSha1, HSha256, HSha512, HashFn, Mechanism, Prepared, ScramMac, Tag, client_key, hi, mac,
     scram_keys, server_key, stored_key, xor,
 };

@@ -9,10 +9,10 @@ use Rattle.mac_core.specs.Hmac.{hmac, IsMacOf}
 use Rattle.mac_core.specs.Keys.{hi, client_key, stored_key, server_key}
 use Rattle.mac_core.specs.declared.digest.HSha1.{HSha1}
 use Rattle.mac_core.specs.declared.digest.HSha256.{HSha256}
-use Rattle.mac_core.specs.declared.chosen.Mechanism.{Mechanism}
-use Rattle.mac_core.specs.declared.chosen.Mechanism.TheVariants.{ScramSha1, ScramSha256}
-use Rattle.mac_core.specs.declared.chosen.ScramMac.{ScramMac}
-use Rattle.mac_core.specs.declared.chosen.ScramMac.TheVariants.{BySha1, BySha256}
+use Rattle.mac_core.specs.declared.mechanism.Mechanism.{Mechanism}
+use Rattle.mac_core.specs.declared.mechanism.Mechanism.TheVariants.{ScramSha1, ScramSha256}
+use Rattle.mac_core.specs.declared.mechanism.ScramMac.{ScramMac}
+use Rattle.mac_core.specs.declared.mechanism.ScramMac.TheVariants.{BySha1, BySha256}
 
 -- the mechanism's name (RFC 5802, section 4, and RFC 7677, section 3)
 abbrev pub name_of : Mechanism → List ℕ

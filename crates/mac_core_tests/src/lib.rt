@@ -1,0 +1,5 @@
+//! Tests of `mac_core`.
+#![tactic(auto)]
+
+#[cfg(test)]
+mod tests;
