@@ -1,19 +1,19 @@
 -- Histories that go on from where others led, and the one reply that is due.
 use Rattle.std.proofs.Common.{◌≡◌, ◌≤◌, ◌<◌, ◌↔◌, ◌++◌, ℕ, List, [], ◌∷◌, refl, ap, arith, ◌∙◌}
 use Rattle.otp_core.specs.Secret.{IsMoment}
-use Rattle.otp_core.specs.Attempt.{Attempt, Said, attempt_of}
-use Rattle.otp_core.specs.Window.{IsCandidate}
-use Rattle.otp_core.specs.Reply.{IsDue, failures_by}
+use Rattle.otp_core.specs.Attempt.{Attempt, CodeTexts, attempt_of}
+use Rattle.otp_core.specs.Window.{IsCandidate, IsPairCandidate}
+use Rattle.otp_core.specs.Reply.{IsDueReply, failures_by}
 use Rattle.otp_core.specs.History.{IsAfter, IsLegal, AreAlike}
-use Rattle.otp_core.specs.Laws.{HistoriesJoin, OnlyOneReplyIsDue}
+use Rattle.otp_core.specs.Laws.{HistoriesJoin, LegalHistoriesJoin, OnlyOneReplyIsDue}
 use Rattle.otp_core.specs.declared.token.answer.Reply.{Reply}
 use Rattle.otp_core.specs.declared.token.answer.Reply.TheVariants.{Pass, Fail, Locked}
 use Rattle.otp_core.specs.declared.token.kinds.Fields.{Fields}
 use Rattle.otp_core.specs.declared.token.kinds.Fields.TheVariants.{Hotp, Totp}
-use Rattle.otp_core.proofs.Steps.{due_alike, fits_from, candidate_of, pass_alike}
+use Rattle.otp_core.proofs.Steps.{due_alike, fits_from, pass_alike, pairs_alike}
 
 -- candidates after a reply that is no pass
-kept_both : (s t : Fields) (h k : List Attempt) (m : ℕ) (said : Said) (later c : ℕ)
+kept_both : (s t : Fields) (h k : List Attempt) (m : ℕ) (said : CodeTexts) (later c : ℕ)
     → (IsCandidate s h later c ↔ IsCandidate t k later c)
     → IsCandidate s (attempt_of m said Fail ∷ h) later c ↔ IsCandidate t (attempt_of m said Fail ∷ k) later c
 kept_both (Hotp s) (Hotp t) h k m said later c same = same
@@ -21,7 +21,7 @@ kept_both (Hotp s) (Totp t) h k m said later c same = same
 kept_both (Totp s) (Hotp t) h k m said later c same = same
 kept_both (Totp s) (Totp t) h k m said later c same = same
 
-locked_both : (s t : Fields) (h k : List Attempt) (m : ℕ) (said : Said) (later c : ℕ)
+locked_both : (s t : Fields) (h k : List Attempt) (m : ℕ) (said : CodeTexts) (later c : ℕ)
     → (IsCandidate s h later c ↔ IsCandidate t k later c)
     → IsCandidate s (attempt_of m said Locked ∷ h) later c ↔ IsCandidate t (attempt_of m said Locked ∷ k) later c
 locked_both (Hotp s) (Hotp t) h k m said later c same = same
@@ -30,26 +30,53 @@ locked_both (Totp s) (Hotp t) h k m said later c same = same
 locked_both (Totp s) (Totp t) h k m said later c same = same
 
 -- candidates after a due reply, in two alike pasts
-candidates_both : (s t : Fields) (h k : List Attempt) (m : ℕ) (said : Said) (reply : Reply) → AreAlike s h t k → IsMoment m
-    → IsDue t k m said reply → (later c : ℕ) → IsMoment later
+candidates_both : (s t : Fields) (h k : List Attempt) (m : ℕ) (said : CodeTexts) (reply : Reply) → AreAlike s h t k → IsMoment m
+    → IsDueReply t k m said reply → (later c : ℕ) → IsMoment later
     → IsCandidate s (attempt_of m said reply ∷ h) later c ↔ IsCandidate t (attempt_of m said reply ∷ k) later c
 candidates_both s t h k m said (Pass p) alike is due later c when =
-    let first = pass_alike s t h m said p later c alike.settings
-    (candidate_of s h m said p (fits_from s t h k m said p alike is due.1)) in
-    let second = pass_alike t t k m said p later c refl (candidate_of t k m said p due.1) in
+    let first = pass_alike s t h m said p later c alike.settings (fits_from s t h k m said p alike is due.1) in
+    let second = pass_alike t t k m said p later c refl due.1 in
     ((λ w. second.1 (first.0 w)), (λ w. first.1 (second.0 w)))
 candidates_both s t h k m said Fail alike is due later c when =
     kept_both s t h k m said later c (alike.candidates later c when)
 candidates_both s t h k m said Locked alike is due later c when =
     locked_both s t h k m said later c (alike.candidates later c when)
 
+-- pairs after a due reply, in two alike pasts
+failed_pairs : (s t : Fields) (h k : List Attempt) (m : ℕ) (said : CodeTexts) (w : ℕ)
+    → (IsPairCandidate s h w ↔ IsPairCandidate t k w)
+    → IsPairCandidate s (attempt_of m said Fail ∷ h) w ↔ IsPairCandidate t (attempt_of m said Fail ∷ k) w
+failed_pairs (Hotp s) (Hotp t) h k m said w same = same
+failed_pairs (Hotp s) (Totp t) h k m said w same = same
+failed_pairs (Totp s) (Hotp t) h k m said w same = same
+failed_pairs (Totp s) (Totp t) h k m said w same = same
+
+locked_pairs : (s t : Fields) (h k : List Attempt) (m : ℕ) (said : CodeTexts) (w : ℕ)
+    → (IsPairCandidate s h w ↔ IsPairCandidate t k w)
+    → IsPairCandidate s (attempt_of m said Locked ∷ h) w ↔ IsPairCandidate t (attempt_of m said Locked ∷ k) w
+locked_pairs (Hotp s) (Hotp t) h k m said w same = same
+locked_pairs (Hotp s) (Totp t) h k m said w same = same
+locked_pairs (Totp s) (Hotp t) h k m said w same = same
+locked_pairs (Totp s) (Totp t) h k m said w same = same
+
+pairs_both : (s t : Fields) (h k : List Attempt) (m : ℕ) (said : CodeTexts) (reply : Reply) → AreAlike s h t k → IsMoment m
+    → IsDueReply t k m said reply → (w : ℕ)
+    → IsPairCandidate s (attempt_of m said reply ∷ h) w ↔ IsPairCandidate t (attempt_of m said reply ∷ k) w
+pairs_both s t h k m said (Pass p) alike is due w =
+    let first = pairs_alike s t h m said p w alike.settings (fits_from s t h k m said p alike is due.1) in
+    let second = pairs_alike t t k m said p w refl due.1 in
+    ((λ x. second.1 (first.0 x)), (λ x. first.1 (second.0 x)))
+pairs_both s t h k m said Fail alike is due w = failed_pairs s t h k m said w (alike.pairs w)
+pairs_both s t h k m said Locked alike is due w = locked_pairs s t h k m said w (alike.pairs w)
+
 -- one more attempt keeps two pasts alike
-alike_more : (s t : Fields) (h k : List Attempt) (m : ℕ) (said : Said) (reply : Reply) → AreAlike s h t k → IsMoment m
-    → IsDue t k m said reply → AreAlike s (attempt_of m said reply ∷ h) t (attempt_of m said reply ∷ k)
+alike_more : (s t : Fields) (h k : List Attempt) (m : ℕ) (said : CodeTexts) (reply : Reply) → AreAlike s h t k → IsMoment m
+    → IsDueReply t k m said reply → AreAlike s (attempt_of m said reply ∷ h) t (attempt_of m said reply ∷ k)
 alike_more s t h k m said reply alike is due = record {
   settings = alike.settings;
   failures = ap (failures_by reply) alike.failures;
   candidates = candidates_both s t h k m said reply alike is due;
+  pairs = pairs_both s t h k m said reply alike is due;
 }
 
 -- a history that is legal from the middle on is legal from the start on, and the pasts are alike
@@ -63,6 +90,9 @@ legal_joined start earlier middle after (a ∷ later) legal =
       alike_more start middle (later ++ earlier) later a.moment a.said a.reply front.1 legal.0 legal.1,
     )
 
+pub legal_histories-join : LegalHistoriesJoin
+legal_histories-join start earlier middle later after legal = legal_joined start earlier middle after later legal
+
 pub histories-join : HistoriesJoin
 histories-join start earlier middle later end after on =
     let front = legal_joined start earlier middle after later on.legal in record {
@@ -74,6 +104,7 @@ histories-join start earlier middle later end after on =
           (λ w. (on.alike.candidates moment c is).0 ((front.1.candidates moment c is).0 w)),
           (λ w. (front.1.candidates moment c is).1 ((on.alike.candidates moment c is).1 w)),
         );
+        pairs = λ w. ((λ x. (on.alike.pairs w).0 ((front.1.pairs w).0 x)), (λ x. (front.1.pairs w).1 ((on.alike.pairs w).1 x)));
       };
     }
 

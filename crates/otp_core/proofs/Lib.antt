@@ -4,3 +4,4 @@ pub mod OneReply
 pub mod Steps
 pub mod Used
 pub mod WindowLemmas
+pub mod Pairs

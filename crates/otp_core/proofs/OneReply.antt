@@ -6,9 +6,9 @@ use Rattle.std.proofs.lemmas.Slice.Eq.{bytes_eq-Decides}
 use Rattle.std.specs.Str.{bytes_eq}
 use Rattle.std.specs.Prelude.{◌≤ℤ◌, ◌+ℤ◌, ◌-ℤ◌, pos}
 use Rattle.std.specs.Option.{ForSome}
-use Rattle.otp_core.specs.Attempt.{Attempt, Said, passed}
-use Rattle.otp_core.specs.Window.{IsAbove, IsCandidate, IsCounterDue, IsStepNear, first_due, drift_after, step_at}
-use Rattle.otp_core.specs.Reply.{IsDue, IsFitting, code_text, failures_after, limit_of}
+use Rattle.otp_core.specs.Attempt.{Attempt, CodeTexts, passed}
+use Rattle.otp_core.specs.Window.{IsAbove, IsCandidate, IsPairCandidate, IsCounterDue, IsStepNear, first_due, drift_after, step_at}
+use Rattle.otp_core.specs.Reply.{IsDueReply, IsFitting, code_text, failures_after, limit_of}
 use Rattle.otp_core.specs.Laws.{SomeReplyIsDue}
 use Rattle.otp_core.specs.declared.token.answer.Reply.{Reply}
 use Rattle.otp_core.specs.declared.token.answer.Reply.TheVariants.{Pass, Fail, Locked}
@@ -73,8 +73,8 @@ decided_near now drift back ahead max_drift w =
     decided_by
     (((((pos now +ℤ drift) -ℤ pos back) ≤ℤ pos w) × (pos w ≤ℤ ((pos now +ℤ drift) +ℤ pos ahead))) × ((now ≤ w + max_drift) × (w ≤ now + max_drift)))
     (IsStepNear now drift back ahead max_drift w)
-    (λ h. record { not_before = h.0.0; not_behind = h.0.1; not_early = h.1.0; not_late = h.1.1 })
-    (λ d. ((d.not_before, d.not_behind), (d.not_early, d.not_late)))
+    (λ h. record { not_before = h.0.0; not_after = h.0.1; not_early = h.1.0; not_late = h.1.1 })
+    (λ d. ((d.not_before, d.not_after), (d.not_early, d.not_late)))
     (decided_both _ _
     (decided_both _ _ (decided_leℤ ((pos now +ℤ drift) -ℤ pos back) (pos w)) (decided_leℤ (pos w) ((pos now +ℤ drift) +ℤ pos ahead)))
     (decided_both _ _ (decided_le now (w + max_drift)) (decided_le w (now + max_drift))))
@@ -91,10 +91,25 @@ decided_candidate (Totp t) h m w =
     (decided_both _ _ (decided_near (step_at t m) (drift_after t h) t.back t.ahead t.max_drift w)
     (decided_both _ _ (decided_last t.last w) (decided_above (passed h) w))))
 
+decided_pair : (s : Fields) (h : List Attempt) (w : ℕ) → Decided (IsPairCandidate s h w)
+decided_pair (Hotp t) h w = decided_both _ _ (decided_counter (first_due t.next (passed h)) t.sync_ahead w) (decided_le (w + 1) (2 ^ 63 - 2))
+decided_pair (Totp t) h w = inr (λ pair. pair)
+
 -- whether a counter fits what was said is decided
-decided_fitting : (s : Fields) (h : List Attempt) (m : ℕ) (said : Said) (c : ℕ) → Decided (IsFitting s h m said c)
-decided_fitting s h m (Said.OneText text) c =
+decided_fitting : (s : Fields) (h : List Attempt) (m : ℕ) (said : CodeTexts) (c : ℕ) → Decided (IsFitting s h m said c)
+decided_fitting s h m (CodeTexts.OneText text) c =
     decided_both _ _ (decided_candidate s h m c) (decided_text (code_text s c) text)
+decided_fitting s h m (CodeTexts.TwoTexts first second) zero = inr (λ fits. let wrong : zero ≡ fits.0 + 1 = fits.1 in omega arith)
+decided_fitting s h m (CodeTexts.TwoTexts first second) (suc w) =
+    decided_by (IsPairCandidate s h w × ((code_text s w ≡ first) × (code_text s (w + 1) ≡ second)))
+    (IsFitting s h m (CodeTexts.TwoTexts first second) (suc w))
+    (λ is. (w, omega arith, is.0, is.1.0, is.1.1))
+    (λ fits. by_first fits.0 (omega (arith, fits.1)) (fits.2, (fits.3, fits.4)))
+    (decided_both _ _ (decided_pair s h w) (decided_both _ _ (decided_text (code_text s w) first) (decided_text (code_text s (w + 1)) second)))
+  where
+    by_first : (v : ℕ) → v ≡ w → IsPairCandidate s h v × ((code_text s v ≡ first) × (code_text s (v + 1) ≡ second))
+        → IsPairCandidate s h w × ((code_text s w ≡ first) × (code_text s (w + 1) ≡ second))
+    by_first v same is = subst (λ (n : ℕ). IsPairCandidate s h n × ((code_text s n ≡ first) × (code_text s (n + 1) ≡ second))) same is
 
 -- below a number there is a least one for which a decided fact holds, or it holds for none
 least : (P : ℕ → Type 0) → ((k : ℕ) → Decided (P k)) → (n : ℕ)
@@ -112,8 +127,8 @@ least P decided (suc n) = elim (least P decided n) [
 ]
 
 -- the reply, where the counters that fit are below a bound
-due_below : (s : Fields) (h : List Attempt) (m : ℕ) (said : Said) (n : ℕ)
-    → ((k : ℕ) → IsFitting s h m said k → k < n) → (reply : Reply) × IsDue s h m said reply
+due_below : (s : Fields) (h : List Attempt) (m : ℕ) (said : CodeTexts) (n : ℕ)
+    → ((k : ℕ) → IsFitting s h m said k → k < n) → (reply : Reply) × IsDueReply s h m said reply
 due_below s h m said n bound = elim (cases_lt (failures_after s h) (limit_of s)) [
   | inl below ↦ elim (least (λ k. IsFitting s h m said k) (decided_fitting s h m said) n) [
     | inl found ↦ (Pass found.0, (below, found.1, found.2))
@@ -124,7 +139,11 @@ due_below s h m said n bound = elim (cases_lt (failures_after s h) (limit_of s))
 
 -- a counter that fits can pass, and those that can are below a bound
 pub some-reply_is_due : SomeReplyIsDue
-some-reply_is_due (Hotp t) h m (Said.OneText text) =
-    due_below (Hotp t) h m (Said.OneText text) (2 ^ 63) (λ k fits. omega (arith, fits.0.most))
-some-reply_is_due (Totp t) h m (Said.OneText text) =
-    due_below (Totp t) h m (Said.OneText text) (step_at t m + t.max_drift + 1) (λ w fits. omega (arith, fits.0.1.not_late))
+some-reply_is_due (Hotp t) h m (CodeTexts.OneText text) =
+    due_below (Hotp t) h m (CodeTexts.OneText text) (2 ^ 63) (λ k fits. omega (arith, fits.0.most))
+some-reply_is_due (Hotp t) h m (CodeTexts.TwoTexts first second) =
+    due_below (Hotp t) h m (CodeTexts.TwoTexts first second) (2 ^ 63) (λ k fits. omega (arith, fits.1, fits.2.1))
+some-reply_is_due (Totp t) h m (CodeTexts.TwoTexts first second) =
+    due_below (Totp t) h m (CodeTexts.TwoTexts first second) 0 (λ k fits. absurd fits.2)
+some-reply_is_due (Totp t) h m (CodeTexts.OneText text) =
+    due_below (Totp t) h m (CodeTexts.OneText text) (step_at t m + t.max_drift + 1) (λ w fits. omega (arith, fits.0.1.not_late))

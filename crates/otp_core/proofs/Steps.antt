@@ -1,15 +1,18 @@
 -- One more attempt: from a token and its past to any start and history that are alike.
-use Rattle.std.proofs.Common.{◌≡◌, ◌≤◌, ◌<◌, ◌+◌, ◌↔◌, ℕ, pos, ◌-ℤ◌, List, [], ◌∷◌, Option, Some, None, max, refl, sym, ap, subst, arith, ◌∙◌}
+use Rattle.std.proofs.Common.{◌≡◌, ◌≤◌, ◌<◌, ◌+◌, ◌-◌, ◌^◌, ◌↔◌, ◌++◌, ℕ, pos, ◌-ℤ◌, List, [], ◌∷◌, Option, Some, None, max, refl, sym, ap, subst, arith, ◌∙◌}
 use Rattle.std.specs.Option.{option_map_or}
 use Rattle.otp_core.specs.Secret.{IsMoment}
-use Rattle.otp_core.specs.Attempt.{Attempt, Said, attempt_of, passed}
-use Rattle.otp_core.specs.Attempt.Said.{OneText}
-use Rattle.otp_core.specs.Window.{IsCandidate, IsCounterDue, IsStepNear, IsAbove, first_due, greatest, step_at}
-use Rattle.otp_core.specs.Reply.{IsDue, IsFitting, code_text, limit_of, failures_of, failures_after, failures_by}
+use Rattle.otp_core.specs.Attempt.{Attempt, CodeTexts, attempt_of, counters_of, passed}
+use Rattle.otp_core.specs.Attempt.CodeTexts.{OneText, TwoTexts}
+use Rattle.otp_core.specs.Window.{IsCandidate, IsPairCandidate, IsCounterDue, IsStepNear, IsAbove, first_due, greatest, step_at}
+use Rattle.otp_core.specs.Reply.{IsDueReply, IsFitting, code_text, limit_of, failures_of, failures_after, failures_by}
 use Rattle.otp_core.specs.History.{IsAfter, AreAlike, settings_of}
+use Rattle.otp_core.specs.Settings.{IsInRange}
 use Rattle.otp_core.specs.State.{advanced, after_pass, after_fail}
 use Rattle.otp_core.specs.declared.token.answer.Reply.{Reply}
 use Rattle.otp_core.specs.declared.token.answer.Reply.TheVariants.{Pass, Fail, Locked}
+use Rattle.otp_core.specs.declared.token.kinds.HotpFields.{HotpFields}
+use Rattle.otp_core.specs.declared.token.kinds.TotpFields.{TotpFields}
 use Rattle.otp_core.specs.declared.token.kinds.Fields.{Fields}
 use Rattle.otp_core.specs.declared.token.kinds.Fields.TheVariants.{Hotp, Totp}
 
@@ -30,19 +33,33 @@ code_alike : (s t : Fields) (c : ℕ) → settings_of s ≡ settings_of t → co
 code_alike s t c e = sym (code_settled s c) ∙ (ap (λ f. code_text f c) e ∙ code_settled t c)
 
 -- a counter that fits after one of two alike pasts fits after the other
-fits_to : (s t : Fields) (h k : List Attempt) (m : ℕ) (said : Said) (c : ℕ) → AreAlike s h t k → IsMoment m
+fits_to : (s t : Fields) (h k : List Attempt) (m : ℕ) (said : CodeTexts) (c : ℕ) → AreAlike s h t k → IsMoment m
     → IsFitting s h m said c → IsFitting t k m said c
 fits_to s t h k m (OneText text) c alike is fits =
     ((alike.candidates m c is).0 fits.0, sym (code_alike s t c alike.settings) ∙ fits.1)
+fits_to s t h k m (TwoTexts one other) c alike is (w, next, pair, first, second) = (
+  w,
+  next,
+  (alike.pairs w).0 pair,
+  sym (code_alike s t w alike.settings) ∙ first,
+  sym (code_alike s t (w + 1) alike.settings) ∙ second,
+)
 
-pub fits_from : (s t : Fields) (h k : List Attempt) (m : ℕ) (said : Said) (c : ℕ) → AreAlike s h t k → IsMoment m
+pub fits_from : (s t : Fields) (h k : List Attempt) (m : ℕ) (said : CodeTexts) (c : ℕ) → AreAlike s h t k → IsMoment m
     → IsFitting t k m said c → IsFitting s h m said c
 fits_from s t h k m (OneText text) c alike is fits =
     ((alike.candidates m c is).1 fits.0, code_alike s t c alike.settings ∙ fits.1)
+fits_from s t h k m (TwoTexts one other) c alike is (w, next, pair, first, second) = (
+  w,
+  next,
+  (alike.pairs w).1 pair,
+  code_alike s t w alike.settings ∙ first,
+  code_alike s t (w + 1) alike.settings ∙ second,
+)
 
 -- a reply that is due after one of two alike pasts is due after the other
-pub due_alike : (s t : Fields) (h k : List Attempt) (m : ℕ) (said : Said) (reply : Reply) → AreAlike s h t k → IsMoment m
-    → IsDue t k m said reply → IsDue s h m said reply
+pub due_alike : (s t : Fields) (h k : List Attempt) (m : ℕ) (said : CodeTexts) (reply : Reply) → AreAlike s h t k → IsMoment m
+    → IsDueReply t k m said reply → IsDueReply s h m said reply
 due_alike s t h k m said Locked alike is due =
     let limit = limit_alike s t alike.settings in
     let failures = alike.failures in omega arith
@@ -84,6 +101,24 @@ pub first_of : (o : Option ℕ) (next p : ℕ) → option_map_or (λ m. m + 1) o
 first_of None next p h = refl
 first_of (Some m) next p h = omega arith
 
+-- and after a pass of a pair, one more than its second
+pair_first_of : (o : Option ℕ) (next w : ℕ) → option_map_or (λ m. m + 1) o next ≤ w
+    → option_map_or (λ m. m + 1) (Some (max (w + 1) (option_map_or (λ most. max (w + 1 - 1) most) o (w + 1 - 1)))) next ≡ w + 1 + 1
+pair_first_of None next w h = omega arith
+pair_first_of (Some m) next w h = omega arith
+
+-- HOTP's first counter is one after what was said has passed
+pub first_after : (t : HotpFields) (h : List Attempt) (m : ℕ) (said : CodeTexts) (p : ℕ) → IsFitting (Hotp t) h m said p
+    → first_due t.next (counters_of said p ++ passed h) ≡ p + 1
+first_after t h m (OneText text) p fits = first_of (greatest (passed h)) t.next p fits.0.not_before
+first_after t h m (TwoTexts one other) p (w, next, pair, first, second) =
+    subst (λ (n : ℕ). first_due t.next (counters_of (TwoTexts one other) n ++ passed h) ≡ n + 1) (sym next)
+    (pair_first_of (greatest (passed h)) t.next w pair.0.not_before)
+
+-- no pair of TOTP codes fits
+no_pair : (t : TotpFields) (h : List Attempt) (m : ℕ) (one other : List ℕ) (c : ℕ) → IsFitting (Totp t) h m (TwoTexts one other) c → ⊥
+no_pair t h m one other c (w, next, pair, first, second) = pair
+
 -- a counter above one that is above all of these is above all of them
 above_more : (counters : List ℕ) (p c : ℕ) → IsAbove counters p → p < c → IsAbove counters c
 above_more [] p c h more = h
@@ -96,29 +131,49 @@ window_by (Hotp t) m p later c = IsCounterDue (p + 1) t.look_ahead c
 window_by (Totp t) m p later c =
     (t.t0 ≤ later) × IsStepNear (step_at t later) (pos p -ℤ pos (step_at t m)) t.back t.ahead t.max_drift c
 
+-- and the pairs
+pairs_by : Fields → ℕ → ℕ → Type 0
+pairs_by (Hotp t) p w = IsCounterDue (p + 1) t.sync_ahead w × (w + 1 ≤ 2 ^ 63 - 2)
+pairs_by (Totp t) p w = ⊥
+
 -- candidates after a pass
-pub pass_alike : (s t : Fields) (h : List Attempt) (m : ℕ) (said : Said) (p later c : ℕ)
-    → settings_of s ≡ settings_of t → IsCandidate s h m p
+pub pass_alike : (s t : Fields) (h : List Attempt) (m : ℕ) (said : CodeTexts) (p later c : ℕ)
+    → settings_of s ≡ settings_of t → IsFitting s h m said p
     → IsCandidate s (attempt_of m said (Pass p) ∷ h) later c ↔ IsCandidate (after_pass t m p) [] later c
 unfolding window_by
-pass_alike (Hotp s) (Hotp t) h m said p later c e due =
-    let first : first_due s.next (p ∷ passed h) ≡ p + 1 = first_of (greatest (passed h)) s.next p due.not_before in (
+pass_alike (Hotp s) (Hotp t) h m said p later c e fits =
+    let first : first_due s.next (counters_of said p ++ passed h) ≡ p + 1 = first_after s h m said p fits in (
       (λ w. subst (λ f. window_by f m p later c) e (subst (λ n. IsCounterDue n s.look_ahead c) first w)),
       (λ w. subst (λ n. IsCounterDue n s.look_ahead c) (sym first) (subst (λ f. window_by f m p later c) (sym e) w)),
     )
-pass_alike (Totp s) (Totp t) h m said p later c e due = (
+pass_alike (Totp s) (Totp t) h m (OneText text) p later c e fits = (
   (λ w. let near = subst (λ f. window_by f m p later c) e (w.0, w.1) in
       let above : p < c = w.3.0 in
       (near.0, near.1, (λ l is. let same : p ≡ l = cc in omega arith), tt)),
   (λ w. let near = subst (λ f. window_by f m p later c) (sym e) (w.0, w.1) in
       let above : p < c = w.2 p refl in
-      (near.0, near.1, (λ l is. let below : l < p = due.2 l is in omega arith), (above, above_more (passed h) p c due.3 above))),
+      (near.0, near.1, (λ l is. let below : l < p = fits.0.2 l is in omega arith), (above, above_more (passed h) p c fits.0.3 above))),
 )
-pass_alike (Hotp s) (Totp t) h m said p later c e due = absurd (cc)
-pass_alike (Totp s) (Hotp t) h m said p later c e due = absurd (cc)
+pass_alike (Totp s) (Totp t) h m (TwoTexts one other) p later c e fits = absurd (no_pair s h m one other p fits)
+pass_alike (Hotp s) (Totp t) h m said p later c e fits = absurd (cc)
+pass_alike (Totp s) (Hotp t) h m said p later c e fits = absurd (cc)
 
--- candidates after a failure
-fail_alike : (s t : Fields) (h : List Attempt) (m : ℕ) (said : Said) (later c : ℕ)
+-- pairs after a pass
+pub pairs_alike : (s t : Fields) (h : List Attempt) (m : ℕ) (said : CodeTexts) (p w : ℕ)
+    → settings_of s ≡ settings_of t → IsFitting s h m said p
+    → IsPairCandidate s (attempt_of m said (Pass p) ∷ h) w ↔ IsPairCandidate (after_pass t m p) [] w
+unfolding pairs_by
+pairs_alike (Hotp s) (Hotp t) h m said p w e fits =
+    let first : first_due s.next (counters_of said p ++ passed h) ≡ p + 1 = first_after s h m said p fits in (
+      (λ x. subst (λ f. pairs_by f p w) e (subst (λ n. IsCounterDue n s.sync_ahead w × (w + 1 ≤ 2 ^ 63 - 2)) first x)),
+      (λ x. subst (λ n. IsCounterDue n s.sync_ahead w × (w + 1 ≤ 2 ^ 63 - 2)) (sym first) (subst (λ f. pairs_by f p w) (sym e) x)),
+    )
+pairs_alike (Totp s) (Totp t) h m said p w e fits = ((λ x. x), (λ x. x))
+pairs_alike (Hotp s) (Totp t) h m said p w e fits = absurd (cc)
+pairs_alike (Totp s) (Hotp t) h m said p w e fits = absurd (cc)
+
+-- candidates and pairs after a failure
+fail_alike : (s t : Fields) (h : List Attempt) (m : ℕ) (said : CodeTexts) (later c : ℕ)
     → (IsCandidate s h later c ↔ IsCandidate t [] later c)
     → IsCandidate s (attempt_of m said Fail ∷ h) later c ↔ IsCandidate (after_fail t) [] later c
 fail_alike (Hotp s) (Hotp t) h m said later c same = same
@@ -126,37 +181,61 @@ fail_alike (Hotp s) (Totp t) h m said later c same = same
 fail_alike (Totp s) (Hotp t) h m said later c same = same
 fail_alike (Totp s) (Totp t) h m said later c same = same
 
--- candidates where the token is locked
-locked_alike : (s t : Fields) (h : List Attempt) (m : ℕ) (said : Said) (later c : ℕ)
+fail_pairs : (s t : Fields) (h : List Attempt) (m : ℕ) (said : CodeTexts) (w : ℕ)
+    → (IsPairCandidate s h w ↔ IsPairCandidate t [] w)
+    → IsPairCandidate s (attempt_of m said Fail ∷ h) w ↔ IsPairCandidate (after_fail t) [] w
+fail_pairs (Hotp s) (Hotp t) h m said w same = same
+fail_pairs (Hotp s) (Totp t) h m said w same = same
+fail_pairs (Totp s) (Hotp t) h m said w same = same
+fail_pairs (Totp s) (Totp t) h m said w same = same
+
+-- and where the token is locked
+locked_alike : (s t : Fields) (h : List Attempt) (m : ℕ) (said : CodeTexts) (later c : ℕ)
     → (IsCandidate s h later c ↔ IsCandidate t [] later c)
     → IsCandidate s (attempt_of m said Locked ∷ h) later c ↔ IsCandidate t [] later c
 locked_alike (Hotp s) t h m said later c same = same
 locked_alike (Totp s) t h m said later c same = same
 
--- a counter that fits can pass
-pub candidate_of : (s : Fields) (h : List Attempt) (m : ℕ) (said : Said) (c : ℕ) → IsFitting s h m said c → IsCandidate s h m c
-candidate_of s h m (OneText text) c fits = fits.0
+locked_pairs : (s t : Fields) (h : List Attempt) (m : ℕ) (said : CodeTexts) (w : ℕ)
+    → (IsPairCandidate s h w ↔ IsPairCandidate t [] w)
+    → IsPairCandidate s (attempt_of m said Locked ∷ h) w ↔ IsPairCandidate t [] w
+locked_pairs (Hotp s) t h m said w same = same
+locked_pairs (Totp s) t h m said w same = same
 
 -- candidates after a due reply
-candidates_advanced : (s t : Fields) (h : List Attempt) (m : ℕ) (said : Said) (reply : Reply) → AreAlike s h t [] → IsMoment m
-    → IsDue t [] m said reply → (later c : ℕ) → IsMoment later
+candidates_advanced : (s t : Fields) (h : List Attempt) (m : ℕ) (said : CodeTexts) (reply : Reply) → AreAlike s h t [] → IsMoment m
+    → IsDueReply t [] m said reply → (later c : ℕ) → IsMoment later
     → IsCandidate s (attempt_of m said reply ∷ h) later c ↔ IsCandidate (advanced t m reply) [] later c
 candidates_advanced s t h m said (Pass p) alike is due later c when =
-    pass_alike s t h m said p later c alike.settings
-    (candidate_of s h m said p (fits_from s t h [] m said p alike is due.1))
+    pass_alike s t h m said p later c alike.settings (fits_from s t h [] m said p alike is due.1)
 candidates_advanced s t h m said Fail alike is due later c when =
     fail_alike s t h m said later c (alike.candidates later c when)
 candidates_advanced s t h m said Locked alike is due later c when =
     locked_alike s t h m said later c (alike.candidates later c when)
 
+-- pairs after a due reply
+pairs_advanced : (s t : Fields) (h : List Attempt) (m : ℕ) (said : CodeTexts) (reply : Reply) → AreAlike s h t [] → IsMoment m
+    → IsDueReply t [] m said reply → (w : ℕ) → IsPairCandidate s (attempt_of m said reply ∷ h) w ↔ IsPairCandidate (advanced t m reply) [] w
+pairs_advanced s t h m said (Pass p) alike is due w =
+    pairs_alike s t h m said p w alike.settings (fits_from s t h [] m said p alike is due.1)
+pairs_advanced s t h m said Fail alike is due w = fail_pairs s t h m said w (alike.pairs w)
+pairs_advanced s t h m said Locked alike is due w = locked_pairs s t h m said w (alike.pairs w)
+
 -- a due reply leads from a past to that past with the attempt added
-pub after_attempt : (s t : Fields) (h : List Attempt) (m : ℕ) (said : Said) (reply : Reply) → IsMoment m
-    → IsAfter s h t → IsDue t [] m said reply → IsAfter s (attempt_of m said reply ∷ h) (advanced t m reply)
+pub after_attempt : (s t : Fields) (h : List Attempt) (m : ℕ) (said : CodeTexts) (reply : Reply) → IsMoment m
+    → IsAfter s h t → IsDueReply t [] m said reply → IsAfter s (attempt_of m said reply ∷ h) (advanced t m reply)
 after_attempt s t h m said reply is after due = record {
   legal = (is, due_alike s t h [] m said reply after.alike is due, after.legal);
   alike = record {
     settings = after.alike.settings ∙ sym (settings_advanced t m reply);
     failures = ap (failures_by reply) after.alike.failures ∙ sym (failures_advanced t m reply);
     candidates = candidates_advanced s t h m said reply after.alike is due;
+    pairs = pairs_advanced s t h m said reply after.alike is due;
   };
 }
+
+-- a counter after whose pass a token is in its ranges is at most 2^63 - 2
+pub counter_in_range : (t : Fields) (moment c : ℕ) (reply : Reply) → reply ≡ Pass c → IsInRange (advanced t moment reply) → c ≤ 2 ^ 63 - 2
+counter_in_range (Hotp t) moment c reply is range =
+    let next = (rw is at range).next in omega (arith, next)
+counter_in_range (Totp t) moment c reply is range = (rw is at range).last c refl

@@ -1,16 +1,17 @@
 -- Counters that can pass are above those that have passed.
-use Rattle.std.proofs.Common.{◌≡◌, ◌≤◌, ◌<◌, ◌+◌, ℕ, List, [], ◌∷◌, Option, Some, None, max, refl, arith}
+use Rattle.std.proofs.Common.{◌≡◌, ◌≤◌, ◌<◌, ◌+◌, ◌++◌, inl, inr, ℕ, List, [], ◌∷◌, Option, Some, None, max, refl, arith}
 use Rattle.std.specs.Option.{option_map_or}
-use Rattle.otp_core.specs.Attempt.{Attempt, Said, passed, with_passed}
+use Rattle.otp_core.specs.Attempt.{Attempt, CodeTexts, counters_of, used_by, passed}
+use Rattle.otp_core.specs.Attempt.CodeTexts.{OneText, TwoTexts}
 use Rattle.otp_core.specs.Window.{IsAbove, first_due, greatest}
-use Rattle.otp_core.specs.Reply.{IsDue}
+use Rattle.otp_core.specs.Reply.{IsDueReply, IsFitting}
 use Rattle.otp_core.specs.History.{IsLegal}
 use Rattle.otp_core.specs.Laws.{CandidatesAreNew, UsedStaysUsed}
 use Rattle.otp_core.specs.declared.token.answer.Reply.{Reply}
 use Rattle.otp_core.specs.declared.token.answer.Reply.TheVariants.{Pass, Fail, Locked}
 use Rattle.otp_core.specs.declared.token.kinds.HotpFields.{HotpFields}
 use Rattle.otp_core.specs.declared.token.kinds.Fields.TheVariants.{Hotp, Totp}
-use Rattle.otp_core.proofs.Steps.{first_of, candidate_of}
+use Rattle.otp_core.proofs.Steps.{first_after}
 
 -- a counter above the greatest is above each
 parts_below : (o : Option ℕ) (x c : ℕ) → option_map_or (λ most. max x most) o x < c
@@ -29,19 +30,28 @@ below_first : (o : Option ℕ) (next c : ℕ) → option_map_or (λ m. m + 1) o 
 below_first None next c h m is = absurd (cc)
 below_first (Some g) next c h m is = let same : g ≡ m = cc in omega arith
 
+new_counter : (t : HotpFields) (history : List Attempt) (c : ℕ) → first_due t.next (passed history) ≤ c → IsAbove (passed history) c
+new_counter t history c reached = above_greatest (passed history) c (below_first (greatest (passed history)) t.next c reached)
+
 pub candidates-are_new : CandidatesAreNew
-candidates-are_new (Hotp t) history moment c due =
-    above_greatest (passed history) c (below_first (greatest (passed history)) t.next c due.not_before)
-candidates-are_new (Totp t) history moment c due = due.3
+candidates-are_new (Hotp t) history moment c (inl due) = new_counter t history c due.not_before
+candidates-are_new (Hotp t) history moment c (inr pair) = new_counter t history c pair.0.not_before
+candidates-are_new (Totp t) history moment c (inl due) = due.3
+candidates-are_new (Totp t) history moment c (inr pair) = absurd pair
+
+-- a counter that fits is not before HOTP's first
+not_before : (t : HotpFields) (before : List Attempt) (m : ℕ) (said : CodeTexts) (p : ℕ) → IsFitting (Hotp t) before m said p
+    → first_due t.next (passed before) ≤ p
+not_before t before m (OneText text) p fits = fits.0.not_before
+not_before t before m (TwoTexts one other) p (w, next, pair, first, second) = omega (arith, next, pair.0.not_before)
 
 -- a due reply never moves HOTP's first counter back
-grows_by : (t : HotpFields) (before : List Attempt) (m : ℕ) (said : Said) (reply : Reply)
-    → t.next ≤ first_due t.next (passed before) → IsDue (Hotp t) before m said reply
-    → t.next ≤ first_due t.next (with_passed reply (passed before))
+grows_by : (t : HotpFields) (before : List Attempt) (m : ℕ) (said : CodeTexts) (reply : Reply)
+    → t.next ≤ first_due t.next (passed before) → IsDueReply (Hotp t) before m said reply
+    → t.next ≤ first_due t.next (used_by said reply ++ passed before)
 grows_by t before m said (Pass p) least due =
-    let in_window = candidate_of (Hotp t) before m said p due.1 in
-    let reached : first_due t.next (passed before) ≤ p = in_window.not_before in
-    let first : first_due t.next (p ∷ passed before) ≡ p + 1 = first_of (greatest (passed before)) t.next p reached in
+    let reached = not_before t before m said p due.1 in
+    let first : first_due t.next (counters_of said p ++ passed before) ≡ p + 1 = first_after t before m said p due.1 in
     omega arith
 grows_by t before m said Fail least due = least
 grows_by t before m said Locked least due = least
@@ -51,7 +61,11 @@ first_grows t [] legal = omega arith
 first_grows t (a ∷ before) legal = grows_by t before a.moment a.said a.reply (first_grows t before legal.2) legal.1
 
 pub used-stays_used : UsedStaysUsed
-used-stays_used (Hotp t) history moment c legal due =
+used-stays_used (Hotp t) history moment c legal (inl due) =
     let least = first_grows t history legal in
     let reached : first_due t.next (passed history) ≤ c = due.not_before in omega arith
-used-stays_used (Totp t) history moment c legal due = due.2
+used-stays_used (Hotp t) history moment c legal (inr pair) =
+    let least = first_grows t history legal in
+    let reached : first_due t.next (passed history) ≤ c = pair.0.not_before in omega arith
+used-stays_used (Totp t) history moment c legal (inl due) = due.2
+used-stays_used (Totp t) history moment c legal (inr pair) = absurd pair

@@ -1,29 +1,35 @@
 -- Attempts at passing a token. A history is the list of those so far, the latest first.
-use Rattle.std.specs.Prelude.{ℕ, List, [], ◌∷◌}
+use Rattle.std.specs.Prelude.{ℕ, ◌-◌, List, [], ◌∷◌, ◌++◌}
 use Rattle.otp_core.specs.declared.token.answer.Reply.{Reply}
 use Rattle.otp_core.specs.declared.token.answer.Reply.TheVariants.{Pass, Fail, Locked}
 
--- what a client sent: the text of one code
-pub data Said : Type 0 where
-  OneText : List ℕ → Said
+-- what a client sent: the text of one code, or those of two codes in a row (RFC 4226, section 7.4)
+pub data CodeTexts : Type 0 where
+  OneText : List ℕ → CodeTexts
+  TwoTexts : List ℕ → List ℕ → CodeTexts
 
 -- an attempt: when it was made, what was sent, and the reply
 pub record Attempt : Type 0 where
   pub moment : ℕ
-  pub said : Said
+  pub said : CodeTexts
   pub reply : Reply
 
 -- an attempt of these parts
-abbrev pub attempt_of : ℕ → Said → Reply → Attempt
+abbrev pub attempt_of : ℕ → CodeTexts → Reply → Attempt
 attempt_of moment said reply = record { moment = moment; said = said; reply = reply }
 
--- the counters that passed, and that of one more reply
-abbrev pub with_passed : Reply → List ℕ → List ℕ
-with_passed (Pass counter) counters = counter ∷ counters
-with_passed Fail counters = counters
-with_passed Locked counters = counters
+-- the counters of what passed: of two codes also the one before
+abbrev pub counters_of : CodeTexts → ℕ → List ℕ
+counters_of (OneText text) counter = counter ∷ []
+counters_of (TwoTexts first second) counter = counter ∷ (counter - 1) ∷ []
 
--- the counters that passed in a history, the latest first
+-- the counters that a reply uses
+abbrev pub used_by : CodeTexts → Reply → List ℕ
+used_by said (Pass counter) = counters_of said counter
+used_by said Fail = []
+used_by said Locked = []
+
+-- the counters that a history has used, the latest first: those that passed, and of a pair also the one before
 abbrev pub passed : List Attempt → List ℕ
 passed [] = []
-passed (a ∷ before) = with_passed a.reply (passed before)
+passed (a ∷ before) = used_by a.said a.reply ++ passed before

@@ -40,10 +40,10 @@ pub record IsCodeText (text : List ℕ) : Type 0 where
   pub digits : All IsAsciiDigit text
 
 -- the digest of a hash function
-abbrev pub hash_by : OtpHash → List ℕ → List ℕ
-hash_by Sha1 = sha1
-hash_by Sha256 = sha256
-hash_by Sha512 = sha512
+abbrev pub otp_hash_by : OtpHash → List ℕ → List ℕ
+otp_hash_by Sha1 = sha1
+otp_hash_by Sha256 = sha256
+otp_hash_by Sha512 = sha512
 
 -- the length of the hash function's blocks in bytes
 abbrev pub block_by : OtpHash → ℕ
@@ -53,7 +53,7 @@ block_by Sha512 = 128
 
 -- HOTP with this hash function, as RFC 6238, section 1.2, allows for TOTP
 abbrev pub hotp_text_by : OtpHash → ℕ → List ℕ → ℕ → List ℕ
-hotp_text_by hash = hotp_text (hash_by hash) (block_by hash)
+hotp_text_by hash = hotp_text (otp_hash_by hash) (block_by hash)
 
 -- T, the number of whole steps of x seconds from t0 to a moment
 abbrev pub steps_from : ℕ → ℕ → ℕ → ℕ

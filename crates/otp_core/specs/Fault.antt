@@ -2,7 +2,7 @@
 use Rattle.std.specs.Prelude.{ℕ, List, codes}
 use Rattle.otp_core.specs.declared.fault.OtpFault.{OtpFault}
 use Rattle.otp_core.specs.declared.fault.OtpFault.TheVariants.{SecretLength, DigitCount, Setting}
-use Rattle.otp_core.specs.declared.fault.Setting.TheVariants.{Next, LookAhead, Step, Back, Ahead, MaxDrift, Last, Drift, Limit, Failures}
+use Rattle.otp_core.specs.declared.fault.Setting.TheVariants.{Next, LookAhead, SyncAhead, Step, Back, Ahead, MaxDrift, Last, Drift, Limit, Failures}
 use Rattle.otp_core.specs.declared.fault.Setting as setting
 
 -- the number of a refusal
@@ -15,6 +15,7 @@ fault_number (Setting setting) = 42
 abbrev pub setting_name : setting.Setting → List ℕ
 setting_name Next = codes "next"
 setting_name LookAhead = codes "look_ahead"
+setting_name SyncAhead = codes "sync_ahead"
 setting_name Step = codes "step"
 setting_name Back = codes "back"
 setting_name Ahead = codes "ahead"

@@ -2,15 +2,15 @@
 use Rattle.std.specs.Prelude.{ℕ, pos, ◌≡◌, ◌↔◌, List, [], ◌∷◌, None}
 use Rattle.otp_core.specs.Secret.{IsMoment}
 use Rattle.otp_core.specs.Attempt.{Attempt}
-use Rattle.otp_core.specs.Window.{IsCandidate}
-use Rattle.otp_core.specs.Reply.{IsDue, failures_after}
+use Rattle.otp_core.specs.Window.{IsCandidate, IsPairCandidate}
+use Rattle.otp_core.specs.Reply.{IsDueReply, failures_after}
 use Rattle.otp_core.specs.declared.token.kinds.Fields.{Fields}
 use Rattle.otp_core.specs.declared.token.kinds.Fields.TheVariants.{Hotp, Totp}
 
 -- each reply of a history is the one due after the attempts before it
 abbrev pub IsLegal : Fields → List Attempt → Type 0
 IsLegal start [] = Unit {0}
-IsLegal start (a ∷ before) = IsMoment a.moment × IsDue start before a.moment a.said a.reply × IsLegal start before
+IsLegal start (a ∷ before) = IsMoment a.moment × IsDueReply start before a.moment a.said a.reply × IsLegal start before
 
 -- a token's settings: the token with its state blanked
 abbrev pub settings_of : Fields → Fields
@@ -18,11 +18,12 @@ settings_of (Hotp t) = Hotp (record t { next = 0; failures = 0 })
 settings_of (Totp t) = Totp (record t { last = None; drift = pos 0; failures = 0 })
 
 -- two starts with their histories have equal settings and failures, and at every moment the same
--- counters can pass
+-- counters can pass, alone and in pairs
 pub record AreAlike (start : Fields) (history : List Attempt) (other : Fields) (since : List Attempt) : Type 0 where
   pub settings : settings_of start ≡ settings_of other
   pub failures : failures_after start history ≡ failures_after other since
   pub candidates : (moment c : ℕ) → IsMoment moment → IsCandidate start history moment c ↔ IsCandidate other since moment c
+  pub pairs : (w : ℕ) → IsPairCandidate start history w ↔ IsPairCandidate other since w
 
 -- a token is where a start and a legal history lead
 pub record IsAfter (start : Fields) (history : List Attempt) (token : Fields) : Type 0 where

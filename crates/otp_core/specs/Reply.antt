@@ -1,8 +1,8 @@
 -- The reply due to an attempt, given the start of a token and the history since.
 use Rattle.std.specs.Prelude.{ℕ, ◌+◌, ◌≤◌, ◌<◌, ◌≡◌, List, [], ◌∷◌}
 use Rattle.otp_core.specs.Code.{hotp_text_by}
-use Rattle.otp_core.specs.Attempt.{Attempt, Said}
-use Rattle.otp_core.specs.Window.{IsCandidate}
+use Rattle.otp_core.specs.Attempt.{Attempt, CodeTexts}
+use Rattle.otp_core.specs.Window.{IsCandidate, IsPairCandidate}
 use Rattle.otp_core.specs.declared.hash.OtpHash.TheVariants.{Sha1}
 use Rattle.otp_core.specs.declared.token.answer.Reply.{Reply}
 use Rattle.otp_core.specs.declared.token.answer.Reply.TheVariants.{Pass, Fail, Locked}
@@ -35,18 +35,21 @@ abbrev pub failures_after : Fields → List Attempt → ℕ
 failures_after start [] = failures_of start
 failures_after start (a ∷ before) = failures_by a.reply (failures_after start before)
 
--- the text that was sent is the code of a counter that can pass
-abbrev pub IsFitting : Fields → List Attempt → ℕ → Said → ℕ → Type 0
-IsFitting start history moment (Said.OneText text) c = IsCandidate start history moment c × (code_text start c ≡ text)
+-- the text that was sent is the code of a counter that can pass; or the texts are the codes of a counter and the one
+-- after it, which is the one that passes
+abbrev pub IsFitting : Fields → List Attempt → ℕ → CodeTexts → ℕ → Type 0
+IsFitting start history moment (CodeTexts.OneText text) c = IsCandidate start history moment c × (code_text start c ≡ text)
+IsFitting start history moment (CodeTexts.TwoTexts first second) c =
+    (w : ℕ) × (c ≡ w + 1) × IsPairCandidate start history w × (code_text start w ≡ first) × (code_text start (w + 1) ≡ second)
 
 -- the reply that is due: Locked where the failures have reached the limit, else Pass of the least
 -- counter that fits, else Fail
-abbrev pub IsDue : Fields → List Attempt → ℕ → Said → Reply → Type 0
-IsDue start history moment said Locked = limit_of start ≤ failures_after start history
-IsDue start history moment said (Pass c) =
+abbrev pub IsDueReply : Fields → List Attempt → ℕ → CodeTexts → Reply → Type 0
+IsDueReply start history moment said Locked = limit_of start ≤ failures_after start history
+IsDueReply start history moment said (Pass c) =
     (failures_after start history < limit_of start)
     × IsFitting start history moment said c
     × ((k : ℕ) → IsFitting start history moment said k → c ≤ k)
-IsDue start history moment said Fail =
+IsDueReply start history moment said Fail =
     (failures_after start history < limit_of start)
     × ((k : ℕ) → IsFitting start history moment said k → ⊥)

@@ -4,21 +4,22 @@ use Rattle.std.specs.Option.{ForSome}
 use Rattle.otp_core.specs.declared.fault.OtpFault.{OtpFault}
 use Rattle.otp_core.specs.declared.fault.OtpFault.TheVariants as fault
 use Rattle.otp_core.specs.declared.fault.Setting.{Setting}
-use Rattle.otp_core.specs.declared.fault.Setting.TheVariants.{Next, LookAhead, Step, Back, Ahead, MaxDrift, Last, Drift, Limit, Failures}
+use Rattle.otp_core.specs.declared.fault.Setting.TheVariants.{Next, LookAhead, SyncAhead, Step, Back, Ahead, MaxDrift, Last, Drift, Limit, Failures}
 use Rattle.otp_core.specs.declared.token.kinds.HotpFields.{HotpFields}
 use Rattle.otp_core.specs.declared.token.kinds.TotpFields.{TotpFields}
 use Rattle.otp_core.specs.declared.token.kinds.Fields.{Fields}
 use Rattle.otp_core.specs.declared.token.kinds.Fields.TheVariants.{Hotp, Totp}
 
--- the settings of a HOTP token are in their ranges
+-- the fields of a HOTP token are in their ranges
 pub record IsHotpInRange (t : HotpFields) : Type 0 where
   pub next : t.next ≤ 2 ^ 63 - 1
   pub look_ahead : t.look_ahead ≤ 100
+  pub sync_ahead : t.sync_ahead ≤ 1000
   pub limit : t.limit ≤ 100
   pub some_limit : 1 ≤ t.limit
   pub failures : t.failures ≤ t.limit
 
--- the settings of a TOTP token are in their ranges
+-- the fields of a TOTP token are in their ranges
 pub record IsTotpInRange (t : TotpFields) : Type 0 where
   pub some_step : 1 ≤ t.step
   pub step : t.step ≤ 3600
@@ -31,7 +32,7 @@ pub record IsTotpInRange (t : TotpFields) : Type 0 where
   pub limit : t.limit ≤ 100
   pub failures : t.failures ≤ t.limit
 
--- the settings of a token are in their ranges
+-- the fields of a token are in their ranges
 abbrev pub IsInRange : Fields → Type 0
 IsInRange (Hotp t) = IsHotpInRange t
 IsInRange (Totp t) = IsTotpInRange t
@@ -41,6 +42,7 @@ abbrev pub hotp_settings : HotpFields → List (Setting × Bool)
 hotp_settings t =
     (Next, nat_le t.next (2 ^ 63 - 1))
     ∷ (LookAhead, nat_le t.look_ahead 100)
+    ∷ (SyncAhead, nat_le t.sync_ahead 1000)
     ∷ (Limit, nat_le 1 t.limit && nat_le t.limit 100)
     ∷ (Failures, nat_le t.failures t.limit)
     ∷ []

@@ -1,10 +1,20 @@
 -- How a reply changes a token's state.
-use Rattle.std.specs.Prelude.{ℕ, ◌+◌, pos, ◌-ℤ◌, Some}
-use Rattle.otp_core.specs.Window.{step_at}
+use Rattle.std.specs.Prelude.{ℕ, ◌+◌, ◌-◌, ◌^◌, ◌≤◌, pos, ◌-ℤ◌, [], Option, None, Some}
+use Rattle.otp_core.specs.Window.{step_at, IsCandidate}
 use Rattle.otp_core.specs.declared.token.answer.Reply.{Reply}
 use Rattle.otp_core.specs.declared.token.answer.Reply.TheVariants.{Pass, Fail, Locked}
 use Rattle.otp_core.specs.declared.token.kinds.Fields.{Fields}
 use Rattle.otp_core.specs.declared.token.kinds.Fields.TheVariants.{Hotp, Totp}
+
+-- a token can go on after a pass of this counter at a moment
+abbrev pub CanMoveTo : Fields → ℕ → ℕ → Type 0
+CanMoveTo (Hotp t) moment c = c ≤ 2 ^ 63 - 2
+CanMoveTo (Totp t) moment w = IsCandidate (Totp t) [] moment w
+
+-- the reply, by the counter that fits
+abbrev pub reply_of : Option ℕ → Reply
+reply_of None = Fail
+reply_of (Some c) = Pass c
 
 -- the token after a pass of a counter at a moment
 abbrev pub after_pass : Fields → ℕ → ℕ → Fields

@@ -19,9 +19,9 @@ abbrev pub first_due : ℕ → List ℕ → ℕ
 first_due next counters = option_map_or (λ most. most + 1) (greatest counters) next
 
 -- a counter of HOTP's window (RFC 4226, section 7.4); the greatest that can pass is 2^63 - 2
-pub record IsCounterDue (first look_ahead c : ℕ) : Type 0 where
+pub record IsCounterDue (first ahead c : ℕ) : Type 0 where
   pub not_before : first ≤ c
-  pub within : c ≤ first + look_ahead
+  pub within : c ≤ first + ahead
   pub most : c ≤ 2 ^ 63 - 2
 
 -- T, TOTP's present step (RFC 6238, section 4.2)
@@ -43,7 +43,7 @@ drift_after t (a ∷ before) = drift_by a.reply (pos (step_at t a.moment)) (drif
 -- `back` steps before it to `ahead` steps after it, and at most max_drift from the present step
 pub record IsStepNear (now : ℕ) (drift : ℤ) (back ahead max_drift w : ℕ) : Type 0 where
   pub not_before : ((pos now +ℤ drift) -ℤ pos back) ≤ℤ pos w
-  pub not_behind : pos w ≤ℤ ((pos now +ℤ drift) +ℤ pos ahead)
+  pub not_after : pos w ≤ℤ ((pos now +ℤ drift) +ℤ pos ahead)
   pub not_early : now ≤ w + max_drift
   pub not_late : w ≤ now + max_drift
 
@@ -51,6 +51,12 @@ pub record IsStepNear (now : ℕ) (drift : ℤ) (back ahead max_drift w : ℕ) :
 abbrev pub IsAbove : List ℕ → ℕ → Type 0
 IsAbove [] w = Unit {0}
 IsAbove (p ∷ counters) w = (p < w) × IsAbove counters w
+
+-- two codes in a row can pass, the first of them that of this counter: HOTP looks further ahead for them than for one
+-- (RFC 4226, section 7.4)
+abbrev pub IsPairCandidate : Fields → List Attempt → ℕ → Type 0
+IsPairCandidate (Hotp t) history w = IsCounterDue (first_due t.next (passed history)) t.sync_ahead w × (w + 1 ≤ 2 ^ 63 - 2)
+IsPairCandidate (Totp t) history w = ⊥
 
 -- the counter can pass at a moment, after a history from a start. A step of TOTP passes once, and
 -- after it no earlier one (RFC 6238, section 5.2).

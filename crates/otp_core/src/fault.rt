@@ -41,8 +41,11 @@ pub enum Setting {
     /// HOTP's next counter.
     Next,
 
-    /// How many counters after the next one HOTP takes too.
+    /// How many counters after HOTP's next one can pass.
     LookAhead,
+
+    /// How many counters after HOTP's next one can be the first of a pair that passes.
+    SyncAhead,
 
     /// The length of a TOTP step in seconds.
     Step,
@@ -77,6 +80,7 @@ impl Setting {
         match self {
             Setting::Next => "next",
             Setting::LookAhead => "look_ahead",
+            Setting::SyncAhead => "sync_ahead",
             Setting::Step => "step",
             Setting::Back => "back",
             Setting::Ahead => "ahead",

@@ -1,6 +1,6 @@
 //! Laws of histories of attempts, for crates that use tokens. Each is the contract of a function
 //! that does nothing.
-ghost use Rattle.otp_core.specs.Laws.{BeginsWithItself, CandidatesAreNew, UsedStaysUsed, HistoriesJoin, OnlyOneReplyIsDue, SomeReplyIsDue};
+ghost use Rattle.otp_core.specs.Laws.{BeginsWithItself, CandidatesAreNew, UsedStaysUsed, HistoriesJoin, LegalHistoriesJoin, OnlyOneReplyIsDue, SomeReplyIsDue};
 
 /// Each token is where it and the empty history lead, so a run may begin with any token.
 pub fn begins_with_itself()
@@ -23,6 +23,12 @@ pub fn used_stays_used()
 /// lead from the start to where the second leads.
 pub fn histories_join()
     ensures { HistoriesJoin }
+{}
+
+/// A legal history that goes on from where another one led is legal from the start on: from both pasts, failures and the
+/// counters that can pass are the same.
+pub fn legal_histories_join()
+    ensures { LegalHistoriesJoin }
 {}
 
 /// No two replies are due to one attempt: from the start and the history it follows whether a

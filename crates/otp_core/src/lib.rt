@@ -1,8 +1,8 @@
 //! HOTP (RFC 4226) and TOTP (RFC 6238) codes, and tokens that judge them.
 //!
 //! A code's contract says that it is the RFC's formula of its arguments. A token's contract says
-//! that each reply is the one due after all earlier attempts (`Token::attempt`). No call takes
-//! memory.
+//! that each reply is the one due after all earlier attempts (`Token::attempt`, and `Token::sync` for two
+//! codes in a row). No call takes memory.
 //!
 //! ```rust
 //! use mac_core::HSha1;
@@ -19,8 +19,6 @@ mod fault;
 mod hash;
 pub mod laws;
 mod secret;
-#[cfg(test)]
-mod tests;
 mod token;
 
 pub use code::{Code, hotp, hotp_with, step, truncate};

@@ -1,9 +1,9 @@
 //! Tokens of either kind, each setting within its range.
-ghost use Rattle.std.specs.Prelude.{◌≡◌, ◌∷◌, List, None, MatchResult};
+ghost use Rattle.std.specs.Prelude.{ℕ, ◌≡◌, ◌≤◌, ◌-◌, ◌^◌, ◌∷◌, List, None, MatchResult};
 ghost use Rattle.otp_core.specs.Settings.{IsInRange, IsRefusalOf, first_outside, hotp_settings, totp_settings, unlocked};
 ghost use Rattle.otp_core.specs.Attempt.{Attempt, attempt_of};
-ghost use Rattle.otp_core.specs.Attempt.Said.{OneText};
-ghost use Rattle.otp_core.specs.Reply.{IsDue};
+ghost use Rattle.otp_core.specs.Attempt.CodeTexts.{OneText, TwoTexts};
+ghost use Rattle.otp_core.specs.Reply.{IsDueReply};
 ghost use Rattle.otp_core.specs.History.{IsAfter};
 ghost use Rattle.otp_core.specs.State.{advanced};
 ghost use Rattle.otp_core.specs.declared.token.kinds.Fields.{Fields as TheFields};
@@ -16,7 +16,7 @@ mod window;
 use crate::fault::OtpFault;
 use crate::secret::Moment;
 pub use answer::Reply;
-use answer::answer;
+use answer::{answer, answer_pair};
 pub use kinds::{Fields, HotpFields, TotpFields};
 use std::marker::Model;
 
@@ -98,17 +98,39 @@ impl Token {
     /// The fields change by the reply. A pass of HOTP moves `next` to the counter after it; a pass
     /// of TOTP sets `last` to its step, and `drift` to the steps by which that is ahead of the
     /// present one; both set the failures to 0. `Fail` adds one to the failures; `Locked` changes
-    /// nothing.
+    /// nothing. A counter that passes is at most 2^63 - 2.
     pub fn attempt(&mut self, moment: Moment, text: &[u8]) -> Reply
         ensures due { (start : TheFields) (history : List Attempt)
-            → IsAfter start history self.old → IsDue start history moment (OneText text.now) result }
+            → IsAfter start history self.old → IsDueReply start history moment (OneText text.now) result }
         ensures after { (start : TheFields) (history : List Attempt)
             → IsAfter start history self.old
             → IsAfter start (attempt_of moment (OneText text.now) result ∷ history) self.new }
         ensures state { self.new ≡ advanced self.old moment result }
+        ensures counter { (c : ℕ) → result ≡ Reply.Pass c → c ≤ 2 ^ 63 - 2 }
     {
         prove!(moment.seconds() <= 253_402_300_799);
         answer(&mut self.fields, moment, text)
+    }
+
+    /// Judges two texts as codes in a row at `moment`, so that a HOTP counter that ran far ahead is found again (RFC 4226,
+    /// section 7.4): `Locked` where the failures have reached the limit; else `Pass` with the counter of the second text,
+    /// where the texts are the codes of two counters in a row, the first of them among `next` and the `sync_ahead` counters
+    /// after it, by the least such pair; else `Fail`. No code of a TOTP token passes so. For every start and history that
+    /// lead to this token, the reply is the one due after them, and with this attempt added they lead to the token as it is
+    /// afterwards: both counters of a pair that passed are used.
+    ///
+    /// It makes at most two codes more than `sync_ahead`. The fields change as by `attempt`,
+    /// and a counter that passes is at most 2^63 - 2.
+    pub fn sync(&mut self, moment: Moment, first: &[u8], second: &[u8]) -> Reply
+        ensures due { (start : TheFields) (history : List Attempt) → IsAfter start history self.old
+            → IsDueReply start history moment (TwoTexts first.now second.now) result }
+        ensures after { (start : TheFields) (history : List Attempt) → IsAfter start history self.old
+            → IsAfter start (attempt_of moment (TwoTexts first.now second.now) result ∷ history) self.new }
+        ensures state { self.new ≡ advanced self.old moment result }
+        ensures counter { (c : ℕ) → result ≡ Reply.Pass c → c ≤ 2 ^ 63 - 2 }
+    {
+        prove!(moment.seconds() <= 253_402_300_799);
+        answer_pair(&mut self.fields, moment, first, second)
     }
 
     /// Sets the failures to 0, and changes nothing else.

@@ -6,7 +6,7 @@ use crate::fault::Setting;
 use crate::hash::OtpHash;
 use crate::secret::{Digits, Moment, Secret};
 
-// The most failures that lock a token.
+// The greatest `limit` of a token.
 const MOST_LIMIT: u64 = 100;
 
 // The greatest counter that can pass.
@@ -27,6 +27,9 @@ pub struct HotpFields {
     /// How many counters after `next` can pass too, at most 100 (RFC 4226, section 7.4).
     pub look_ahead: u64,
 
+    /// How many counters after `next` can be the first of a pair that passes, at most 1000 (RFC 4226, section 7.4).
+    pub sync_ahead: u64,
+
     /// The number of failures that locks the token, 1 to 100 (RFC 4226, section 7.3).
     pub limit: u64,
 
@@ -44,6 +47,8 @@ impl HotpFields {
             Some(Setting::Next)
         } else if self.look_ahead > 100 {
             Some(Setting::LookAhead)
+        } else if self.sync_ahead > 1000 {
+            Some(Setting::SyncAhead)
         } else if self.limit < 1 || self.limit > MOST_LIMIT {
             Some(Setting::Limit)
         } else if self.failures > self.limit {
@@ -62,6 +67,7 @@ impl HotpFields {
             digits: self.digits,
             next: self.next,
             look_ahead: self.look_ahead,
+            sync_ahead: self.sync_ahead,
             limit: self.limit,
             failures: self.failures,
         }

@@ -1,5 +1,5 @@
 //! The counters that can pass now, as one range.
-ghost use Rattle.std.specs.Prelude.{◌≡◌, ◌≤◌, ◌<◌, ◌↔◌, ℕ, pos, ◌-ℤ◌, [], nat_abs, Option};
+ghost use Rattle.std.specs.Prelude.{◌≡◌, ◌≤◌, ◌<◌, ◌↔◌, ◌+◌, ◌-◌, ◌^◌, ℕ, pos, ◌-ℤ◌, [], nat_abs, Option};
 ghost use Rattle.std.specs.Option.{ForSome};
 ghost use Rattle.otp_core.specs.Settings.{IsHotpInRange, IsTotpInRange, IsInRange};
 ghost use Rattle.otp_core.specs.Window.{IsCounterDue, IsStepNear, IsCandidate, step_at};
@@ -38,6 +38,19 @@ fn counters_due(token: &HotpFields) -> Counters
     Counters {
         first: token.next,
         end: (token.next + token.look_ahead).min(MOST_COUNTER) + 1,
+    }
+}
+
+/// The counters that can be the first of a pair that passes.
+pub(crate) fn pairs_due(token: &HotpFields) -> Counters
+    requires { IsHotpInRange token.now }
+    ensures pairs { (w : ℕ) → (IsCounterDue token.now.next token.now.sync_ahead w × (w + 1 ≤ 2 ^ 63 - 2))
+        ↔ ((result.first ≤ w) × (w < result.end)) }
+    ensures most { result.end ≤ 2 ^ 63 }
+{
+    Counters {
+        first: token.next,
+        end: (token.next + token.sync_ahead).min(MOST_COUNTER - 1) + 1,
     }
 }
 

@@ -1,15 +1,17 @@
 //! Values from outside: RFC 4226, section 5.4 and appendix D, and RFC 6238, appendix B; the codes of a
 //! few other counters are from Python's hmac.
-use crate::laws::{
+use mac_core::{HSha1, HSha256, HSha512, HashFn, Prepared, Tag};
+use otp_core::laws::{
     begins_with_itself, candidates_are_new, histories_join, only_one_reply_is_due, used_stays_used,
 };
-use crate::{
+use otp_core::{
     Code, Digits, Fields, HotpFields, Moment, OtpFault, OtpHash, Reply, Secret, Setting, Token,
     TotpFields, hotp, hotp_with, step, truncate,
 };
-use mac_core::{HSha1, HSha256, HSha512, HashFn, Prepared, Tag};
 use std::process::Abort;
 use std::test::Fail;
+
+mod pairs;
 
 // The secret of RFC 6238, appendix B; its first 20 bytes are also that of RFC 4226, appendix D.
 const SECRET: &[u8; 64] = b"1234567890123456789012345678901234567890123456789012345678901234";
@@ -189,6 +191,7 @@ fn setting_names(rt: HostRuntime) -> Result<(), Fail> {
     let rows = [
         (Setting::Next, "next"),
         (Setting::LookAhead, "look_ahead"),
+        (Setting::SyncAhead, "sync_ahead"),
         (Setting::Step, "step"),
         (Setting::Back, "back"),
         (Setting::Ahead, "ahead"),
@@ -205,14 +208,15 @@ fn setting_names(rt: HostRuntime) -> Result<(), Fail> {
     Ok(())
 }
 
-// The HOTP token with these fields: next, look_ahead, limit and failures.
-fn hotp_fields(rt: &impl Abort, state: (u64, u64, u64, u64)) -> HotpFields {
-    let (next, look_ahead, limit, failures) = state;
+// The HOTP token with these fields: next, look_ahead, sync_ahead, limit and failures.
+fn hotp_fields(rt: &impl Abort, state: (u64, u64, u64, u64, u64)) -> HotpFields {
+    let (next, look_ahead, sync_ahead, limit, failures) = state;
     HotpFields {
         secret: Secret::new(&SECRET[..20]).ok().expect(rt, "a secret"),
         digits: Digits::new(6).ok().expect(rt, "six digits"),
         next,
         look_ahead,
+        sync_ahead,
         limit,
         failures,
     }
@@ -222,13 +226,14 @@ fn hotp_fields(rt: &impl Abort, state: (u64, u64, u64, u64)) -> HotpFields {
 fn hotp_ranges(rt: HostRuntime) {
     let top = 0x7fff_ffff_ffff_ffff;
     let rows = [
-        ((0, 0, 1, 0), None),
-        ((top, 100, 100, 100), None),
-        ((top + 1, 101, 0, 1), Some(Setting::Next)),
-        ((0, 101, 0, 1), Some(Setting::LookAhead)),
-        ((0, 0, 0, 1), Some(Setting::Limit)),
-        ((0, 0, 101, 102), Some(Setting::Limit)),
-        ((0, 0, 3, 4), Some(Setting::Failures)),
+        ((0, 0, 0, 1, 0), None),
+        ((top, 100, 1000, 100, 100), None),
+        ((top + 1, 101, 1001, 0, 1), Some(Setting::Next)),
+        ((0, 101, 1001, 0, 1), Some(Setting::LookAhead)),
+        ((0, 0, 1001, 0, 1), Some(Setting::SyncAhead)),
+        ((0, 0, 0, 0, 1), Some(Setting::Limit)),
+        ((0, 0, 0, 101, 102), Some(Setting::Limit)),
+        ((0, 0, 0, 3, 4), Some(Setting::Failures)),
     ];
     for (state, want) in rows {
         let fault = Token::hotp(hotp_fields(&rt, state)).err();
@@ -291,7 +296,7 @@ fn totp_ranges(rt: HostRuntime) {
 
 #[test]
 fn unlock_sets_failures_alone(rt: HostRuntime) {
-    let token = Token::hotp(hotp_fields(&rt, (5, 3, 3, 2)));
+    let token = Token::hotp(hotp_fields(&rt, (5, 3, 7, 3, 2)));
     let mut token = token.ok().expect(&rt, "a token");
     token.unlock();
     match token.copy().fields() {
@@ -299,10 +304,11 @@ fn unlock_sets_failures_alone(rt: HostRuntime) {
             let state = (
                 fields.next,
                 fields.look_ahead,
+                fields.sync_ahead,
                 fields.limit,
                 fields.failures,
             );
-            assert_eq!(rt; state, (5, 3, 3, 0));
+            assert_eq!(rt; state, (5, 3, 7, 3, 0));
         }
         Fields::Totp(_) => panic!(rt; "a token of the other kind"),
     }
@@ -332,14 +338,22 @@ fn hotp_attempts(rt: HostRuntime) {
         (5, "162583", Reply::Pass(7)),
         (5, "755224x", Reply::Fail),
     ];
-    check_attempts(&rt, Token::hotp(hotp_fields(&rt, (0, 3, 3, 0))), &attempts);
+    check_attempts(
+        &rt,
+        Token::hotp(hotp_fields(&rt, (0, 3, 0, 3, 0))),
+        &attempts,
+    );
     let attempts = [
         (1, "000000", Reply::Fail),
         (2, "111111", Reply::Fail),
         (3, "755224", Reply::Locked),
         (4, "755224", Reply::Locked),
     ];
-    check_attempts(&rt, Token::hotp(hotp_fields(&rt, (0, 0, 2, 0))), &attempts);
+    check_attempts(
+        &rt,
+        Token::hotp(hotp_fields(&rt, (0, 0, 0, 2, 0))),
+        &attempts,
+    );
 }
 
 // Other spellings of the code 755224 of counter 0.
@@ -349,7 +363,11 @@ fn texts_that_fail(rt: HostRuntime) {
         "", "75522", "0755224", " 755224", "755224 ", "+755224", "75522A", "755224\n",
     ] {
         let attempts = [(0, text, Reply::Fail), (0, "755224", Reply::Pass(0))];
-        check_attempts(&rt, Token::hotp(hotp_fields(&rt, (0, 0, 3, 0))), &attempts);
+        check_attempts(
+            &rt,
+            Token::hotp(hotp_fields(&rt, (0, 0, 0, 3, 0))),
+            &attempts,
+        );
     }
 }
 
@@ -365,7 +383,7 @@ fn hotp_edges(rt: HostRuntime) {
     ];
     check_attempts(
         &rt,
-        Token::hotp(hotp_fields(&rt, (top - 1, 100, 9, 0))),
+        Token::hotp(hotp_fields(&rt, (top - 1, 100, 0, 9, 0))),
         &attempts,
     );
     let attempts = [
@@ -375,7 +393,7 @@ fn hotp_edges(rt: HostRuntime) {
     ];
     check_attempts(
         &rt,
-        Token::hotp(hotp_fields(&rt, (2380, 20, 3, 0))),
+        Token::hotp(hotp_fields(&rt, (2380, 20, 0, 3, 0))),
         &attempts,
     );
 }
@@ -505,7 +523,7 @@ fn nothing_passes_before_t0(rt: HostRuntime) {
 
 #[test]
 fn unlock_opens_again(rt: HostRuntime) {
-    let token = Token::hotp(hotp_fields(&rt, (0, 0, 1, 0)));
+    let token = Token::hotp(hotp_fields(&rt, (0, 0, 0, 1, 0)));
     let mut token = token.ok().expect(&rt, "a token");
     let now = moment(&rt, 0);
     assert_eq!(rt; token.attempt(now, b"000000"), Reply::Fail);

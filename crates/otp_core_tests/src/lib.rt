@@ -1,0 +1,5 @@
+//! Tests of `otp_core`.
+#![tactic(auto)]
+
+#[cfg(test)]
+mod tests;
