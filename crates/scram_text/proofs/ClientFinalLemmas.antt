@@ -7,14 +7,14 @@ use Rattle.std.proofs.lemmas.List.Splits.{join_with_byte-slice_split}
 use Rattle.scram_text.specs.Class.{IsNonce}
 use Rattle.scram_text.specs.Base64Field.{base64, IsField}
 use Rattle.scram_text.specs.Parts.{parts, joined, AreExtensions}
-use Rattle.scram_text.specs.Messages.{ClientFinalParts, final_front, client_final_text, IsClientFinal}
+use Rattle.scram_text.specs.Messages.{ClientFinalParts, client_final_without_proof, client_final_text, IsClientFinal}
 use Rattle.scram_text.specs.Faults.{Fits, fault, places, IsExtensionMisfit, IsPartFault, IsClientFinalFault}
 use Rattle.scram_text.specs.Shown.{ShowsClientFinal}
 use Rattle.scram_text.specs.declared.client_final.ClientFinal.{ClientFinal}
 use Rattle.scram_text.specs.declared.fault.TextFault.{TextFault}
 use Rattle.scram_text.specs.declared.fault.TextWhy.TheVariants.{Channel, Nonce, Extension, Proof}
 use Rattle.scram_text.proofs.PartLemmas.{parts-append, parts_whole, misfit_here, misfit_later}
-use Rattle.scram_text.proofs.PlaceLemmas.{AllFit, fits_cons, fits_end, places_of, misfit-append, misfit_behind, fit_behind, no_fault, nonce_lacks, extensions_lack, parts-joined, last_once, field_fits, field_once}
+use Rattle.scram_text.proofs.PlaceLemmas.{AllFit, fits_cons, fits_end, places_of, misfit-append, misfit_after, fit_after, no_fault, nonce_lacks, extensions_lack, parts-joined, last_once, field_fits, field_once}
 
 -- the parts of the message that these parts make
 abbrev pub final_parts : ClientFinalParts → List (List ℕ)
@@ -23,8 +23,8 @@ final_parts p =
 
 -- the front has a part for each of its pieces
 front_parts : (p : ClientFinalParts) → IsField 1536 p.channel → IsNonce 512 p.nonce → AreExtensions p.extensions
-    → parts (final_front p) ≡ (codes "c=" ++ base64 p.channel) ∷ (codes "r=" ++ p.nonce) ∷ p.extensions
-unfolding final_front
+    → parts (client_final_without_proof p) ≡ (codes "c=" ++ base64 p.channel) ∷ (codes "r=" ++ p.nonce) ∷ p.extensions
+unfolding client_final_without_proof
 front_parts p channel nonce extensions =
     parts-joined (codes "c=" ++ base64 p.channel) ((codes "r=" ++ p.nonce) ∷ p.extensions)
     (channel.field.no_comma, (nonce_lacks 512 p.nonce nonce, extensions_lack p.extensions extensions))
@@ -34,7 +34,7 @@ pub parts_final : (text : List ℕ) (p : ClientFinalParts) → IsClientFinal tex
 unfolding client_final_text
 parts_final text p is =
     rw (is.spelled) (rw (
-      parts-append (final_front p) (codes "p=" ++ base64 p.proof),
+      parts-append (client_final_without_proof p) (codes "p=" ++ base64 p.proof),
       front_parts p is.channel is.nonce is.extensions,
       parts_whole (codes "p=" ++ base64 p.proof) is.proof.field.no_comma,
     ) refl)
@@ -70,7 +70,7 @@ final_fit : (channel nonce proof : List ℕ) (extensions : List (List ℕ))
 final_fit channel nonce proof extensions is_channel is_nonce are is_proof =
     rw (final_places channel nonce proof extensions)
     (fits_cons 512 Channel _ channel _ is_channel (fits_cons 512 Nonce _ nonce _ is_nonce
-    (fit_behind 512 (Proof ∷ []) extensions (proof ∷ []) are (fits_cons 512 Proof [] proof [] is_proof (fits_end 512 [])))))
+    (fit_after 512 (Proof ∷ []) extensions (proof ∷ []) are (fits_cons 512 Proof [] proof [] is_proof (fits_end 512 [])))))
 
 -- the parts of a message fit their places
 pub client_final_fit : (p : ClientFinalParts) → IsField 1536 p.channel → IsNonce 512 p.nonce → AreExtensions p.extensions → IsField 64 p.proof
@@ -89,11 +89,11 @@ client_final_no_fault text p f is =
 pub client_final_spelled : (text front last channel_part nonce_part : List ℕ) (p : ClientFinalParts)
     → text ≡ front ++ 44 ∷ last → parts front ≡ channel_part ∷ nonce_part ∷ p.extensions
     → channel_part ≡ codes "c=" ++ base64 p.channel → nonce_part ≡ codes "r=" ++ p.nonce → last ≡ codes "p=" ++ base64 p.proof
-    → (front ≡ final_front p) × (text ≡ client_final_text p)
-unfolding final_front client_final_text
+    → (front ≡ client_final_without_proof p) × (text ≡ client_final_text p)
+unfolding client_final_without_proof client_final_text
 client_final_spelled text front last channel_part nonce_part p whole cut is_channel is_nonce is_proof =
     let pieces : channel_part ∷ nonce_part ∷ p.extensions ≡ (codes "c=" ++ base64 p.channel) ∷ (codes "r=" ++ p.nonce) ∷ p.extensions = cc (is_channel, is_nonce) in
-    let front_is : front ≡ final_front p = sym (join_with_byte-slice_split 44 front) ∙ ap joined (cut ∙ pieces) in
+    let front_is : front ≡ client_final_without_proof p = sym (join_with_byte-slice_split 44 front) ∙ ap joined (cut ∙ pieces) in
     (front_is, rw (whole, front_is, is_proof) refl)
 
 -- the parts that were found are all that a text can have
@@ -138,5 +138,5 @@ proof_fault channel nonce proof extensions k is_channel is_nonce are no_proof at
       omega (arith, length-append extensions (proof ∷ [])),
       rw (final_places channel nonce proof extensions)
           (misfit_later 512 0 Channel _ channel _ _ is_channel (misfit_later 512 1 Nonce _ nonce _ _ is_nonce
-          (misfit_behind 512 (Proof ∷ []) 2 k extensions (proof ∷ []) _ at are (misfit_here 512 k Proof [] proof [] no_proof)))),
+          (misfit_after 512 (Proof ∷ []) 2 k extensions (proof ∷ []) _ at are (misfit_here 512 k Proof [] proof [] no_proof)))),
     )

@@ -10,9 +10,9 @@ use Rattle.std.proofs.lemmas.Bool.{cases_Bool, eqb-true, both_ways}
 use Rattle.std.proofs.lemmas.List.Splits.{join_with_byte-slice_split}
 use Rattle.scram_text.specs.Class.{is_cb_char, IsNonce, IsText}
 use Rattle.scram_text.specs.Name.{LacksComma, IsSaslName}
-use Rattle.scram_text.specs.Parts.{parts, joined, is_flag, is_cb_name, authz_text, mext_parts, is_headed, IsValue, AreExtensions}
+use Rattle.scram_text.specs.Parts.{parts, joined, is_flag, is_cb_name, authzid_text, mext_parts, is_headed, IsValue, AreExtensions}
 use Rattle.scram_text.specs.Messages.{ClientFirstParts, header_text, bare_parts, bare_text, client_first_text, IsClientFirst}
-use Rattle.scram_text.specs.Faults.{Fits, fault, places, IsAuthz, IsFirstMisfit, IsExtensionMisfit, marked_places, first_of, client_first_places, IsClientFirstFault}
+use Rattle.scram_text.specs.Faults.{Fits, fault, places, IsAuthzid, IsFirstMisfit, IsExtensionMisfit, marked_places, first_of, client_first_places, IsClientFirstFault}
 use Rattle.scram_text.specs.Shown.{ShowsClientFirst}
 use Rattle.scram_text.specs.Pieces.{IsMarked, IsBareMisfit}
 use Rattle.scram_text.specs.declared.client_first.ClientFirst.{ClientFirst}
@@ -20,7 +20,7 @@ use Rattle.scram_text.specs.declared.fault.TextFault.{TextFault}
 use Rattle.scram_text.specs.declared.fault.TextWhy.{TextWhy}
 use Rattle.scram_text.specs.declared.fault.TextWhy.TheVariants.{Flag, Authzid, Name, Nonce, Extension}
 use Rattle.scram_text.proofs.PartLemmas.{both, parts_front, misfit_here, misfit_later}
-use Rattle.scram_text.proofs.PlaceLemmas.{AllFit, fits_cons, fits_end, fit_behind, fault_at, no_fault_at, class_lacks, nonce_lacks, extensions_lack, parts-joined_list, misfit_at}
+use Rattle.scram_text.proofs.PlaceLemmas.{AllFit, fits_cons, fits_end, fit_after, fault_at, no_fault_at, class_lacks, nonce_lacks, extensions_lack, parts-joined_list, misfit_at}
 use Rattle.scram_text.proofs.MarkedLemmas.{places-cons, places_front, marked_of, marked_lack, marked_some, marked_once, marked_fit, marked_misfit, marked_length}
 
 -- the parts after a mandatory extension
@@ -38,9 +38,9 @@ flag_lacks (a ∷ b ∷ name) is =
     let letters = both (a == 112) (b == 61) front.0 in
     rw (eqb-true a 112 letters.0, eqb-true b 61 letters.1) (cb_name_lacks name front.1)
 
-pub authz_lacks : (authz : Option (List ℕ)) → IfSome authz IsSaslName → LacksComma (authz_text authz)
-authz_lacks None is = refl
-authz_lacks (Some spelled) is = is.no_comma
+pub authzid_lacks : (authzid : Option (List ℕ)) → IfSome authzid IsSaslName → LacksComma (authzid_text authzid)
+authzid_lacks None is = refl
+authzid_lacks (Some spelled) is = is.no_comma
 
 -- the bare message is cut into its parts
 pub parts_bare : (p : ClientFirstParts) → IfSome p.mext IsValue → IsSaslName p.name → IsNonce 256 p.nonce → AreExtensions p.extensions
@@ -51,46 +51,46 @@ parts_bare p mext name nonce extensions =
     (marked_lack p.mext (later_parts p) mext (name.no_comma, (nonce_lacks 256 p.nonce nonce, extensions_lack p.extensions extensions)))
 
 -- a header and what follows it
-pub regroup : (flag authz rest : List ℕ) → (flag ++ 44 ∷ (authz ++ 44 ∷ [])) ++ rest ≡ flag ++ 44 ∷ (authz ++ 44 ∷ rest)
-regroup flag authz rest =
-    append_assoc flag (44 ∷ (authz ++ 44 ∷ [])) rest
-    ∙ ap (λ (t : List ℕ). flag ++ 44 ∷ t) (append_assoc authz (44 ∷ []) rest)
+pub regroup : (flag authzid rest : List ℕ) → (flag ++ 44 ∷ (authzid ++ 44 ∷ [])) ++ rest ≡ flag ++ 44 ∷ (authzid ++ 44 ∷ rest)
+regroup flag authzid rest =
+    append_assoc flag (44 ∷ (authzid ++ 44 ∷ [])) rest
+    ∙ ap (λ (t : List ℕ). flag ++ 44 ∷ t) (append_assoc authzid (44 ∷ []) rest)
 
 -- a message is cut into its parts
 pub parts_client_first : (text : List ℕ) (p : ClientFirstParts) → IsClientFirst text p
-    → parts text ≡ p.flag ∷ authz_text p.authz ∷ bare_parts p
+    → parts text ≡ p.flag ∷ authzid_text p.authzid ∷ bare_parts p
 unfolding client_first_text header_text
 parts_client_first text p is =
-    let whole : text ≡ p.flag ++ 44 ∷ (authz_text p.authz ++ 44 ∷ bare_text p) = is.spelled ∙ regroup p.flag (authz_text p.authz) (bare_text p) in
-    ap parts whole ∙ parts_front p.flag (authz_text p.authz ++ 44 ∷ bare_text p) (flag_lacks p.flag is.flag)
-    ∙ ap (λ (ps : List (List ℕ)). p.flag ∷ ps) (parts_front (authz_text p.authz) (bare_text p) (authz_lacks p.authz is.authz))
-    ∙ ap (λ (ps : List (List ℕ)). p.flag ∷ authz_text p.authz ∷ ps) (parts_bare p is.mext is.name is.nonce is.extensions)
+    let whole : text ≡ p.flag ++ 44 ∷ (authzid_text p.authzid ++ 44 ∷ bare_text p) = is.spelled ∙ regroup p.flag (authzid_text p.authzid) (bare_text p) in
+    ap parts whole ∙ parts_front p.flag (authzid_text p.authzid ++ 44 ∷ bare_text p) (flag_lacks p.flag is.flag)
+    ∙ ap (λ (ps : List (List ℕ)). p.flag ∷ ps) (parts_front (authzid_text p.authzid) (bare_text p) (authzid_lacks p.authzid is.authzid))
+    ∙ ap (λ (ps : List (List ℕ)). p.flag ∷ authzid_text p.authzid ∷ ps) (parts_bare p is.mext is.name is.nonce is.extensions)
 
-authz_once : (one other : Option (List ℕ)) → authz_text one ≡ authz_text other → one ≡ other
-authz_once None None same = refl
-authz_once None (Some v) same = absurd (cc same)
-authz_once (Some v) None same = absurd (cc same)
-authz_once (Some v) (Some w) same = let names : v ≡ w = cc same in ap Some names
+authzid_once : (one other : Option (List ℕ)) → authzid_text one ≡ authzid_text other → one ≡ other
+authzid_once None None same = refl
+authzid_once None (Some v) same = absurd (cc same)
+authzid_once (Some v) None same = absurd (cc same)
+authzid_once (Some v) (Some w) same = let names : v ≡ w = cc same in ap Some names
 
-parts_once : (p q : ClientFirstParts) → p.flag ≡ q.flag → p.authz ≡ q.authz → p.mext ≡ q.mext → p.name ≡ q.name → p.nonce ≡ q.nonce
+parts_once : (p q : ClientFirstParts) → p.flag ≡ q.flag → p.authzid ≡ q.authzid → p.mext ≡ q.mext → p.name ≡ q.name → p.nonce ≡ q.nonce
     → p.extensions ≡ q.extensions → p ≡ q
-parts_once p q flag authz mext name nonce extensions =
-    λ i. record { flag = flag i; authz = authz i; mext = mext i; name = name i; nonce = nonce i; extensions = extensions i }
+parts_once p q flag authzid mext name nonce extensions =
+    λ i. record { flag = flag i; authzid = authzid i; mext = mext i; name = name i; nonce = nonce i; extensions = extensions i }
 
 -- a text is a message with one list of parts
 pub client_first_once : (text : List ℕ) (p q : ClientFirstParts) → IsClientFirst text p → IsClientFirst text q → p ≡ q
 client_first_once text p q is also =
-    let same : p.flag ∷ authz_text p.authz ∷ bare_parts p ≡ q.flag ∷ authz_text q.authz ∷ bare_parts q =
+    let same : p.flag ∷ authzid_text p.authzid ∷ bare_parts p ≡ q.flag ∷ authzid_text q.authzid ∷ bare_parts q =
     sym (parts_client_first text p is) ∙ parts_client_first text q also in
     let flags : p.flag ≡ q.flag = cc same in
-    let authzs : authz_text p.authz ≡ authz_text q.authz = cc same in
+    let authzids : authzid_text p.authzid ≡ authzid_text q.authzid = cc same in
     let bares : bare_parts p ≡ bare_parts q = cc same in
     let rest = marked_once p.mext q.mext (codes "n=" ++ p.name) (codes "n=" ++ q.name) _ _ refl refl bares in
     let later : later_parts p ≡ later_parts q = rest.1 in
     let names : p.name ≡ q.name = cc later in
     let nonces : p.nonce ≡ q.nonce = cc later in
     let extensions : p.extensions ≡ q.extensions = cc later in
-    parts_once p q flags (authz_once p.authz q.authz authzs) rest.0 names nonces extensions
+    parts_once p q flags (authzid_once p.authzid q.authzid authzids) rest.0 names nonces extensions
 
 pub later_places : (name nonce : List ℕ) (extensions : List (List ℕ))
     → places (Name ∷ Nonce ∷ []) [] (length (name ∷ nonce ∷ extensions)) ≡ Name ∷ Nonce ∷ replicate (length extensions) Extension
@@ -100,10 +100,10 @@ later_places name nonce extensions =
 pub later_fit : (name nonce : List ℕ) (extensions : List (List ℕ)) → Fits 256 Name name → Fits 256 Nonce nonce → AreExtensions extensions
     → AllFit 256 (places (Name ∷ Nonce ∷ []) [] (length (name ∷ nonce ∷ extensions))) (name ∷ nonce ∷ extensions)
 later_fit name nonce extensions is_name is_nonce are =
-    let behind = fit_behind 256 [] extensions [] are (fits_end 256 []) in
+    let after = fit_after 256 [] extensions [] are (fits_end 256 []) in
     rw (later_places name nonce extensions)
     (fits_cons 256 Name _ name _ is_name (fits_cons 256 Nonce _ nonce _ is_nonce
-    (rw (append-nil (replicate (length extensions) Extension), append-nil extensions) at behind)))
+    (rw (append-nil (replicate (length extensions) Extension), append-nil extensions) at after)))
 
 -- the places with those of the header before them
 pub header_places : (later : List TextWhy) (n : ℕ) → places (Flag ∷ Authzid ∷ later) [] (suc (suc n)) ≡ Flag ∷ Authzid ∷ places later [] n
@@ -117,12 +117,12 @@ marked_count pieces later = elim (cases_Bool (is_headed 109 (first_of pieces))) 
   | inr miss ↦ rw miss (omega arith)
 ]
 
-pub header_fit : (flag authz : List ℕ) (bare : List (List ℕ)) → Fits 256 Flag flag → Fits 256 Authzid authz
+pub header_fit : (flag authzid : List ℕ) (bare : List (List ℕ)) → Fits 256 Flag flag → Fits 256 Authzid authzid
     → AllFit 256 (places (marked_places bare (Name ∷ Nonce ∷ [])) [] (length bare)) bare
-    → AllFit 256 (places (client_first_places (flag ∷ authz ∷ bare)) [] (length (flag ∷ authz ∷ bare))) (flag ∷ authz ∷ bare)
-header_fit flag authz bare is_flag is_authz fit =
-    subst (λ (ps : List TextWhy). AllFit 256 ps (flag ∷ authz ∷ bare)) (sym (header_places (marked_places bare (Name ∷ Nonce ∷ [])) (length bare)))
-    (fits_cons 256 Flag _ flag _ is_flag (fits_cons 256 Authzid _ authz _ is_authz fit))
+    → AllFit 256 (places (client_first_places (flag ∷ authzid ∷ bare)) [] (length (flag ∷ authzid ∷ bare))) (flag ∷ authzid ∷ bare)
+header_fit flag authzid bare is_flag is_authzid fit =
+    subst (λ (ps : List TextWhy). AllFit 256 ps (flag ∷ authzid ∷ bare)) (sym (header_places (marked_places bare (Name ∷ Nonce ∷ [])) (length bare)))
+    (fits_cons 256 Flag _ flag _ is_flag (fits_cons 256 Authzid _ authzid _ is_authzid fit))
 
 -- a bare message, and whether it begins with a mandatory extension
 pub bare_marked : (p : ClientFirstParts) → IfSome p.mext IsValue → IsMarked (bare_parts p) (later_parts p) p.mext
@@ -138,9 +138,9 @@ bare_fit p mext name nonce extensions =
 pub client_first_no_fault : (text : List ℕ) (p : ClientFirstParts) (f : TextFault) → IsClientFirst text p → IsClientFirstFault text f → ⊥
 client_first_no_fault text p f is =
     let lengths = marked_length (Name ∷ Nonce ∷ []) (bare_parts p) (later_parts p) p.mext (bare_marked p is.mext) in
-    no_fault_at 256 client_first_places text (p.flag ∷ authz_text p.authz ∷ bare_parts p) f is.short is.is_text (parts_client_first text p is)
+    no_fault_at 256 client_first_places text (p.flag ∷ authzid_text p.authzid ∷ bare_parts p) f is.short is.is_text (parts_client_first text p is)
     (omega (arith, lengths.0, lengths.1))
-    (header_fit p.flag (authz_text p.authz) (bare_parts p) is.flag (p.authz, refl, is.authz)
+    (header_fit p.flag (authzid_text p.authzid) (bare_parts p) is.flag (p.authzid, refl, is.authzid)
     (bare_fit p is.mext is.name is.nonce is.extensions))
 
 -- the parts that were found are all that a text can have
@@ -152,35 +152,35 @@ client_first_only text (Ok m) found fault p is =
 client_first_only text (Err f) found fault p is = client_first_no_fault text p f is fault
 
 -- the first misfit of all parts is a fault of the text
-header_fault : (text flag authz : List ℕ) (bare : List (List ℕ)) (f : TextFault) → length text ≤ 2048 → IsText text → parts text ≡ flag ∷ authz ∷ bare
+header_fault : (text flag authzid : List ℕ) (bare : List (List ℕ)) (f : TextFault) → length text ≤ 2048 → IsText text → parts text ≡ flag ∷ authzid ∷ bare
     → length (marked_places bare []) + 2 ≤ length bare
-    → IsFirstMisfit 256 (Flag ∷ Authzid ∷ places (marked_places bare (Name ∷ Nonce ∷ [])) [] (length bare)) 0 (flag ∷ authz ∷ bare) f
+    → IsFirstMisfit 256 (Flag ∷ Authzid ∷ places (marked_places bare (Name ∷ Nonce ∷ [])) [] (length bare)) 0 (flag ∷ authzid ∷ bare) f
     → IsClientFirstFault text f
-header_fault text flag authz bare f short is_text cut enough misfit =
-    fault_at 256 client_first_places text (flag ∷ authz ∷ bare) f short is_text cut
+header_fault text flag authzid bare f short is_text cut enough misfit =
+    fault_at 256 client_first_places text (flag ∷ authzid ∷ bare) f short is_text cut
     (inr (
       omega (arith, enough, marked_count bare (Name ∷ Nonce ∷ [])),
-      subst (λ (ps : List TextWhy). IsFirstMisfit 256 ps 0 (flag ∷ authz ∷ bare) f) (sym (header_places (marked_places bare (Name ∷ Nonce ∷ [])) (length bare))) misfit,
+      subst (λ (ps : List TextWhy). IsFirstMisfit 256 ps 0 (flag ∷ authzid ∷ bare) f) (sym (header_places (marked_places bare (Name ∷ Nonce ∷ [])) (length bare))) misfit,
     ))
 
 -- the faults of the parts, from the left
-pub flag_fault : (text flag authz : List ℕ) (bare : List (List ℕ)) → length text ≤ 2048 → IsText text → parts text ≡ flag ∷ authz ∷ bare
+pub flag_fault : (text flag authzid : List ℕ) (bare : List (List ℕ)) → length text ≤ 2048 → IsText text → parts text ≡ flag ∷ authzid ∷ bare
     → length (marked_places bare []) + 2 ≤ length bare → is_flag flag ≡ false → IsClientFirstFault text (fault 0 Flag)
-flag_fault text flag authz bare short is_text cut enough no_flag =
-    header_fault text flag authz bare _ short is_text cut enough (misfit_here 256 0 Flag _ flag _ (λ is. both_ways (is_flag flag) no_flag is))
+flag_fault text flag authzid bare short is_text cut enough no_flag =
+    header_fault text flag authzid bare _ short is_text cut enough (misfit_here 256 0 Flag _ flag _ (λ is. both_ways (is_flag flag) no_flag is))
 
-pub authz_fault : (text flag authz : List ℕ) (bare : List (List ℕ)) (f : TextFault) → length text ≤ 2048 → IsText text → parts text ≡ flag ∷ authz ∷ bare
-    → length (marked_places bare []) + 2 ≤ length bare → is_flag flag ≡ true → (IsAuthz authz → ⊥) × (f ≡ fault 1 Authzid) → IsClientFirstFault text f
-authz_fault text flag authz bare f short is_text cut enough is_a_flag (no_authz, is) =
+pub authzid_fault : (text flag authzid : List ℕ) (bare : List (List ℕ)) (f : TextFault) → length text ≤ 2048 → IsText text → parts text ≡ flag ∷ authzid ∷ bare
+    → length (marked_places bare []) + 2 ≤ length bare → is_flag flag ≡ true → (IsAuthzid authzid → ⊥) × (f ≡ fault 1 Authzid) → IsClientFirstFault text f
+authzid_fault text flag authzid bare f short is_text cut enough is_a_flag (no_authzid, is) =
     subst (λ (g : TextFault). IsClientFirstFault text g) (sym is)
-    (header_fault text flag authz bare (fault 1 Authzid) short is_text cut enough
-    (misfit_later 256 0 Flag _ flag _ _ is_a_flag (misfit_here 256 1 Authzid _ authz _ no_authz)))
+    (header_fault text flag authzid bare (fault 1 Authzid) short is_text cut enough
+    (misfit_later 256 0 Flag _ flag _ _ is_a_flag (misfit_here 256 1 Authzid _ authzid _ no_authzid)))
 
-pub bare_fault : (text flag authz : List ℕ) (bare : List (List ℕ)) (f : TextFault) → length text ≤ 2048 → IsText text → parts text ≡ flag ∷ authz ∷ bare
-    → length (marked_places bare []) + 2 ≤ length bare → is_flag flag ≡ true → IsAuthz authz → IsBareMisfit bare f → IsClientFirstFault text f
-bare_fault text flag authz bare f short is_text cut enough is_a_flag is_authz misfit =
-    header_fault text flag authz bare f short is_text cut enough
-    (misfit_later 256 0 Flag _ flag _ f is_a_flag (misfit_later 256 1 Authzid _ authz _ f is_authz misfit))
+pub bare_fault : (text flag authzid : List ℕ) (bare : List (List ℕ)) (f : TextFault) → length text ≤ 2048 → IsText text → parts text ≡ flag ∷ authzid ∷ bare
+    → length (marked_places bare []) + 2 ≤ length bare → is_flag flag ≡ true → IsAuthzid authzid → IsBareMisfit bare f → IsClientFirstFault text f
+bare_fault text flag authzid bare f short is_text cut enough is_a_flag is_authzid misfit =
+    header_fault text flag authzid bare f short is_text cut enough
+    (misfit_later 256 0 Flag _ flag _ f is_a_flag (misfit_later 256 1 Authzid _ authzid _ f is_authzid misfit))
 
 -- a misfit after the mandatory extension; k is the index of the name
 later_misfit : (pieces : List (List ℕ)) (name nonce : List ℕ) (extensions : List (List ℕ)) (mext : Option (List ℕ)) (k : ℕ) (f : TextFault)
@@ -217,11 +217,11 @@ bare_cut pieces name nonce p marked is_name is_nonce =
     marked.cut ∙ ap (λ (ps : List (List ℕ)). mext_parts p.mext ++ ps) later
 
 -- the texts that the pieces make
-pub client_first_spelled : (text header flag authz bare : List ℕ) (p : ClientFirstParts) → text ≡ header ++ bare
-    → header ≡ flag ++ 44 ∷ (authz ++ 44 ∷ []) → flag ≡ p.flag → authz ≡ authz_text p.authz → parts bare ≡ bare_parts p
+pub client_first_spelled : (text header flag authzid bare : List ℕ) (p : ClientFirstParts) → text ≡ header ++ bare
+    → header ≡ flag ++ 44 ∷ (authzid ++ 44 ∷ []) → flag ≡ p.flag → authzid ≡ authzid_text p.authzid → parts bare ≡ bare_parts p
     → (header ≡ header_text p) × (bare ≡ bare_text p) × (text ≡ client_first_text p)
 unfolding header_text bare_text client_first_text
-client_first_spelled text header flag authz bare p whole header_is is_flag is_authz cut =
-    let the_header : header ≡ header_text p = header_is ∙ rw (is_flag, is_authz) refl in
+client_first_spelled text header flag authzid bare p whole header_is is_flag is_authzid cut =
+    let the_header : header ≡ header_text p = header_is ∙ rw (is_flag, is_authzid) refl in
     let the_bare : bare ≡ bare_text p = sym (join_with_byte-slice_split 44 bare) ∙ ap joined cut in
     (the_header, the_bare, rw (whole, the_header, the_bare) refl)

@@ -8,10 +8,10 @@ use Rattle.base64.specs.GeneralPurpose.{IsBytes}
 use Rattle.scram_text.specs.Class.{IsText, IsPlainName, IsNoncePart}
 use Rattle.scram_text.specs.Name.{IsSaslName, name_spelling}
 use Rattle.scram_text.specs.Base64Field.{base64}
-use Rattle.scram_text.specs.Parts.{parts, joined, is_flag, authz_text}
-use Rattle.scram_text.specs.Messages.{header_text, bare_text, client_first_text, IsClientFirst, server_first_text, IsServerFirst, final_front, client_final_text, IsClientFinal, Outcome, verified, failed, outcome_text, IsOutcome, server_final_text, IsServerFinal}
+use Rattle.scram_text.specs.Parts.{parts, joined, is_flag, authzid_text}
+use Rattle.scram_text.specs.Messages.{header_text, bare_text, client_first_text, IsClientFirst, server_first_text, IsServerFirst, client_final_without_proof, client_final_text, IsClientFinal, VerifierOrError, verified, failed, verifier_or_error_text, IsVerifierOrError, server_final_text, IsServerFinal}
 use Rattle.scram_text.specs.Shown.{flag_text}
-use Rattle.scram_text.specs.Draft.{behind_comma}
+use Rattle.scram_text.specs.Draft.{after_comma}
 use Rattle.scram_text.specs.Written.{extension_parts, client_first_of, CanBeClientFirst, server_first_of, CanBeServerFirst, client_final_of, CanBeClientFinal, server_final_of, CanBeTold, CanBeServerFinal}
 use Rattle.scram_text.specs.declared.client_first.Flag.{Flag}
 use Rattle.scram_text.specs.declared.client_first.Flag.TheVariants.{NoBinding, NotOffered, Binding}
@@ -24,15 +24,15 @@ joined_cons piece [] some = absurd (omega (arith, some))
 joined_cons piece (next ∷ pieces) some = refl
 
 -- a comma and the extensions follow, where there are any
-pub joined_behind : (piece extensions : List ℕ) → joined (piece ∷ extension_parts extensions) ≡ piece ++ behind_comma extensions
-joined_behind piece [] = sym (append-nil piece)
-joined_behind piece (c ∷ text) =
+pub joined_after : (piece extensions : List ℕ) → joined (piece ∷ extension_parts extensions) ≡ piece ++ after_comma extensions
+joined_after piece [] = sym (append-nil piece)
+joined_after piece (c ∷ text) =
     joined_cons piece (parts (c ∷ text)) (omega (arith, parts_count (c ∷ text)))
     ∙ ap (λ (t : List ℕ). piece ++ 44 ∷ t) (join_with_byte-slice_split 44 (c ∷ text))
 
-behind_text : (extensions : List ℕ) → IsText extensions → IsText (behind_comma extensions)
-behind_text [] is = is
-behind_text (c ∷ text) is = text-append (44 ∷ []) (c ∷ text) (plain_text (44 ∷ []) refl) is
+after_text : (extensions : List ℕ) → IsText extensions → IsText (after_comma extensions)
+after_text [] is = is
+after_text (c ∷ text) is = text-append (44 ∷ []) (c ∷ text) (plain_text (44 ∷ []) refl) is
 
 -- client-final
 
@@ -40,13 +40,13 @@ flat_final : (a b c n e p q : List ℕ) → (((((a ++ b) ++ c) ++ n) ++ e) ++ p)
 flat_final a b c n e p q = simp append_assoc
 
 pub client_final_composed : (channel nonce extensions proof : List ℕ)
-    → (((((codes "c=" ++ base64 channel) ++ codes ",r=") ++ nonce) ++ behind_comma extensions) ++ codes ",p=") ++ base64 proof
+    → (((((codes "c=" ++ base64 channel) ++ codes ",r=") ++ nonce) ++ after_comma extensions) ++ codes ",p=") ++ base64 proof
     ≡ client_final_text (client_final_of channel nonce extensions proof)
-unfolding client_final_text final_front
+unfolding client_final_text client_final_without_proof
 client_final_composed channel nonce extensions proof =
-    flat_final (codes "c=") (base64 channel) (codes ",r=") nonce (behind_comma extensions) (codes ",p=") (base64 proof)
+    flat_final (codes "c=") (base64 channel) (codes ",r=") nonce (after_comma extensions) (codes ",p=") (base64 proof)
     ∙ ap (λ (t : List ℕ). ((codes "c=" ++ base64 channel) ++ 44 ∷ t) ++ 44 ∷ (codes "p=" ++ base64 proof))
-    (sym (joined_behind (codes "r=" ++ nonce) extensions))
+    (sym (joined_after (codes "r=" ++ nonce) extensions))
 
 pub client_final_related : (channel nonce extensions proof : List ℕ) → IsBytes channel → IsBytes proof
     → CanBeClientFinal channel nonce extensions proof
@@ -55,7 +55,7 @@ pub client_final_related : (channel nonce extensions proof : List ℕ) → IsByt
 client_final_related channel nonce extensions proof channel_bytes proof_bytes can short =
     let lead = text-append (codes "c=") (base64 channel) (plain_text (codes "c=") refl) (base64_text channel channel_bytes) in
     let middle = text-append _ nonce (text-append _ (codes ",r=") lead (plain_text (codes ",r=") refl)) (nonce_text 512 nonce can.nonce_class) in
-    let front = text-append _ (behind_comma extensions) middle (behind_text extensions can.extensions_class.is_text) in
+    let front = text-append _ (after_comma extensions) middle (after_text extensions can.extensions_class.is_text) in
     let whole = text-append _ (base64 proof) (text-append _ (codes ",p=") front (plain_text (codes ",p=") refl)) (base64_text proof proof_bytes) in record {
       spelled = refl;
       channel = can.channel_class;
@@ -66,10 +66,10 @@ client_final_related channel nonce extensions proof channel_bytes proof_bytes ca
       short = short;
     }
 
-pub final_front_composed : (channel nonce proof : List ℕ)
-    → ((codes "c=" ++ base64 channel) ++ codes ",r=") ++ nonce ≡ final_front (client_final_of channel nonce [] proof)
-unfolding final_front
-final_front_composed channel nonce proof = append_assoc (codes "c=" ++ base64 channel) (codes ",r=") nonce
+pub client_final_without_proof_composed : (channel nonce proof : List ℕ)
+    → ((codes "c=" ++ base64 channel) ++ codes ",r=") ++ nonce ≡ client_final_without_proof (client_final_of channel nonce [] proof)
+unfolding client_final_without_proof
+client_final_without_proof_composed channel nonce proof = append_assoc (codes "c=" ++ base64 channel) (codes ",r=") nonce
 
 -- server-first
 
@@ -77,13 +77,13 @@ flat_server : (a n s v i k e : List ℕ) → (((((a ++ n) ++ s) ++ v) ++ i) ++ k
 flat_server a n s v i k e = simp append_assoc
 
 pub server_first_composed : (nonce salt : List ℕ) (count : ℕ) (extensions : List ℕ)
-    → (((((codes "r=" ++ nonce) ++ codes ",s=") ++ base64 salt) ++ codes ",i=") ++ decimal count) ++ behind_comma extensions
+    → (((((codes "r=" ++ nonce) ++ codes ",s=") ++ base64 salt) ++ codes ",i=") ++ decimal count) ++ after_comma extensions
     ≡ server_first_text (server_first_of nonce salt count extensions)
 unfolding server_first_text
 server_first_composed nonce salt count extensions =
-    flat_server (codes "r=") nonce (codes ",s=") (base64 salt) (codes ",i=") (decimal count) (behind_comma extensions)
+    flat_server (codes "r=") nonce (codes ",s=") (base64 salt) (codes ",i=") (decimal count) (after_comma extensions)
     ∙ ap (λ (t : List ℕ). (codes "r=" ++ nonce) ++ 44 ∷ ((codes "s=" ++ base64 salt) ++ 44 ∷ t))
-    (sym (joined_behind (codes "i=" ++ decimal count) extensions))
+    (sym (joined_after (codes "i=" ++ decimal count) extensions))
 
 pub server_first_related : (nonce salt : List ℕ) (count : ℕ) (extensions : List ℕ) → IsBytes salt → CanBeServerFirst nonce salt count extensions
     → length (server_first_text (server_first_of nonce salt count extensions)) ≤ 2048
@@ -92,7 +92,7 @@ server_first_related nonce salt count extensions bytes can short =
     let lead = text-append (codes "r=") nonce (plain_text (codes "r=") refl) (nonce_text 512 nonce can.nonce_class) in
     let salted = text-append _ (base64 salt) (text-append _ (codes ",s=") lead (plain_text (codes ",s=") refl)) (base64_text salt bytes) in
     let counted = text-append _ (decimal count) (text-append _ (codes ",i=") salted (plain_text (codes ",i=") refl)) (count_text count can.count_class) in
-    let whole = text-append _ (behind_comma extensions) counted (behind_text extensions can.extensions_class.is_text) in record {
+    let whole = text-append _ (after_comma extensions) counted (after_text extensions can.extensions_class.is_text) in record {
       spelled = refl;
       mext = tt;
       nonce = can.nonce_class;
@@ -105,10 +105,10 @@ server_first_related nonce salt count extensions bytes can short =
 
 -- server-final
 
-pub server_final_composed : (outcome : Outcome) (extensions : List ℕ)
-    → outcome_text outcome ++ behind_comma extensions ≡ server_final_text (server_final_of outcome extensions)
+pub server_final_composed : (outcome : VerifierOrError) (extensions : List ℕ)
+    → verifier_or_error_text outcome ++ after_comma extensions ≡ server_final_text (server_final_of outcome extensions)
 unfolding server_final_text
-server_final_composed outcome extensions = sym (joined_behind (outcome_text outcome) extensions)
+server_final_composed outcome extensions = sym (joined_after (verifier_or_error_text outcome) extensions)
 
 pub signature_text : (signature : List ℕ) → IsBytes signature → IsText (codes "v=" ++ base64 signature)
 signature_text signature bytes = text-append (codes "v=") (base64 signature) (plain_text (codes "v=") refl) (base64_text signature bytes)
@@ -116,15 +116,15 @@ signature_text signature bytes = text-append (codes "v=") (base64 signature) (pl
 pub error_text : (value : List ℕ) → IsText value → IsText (codes "e=" ++ value)
 error_text value is = text-append (codes "e=") value (plain_text (codes "e=") refl) is
 
-told_class : (outcome : Outcome) → CanBeTold outcome → IsOutcome outcome
+told_class : (outcome : VerifierOrError) → CanBeTold outcome → IsVerifierOrError outcome
 told_class (verified signature) can = can
 told_class (failed value) can = can.0
 
-pub server_final_related : (outcome : Outcome) (extensions : List ℕ) → IsText (outcome_text outcome)
+pub server_final_related : (outcome : VerifierOrError) (extensions : List ℕ) → IsText (verifier_or_error_text outcome)
     → CanBeServerFinal outcome extensions → length (server_final_text (server_final_of outcome extensions)) ≤ 2048
     → IsServerFinal (server_final_text (server_final_of outcome extensions)) (server_final_of outcome extensions)
 server_final_related outcome extensions told can short =
-    let whole = text-append _ (behind_comma extensions) told (behind_text extensions can.extensions_class.is_text) in record {
+    let whole = text-append _ (after_comma extensions) told (after_text extensions can.extensions_class.is_text) in record {
       spelled = refl;
       outcome = told_class outcome can.outcome_class;
       extensions = can.extensions_class.each;
@@ -138,21 +138,21 @@ flat_first : (f c a d l n r o e : List ℕ) → ((((((f ++ c) ++ a) ++ (d ++ l))
 flat_first f c a d l n r o e = simp append_assoc
 
 pub client_first_composed : (flag : Flag) (authzid : Option (List ℕ)) (name nonce extensions : List ℕ)
-    → ((((((flag_text flag ++ codes ",") ++ authz_text (option_map name_spelling authzid)) ++ codes ",n=") ++ name_spelling name) ++ codes ",r=") ++ nonce) ++ behind_comma extensions
+    → ((((((flag_text flag ++ codes ",") ++ authzid_text (option_map name_spelling authzid)) ++ codes ",n=") ++ name_spelling name) ++ codes ",r=") ++ nonce) ++ after_comma extensions
     ≡ client_first_text (client_first_of flag authzid name nonce extensions)
 unfolding client_first_text header_text bare_text
 client_first_composed flag authzid name nonce extensions =
-    flat_first (flag_text flag) (codes ",") (authz_text (option_map name_spelling authzid)) (codes ",") (codes "n=") (name_spelling name) (codes ",r=") nonce (behind_comma extensions)
-    ∙ ap (λ (t : List ℕ). (flag_text flag ++ 44 ∷ (authz_text (option_map name_spelling authzid) ++ 44 ∷ [])) ++ ((codes "n=" ++ name_spelling name) ++ 44 ∷ t))
-    (sym (joined_behind (codes "r=" ++ nonce) extensions))
+    flat_first (flag_text flag) (codes ",") (authzid_text (option_map name_spelling authzid)) (codes ",") (codes "n=") (name_spelling name) (codes ",r=") nonce (after_comma extensions)
+    ∙ ap (λ (t : List ℕ). (flag_text flag ++ 44 ∷ (authzid_text (option_map name_spelling authzid) ++ 44 ∷ [])) ++ ((codes "n=" ++ name_spelling name) ++ 44 ∷ t))
+    (sym (joined_after (codes "r=" ++ nonce) extensions))
 
-authz_class : (authzid : Option (List ℕ)) → IfSome authzid IsPlainName → IfSome (option_map name_spelling authzid) IsSaslName
-authz_class None is = tt
-authz_class (Some name) is = spelling_saslname name is.at_least
+authzid_class : (authzid : Option (List ℕ)) → IfSome authzid IsPlainName → IfSome (option_map name_spelling authzid) IsSaslName
+authzid_class None is = tt
+authzid_class (Some name) is = spelling_saslname name is.at_least
 
-authz_is_text : (authzid : Option (List ℕ)) → IfSome authzid IsPlainName → IsText (authz_text (option_map name_spelling authzid))
-authz_is_text None is = text_nil
-authz_is_text (Some name) is =
+authzid_is_text : (authzid : Option (List ℕ)) → IfSome authzid IsPlainName → IsText (authzid_text (option_map name_spelling authzid))
+authzid_is_text None is = text_nil
+authzid_is_text (Some name) is =
     text-append (codes "a=") (name_spelling name) (plain_text (codes "a=") refl) (spelling_text name is.each)
 
 flag_is_text : (flag : Flag) → is_flag (flag_text flag) ≡ true → IsText (flag_text flag)
@@ -164,15 +164,15 @@ pub client_first_related : (flag : Flag) (authzid : Option (List ℕ)) (name non
     → IfSome authzid IsPlainName → IsPlainName name → IsNoncePart nonce → CanBeClientFirst flag extensions
     → length (client_first_text (client_first_of flag authzid name nonce extensions)) ≤ 2048
     → IsClientFirst (client_first_text (client_first_of flag authzid name nonce extensions)) (client_first_of flag authzid name nonce extensions)
-client_first_related flag authzid name nonce extensions is_authz is_name is_nonce can short =
+client_first_related flag authzid name nonce extensions is_authzid is_name is_nonce can short =
     let flagged = text-append (flag_text flag) (codes ",") (flag_is_text flag can.flag_class) (plain_text (codes ",") refl) in
-    let authorised = text-append _ (authz_text (option_map name_spelling authzid)) flagged (authz_is_text authzid is_authz) in
+    let authorised = text-append _ (authzid_text (option_map name_spelling authzid)) flagged (authzid_is_text authzid is_authzid) in
     let named = text-append _ (name_spelling name) (text-append _ (codes ",n=") authorised (plain_text (codes ",n=") refl)) (spelling_text name is_name.each) in
     let fresh = text-append _ nonce (text-append _ (codes ",r=") named (plain_text (codes ",r=") refl)) (nonce_text 256 nonce is_nonce) in
-    let whole = text-append _ (behind_comma extensions) fresh (behind_text extensions can.extensions_class.is_text) in record {
+    let whole = text-append _ (after_comma extensions) fresh (after_text extensions can.extensions_class.is_text) in record {
       spelled = refl;
       flag = can.flag_class;
-      authz = authz_class authzid is_authz;
+      authzid = authzid_class authzid is_authzid;
       mext = tt;
       name = spelling_saslname name is_name.at_least;
       nonce = is_nonce;

@@ -16,7 +16,7 @@ use Rattle.scram_text.specs.Class.{is_printable, IsRunOf, IsNonce, IsText}
 use Rattle.scram_text.specs.Name.{LacksComma, is_escaped, IsSaslName}
 use Rattle.scram_text.specs.Base64Field.{base64, reading}
 use Rattle.scram_text.specs.Parts.{is_flag, is_attribute, IsHeaded, IsValue, IsCount, SpellsCount, SpellsField, IsExtension}
-use Rattle.scram_text.specs.Faults.{Fits, IsAuthz}
+use Rattle.scram_text.specs.Faults.{Fits, IsAuthzid}
 use Rattle.scram_text.specs.declared.fault.TextWhy.{TextWhy}
 use Rattle.scram_text.specs.declared.fault.TextWhy.TheVariants.{TooLong, NotText, Missing, Flag, Authzid, Mandatory, Name, Nonce, Salt, Count, Channel, Extension, Proof, Verifier, ErrorValue}
 use Rattle.scram_text.proofs.Base64Lemmas.{base64_lacks}
@@ -147,15 +147,15 @@ headed_decided letter class (a ∷ b ∷ value) each =
     (first.0, (second.0, subst class (sym second.1) is)))
     (decided_both _ _ (decided_nat a letter) (decided_both _ _ (decided_nat b 61) (each value)))
 
-authz_headed : (a : ℕ) (part : List ℕ) → IsAuthz (a ∷ part) → IsHeaded 97 IsSaslName (a ∷ part)
-authz_headed a part (None, spelled, is) = absurd (cc spelled)
-authz_headed a part (Some name, spelled, is) = (name, spelled, is)
+authzid_headed : (a : ℕ) (part : List ℕ) → IsAuthzid (a ∷ part) → IsHeaded 97 IsSaslName (a ∷ part)
+authzid_headed a part (None, spelled, is) = absurd (cc spelled)
+authzid_headed a part (Some name, spelled, is) = (name, spelled, is)
 
-authz_decided : (part : List ℕ) → Decided (IsAuthz part)
-authz_decided [] = inl (None, refl, tt)
-authz_decided (a ∷ part) =
-    decided_by (IsHeaded 97 IsSaslName (a ∷ part)) (IsAuthz (a ∷ part))
-    (λ (spelled, is, class). (Some spelled, is, class)) (authz_headed a part)
+authzid_decided : (part : List ℕ) → Decided (IsAuthzid part)
+authzid_decided [] = inl (None, refl, tt)
+authzid_decided (a ∷ part) =
+    decided_by (IsHeaded 97 IsSaslName (a ∷ part)) (IsAuthzid (a ∷ part))
+    (λ (spelled, is, class). (Some spelled, is, class)) (authzid_headed a part)
     (headed_decided 97 IsSaslName (a ∷ part) saslname_decided)
 
 -- whether a part fits its place is decided
@@ -164,7 +164,7 @@ fits_decided most TooLong part = inl tt
 fits_decided most NotText part = inl tt
 fits_decided most Missing part = inl tt
 fits_decided most Flag part = decided_test (is_flag part)
-fits_decided most Authzid part = authz_decided part
+fits_decided most Authzid part = authzid_decided part
 fits_decided most Mandatory part = headed_decided 109 IsValue part value_decided
 fits_decided most Name part = headed_decided 110 IsSaslName part saslname_decided
 fits_decided most Nonce part = headed_decided 114 (IsNonce most) part (run_decided is_printable most)

@@ -8,8 +8,8 @@ use Rattle.std.proofs.lemmas.List.Splits.{join_with_byte-slice_split}
 use Rattle.scram_text.specs.Class.{IsNonce, IsText}
 use Rattle.scram_text.specs.Name.{IsSaslName}
 use Rattle.scram_text.specs.Base64Field.{base64}
-use Rattle.scram_text.specs.Parts.{parts, joined, is_headed, authz_text, mext_parts, AreExtensions}
-use Rattle.scram_text.specs.Messages.{ClientFirstParts, header_text, bare_text, bare_parts, client_first_text, IsClientFirst, ServerFirstParts, IsServerFirst, ClientFinalParts, final_front, client_final_text, IsClientFinal, Outcome, verified, failed, outcome_text, IsOutcome, ServerFinalParts, IsServerFinal}
+use Rattle.scram_text.specs.Parts.{parts, joined, is_headed, authzid_text, mext_parts, AreExtensions}
+use Rattle.scram_text.specs.Messages.{ClientFirstParts, header_text, bare_text, bare_parts, client_first_text, IsClientFirst, ServerFirstParts, IsServerFirst, ClientFinalParts, client_final_without_proof, client_final_text, IsClientFinal, VerifierOrError, verified, failed, verifier_or_error_text, IsVerifierOrError, ServerFinalParts, IsServerFinal}
 use Rattle.scram_text.specs.Faults.{Fits, places, first_of, marked_places, result_place, client_first_places, server_first_places, server_final_places}
 use Rattle.scram_text.specs.Pieces.{IsMarked}
 use Rattle.scram_text.specs.declared.fault.TextWhy.{TextWhy}
@@ -36,7 +36,7 @@ fits_split : (most : ℕ) (later : List TextWhy) (extensions pieces : List (List
 unfolding AllFit
 fits_split most later [] pieces fit = (tt, fit)
 fits_split most later (part ∷ extensions) pieces fit =
-    let behind = fits_split most later extensions pieces fit.1 in ((fit.0, behind.0), behind.1)
+    let after = fits_split most later extensions pieces fit.1 in ((fit.0, after.0), after.1)
 
 fits_extensions : (most : ℕ) (extensions : List (List ℕ)) → AllFit most (replicate (length extensions) Extension) extensions → AreExtensions extensions
 unfolding AllFit
@@ -59,7 +59,7 @@ fitting_decided most least later text =
 
 -- server-final
 
-outcome_of_part : (part : List ℕ) → Fits 512 (result_place part) part → (outcome : Outcome) × (part ≡ outcome_text outcome) × IsOutcome outcome
+outcome_of_part : (part : List ℕ) → Fits 512 (result_place part) part → (outcome : VerifierOrError) × (part ≡ verifier_or_error_text outcome) × IsVerifierOrError outcome
 outcome_of_part part fits = elim (cases_Bool (is_headed 101 part)) [
   | inl hit ↦ let (value, spelled, is) = rw hit at fits in (failed value, spelled, is)
   | inr miss ↦ let (value, spelled, (bytes, is, field)) = rw miss at fits in (verified bytes, spelled ∙ ap (λ (v : List ℕ). codes "v=" ++ v) is, field)
@@ -91,7 +91,7 @@ server_final_fitting text p is =
       is_text = is.is_text;
       enough = rw cut (omega arith);
       fit = subst (λ (ps : List (List ℕ)). AllFit 512 (places (server_final_places ps) [] (length ps)) ps) (sym cut)
-          (server_final_fit (outcome_text p.outcome) p.extensions (outcome_fits p.outcome is.outcome) is.extensions);
+          (server_final_fit (verifier_or_error_text p.outcome) p.extensions (outcome_fits p.outcome is.outcome) is.extensions);
     }
 
 pub server_final_decided : (text : List ℕ) → Decided ((p : ServerFinalParts) × IsServerFinal text p)
@@ -114,7 +114,7 @@ joined_last piece (next ∷ front) last =
     ap (λ (t : List ℕ). piece ++ 44 ∷ t) (joined_last next front last) ∙ sym (append_assoc piece (44 ∷ joined (next ∷ front)) (44 ∷ last))
 
 client_final_joined : (p : ClientFinalParts) → joined (final_parts p) ≡ client_final_text p
-unfolding client_final_text final_front
+unfolding client_final_text client_final_without_proof
 client_final_joined p = joined_last (codes "c=" ++ base64 p.channel) ((codes "r=" ++ p.nonce) ∷ p.extensions) (codes "p=" ++ base64 p.proof)
 
 client_final_of_fit : (text channel nonce proof : List ℕ) (extensions : List (List ℕ)) → parts text ≡ channel ∷ nonce ∷ (extensions ++ proof ∷ [])
@@ -125,8 +125,8 @@ client_final_of_fit text channel nonce proof extensions cut short is_text fit =
     let placed = subst (λ (ps : List TextWhy). AllFit 512 ps (channel ∷ nonce ∷ (extensions ++ proof ∷ []))) (final_places channel nonce proof extensions) fit in
     let first = fits_first 512 Channel _ channel _ placed in
     let second = fits_first 512 Nonce _ nonce _ first.1 in
-    let behind = fits_split 512 (Proof ∷ []) extensions (proof ∷ []) second.1 in
-    let last = fits_first 512 Proof [] proof [] behind.1 in
+    let after = fits_split 512 (Proof ∷ []) extensions (proof ∷ []) second.1 in
+    let last = fits_first 512 Proof [] proof [] after.1 in
     let (channel_text, channel_is, (channel_bytes, channel_spelled, channel_field)) = first.0 in
     let (nonce_text, nonce_is, nonce_class) = second.0 in
     let (proof_text, proof_is, (proof_bytes, proof_spelled, proof_field)) = last.0 in
@@ -137,7 +137,7 @@ client_final_of_fit text channel nonce proof extensions cut short is_text fit =
         spelled = sym (join_with_byte-slice_split 44 text) ∙ ap joined (cut ∙ pieces) ∙ client_final_joined p;
         channel = channel_field;
         nonce = nonce_class;
-        extensions = behind.0;
+        extensions = after.0;
         proof = proof_field;
         is_text = is_text;
         short = short;
@@ -258,11 +258,11 @@ server_first_decided text =
 
 -- client-first
 
-client_first_joined : (p : ClientFirstParts) → joined (p.flag ∷ authz_text p.authz ∷ bare_parts p) ≡ client_first_text p
+client_first_joined : (p : ClientFirstParts) → joined (p.flag ∷ authzid_text p.authzid ∷ bare_parts p) ≡ client_first_text p
 unfolding client_first_text header_text bare_text
 client_first_joined p =
-    ap (λ (t : List ℕ). p.flag ++ 44 ∷ t) (joined_cons (authz_text p.authz) (bare_parts p) (marked_some p.mext (codes "n=" ++ p.name) _))
-    ∙ sym (regroup p.flag (authz_text p.authz) (joined (bare_parts p)))
+    ap (λ (t : List ℕ). p.flag ++ 44 ∷ t) (joined_cons (authzid_text p.authzid) (bare_parts p) (marked_some p.mext (codes "n=" ++ p.name) _))
+    ∙ sym (regroup p.flag (authzid_text p.authzid) (joined (bare_parts p)))
 
 bare_of_rest : (pieces rest : List (List ℕ)) (mext : Option (List ℕ)) → IsMarked pieces rest mext → 2 ≤ length rest
     → AllFit 256 (places (Name ∷ Nonce ∷ []) [] (length rest)) rest
@@ -279,24 +279,24 @@ bare_of_rest pieces (name ∷ nonce ∷ extensions) mext marked enough fit =
     let later : name ∷ nonce ∷ extensions ≡ (codes "n=" ++ name_text) ∷ (codes "r=" ++ nonce_text) ∷ extensions = cc (name_is, nonce_is) in
     (name_text, nonce_text, extensions, marked.cut ∙ ap (λ (ps : List (List ℕ)). mext_parts mext ++ ps) later, name_class, nonce_class, fits_extensions 256 extensions second.1)
 
-client_first_of_bare : (text flag authz : List ℕ) (bare : List (List ℕ)) → parts text ≡ flag ∷ authz ∷ bare → length text ≤ 2048 → IsText text
+client_first_of_bare : (text flag authzid : List ℕ) (bare : List (List ℕ)) → parts text ≡ flag ∷ authzid ∷ bare → length text ≤ 2048 → IsText text
     → length (marked_places bare (Name ∷ Nonce ∷ [])) ≤ length bare
-    → AllFit 256 (places (Flag ∷ Authzid ∷ marked_places bare (Name ∷ Nonce ∷ [])) [] (length (flag ∷ authz ∷ bare))) (flag ∷ authz ∷ bare)
+    → AllFit 256 (places (Flag ∷ Authzid ∷ marked_places bare (Name ∷ Nonce ∷ [])) [] (length (flag ∷ authzid ∷ bare))) (flag ∷ authzid ∷ bare)
     → (p : ClientFirstParts) × IsClientFirst text p
-client_first_of_bare text flag authz bare cut short is_text enough fit =
-    let placed = subst (λ (ps : List TextWhy). AllFit 256 ps (flag ∷ authz ∷ bare)) (header_places (marked_places bare (Name ∷ Nonce ∷ [])) (length bare)) fit in
+client_first_of_bare text flag authzid bare cut short is_text enough fit =
+    let placed = subst (λ (ps : List TextWhy). AllFit 256 ps (flag ∷ authzid ∷ bare)) (header_places (marked_places bare (Name ∷ Nonce ∷ [])) (length bare)) fit in
     let first = fits_first 256 Flag _ flag _ placed in
-    let second = fits_first 256 Authzid _ authz _ first.1 in
-    let (authzid, authz_is, authz_class) = second.0 in
+    let second = fits_first 256 Authzid _ authzid _ first.1 in
+    let (spelled, authzid_is, authzid_class) = second.0 in
     let (mext, rest, marked, some, later) = marked_split 256 2 (Name ∷ Nonce ∷ []) bare refl enough second.1 in
     let (name, nonce, extensions, bare_is, name_class, nonce_class, are) = bare_of_rest bare rest mext marked some later in
-    let p : ClientFirstParts = record { flag = flag; authz = authzid; mext = mext; name = name; nonce = nonce; extensions = extensions } in
-    let pieces : flag ∷ authz ∷ bare ≡ p.flag ∷ authz_text p.authz ∷ bare_parts p = cc (authz_is, bare_is) in (
+    let p : ClientFirstParts = record { flag = flag; authzid = spelled; mext = mext; name = name; nonce = nonce; extensions = extensions } in
+    let pieces : flag ∷ authzid ∷ bare ≡ p.flag ∷ authzid_text p.authzid ∷ bare_parts p = cc (authzid_is, bare_is) in (
       p,
       record {
         spelled = sym (join_with_byte-slice_split 44 text) ∙ ap joined (cut ∙ pieces) ∙ client_first_joined p;
         flag = first.0;
-        authz = authz_class;
+        authzid = authzid_class;
         mext = marked.value;
         name = name_class;
         nonce = nonce_class;
@@ -311,8 +311,8 @@ client_first_built : (text : List ℕ) (pieces : List (List ℕ)) → parts text
     → (p : ClientFirstParts) × IsClientFirst text p
 client_first_built text [] cut short is_text enough fit = absurd (omega (arith, enough))
 client_first_built text (flag ∷ []) cut short is_text enough fit = absurd (omega (arith, enough))
-client_first_built text (flag ∷ authz ∷ bare) cut short is_text enough fit =
-    client_first_of_bare text flag authz bare cut short is_text (omega (arith, enough)) fit
+client_first_built text (flag ∷ authzid ∷ bare) cut short is_text enough fit =
+    client_first_of_bare text flag authzid bare cut short is_text (omega (arith, enough)) fit
 
 abbrev first_fits : List ℕ → Type 0
 first_fits text = Fitting 256 (length (client_first_places (parts text))) (places (client_first_places (parts text)) [] (length (parts text))) text
@@ -325,7 +325,7 @@ client_first_fitting text p is =
       is_text = is.is_text;
       enough = subst (λ (ps : List (List ℕ)). length (client_first_places ps) ≤ length ps) (sym cut) (omega (arith, lengths.0, lengths.1));
       fit = subst (λ (ps : List (List ℕ)). AllFit 256 (places (client_first_places ps) [] (length ps)) ps) (sym cut)
-          (header_fit p.flag (authz_text p.authz) (bare_parts p) is.flag (p.authz, refl, is.authz)
+          (header_fit p.flag (authzid_text p.authzid) (bare_parts p) is.flag (p.authzid, refl, is.authzid)
           (bare_fit p is.mext is.name is.nonce is.extensions));
     }
 

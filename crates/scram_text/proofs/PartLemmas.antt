@@ -64,8 +64,8 @@ before_lacks (c ∷ text) = elim (cases_Bool (is_comma c)) [
 ]
 
 -- a slice from some place on
-pub behind : (text : List ℕ) (k : ℕ) → take (length text - k) (drop k text) ≡ drop k text
-behind text k = rw (← length-drop k text) (take-length (drop k text))
+pub rest_taken : (text : List ℕ) (k : ℕ) → take (length text - k) (drop k text) ≡ drop k text
+rest_taken text k = rw (← length-drop k text) (take-length (drop k text))
 
 -- what the index of the first comma says
 pub position_cuts : (text : List ℕ) → MatchOption (position is_comma text) (LacksComma text)
@@ -83,7 +83,7 @@ pub cut_at : (text : List ℕ) (at : ℕ) → position is_comma text ≡ Some at
     → (parts text ≡ take at text ∷ parts (take (length text - (at + 1)) (drop (at + 1) text))) × LacksComma (take at text)
 cut_at text at found =
     let cuts = rw found at (position_cuts text) in
-    (rw (behind text (at + 1)) (ap parts cuts.0 ∙ parts_front (take at text) (drop (at + 1) text) cuts.1), cuts.1)
+    (rw (rest_taken text (at + 1)) (ap parts cuts.0 ∙ parts_front (take at text) (drop (at + 1) text) cuts.1), cuts.1)
 
 pub cut_text : (text : List ℕ) (at : ℕ) → position is_comma text ≡ Some at → text ≡ take at text ++ 44 ∷ drop (at + 1) text
 cut_text text at found = let cuts = rw found at (position_cuts text) in cuts.0

@@ -35,7 +35,7 @@ no_misfit most [] k pieces f fit misfit = misfit
 no_misfit most (place ∷ later) k [] f fit misfit = misfit
 no_misfit most (place ∷ later) k (part ∷ pieces) f fit misfit = elim misfit [
   | inl here ↦ here.0 fit.0
-  | inr behind ↦ no_misfit most later (k + 1) pieces f fit.1 behind.1
+  | inr after ↦ no_misfit most later (k + 1) pieces f fit.1 after.1
 ]
 
 -- more places and parts after these
@@ -46,25 +46,25 @@ misfit-append most [] more k pieces others f misfit = absurd misfit
 misfit-append most (place ∷ later) more k [] others f misfit = absurd misfit
 misfit-append most (place ∷ later) more k (part ∷ pieces) others f misfit = elim misfit [
   | inl here ↦ inl here
-  | inr behind ↦ inr (behind.0, misfit-append most later more (k + 1) pieces others f behind.1)
+  | inr after ↦ inr (after.0, misfit-append most later more (k + 1) pieces others f after.1)
 ]
 
 -- extensions before these parts
-pub misfit_behind : (most : ℕ) (later : List TextWhy) (k j : ℕ) (extensions pieces : List (List ℕ)) (f : TextFault)
+pub misfit_after : (most : ℕ) (later : List TextWhy) (k j : ℕ) (extensions pieces : List (List ℕ)) (f : TextFault)
     → j ≡ k + length extensions → AreExtensions extensions → IsFirstMisfit most later j pieces f
     → IsFirstMisfit most (replicate (length extensions) Extension ++ later) k (extensions ++ pieces) f
 unfolding IsFirstMisfit
-misfit_behind most later k j [] pieces f at are misfit =
+misfit_after most later k j [] pieces f at are misfit =
     let same : j ≡ k = omega (arith, at) in subst (λ (i : ℕ). IsFirstMisfit most later i pieces f) same misfit
-misfit_behind most later k j (part ∷ extensions) pieces f at are misfit =
-    inr (are.0, misfit_behind most later (k + 1) j extensions pieces f (omega (arith, at)) are.1 misfit)
+misfit_after most later k j (part ∷ extensions) pieces f at are misfit =
+    inr (are.0, misfit_after most later (k + 1) j extensions pieces f (omega (arith, at)) are.1 misfit)
 
-pub fit_behind : (most : ℕ) (later : List TextWhy) (extensions pieces : List (List ℕ))
+pub fit_after : (most : ℕ) (later : List TextWhy) (extensions pieces : List (List ℕ))
     → AreExtensions extensions → AllFit most later pieces
     → AllFit most (replicate (length extensions) Extension ++ later) (extensions ++ pieces)
 unfolding AllFit
-fit_behind most later [] pieces are fit = fit
-fit_behind most later (part ∷ extensions) pieces are fit = (are.0, fit_behind most later extensions pieces are.1 fit)
+fit_after most later [] pieces are fit = fit
+fit_after most later (part ∷ extensions) pieces are fit = (are.0, fit_after most later extensions pieces are.1 fit)
 
 -- the places of parts with these extensions between
 pub places_of : (front back : List TextWhy) (n middle : ℕ) → n ≡ length front + length back + middle

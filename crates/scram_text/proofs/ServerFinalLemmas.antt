@@ -8,28 +8,28 @@ use Rattle.scram_text.specs.Class.{IsText}
 use Rattle.scram_text.specs.Name.{LacksComma}
 use Rattle.scram_text.specs.Base64Field.{base64}
 use Rattle.scram_text.specs.Parts.{parts, joined, AreExtensions}
-use Rattle.scram_text.specs.Messages.{Outcome, verified, failed, ServerFinalParts, outcome_text, IsOutcome, server_final_text, IsServerFinal}
+use Rattle.scram_text.specs.Messages.{VerifierOrError, verified, failed, ServerFinalParts, verifier_or_error_text, IsVerifierOrError, server_final_text, IsServerFinal}
 use Rattle.scram_text.specs.Faults.{Fits, fault, places, IsExtensionMisfit, result_place, server_final_places, IsServerFinalFault}
 use Rattle.scram_text.specs.Shown.{ShowsServerFinal}
 use Rattle.scram_text.specs.declared.server_final.ServerFinal.{ServerFinal}
 use Rattle.scram_text.specs.declared.fault.TextFault.{TextFault}
 use Rattle.scram_text.specs.declared.fault.TextWhy.TheVariants.{Extension}
 use Rattle.scram_text.proofs.PartLemmas.{misfit_here, misfit_later}
-use Rattle.scram_text.proofs.PlaceLemmas.{AllFit, fits_cons, fits_end, fit_behind, fault_at, no_fault_at, extensions_lack, parts-joined, field_fits, field_once, heads_differ}
+use Rattle.scram_text.proofs.PlaceLemmas.{AllFit, fits_cons, fits_end, fit_after, fault_at, no_fault_at, extensions_lack, parts-joined, field_fits, field_once, heads_differ}
 use Rattle.scram_text.proofs.MarkedLemmas.{places_front}
 
-outcome_lacks : (outcome : Outcome) → IsOutcome outcome → LacksComma (outcome_text outcome)
+outcome_lacks : (outcome : VerifierOrError) → IsVerifierOrError outcome → LacksComma (verifier_or_error_text outcome)
 outcome_lacks (verified signature) is = is.field.no_comma
 outcome_lacks (failed value) is = is.no_comma
 
 -- a message is cut into its parts
-pub parts_server_final : (text : List ℕ) (p : ServerFinalParts) → IsServerFinal text p → parts text ≡ outcome_text p.outcome ∷ p.extensions
+pub parts_server_final : (text : List ℕ) (p : ServerFinalParts) → IsServerFinal text p → parts text ≡ verifier_or_error_text p.outcome ∷ p.extensions
 unfolding server_final_text
 parts_server_final text p is =
-    rw (is.spelled) (parts-joined (outcome_text p.outcome) p.extensions
+    rw (is.spelled) (parts-joined (verifier_or_error_text p.outcome) p.extensions
     (outcome_lacks p.outcome is.outcome, extensions_lack p.extensions is.extensions))
 
-outcome_once : (one other : Outcome) → IsOutcome one → IsOutcome other → outcome_text one ≡ outcome_text other → one ≡ other
+outcome_once : (one other : VerifierOrError) → IsVerifierOrError one → IsVerifierOrError other → verifier_or_error_text one ≡ verifier_or_error_text other → one ≡ other
 outcome_once (verified one) (verified other) is also same =
     let texts : base64 one ≡ base64 other = cc same in ap verified (field_once 64 one other is also texts)
 outcome_once (verified one) (failed other) is also same = absurd (heads_differ 118 101 _ _ same (λ e. omega (arith, e)))
@@ -39,8 +39,8 @@ outcome_once (failed one) (failed other) is also same = let values : one ≡ oth
 -- a text is a message with one list of parts
 pub server_final_once : (text : List ℕ) (p q : ServerFinalParts) → IsServerFinal text p → IsServerFinal text q → p ≡ q
 server_final_once text p q is also =
-    let same : outcome_text p.outcome ∷ p.extensions ≡ outcome_text q.outcome ∷ q.extensions = sym (parts_server_final text p is) ∙ parts_server_final text q also in
-    let outcomes : outcome_text p.outcome ≡ outcome_text q.outcome = cc same in
+    let same : verifier_or_error_text p.outcome ∷ p.extensions ≡ verifier_or_error_text q.outcome ∷ q.extensions = sym (parts_server_final text p is) ∙ parts_server_final text q also in
+    let outcomes : verifier_or_error_text p.outcome ≡ verifier_or_error_text q.outcome = cc same in
     let extensions : p.extensions ≡ q.extensions = cc same in
     let outcome = outcome_once p.outcome q.outcome is.outcome also.outcome outcomes in
     λ i. record { outcome = outcome i; extensions = extensions i }
@@ -49,22 +49,22 @@ pub result_places : (first : List ℕ) (extensions : List (List ℕ))
     → places (result_place first ∷ []) [] (length (first ∷ extensions)) ≡ result_place first ∷ replicate (length extensions) Extension
 result_places first extensions = places_front (result_place first ∷ []) (length (first ∷ extensions)) (length extensions) (omega arith)
 
-pub outcome_fits : (outcome : Outcome) → IsOutcome outcome → Fits 512 (result_place (outcome_text outcome)) (outcome_text outcome)
+pub outcome_fits : (outcome : VerifierOrError) → IsVerifierOrError outcome → Fits 512 (result_place (verifier_or_error_text outcome)) (verifier_or_error_text outcome)
 outcome_fits (verified signature) is = field_fits 118 64 _ signature refl is
 outcome_fits (failed value) is = (value, refl, is)
 
 pub server_final_fit : (first : List ℕ) (extensions : List (List ℕ)) → Fits 512 (result_place first) first → AreExtensions extensions
     → AllFit 512 (places (result_place first ∷ []) [] (length (first ∷ extensions))) (first ∷ extensions)
 server_final_fit first extensions fits are =
-    let behind = fit_behind 512 [] extensions [] are (fits_end 512 []) in
+    let after = fit_after 512 [] extensions [] are (fits_end 512 []) in
     rw (result_places first extensions)
-    (fits_cons 512 (result_place first) _ first extensions fits (rw (append-nil (replicate (length extensions) Extension), append-nil extensions) at behind))
+    (fits_cons 512 (result_place first) _ first extensions fits (rw (append-nil (replicate (length extensions) Extension), append-nil extensions) at after))
 
 -- a message has no fault
 pub server_final_no_fault : (text : List ℕ) (p : ServerFinalParts) (f : TextFault) → IsServerFinal text p → IsServerFinalFault text f → ⊥
 server_final_no_fault text p f is =
-    no_fault_at 512 server_final_places text (outcome_text p.outcome ∷ p.extensions) f is.short is.is_text (parts_server_final text p is)
-    (omega arith) (server_final_fit (outcome_text p.outcome) p.extensions (outcome_fits p.outcome is.outcome) is.extensions)
+    no_fault_at 512 server_final_places text (verifier_or_error_text p.outcome ∷ p.extensions) f is.short is.is_text (parts_server_final text p is)
+    (omega arith) (server_final_fit (verifier_or_error_text p.outcome) p.extensions (outcome_fits p.outcome is.outcome) is.extensions)
 
 -- the parts that were found are all that a text can have
 pub server_final_only : (text : List ℕ) (r : Result ServerFinal TextFault)
@@ -88,12 +88,12 @@ extension_fault text first extensions f short is_text cut fits misfit =
     fault_at 512 server_final_places text (first ∷ extensions) f short is_text cut
     (inr (omega arith, rw (result_places first extensions) (misfit_later 512 0 (result_place first) _ first extensions f fits (misfit 512))))
 
-pub result_fits : (part : List ℕ) (outcome : Outcome) → part ≡ outcome_text outcome → IsOutcome outcome → Fits 512 (result_place part) part
+pub result_fits : (part : List ℕ) (outcome : VerifierOrError) → part ≡ verifier_or_error_text outcome → IsVerifierOrError outcome → Fits 512 (result_place part) part
 result_fits part outcome spelled is = subst (λ (t : List ℕ). Fits 512 (result_place t) t) (sym spelled) (outcome_fits outcome is)
 
-pub server_final_spelled : (text first : List ℕ) (p : ServerFinalParts) → parts text ≡ first ∷ p.extensions → first ≡ outcome_text p.outcome
+pub server_final_spelled : (text first : List ℕ) (p : ServerFinalParts) → parts text ≡ first ∷ p.extensions → first ≡ verifier_or_error_text p.outcome
     → text ≡ server_final_text p
 unfolding server_final_text
 server_final_spelled text first p cut spelled =
-    let pieces : first ∷ p.extensions ≡ outcome_text p.outcome ∷ p.extensions = cc spelled in
+    let pieces : first ∷ p.extensions ≡ verifier_or_error_text p.outcome ∷ p.extensions = cc spelled in
     sym (join_with_byte-slice_split 44 text) ∙ ap joined (cut ∙ pieces)

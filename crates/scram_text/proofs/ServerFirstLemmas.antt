@@ -17,7 +17,7 @@ use Rattle.scram_text.specs.declared.server_first.ServerFirst.{ServerFirst}
 use Rattle.scram_text.specs.declared.fault.TextFault.{TextFault}
 use Rattle.scram_text.specs.declared.fault.TextWhy.TheVariants.{Nonce, Salt, Count, Extension}
 use Rattle.scram_text.proofs.PartLemmas.{misfit_here, misfit_later}
-use Rattle.scram_text.proofs.PlaceLemmas.{AllFit, fits_cons, fits_end, fit_behind, no_fault_at, nonce_lacks, extensions_lack, parts-joined_list, field_fits, field_once, misfit_at}
+use Rattle.scram_text.proofs.PlaceLemmas.{AllFit, fits_cons, fits_end, fit_after, no_fault_at, nonce_lacks, extensions_lack, parts-joined_list, field_fits, field_once, misfit_at}
 use Rattle.scram_text.proofs.MarkedLemmas.{places_front, marked_of, marked_lack, marked_some, marked_once, marked_fit, marked_fault, marked_length}
 use Rattle.scram_text.proofs.CountLemmas.{decimal_lacks, below_64}
 
@@ -71,10 +71,10 @@ pub later_fit : (nonce salt count : List ℕ) (extensions : List (List ℕ))
     → Fits 512 Nonce nonce → Fits 512 Salt salt → Fits 512 Count count → AreExtensions extensions
     → AllFit 512 (places (Nonce ∷ Salt ∷ Count ∷ []) [] (length (nonce ∷ salt ∷ count ∷ extensions))) (nonce ∷ salt ∷ count ∷ extensions)
 later_fit nonce salt count extensions is_nonce is_salt is_count are =
-    let behind = fit_behind 512 [] extensions [] are (fits_end 512 []) in
+    let after = fit_after 512 [] extensions [] are (fits_end 512 []) in
     rw (later_places nonce salt count extensions)
     (fits_cons 512 Nonce _ nonce _ is_nonce (fits_cons 512 Salt _ salt _ is_salt (fits_cons 512 Count _ count _ is_count
-    (rw (append-nil (replicate (length extensions) Extension), append-nil extensions) at behind))))
+    (rw (append-nil (replicate (length extensions) Extension), append-nil extensions) at after))))
 
 -- the parts of a message fit their places
 pub server_first_fit : (text : List ℕ) (p : ServerFirstParts) → IsServerFirst text p

@@ -21,7 +21,8 @@ pub record IsBase64Of (text bytes : List ℕ) : Type 0 where
   pub back : reading (base64 bytes) ≡ Ok bytes
   pub no_comma : LacksComma (base64 bytes)
 
--- what a base64 field may hold: 1 to `most` bytes whose text is their base64
+-- what a base64 field may hold: 1 to `most` bytes whose base64 is decoded to them and has no comma. A law says that
+-- this is so of all bytes, up to 1536.
 pub record IsField (most : ℕ) (bytes : List ℕ) : Type 0 where
   pub at_least : 1 ≤ length bytes
   pub at_most : length bytes ≤ most

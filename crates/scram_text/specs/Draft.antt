@@ -8,6 +8,6 @@ pub record IsDraftOf (draft : Draft) (text : List ℕ) : Type 0 where
   pub over : draft.over ≡ true → 2048 < length text
 
 -- a text that is not empty, with a comma before it
-abbrev pub behind_comma : List ℕ → List ℕ
-behind_comma [] = []
-behind_comma (c ∷ text) = 44 ∷ c ∷ text
+abbrev pub after_comma : List ℕ → List ℕ
+after_comma [] = []
+after_comma (c ∷ text) = 44 ∷ c ∷ text

@@ -4,7 +4,7 @@ use Rattle.std.specs.Prelude.{ℕ, ◌≡◌, ◌<◌, ◌≤◌, ◌+◌, ◌-�
 use Rattle.std.specs.declared.option.Option.{Option}
 use Rattle.scram_text.specs.Class.{IsNonce, IsText}
 use Rattle.scram_text.specs.Name.{IsSaslName}
-use Rattle.scram_text.specs.Parts.{parts, is_headed, is_flag, authz_text, IsHeaded, IsValue, IsExtension, SpellsCount, SpellsField}
+use Rattle.scram_text.specs.Parts.{parts, is_headed, is_flag, authzid_text, IsHeaded, IsValue, IsExtension, SpellsCount, SpellsField}
 use Rattle.scram_text.specs.Messages.{most_bytes}
 use Rattle.scram_text.specs.declared.fault.TextFault.{TextFault}
 use Rattle.scram_text.specs.declared.fault.TextWhy.{TextWhy}
@@ -13,22 +13,22 @@ use Rattle.scram_text.specs.declared.fault.WriteFault.{WriteFault}
 use Rattle.scram_text.specs.declared.fault.WriteFault.TheVariants.{Unwritable, OverLimit, NoMemory}
 
 -- the number of a reader's fault
-abbrev pub why_number : TextWhy → ℕ
-why_number TooLong = 1
-why_number NotText = 2
-why_number Missing = 3
-why_number Flag = 4
-why_number Authzid = 5
-why_number Mandatory = 6
-why_number Name = 7
-why_number Nonce = 8
-why_number Salt = 9
-why_number Count = 10
-why_number Channel = 11
-why_number Extension = 12
-why_number Proof = 13
-why_number Verifier = 14
-why_number ErrorValue = 15
+abbrev pub text_why_number : TextWhy → ℕ
+text_why_number TooLong = 1
+text_why_number NotText = 2
+text_why_number Missing = 3
+text_why_number Flag = 4
+text_why_number Authzid = 5
+text_why_number Mandatory = 6
+text_why_number Name = 7
+text_why_number Nonce = 8
+text_why_number Salt = 9
+text_why_number Count = 10
+text_why_number Channel = 11
+text_why_number Extension = 12
+text_why_number Proof = 13
+text_why_number Verifier = 14
+text_why_number ErrorValue = 15
 
 -- the number of a writer's fault
 abbrev pub write_number : WriteFault → ℕ
@@ -41,8 +41,8 @@ abbrev pub fault : ℕ → TextWhy → TextFault
 fault part why = record { part = part; why = why }
 
 -- the part is nothing, or "a=" and a saslname
-abbrev pub IsAuthz : List ℕ → Type 0
-IsAuthz part = (authz : Option (List ℕ)) × (part ≡ authz_text authz) × IfSome authz IsSaslName
+abbrev pub IsAuthzid : List ℕ → Type 0
+IsAuthzid part = (authzid : Option (List ℕ)) × (part ≡ authzid_text authzid) × IfSome authzid IsSaslName
 
 -- what a part has to be at the place that gives this fault, in a message whose nonce has at most `most`
 -- characters
@@ -51,7 +51,7 @@ Fits most TooLong part = Unit {0}
 Fits most NotText part = Unit {0}
 Fits most Missing part = Unit {0}
 Fits most Flag part = IsTrue (is_flag part)
-Fits most Authzid part = IsAuthz part
+Fits most Authzid part = IsAuthzid part
 Fits most Mandatory part = IsHeaded 109 IsValue part
 Fits most Name part = IsHeaded 110 IsSaslName part
 Fits most Nonce part = IsHeaded 114 (IsNonce most) part

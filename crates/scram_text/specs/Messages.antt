@@ -6,7 +6,7 @@ use Rattle.std.specs.declared.option.Option.{Option}
 use Rattle.scram_text.specs.Class.{IsNonce, IsText}
 use Rattle.scram_text.specs.Name.{IsSaslName}
 use Rattle.scram_text.specs.Base64Field.{base64, IsField}
-use Rattle.scram_text.specs.Parts.{joined, is_flag, authz_text, mext_parts, IsValue, IsCount, AreExtensions, have_mandatory}
+use Rattle.scram_text.specs.Parts.{joined, is_flag, authzid_text, mext_parts, IsValue, IsCount, AreExtensions, have_mandatory}
 
 -- the most bytes of a message
 abbrev pub most_bytes : ℕ
@@ -15,7 +15,7 @@ most_bytes = 2048
 -- the parts of client-first
 pub record ClientFirstParts : Type 0 where
   pub flag : List ℕ
-  pub authz : Option (List ℕ)
+  pub authzid : Option (List ℕ)
   pub mext : Option (List ℕ)
   pub name : List ℕ
   pub nonce : List ℕ
@@ -23,7 +23,7 @@ pub record ClientFirstParts : Type 0 where
 
 -- gs2-header = gs2-cbind-flag "," [ authzid ] ",", as "n,a=root,"
 unfoldable pub header_text : ClientFirstParts → List ℕ
-header_text p = p.flag ++ 44 ∷ (authz_text p.authz ++ 44 ∷ [])
+header_text p = p.flag ++ 44 ∷ (authzid_text p.authzid ++ 44 ∷ [])
 
 -- the parts of client-first-message-bare
 abbrev pub bare_parts : ClientFirstParts → List (List ℕ)
@@ -45,7 +45,7 @@ client_first_mandatory p = is_some p.mext || have_mandatory p.extensions
 pub record IsClientFirst (text : List ℕ) (p : ClientFirstParts) : Type 0 where
   pub spelled : text ≡ client_first_text p
   pub flag : IsTrue (is_flag p.flag)
-  pub authz : IfSome p.authz IsSaslName
+  pub authzid : IfSome p.authzid IsSaslName
   pub mext : IfSome p.mext IsValue
   pub name : IsSaslName p.name
   pub nonce : IsNonce 256 p.nonce
@@ -91,13 +91,13 @@ pub record ClientFinalParts : Type 0 where
   pub proof : List ℕ
 
 -- client-final-message-without-proof = channel-binding "," nonce ["," extensions], as "c=biws,r=abcdef"
-unfoldable pub final_front : ClientFinalParts → List ℕ
-final_front p = joined ((codes "c=" ++ base64 p.channel) ∷ (codes "r=" ++ p.nonce) ∷ p.extensions)
+unfoldable pub client_final_without_proof : ClientFinalParts → List ℕ
+client_final_without_proof p = joined ((codes "c=" ++ base64 p.channel) ∷ (codes "r=" ++ p.nonce) ∷ p.extensions)
 
 -- client-final-message = client-final-message-without-proof "," proof, as
 -- "c=biws,r=abcdef,p=v0X8v3Bz2T0CJGbJQyF0X+HI4Ts="
 unfoldable pub client_final_text : ClientFinalParts → List ℕ
-client_final_text p = final_front p ++ 44 ∷ (codes "p=" ++ base64 p.proof)
+client_final_text p = client_final_without_proof p ++ 44 ∷ (codes "p=" ++ base64 p.proof)
 
 -- the message asks for an extension that must be known
 abbrev pub client_final_mandatory : ClientFinalParts → Bool
@@ -114,29 +114,29 @@ pub record IsClientFinal (text : List ℕ) (p : ClientFinalParts) : Type 0 where
   pub short : length text ≤ most_bytes
 
 -- what server-final says: the server's signature, or why the login failed
-pub data Outcome : Type 0 where
-  verified : (signature : List ℕ) → Outcome
-  failed : (value : List ℕ) → Outcome
+pub data VerifierOrError : Type 0 where
+  verified : (signature : List ℕ) → VerifierOrError
+  failed : (value : List ℕ) → VerifierOrError
 
 -- the parts of server-final
 pub record ServerFinalParts : Type 0 where
-  pub outcome : Outcome
+  pub outcome : VerifierOrError
   pub extensions : List (List ℕ)
 
 -- verifier = "v=" base64, server-error = "e=" server-error-value
-abbrev pub outcome_text : Outcome → List ℕ
-outcome_text (verified signature) = codes "v=" ++ base64 signature
-outcome_text (failed value) = codes "e=" ++ value
+abbrev pub verifier_or_error_text : VerifierOrError → List ℕ
+verifier_or_error_text (verified signature) = codes "v=" ++ base64 signature
+verifier_or_error_text (failed value) = codes "e=" ++ value
 
 -- a signature of 1 to 64 bytes, or an error value of one or more value-chars
-abbrev pub IsOutcome : Outcome → Type 0
-IsOutcome (verified signature) = IsField 64 signature
-IsOutcome (failed value) = IsValue value
+abbrev pub IsVerifierOrError : VerifierOrError → Type 0
+IsVerifierOrError (verified signature) = IsField 64 signature
+IsVerifierOrError (failed value) = IsValue value
 
 -- server-final-message = (server-error / verifier) ["," extensions], as "v=rmF9pqV8S7suAoZWja4dJRkFsKQ="
 -- or "e=invalid-proof"
 unfoldable pub server_final_text : ServerFinalParts → List ℕ
-server_final_text p = joined (outcome_text p.outcome ∷ p.extensions)
+server_final_text p = joined (verifier_or_error_text p.outcome ∷ p.extensions)
 
 -- the message asks for an extension that must be known
 abbrev pub server_final_mandatory : ServerFinalParts → Bool
@@ -145,7 +145,7 @@ server_final_mandatory p = have_mandatory p.extensions
 -- the text is a server-final message with these parts
 pub record IsServerFinal (text : List ℕ) (p : ServerFinalParts) : Type 0 where
   pub spelled : text ≡ server_final_text p
-  pub outcome : IsOutcome p.outcome
+  pub outcome : IsVerifierOrError p.outcome
   pub extensions : AreExtensions p.extensions
   pub is_text : IsText text
   pub short : length text ≤ most_bytes

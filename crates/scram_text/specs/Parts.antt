@@ -21,7 +21,7 @@ abbrev pub parts_of_some : Option (List ℕ) → List (List ℕ)
 parts_of_some None = []
 parts_of_some (Some text) = parts text
 
--- the part is this letter, `=` and whatever follows
+-- the part begins with this letter and `=`
 abbrev pub is_headed : ℕ → List ℕ → Bool
 is_headed letter [] = false
 is_headed letter (a ∷ []) = false
@@ -47,9 +47,9 @@ is_flag (c ∷ []) = (c == 110) || (c == 121)
 is_flag (a ∷ b ∷ name) = (a == 112) && (b == 61) && is_cb_name name
 
 -- the part of an authorisation name: "a=" and the saslname, or nothing
-abbrev pub authz_text : Option (List ℕ) → List ℕ
-authz_text None = []
-authz_text (Some spelled) = codes "a=" ++ spelled
+abbrev pub authzid_text : Option (List ℕ) → List ℕ
+authzid_text None = []
+authzid_text (Some spelled) = codes "a=" ++ spelled
 
 -- the part of a mandatory extension, "m=" and its value, where there is one
 abbrev pub mext_parts : Option (List ℕ) → List (List ℕ)

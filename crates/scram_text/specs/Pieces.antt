@@ -20,8 +20,8 @@ use Rattle.scram_text.specs.declared.fault.TextWhy.TheVariants.{Name, Nonce}
 pub record IsCutFinal (message : List ℕ) (pieces : Pieces) : Type 0 where
   pub short : length message ≤ 2048
   pub is_text : IsText message
-  pub whole : message ≡ pieces.front.now ++ 44 ∷ pieces.proof.now
-  pub cut : parts pieces.front.now ≡ pieces.channel.now ∷ pieces.nonce.now ∷ parts_of_some (option_copied pieces.rest)
+  pub whole : message ≡ pieces.without_proof.now ++ 44 ∷ pieces.proof.now
+  pub cut : parts pieces.without_proof.now ≡ pieces.channel.now ∷ pieces.nonce.now ∷ parts_of_some (option_copied pieces.rest)
   pub cut_whole : parts message ≡ pieces.channel.now ∷ pieces.nonce.now ∷ (parts_of_some (option_copied pieces.rest) ++ pieces.proof.now ∷ [])
   pub count : pieces.count ≡ length (parts message)
   pub few : length (parts message) ≤ 2049

@@ -1,7 +1,7 @@
 -- What a reader returns shows the parts of the message: slices are the texts of the parts.
 use Rattle.std.specs.Prelude.{◌≡◌, ℕ, List, ◌++◌, codes}
 use Rattle.scram_text.specs.Parts.{joined}
-use Rattle.scram_text.specs.Messages.{ClientFirstParts, header_text, bare_text, client_first_mandatory, ServerFirstParts, server_first_mandatory, ClientFinalParts, final_front, client_final_mandatory, Outcome, verified, failed, ServerFinalParts, server_final_mandatory}
+use Rattle.scram_text.specs.Messages.{ClientFirstParts, header_text, bare_text, client_first_mandatory, ServerFirstParts, server_first_mandatory, ClientFinalParts, client_final_without_proof, client_final_mandatory, VerifierOrError, verified, failed, ServerFinalParts, server_final_mandatory}
 use Rattle.scram_text.specs.declared.client_first.Flag.{Flag}
 use Rattle.scram_text.specs.declared.client_first.Flag.TheVariants.{NoBinding, NotOffered, Binding}
 use Rattle.scram_text.specs.declared.client_first.ClientFirst.{ClientFirst}
@@ -22,7 +22,7 @@ pub record ShowsClientFirst (m : ClientFirst) (p : ClientFirstParts) : Type 0 wh
   pub header : m.header.now ≡ header_text p
   pub bare : m.bare.now ≡ bare_text p
   pub flag : flag_text m.flag ≡ p.flag
-  pub authzid : m.authzid ≡ p.authz
+  pub authzid : m.authzid ≡ p.authzid
   pub mandatory : m.mandatory ≡ client_first_mandatory p
   pub name : m.name ≡ p.name
   pub nonce : m.nonce.now ≡ p.nonce
@@ -38,7 +38,7 @@ pub record ShowsServerFirst (m : ServerFirst) (p : ServerFirstParts) : Type 0 wh
 
 -- the message shows these parts of client-final, and the text before its proof
 pub record ShowsClientFinal (m : ClientFinal) (p : ClientFinalParts) : Type 0 where
-  pub without_proof : m.without_proof.now ≡ final_front p
+  pub without_proof : m.without_proof.now ≡ client_final_without_proof p
   pub mandatory : m.mandatory ≡ client_final_mandatory p
   pub channel : m.channel.items ≡ p.channel
   pub nonce : m.nonce.now ≡ p.nonce
@@ -46,12 +46,12 @@ pub record ShowsClientFinal (m : ClientFinal) (p : ClientFinalParts) : Type 0 wh
   pub proof : m.proof.items ≡ p.proof
 
 -- what a result says
-abbrev pub outcome_of : FinalResult → Outcome
-outcome_of (Verifier signature) = verified signature.items
-outcome_of (ErrorValue value) = failed value.now
+abbrev pub verifier_or_error_of : FinalResult → VerifierOrError
+verifier_or_error_of (Verifier signature) = verified signature.items
+verifier_or_error_of (ErrorValue value) = failed value.now
 
 -- the message shows these parts of server-final
 pub record ShowsServerFinal (m : ServerFinal) (p : ServerFinalParts) : Type 0 where
   pub mandatory : m.mandatory ≡ server_final_mandatory p
-  pub outcome : outcome_of m.result ≡ p.outcome
+  pub outcome : verifier_or_error_of m.result ≡ p.outcome
   pub extensions : m.extensions.now ≡ joined p.extensions

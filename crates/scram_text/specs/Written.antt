@@ -7,7 +7,7 @@ use Rattle.scram_text.specs.Class.{IsNonce, IsText}
 use Rattle.scram_text.specs.Name.{name_spelling}
 use Rattle.scram_text.specs.Base64Field.{IsField}
 use Rattle.scram_text.specs.Parts.{parts, is_flag, IsValue, IsCount, AreExtensions}
-use Rattle.scram_text.specs.Messages.{ClientFirstParts, ServerFirstParts, ClientFinalParts, Outcome, verified, failed, ServerFinalParts}
+use Rattle.scram_text.specs.Messages.{ClientFirstParts, ServerFirstParts, ClientFinalParts, VerifierOrError, verified, failed, ServerFinalParts}
 use Rattle.scram_text.specs.Shown.{flag_text}
 use Rattle.scram_text.specs.declared.client_first.Flag.{Flag}
 
@@ -25,7 +25,7 @@ pub record IsExtensionText (extensions : List ℕ) : Type 0 where
 abbrev pub client_first_of : Flag → Option (List ℕ) → List ℕ → List ℕ → List ℕ → ClientFirstParts
 client_first_of flag authzid name nonce extensions = record {
   flag = flag_text flag;
-  authz = option_map name_spelling authzid;
+  authzid = option_map name_spelling authzid;
   mext = None;
   name = name_spelling name;
   nonce = nonce;
@@ -71,15 +71,15 @@ pub record CanBeClientFinal (channel nonce extensions proof : List ℕ) : Type 0
   pub proof_class : IsField 64 proof
 
 -- the parts of the server-final message that is written
-abbrev pub server_final_of : Outcome → List ℕ → ServerFinalParts
+abbrev pub server_final_of : VerifierOrError → List ℕ → ServerFinalParts
 server_final_of outcome extensions = record { outcome = outcome; extensions = extension_parts extensions }
 
 -- an outcome is in its class: an error value is a text as well
-abbrev pub CanBeTold : Outcome → Type 0
+abbrev pub CanBeTold : VerifierOrError → Type 0
 CanBeTold (verified signature) = IsField 64 signature
 CanBeTold (failed value) = IsValue value × IsText value
 
 -- the arguments for server-final are in their classes
-pub record CanBeServerFinal (outcome : Outcome) (extensions : List ℕ) : Type 0 where
+pub record CanBeServerFinal (outcome : VerifierOrError) (extensions : List ℕ) : Type 0 where
   pub outcome_class : CanBeTold outcome
   pub extensions_class : IsExtensionText extensions

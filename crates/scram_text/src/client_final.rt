@@ -10,7 +10,7 @@
 ghost use Rattle.std.specs.Prelude.{◌≡◌, ◌≤◌, ◌<◌, ◌+◌, ◌↔◌, [], ◌++◌, length, codes, vec_len, vec_capacity, IsTrue, IfOk, IfErr, OnOk, OnErr, IsOkAnd, IsErrOf};
 ghost use Rattle.scram_text.specs.Class.{IsNonce};
 ghost use Rattle.scram_text.specs.Base64Field.{base64, IsField};
-ghost use Rattle.scram_text.specs.Messages.{ClientFinalParts, final_front, client_final_text, IsClientFinal};
+ghost use Rattle.scram_text.specs.Messages.{ClientFinalParts, client_final_without_proof, client_final_text, IsClientFinal};
 ghost use Rattle.scram_text.specs.Draft.{IsDraftOf};
 ghost use Rattle.scram_text.specs.Written.{client_final_of, CanBeClientFinal};
 ghost use Rattle.scram_text.specs.Faults.{IsClientFinalFault};
@@ -61,6 +61,7 @@ pub fn read_client_final(message: &[u8]) -> Result<ClientFinal<'_>, TextFault>
     read_parts(message)
 }
 
+// As the public reader, without `only`, which follows from `found` and `fault`, since a text has one list of parts.
 fn read_parts(message: &[u8]) -> Result<ClientFinal<'_>, TextFault>
     ensures found { IfOk result (λ m. (p : ClientFinalParts) × IsClientFinal message.now p
         × ShowsClientFinal m p) }
@@ -87,7 +88,7 @@ fn read_parts(message: &[u8]) -> Result<ClientFinal<'_>, TextFault>
         });
     };
     Ok(ClientFinal {
-        without_proof: pieces.front,
+        without_proof: pieces.without_proof,
         mandatory: extensions.mandatory,
         channel,
         nonce,
@@ -100,7 +101,7 @@ fn read_parts(message: &[u8]) -> Result<ClientFinal<'_>, TextFault>
 #[derive(Drop)]
 struct Pieces<'a> {
     count: usize,
-    front: &'a [u8],
+    without_proof: &'a [u8],
     channel: &'a [u8],
     nonce: &'a [u8],
     rest: Option<&'a [u8]>,
@@ -118,15 +119,15 @@ fn pieces_of(message: &[u8]) -> Result<Pieces<'_>, TextFault>
             why: TextWhy::Missing,
         });
     }
-    let Some((front, proof)) = cut::cut_last(message) else {
+    let Some((without_proof, proof)) = cut::cut_last(message) else {
         unreachable!()
     };
-    let (channel, rest) = cut::cut(front);
+    let (channel, rest) = cut::cut(without_proof);
     let Some(rest) = rest else { unreachable!() };
     let (nonce, rest) = cut::cut(rest);
     Ok(Pieces {
         count,
-        front,
+        without_proof,
         channel,
         nonce,
         rest,
@@ -207,14 +208,14 @@ fn front_of(channel: &[u8], nonce: &[u8]) -> Draft
 /// channel field and the nonce are those of `write_client_final`. Answers 16 Unwritable where one is
 /// outside its class, else 17 OverLimit where the text would have more than 2048 bytes.
 pub fn compose_front(channel: &[u8], nonce: &[u8]) -> Result<ArrayVec<u8, 2048>, WriteFault>
-    ensures ok { IfOk result (λ front. front.items
-        ≡ final_front (client_final_of channel.now nonce.now [] [])) }
+    ensures ok { IfOk result (λ without_proof. without_proof.items
+        ≡ client_final_without_proof (client_final_of channel.now nonce.now [] [])) }
     ensures class { OnOk result (IsField 1536 channel.now × IsNonce 512 nonce.now) }
     ensures unwritable { IsErrOf result WriteFault.Unwritable → IsField 1536 channel.now
         × IsNonce 512 nonce.now → ⊥ }
     ensures over_limit { IsErrOf result WriteFault.OverLimit → IsField 1536 channel.now
         × IsNonce 512 nonce.now
-        × (2048 < length (final_front (client_final_of channel.now nonce.now [] []))) }
+        × (2048 < length (client_final_without_proof (client_final_of channel.now nonce.now [] []))) }
     ensures no_memory { IsErrOf result WriteFault.NoMemory → ⊥ }
 {
     if !field::is_field(channel, 1536) || !class::is_nonce(nonce, 512) {

@@ -10,9 +10,9 @@
 ghost use Rattle.std.specs.Prelude.{◌≡◌, ◌≤◌, ◌<◌, ◌+◌, [], ◌++◌, length, vec_len, vec_capacity, IfOk, IfErr, IfSome, OnOk, OnErr, IsTrue, IsOkAnd, IsErrOf, false, MatchOption};
 ghost use Rattle.std.specs.Option.{option_copied};
 ghost use Rattle.scram_text.specs.Name.{IsSaslName};
-ghost use Rattle.scram_text.specs.Parts.{parts, is_flag, authz_text};
+ghost use Rattle.scram_text.specs.Parts.{parts, is_flag, authzid_text};
 ghost use Rattle.scram_text.specs.Messages.{ClientFirstParts, client_first_text, IsClientFirst};
-ghost use Rattle.scram_text.specs.Faults.{IsClientFirstFault, IsAuthz, fault, marked_places};
+ghost use Rattle.scram_text.specs.Faults.{IsClientFirstFault, IsAuthzid, fault, marked_places};
 ghost use Rattle.scram_text.specs.Shown.{ShowsClientFirst, flag_text};
 ghost use Rattle.scram_text.specs.Draft.{IsDraftOf};
 ghost use Rattle.scram_text.specs.Written.{client_first_of, CanBeClientFirst};
@@ -82,6 +82,7 @@ pub fn read_client_first(message: &[u8]) -> Result<ClientFirst<'_>, TextFault>
     read_parts(message)
 }
 
+// As the public reader, without `only`, which follows from `found` and `fault`, since a text has one list of parts.
 fn read_parts(message: &[u8]) -> Result<ClientFirst<'_>, TextFault>
     ensures found { IfOk result (λ m. (p : ClientFirstParts) × IsClientFirst message.now p
         × ShowsClientFirst m p) }
@@ -159,9 +160,9 @@ fn flag_of(part: &[u8]) -> Option<Flag<'_>>
 
 // [ authzid ]: nothing, or `a=` and a saslname.
 fn authzid_of(part: &[u8]) -> Result<Option<SaslText<'_>>, TextFault>
-    ensures spelled { IfOk result (λ authzid. part.now ≡ authz_text authzid) }
+    ensures spelled { IfOk result (λ authzid. part.now ≡ authzid_text authzid) }
     ensures class { IfOk result (λ authzid. IfSome authzid IsSaslName) }
-    ensures fault { IfErr result (λ f. (IsAuthz part.now → ⊥) × (f ≡ fault 1 TextWhy.Authzid)) }
+    ensures fault { IfErr result (λ f. (IsAuthzid part.now → ⊥) × (f ≡ fault 1 TextWhy.Authzid)) }
 {
     if part.is_empty() {
         return Ok(None);

@@ -1,6 +1,6 @@
 //! Why a text is no message, and why a message is not written.
 ghost use Rattle.std.specs.Prelude.{◌≡◌};
-ghost use Rattle.scram_text.specs.Faults.{why_number, write_number};
+ghost use Rattle.scram_text.specs.Faults.{text_why_number, write_number};
 
 use thiserror::Error;
 
@@ -71,7 +71,7 @@ pub enum TextWhy {
 impl TextWhy {
     /// The fault's number, 1 to 15.
     pub fn number(&self) -> u16
-        ensures { result ≡ why_number self.now }
+        ensures { result ≡ text_why_number self.now }
     {
         *self as u16
     }
@@ -92,7 +92,7 @@ pub struct TextFault {
 impl TextFault {
     /// The fault's number, 1 to 15.
     pub fn number(&self) -> u16
-        ensures { result ≡ why_number self.now.why }
+        ensures { result ≡ text_why_number self.now.why }
     {
         self.why.number()
     }

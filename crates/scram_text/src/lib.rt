@@ -41,6 +41,3 @@ pub use name::{PlainName, SaslText, write_name};
 pub use secret::{NoncePart, Password, Salt};
 pub use server_final::{FinalResult, ServerFinal, read_server_final, write_server_final};
 pub use server_first::{ServerFirst, read_server_first, write_server_first};
-
-#[cfg(test)]
-mod tests;

@@ -10,9 +10,9 @@ ghost use Rattle.scram_text.specs.Class.{IsText};
 ghost use Rattle.scram_text.specs.Name.{LacksComma};
 ghost use Rattle.scram_text.specs.Base64Field.{base64};
 ghost use Rattle.scram_text.specs.Parts.{is_headed};
-ghost use Rattle.scram_text.specs.Messages.{ServerFinalParts, IsServerFinal, IsOutcome, outcome_text, server_final_text};
+ghost use Rattle.scram_text.specs.Messages.{ServerFinalParts, IsServerFinal, IsVerifierOrError, verifier_or_error_text, server_final_text};
 ghost use Rattle.scram_text.specs.Faults.{IsServerFinalFault, Fits, fault, result_place};
-ghost use Rattle.scram_text.specs.Shown.{ShowsServerFinal, outcome_of};
+ghost use Rattle.scram_text.specs.Shown.{ShowsServerFinal, verifier_or_error_of};
 ghost use Rattle.scram_text.specs.Draft.{IsDraftOf};
 ghost use Rattle.scram_text.specs.Written.{server_final_of, CanBeTold, CanBeServerFinal};
 
@@ -61,6 +61,7 @@ pub fn read_server_final(message: &[u8]) -> Result<ServerFinal<'_>, TextFault>
     read_parts(message)
 }
 
+// As the public reader, without `only`, which follows from `found` and `fault`, since a text has one list of parts.
 fn read_parts(message: &[u8]) -> Result<ServerFinal<'_>, TextFault>
     ensures found { IfOk result (λ m. (p : ServerFinalParts) × IsServerFinal message.now p
         × ShowsServerFinal m p) }
@@ -81,8 +82,8 @@ fn read_parts(message: &[u8]) -> Result<ServerFinal<'_>, TextFault>
 fn result_of(part: &[u8]) -> Result<FinalResult<'_>, TextFault>
     requires short { length part.now ≤ 2048 }
     requires no_comma { LacksComma part.now }
-    ensures spelled { IfOk result (λ r. part.now ≡ outcome_text (outcome_of r)) }
-    ensures class { IfOk result (λ r. IsOutcome (outcome_of r)) }
+    ensures spelled { IfOk result (λ r. part.now ≡ verifier_or_error_text (verifier_or_error_of r)) }
+    ensures class { IfOk result (λ r. IsVerifierOrError (verifier_or_error_of r)) }
     ensures fault { IfErr result (λ f. (Fits 512 (result_place part.now) part.now → ⊥) × (f
         ≡ fault 0 (result_place part.now))) }
 {
@@ -122,18 +123,18 @@ pub fn write_server_final<A: Allocator>(
     out: &mut Vec<u8, A>,
 ) -> Result<(), WriteFault>
     ensures ok { OnOk result (out.new.items ≡ out.old.items
-        ++ server_final_text (server_final_of (outcome_of outcome.entry) extensions.now)) }
-    ensures related { let p = server_final_of (outcome_of outcome.entry) extensions.now in
+        ++ server_final_text (server_final_of (verifier_or_error_of outcome.entry) extensions.now)) }
+    ensures related { let p = server_final_of (verifier_or_error_of outcome.entry) extensions.now in
         OnOk result (IsServerFinal (server_final_text p) p) }
     ensures err { OnErr result (out.new.items ≡ out.old.items) }
     ensures capacity { vec_capacity out.old ≤ vec_capacity out.new }
 
     ensures unwritable { IsErrOf result WriteFault.Unwritable
-        → CanBeServerFinal (outcome_of outcome.entry) extensions.now → ⊥ }
+        → CanBeServerFinal (verifier_or_error_of outcome.entry) extensions.now → ⊥ }
     ensures over_limit { IsErrOf result WriteFault.OverLimit
-        → CanBeServerFinal (outcome_of outcome.entry) extensions.now
-        × (2048 < length (server_final_text (server_final_of (outcome_of outcome.entry) extensions.now))) }
-    ensures no_memory { let p = server_final_of (outcome_of outcome.entry) extensions.now in
+        → CanBeServerFinal (verifier_or_error_of outcome.entry) extensions.now
+        × (2048 < length (server_final_text (server_final_of (verifier_or_error_of outcome.entry) extensions.now))) }
+    ensures no_memory { let p = server_final_of (verifier_or_error_of outcome.entry) extensions.now in
         IsErrOf result WriteFault.NoMemory → IsServerFinal (server_final_text p) p
         × (vec_capacity out.old < vec_len out.old + length (server_final_text p)) }
 {
@@ -144,7 +145,7 @@ pub fn write_server_final<A: Allocator>(
 }
 
 fn is_tellable(outcome: &FinalResult<'_>) -> bool
-    ensures { IsTrue result ↔ CanBeTold (outcome_of outcome.now) }
+    ensures { IsTrue result ↔ CanBeTold (verifier_or_error_of outcome.now) }
 {
     match outcome {
         FinalResult::Verifier(signature) => field::is_field(signature.as_slice(), 64),
@@ -153,9 +154,9 @@ fn is_tellable(outcome: &FinalResult<'_>) -> bool
 }
 
 fn draft_of(outcome: &FinalResult<'_>, extensions: &[u8]) -> Draft
-    requires { CanBeServerFinal (outcome_of outcome.now) extensions.now }
-    ensures draft { IsDraftOf result (server_final_text (server_final_of (outcome_of outcome.now) extensions.now)) }
-    ensures related { let p = server_final_of (outcome_of outcome.now) extensions.now in
+    requires { CanBeServerFinal (verifier_or_error_of outcome.now) extensions.now }
+    ensures draft { IsDraftOf result (server_final_text (server_final_of (verifier_or_error_of outcome.now) extensions.now)) }
+    ensures related { let p = server_final_of (verifier_or_error_of outcome.now) extensions.now in
         length (server_final_text p) ≤ 2048 → IsServerFinal (server_final_text p) p }
 {
     let mut draft = told(outcome);
@@ -164,9 +165,9 @@ fn draft_of(outcome: &FinalResult<'_>, extensions: &[u8]) -> Draft
 }
 
 fn told(outcome: &FinalResult<'_>) -> Draft
-    requires { CanBeTold (outcome_of outcome.now) }
-    ensures draft { IsDraftOf result (outcome_text (outcome_of outcome.now)) }
-    ensures is_text { IsText (outcome_text (outcome_of outcome.now)) }
+    requires { CanBeTold (verifier_or_error_of outcome.now) }
+    ensures draft { IsDraftOf result (verifier_or_error_text (verifier_or_error_of outcome.now)) }
+    ensures is_text { IsText (verifier_or_error_text (verifier_or_error_of outcome.now)) }
 {
     match outcome {
         FinalResult::Verifier(signature) => verifier(signature.as_slice()),

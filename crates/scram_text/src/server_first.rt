@@ -53,6 +53,7 @@ pub fn read_server_first(message: &[u8]) -> Result<ServerFirst<'_>, TextFault>
     read_parts(message)
 }
 
+// As the public reader, without `only`, which follows from `found` and `fault`, since a text has one list of parts.
 fn read_parts(message: &[u8]) -> Result<ServerFirst<'_>, TextFault>
     ensures found { IfOk result (λ m. (p : ServerFirstParts) × IsServerFirst message.now p
         × ShowsServerFirst m p) }

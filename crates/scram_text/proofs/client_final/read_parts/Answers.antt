@@ -49,7 +49,7 @@ returns-clause-found c =
       extensions = parts_of_some (option_copied c.in_ok-pieces.pieces.rest);
       proof = c.in-Some-tag_of.proof.items;
     } in
-    let spelled = client_final_spelled c.args.message.now c.in_ok-pieces.pieces.front.now c.in_ok-pieces.pieces.proof.now
+    let spelled = client_final_spelled c.args.message.now c.in_ok-pieces.pieces.without_proof.now c.in_ok-pieces.pieces.proof.now
     c.in_ok-pieces.pieces.channel.now c.in_ok-pieces.pieces.nonce.now p cut.whole cut.cut
     c.in-Some.ensures.spelled c.in-Some-nonce_of.ensures.spelled c.in-Some-tag_of.ensures.spelled in (
       p,

@@ -1,7 +1,7 @@
 use Rattle.std.proofs.Common.{refl}
 use Rattle.std.proofs.lemmas.Result.{err_from_is_err_and}
 use Rattle.scram_text.specs.Messages.{ClientFirstParts}
-use Rattle.scram_text.proofs.ClientFirstLemmas.{flag_fault, authz_fault, bare_fault, client_first_spelled}
+use Rattle.scram_text.proofs.ClientFirstLemmas.{flag_fault, authzid_fault, bare_fault, client_first_spelled}
 use Rattle.scram_text.proofs.client_first.read_parts.Goals as goal
 
 pub returns-in_default-clause-fault : goal.returns-in_default-clause-fault
@@ -13,7 +13,7 @@ pub returns-in_err-authzid-clause-fault : goal.returns-in_err-authzid-clause-fau
 returns-in_err-authzid-clause-fault c =
     let cut = c.in_ok-pieces.ensures.cut in
     let p = err_from_is_err_and c.from_residual-in_err-authzid.result c.from_residual-in_err-authzid.ensures.1 in
-    rw (p.1, p.2) (authz_fault c.args.message.now _ _ _ _ cut.short cut.is_text cut.cut cut.enough c.in-Some.ensures.class c.in_err-authzid.ensures.fault)
+    rw (p.1, p.2) (authzid_fault c.args.message.now _ _ _ _ cut.short cut.is_text cut.cut cut.enough c.in-Some.ensures.class c.in_err-authzid.ensures.fault)
 
 pub returns-in_err-bare-clause-fault : goal.returns-in_err-bare-clause-fault
 returns-in_err-bare-clause-fault c =
@@ -26,14 +26,14 @@ pub returns-clause-found : goal.returns-clause-found
 returns-clause-found c =
     let cut = c.in_ok-pieces.ensures.cut in
     let (bare, is, shows) = c.in_ok-bare.ensures.found in
-    let p : ClientFirstParts = record bare { flag = c.in_ok-pieces.pieces.flag.now; authz = c.in_ok-authzid.authzid } in
+    let p : ClientFirstParts = record bare { flag = c.in_ok-pieces.pieces.flag.now; authzid = c.in_ok-authzid.authzid } in
     let spelled = client_first_spelled c.args.message.now c.in_ok-pieces.pieces.header.now c.in_ok-pieces.pieces.flag.now
     c.in_ok-pieces.pieces.authzid.now c.in_ok-pieces.pieces.bare.now p cut.header cut.header_parts refl c.in_ok-authzid.ensures.spelled is.cut in (
       p,
       record {
         spelled = spelled.2;
         flag = c.in-Some.ensures.class;
-        authz = c.in_ok-authzid.ensures.class;
+        authzid = c.in_ok-authzid.ensures.class;
         mext = is.mext;
         name = is.name;
         nonce = is.nonce;

@@ -1,5 +1,5 @@
 use Rattle.std.proofs.Common.{ℕ, List, subst}
-use Rattle.scram_text.specs.Shown.{outcome_of}
+use Rattle.scram_text.specs.Shown.{verifier_or_error_of}
 use Rattle.scram_text.specs.Draft.{IsDraftOf}
 use Rattle.scram_text.proofs.ComposeLemmas.{server_final_composed, server_final_related}
 use Rattle.scram_text.proofs.server_final.draft_of.Goals as goal
@@ -7,9 +7,9 @@ use Rattle.scram_text.proofs.server_final.draft_of.Goals as goal
 pub returns-clause-draft : goal.returns-clause-draft
 returns-clause-draft c =
     subst (λ (text : List ℕ). IsDraftOf c.add_extensions.new.self text)
-    (server_final_composed (outcome_of c.args.outcome.now) c.args.extensions.now)
+    (server_final_composed (verifier_or_error_of c.args.outcome.now) c.args.extensions.now)
     (c.add_extensions.ensures _ c.told-draft.ensures.draft)
 
 pub returns-clause-related : goal.returns-clause-related
 returns-clause-related c = λ short.
-    server_final_related (outcome_of c.args.outcome.now) c.args.extensions.now c.told-draft.ensures.is_text c.requires short
+    server_final_related (verifier_or_error_of c.args.outcome.now) c.args.extensions.now c.told-draft.ensures.is_text c.requires short

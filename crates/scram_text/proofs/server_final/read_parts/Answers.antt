@@ -3,7 +3,7 @@ use Rattle.std.specs.Option.{option_copied}
 use Rattle.std.proofs.lemmas.Result.{err_from_is_err_and}
 use Rattle.scram_text.specs.Parts.{parts_of_some}
 use Rattle.scram_text.specs.Messages.{ServerFinalParts}
-use Rattle.scram_text.specs.Shown.{outcome_of}
+use Rattle.scram_text.specs.Shown.{verifier_or_error_of}
 use Rattle.scram_text.proofs.ServerFinalLemmas.{result_fault, extension_fault, result_fits, server_final_spelled}
 use Rattle.scram_text.proofs.server_final.read_parts.Goals as goal
 
@@ -17,13 +17,13 @@ pub returns-in_err-extensions-clause-fault : goal.returns-in_err-extensions-clau
 returns-in_err-extensions-clause-fault c =
     let p = err_from_is_err_and c.from_residual-in_err-extensions.result c.from_residual-in_err-extensions.ensures.1 in
     rw (p.1, p.2) (extension_fault c.args.message.now c.cut.result.0.now _ _ c.in_ok-count_of.ensures.short c.in_ok-count_of.ensures.is_text
-    c.cut.ensures.parts (result_fits c.cut.result.0.now (outcome_of c.in_ok-result.result) c.in_ok-result.ensures.spelled c.in_ok-result.ensures.class)
+    c.cut.ensures.parts (result_fits c.cut.result.0.now (verifier_or_error_of c.in_ok-result.result) c.in_ok-result.ensures.spelled c.in_ok-result.ensures.class)
     c.in_err-extensions.ensures.fault)
 
 pub returns-clause-found : goal.returns-clause-found
 returns-clause-found c =
     let p : ServerFinalParts = record {
-      outcome = outcome_of c.in_ok-result.result;
+      outcome = verifier_or_error_of c.in_ok-result.result;
       extensions = parts_of_some (option_copied c.cut.result.1);
     } in (
       p,

@@ -1,11 +1,11 @@
 //! What no contract shows: that the definitions are those of RFC 5802, by its messages and those of
 //! other software, and that each call can succeed where there is memory.
-use crate::{
+use mac_core::Tag;
+use scram_text::{
     FinalResult, Flag, NoncePart, Password, PlainName, Salt, TextFault, TextWhy, WriteFault,
     compose_front, read_client_final, read_client_first, read_server_final, read_server_first,
     write_client_final, write_client_first, write_name, write_server_final, write_server_first,
 };
-use mac_core::Tag;
 use std::alloc::Global;
 use std::process::Abort;
 use std::test::Fail;
@@ -241,7 +241,7 @@ fn faults_of_client_final(rt: HostRuntime) {
         );
     }
     let Ok(message) = read_client_final(b"c=biws,r=abc,p=AA==,p=AA==") else {
-        panic!(rt; "a proof behind an extension that is named p");
+        panic!(rt; "a proof after an extension that is named p");
     };
     assert_eq!(rt; message.extensions, b"p=AA==".as_slice());
     assert_eq!(rt; message.proof.as_slice(), [0].as_slice());

@@ -1,0 +1,5 @@
+//! Tests of `scram_text`.
+#![tactic(auto)]
+
+#[cfg(test)]
+mod tests;
