@@ -4,10 +4,9 @@ use Rattle.std.specs.Prelude.{◌≢◌}
 use Rattle.std.proofs.lemmas.List.{nil_from_length}
 use Rattle.std.proofs.lemmas.Bool.{eqb-true, both_ways}
 use Rattle.std.proofs.lemmas.Bool.Decides.{eqb_tells}
-use Rattle.std.specs.declared.option.Option.{Option}
-use Rattle.mac_core.specs.declared.chosen.Mechanism.{Mechanism}
 use Rattle.scram_text.specs.Messages.{ServerFirstParts, server_first_mandatory}
 use Rattle.scram_text.proofs.ServerFirstLemmas.{server_first_once}
+use Rattle.scram_ends.specs.Stages.{Started}
 use Rattle.scram_ends.specs.Client.{IsStarted, IsAnswerable, IsChallengeFault}
 use Rattle.scram_ends.specs.declared.client.Limits.{Limits}
 use Rattle.scram_ends.specs.declared.client.ClientOne.{ClientOne}
@@ -36,32 +35,32 @@ longer own nonce sent prefix rest same is cut some =
     (rest, sym same ∙ (cut ∙ ap (λ (front : List ℕ). front ++ rest) is), some_length (length rest) some)
 
 -- a challenge that is refused is not one to answer
-pub not_refused : (limits : Limits) (own t2 : List ℕ) (fault : ClientFault) (c : ServerFirstParts)
-    → IsChallengeFault limits own t2 fault → IsAnswerable limits own t2 c → ⊥
-not_refused limits own t2 (Text fault) c h a = h.0 c a.is_challenge
-not_refused limits own t2 Mandatory c h a =
-    let same = server_first_once t2 h.0 c h.1 a.is_challenge in
+pub not_refused : (limits : Limits) (own server_first : List ℕ) (fault : ClientFault) (c : ServerFirstParts)
+    → IsChallengeFault limits own server_first fault → IsAnswerable limits own server_first c → ⊥
+not_refused limits own server_first (Text fault) c h a = h.0 c a.is_challenge
+not_refused limits own server_first Mandatory c h a =
+    let same = server_first_once server_first h.0 c h.1 a.is_challenge in
     both_ways (server_first_mandatory c) a.not_mandatory (ap (λ (q : ServerFirstParts). server_first_mandatory q) (sym same) ∙ h.2)
-not_refused limits own t2 NonceNotMine c h a =
-    let same = server_first_once t2 h.0 c h.1 a.is_challenge in
+not_refused limits own server_first NonceNotMine c h a =
+    let same = server_first_once server_first h.0 c h.1 a.is_challenge in
     h.3 a.longer.0 (ap (λ (q : ServerFirstParts). q.nonce) same ∙ a.longer.1)
-not_refused limits own t2 NonceNotLonger c h a =
-    let same = server_first_once t2 h.0 c h.1 a.is_challenge in
+not_refused limits own server_first NonceNotLonger c h a =
+    let same = server_first_once server_first h.0 c h.1 a.is_challenge in
     let long : length own ≡ length (own ++ a.longer.0) = ap length (sym h.3 ∙ (ap (λ (q : ServerFirstParts). q.nonce) same ∙ a.longer.1)) in
     omega (arith, long, length-append own a.longer.0, a.longer.2)
-not_refused limits own t2 CountOutside c h a =
-    let same = server_first_once t2 h.0 c h.1 a.is_challenge in
+not_refused limits own server_first CountOutside c h a =
+    let same = server_first_once server_first h.0 c h.1 a.is_challenge in
     let count : h.0.count ≡ c.count = ap (λ (q : ServerFirstParts). q.count) same in
     elim h.4 [
       | inl low ↦ omega (arith, low, count, a.at_least)
       | inr high ↦ omega (arith, high, count, a.at_most)
     ]
-not_refused limits own t2 ServerRefused c h a = h
-not_refused limits own t2 WrongSignature c h a = h
+not_refused limits own server_first ServerRefused c h a = h
+not_refused limits own server_first WrongSignature c h a = h
 
 -- a fault by the limits and the nonce that the client keeps is one by those that it stands for
-pub fault_of : (w : ClientOne) (m : Mechanism) (limits : Limits) (name : List ℕ) (authz : Option (List ℕ)) (own t1 t2 : List ℕ) (fault : ClientFault)
-    → IsStarted w m limits name authz own t1 → IsChallengeFault w.limits w.nonce.items t2 fault → IsChallengeFault limits own t2 fault
-fault_of w m limits name authz own t1 t2 fault started is =
-    subst (λ (l : Limits). IsChallengeFault l own t2 fault) started.within
-    (subst (λ (nonce : List ℕ). IsChallengeFault w.limits nonce t2 fault) started.nonce is)
+pub fault_of : (w : ClientOne) (l : Started) (server_first : List ℕ) (fault : ClientFault)
+    → IsStarted w l → IsChallengeFault w.limits w.nonce.items server_first fault → IsChallengeFault l.limits l.nonce server_first fault
+fault_of w l server_first fault started is =
+    subst (λ (limits : Limits). IsChallengeFault limits l.nonce server_first fault) started.within
+    (subst (λ (nonce : List ℕ). IsChallengeFault w.limits nonce server_first fault) started.nonce is)

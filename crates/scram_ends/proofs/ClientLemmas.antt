@@ -6,25 +6,25 @@ use Rattle.std.specs.declared.option.Option.{Option}
 use Rattle.std.specs.declared.option.Option.TheVariants.{None, Some}
 use Rattle.std.specs.declared.result.Result.{Result}
 use Rattle.std.specs.declared.result.Result.TheVariants.{Err}
-use Rattle.mac_core.specs.declared.chosen.Mechanism.{Mechanism}
+use Rattle.mac_core.specs.declared.mechanism.Mechanism.{Mechanism}
 use Rattle.scram_text.specs.Class.{IsPlainName, IsNoncePart, IsNonce}
 use Rattle.scram_text.specs.Name.{name_spelling}
 use Rattle.scram_text.specs.Base64Field.{base64, IsField}
-use Rattle.scram_text.specs.Parts.{authz_text}
-use Rattle.scram_text.specs.Messages.{ClientFirstParts, header_text, bare_text, client_first_text, IsClientFirst, ServerFirstParts, IsServerFirst, final_front, ClientFinalParts, client_final_text, IsClientFinal}
+use Rattle.scram_text.specs.Parts.{authzid_text}
+use Rattle.scram_text.specs.Messages.{ClientFirstParts, header_text, bare_text, client_first_text, IsClientFirst, ServerFirstParts, IsServerFirst, client_final_without_proof, ClientFinalParts, client_final_text, IsClientFinal}
 use Rattle.scram_text.specs.Written.{client_first_of, CanBeClientFirst, client_final_of, CanBeClientFinal}
 use Rattle.scram_text.specs.declared.fault.WriteFault.{WriteFault}
 use Rattle.scram_text.specs.declared.fault.WriteFault.TheVariants.{Unwritable, OverLimit, NoMemory}
 use Rattle.scram_text.specs.declared.client_first.Flag.TheVariants.{NoBinding}
-use Rattle.scram_text.proofs.PartLemmas.{behind}
+use Rattle.scram_text.proofs.PartLemmas.{rest_taken}
 use Rattle.scram_text.proofs.NameLemmas.{length-spelling}
 use Rattle.scram_text.proofs.Base64Lemmas.{length-base64, field_of_bytes}
 use Rattle.scram_text.proofs.TextLemmas.{text_nil}
-use Rattle.scram_ends.specs.Opening.{IsAuthzOf}
+use Rattle.scram_ends.specs.Opening.{IsAuthzidOf}
 use Rattle.scram_ends.specs.Auth.{auth_front, auth_message, proof_of, signature_of}
 use Rattle.scram_ends.specs.Honest.{IsHonestFirst}
+use Rattle.scram_ends.specs.Stages.{Started, answered}
 use Rattle.scram_ends.specs.Client.{IsStarted, IsExpecting}
-use Rattle.scram_ends.specs.declared.client.Limits.{Limits}
 use Rattle.scram_ends.specs.declared.client.ClientOne.{ClientOne}
 use Rattle.scram_ends.specs.declared.client.ClientTwo.{ClientTwo}
 use Rattle.scram_ends.proofs.DigestLemmas.{AreBytes}
@@ -44,45 +44,45 @@ flat_first : (f a n r : List ℕ) → length ((f ++ 44 ∷ (a ++ 44 ∷ [])) ++ 
 flat_first f a n r =
     omega (arith, length-append (f ++ 44 ∷ (a ++ 44 ∷ [])) (n ++ 44 ∷ r), length-append f (44 ∷ (a ++ 44 ∷ [])), length-append a (44 ∷ []), length-append n (44 ∷ r))
 
-spelled_authz : (authz : Option (List ℕ)) → IfSome authz IsPlainName → length (authz_text (option_map name_spelling authz)) ≤ 767
-spelled_authz None is = omega arith
-spelled_authz (Some name) is = omega (arith, length-spelling name, is.at_most)
+spelled_authzid : (authzid : Option (List ℕ)) → IfSome authzid IsPlainName → length (authzid_text (option_map name_spelling authzid)) ≤ 767
+spelled_authzid None is = omega arith
+spelled_authzid (Some name) is = omega (arith, length-spelling name, is.at_most)
 
 first_bound : (f a n r : ℕ) → f ≡ 1 → a ≤ 767 → n ≤ 767 → r ≤ 258 → f + a + n + r + 3 ≤ 2048
-first_bound f a n r one authz name nonce = omega arith
+first_bound f a n r one authzid name nonce = omega arith
 
-pub first_short : (authz : Option (List ℕ)) (name nonce : List ℕ) → IfSome authz IsPlainName → IsPlainName name → IsNoncePart nonce
-    → length (client_first_text (client_first_of NoBinding authz name nonce [])) ≤ 2048
+pub first_short : (authzid : Option (List ℕ)) (name nonce : List ℕ) → IfSome authzid IsPlainName → IsPlainName name → IsNoncePart nonce
+    → length (client_first_text (client_first_of NoBinding authzid name nonce [])) ≤ 2048
 unfolding client_first_text header_text bare_text
-first_short authz name nonce is_authz is_name is_nonce =
+first_short authzid name nonce is_authzid is_name is_nonce =
     subst (λ (k : ℕ). k ≤ 2048)
-    (sym (flat_first (codes "n") (authz_text (option_map name_spelling authz)) (codes "n=" ++ name_spelling name) (codes "r=" ++ nonce)))
-    (first_bound 1 _ _ _ refl (spelled_authz authz is_authz) (omega (arith, length-spelling name, is_name.at_most)) (omega (arith, is_nonce.at_most)))
+    (sym (flat_first (codes "n") (authzid_text (option_map name_spelling authzid)) (codes "n=" ++ name_spelling name) (codes "r=" ++ nonce)))
+    (first_bound 1 _ _ _ refl (spelled_authzid authzid is_authzid) (omega (arith, length-spelling name, is_name.at_most)) (omega (arith, is_nonce.at_most)))
 
-pub first_fails : {T : Type 0} (r : Result T WriteFault) (f : WriteFault) (authz : Option (List ℕ)) (name nonce : List ℕ) → r ≡ Err f
-    → IfSome authz IsPlainName → IsPlainName name → IsNoncePart nonce
+pub first_fails : {T : Type 0} (r : Result T WriteFault) (f : WriteFault) (authzid : Option (List ℕ)) (name nonce : List ℕ) → r ≡ Err f
+    → IfSome authzid IsPlainName → IsPlainName name → IsNoncePart nonce
     → (r ≡ Err Unwritable → CanBeClientFirst NoBinding [] → ⊥)
-    → (r ≡ Err OverLimit → CanBeClientFirst NoBinding [] × (2048 < length (client_first_text (client_first_of NoBinding authz name nonce []))))
+    → (r ≡ Err OverLimit → CanBeClientFirst NoBinding [] × (2048 < length (client_first_text (client_first_of NoBinding authzid name nonce []))))
     → f ≡ NoMemory
-first_fails r f authz name nonce failed is_authz is_name is_nonce unwritable over =
+first_fails r f authzid name nonce failed is_authzid is_name is_nonce unwritable over =
     only_memory r f failed (λ e. unwritable e can_start)
-    (λ e. let long = over e in omega (arith, long.1, first_short authz name nonce is_authz is_name is_nonce))
+    (λ e. let long = over e in omega (arith, long.1, first_short authzid name nonce is_authzid is_name is_nonce))
 
-authz_of : (authz : Option (List ℕ)) → IfSome authz IsPlainName → IsAuthzOf authz (option_map name_spelling authz)
-authz_of None is = tt
-authz_of (Some name) is = record { plain = is; spelled = refl }
+authzid_of : (authzid : Option (List ℕ)) → IfSome authzid IsPlainName → IsAuthzidOf authzid (option_map name_spelling authzid)
+authzid_of None is = tt
+authzid_of (Some name) is = record { plain = is; spelled = refl }
 
 -- a client-first message that is written is honest
-pub honest_first : (authz : Option (List ℕ)) (name nonce t1 : List ℕ) → IfSome authz IsPlainName → IsPlainName name
-    → IsClientFirst t1 (client_first_of NoBinding authz name nonce [])
-    → IsHonestFirst name authz nonce t1 (client_first_of NoBinding authz name nonce [])
-honest_first authz name nonce t1 is_authz is_name is_first = record {
+pub honest_first : (authzid : Option (List ℕ)) (name nonce client_first : List ℕ) → IfSome authzid IsPlainName → IsPlainName name
+    → IsClientFirst client_first (client_first_of NoBinding authzid name nonce [])
+    → IsHonestFirst name authzid nonce client_first (client_first_of NoBinding authzid name nonce [])
+honest_first authzid name nonce client_first is_authzid is_name is_first = record {
   is_first = is_first;
   flag = refl;
   not_mandatory = refl;
   plain = refl;
   is_name = record { plain = is_name; spelled = refl };
-  is_authz = authz_of authz is_authz;
+  is_authzid = authzid_of authzid is_authzid;
   own = refl;
 }
 
@@ -90,7 +90,7 @@ honest_first authz name nonce t1 is_authz is_name is_first = record {
 pub appended : (whole written front text : List ℕ) (start : ℕ) → whole ≡ written → written ≡ front ++ text → start ≡ length front
     → take (length whole - start) (drop start whole) ≡ text
 appended whole written front text start same is at =
-    behind whole start
+    rest_taken whole start
     ∙ (ap (λ (k : ℕ). drop k whole) at
     ∙ (ap (λ (xs : List ℕ). drop (length front) xs) (same ∙ is)
     ∙ drop-append_seam front text))
@@ -104,31 +104,31 @@ bare_length text bare p is same =
     let part : length bare ≡ length (bare_text p) = ap length same in
     omega (arith, whole, part, is.short)
 
-authz_length : (authz part : Option (List ℕ)) → IsAuthzOf authz part → length (authz_text part) ≤ 767
-authz_length None None is = omega arith
-authz_length None (Some part) is = absurd is
-authz_length (Some name) None is = absurd is
-authz_length (Some name) (Some part) is =
+authzid_length : (authzid part : Option (List ℕ)) → IsAuthzidOf authzid part → length (authzid_text part) ≤ 767
+authzid_length None None is = omega arith
+authzid_length None (Some part) is = absurd is
+authzid_length (Some name) None is = absurd is
+authzid_length (Some name) (Some part) is =
     let same : length part ≡ length (name_spelling name) = ap length is.spelled in
     omega (arith, same, length-spelling name, is.plain.at_most)
 
 flat_header : (f a : List ℕ) → length (f ++ 44 ∷ (a ++ 44 ∷ [])) ≡ length f + length a + 2
 flat_header f a = omega (arith, length-append f (44 ∷ (a ++ 44 ∷ [])), length-append a (44 ∷ []))
 
-pub header_length : (name : List ℕ) (authz : Option (List ℕ)) (nonce t1 : List ℕ) (first : ClientFirstParts) → IsHonestFirst name authz nonce t1 first
+pub header_length : (name : List ℕ) (authzid : Option (List ℕ)) (nonce client_first : List ℕ) (first : ClientFirstParts) → IsHonestFirst name authzid nonce client_first first
     → (1 ≤ length (header_text first)) × (length (header_text first) ≤ 770)
 unfolding header_text
-header_length name authz nonce t1 first honest =
+header_length name authzid nonce client_first first honest =
     let flag : length first.flag ≡ 1 = ap length honest.flag in
-    let short = authz_length authz first.authz honest.is_authz in
-    let whole = flat_header first.flag (authz_text first.authz) in
+    let short = authzid_length authzid first.authzid honest.is_authzid in
+    let whole = flat_header first.flag (authzid_text first.authzid) in
     (omega (arith, flag, whole), omega (arith, flag, short, whole))
 
-pub header_fits : (name : List ℕ) (authz : Option (List ℕ)) (nonce t1 header : List ℕ) (first : ClientFirstParts) → IsHonestFirst name authz nonce t1 first
+pub header_fits : (name : List ℕ) (authzid : Option (List ℕ)) (nonce client_first header : List ℕ) (first : ClientFirstParts) → IsHonestFirst name authzid nonce client_first first
     → header ≡ header_text first → length header ≤ 1536
-header_fits name authz nonce t1 header first honest same =
+header_fits name authzid nonce client_first header first honest same =
     let long : length header ≡ length (header_text first) = ap length same in
-    omega (arith, long, (header_length name authz nonce t1 first honest).1)
+    omega (arith, long, (header_length name authzid nonce client_first first honest).1)
 
 -- client-final
 
@@ -152,26 +152,26 @@ field_bound bytes most within = omega (arith, length-base64 bytes)
 
 pub answer_short : (header nonce proof : List ℕ) → length header ≤ 770 → length nonce ≤ 512 → length proof ≤ 64
     → length (client_final_text (client_final_of header nonce [] proof)) ≤ 2048
-unfolding client_final_text final_front
+unfolding client_final_text client_final_without_proof
 answer_short header nonce proof short is_nonce is_proof =
     subst (λ (k : ℕ). k ≤ 2048) (sym (flat_final (codes "c=" ++ base64 header) (codes "r=" ++ nonce) (codes "p=" ++ base64 proof)))
     (final_bound _ _ _ (omega (arith, field_bound header 257 (omega arith))) (omega arith) (omega (arith, field_bound proof 22 (omega arith))))
 
 pub front_short : (header nonce : List ℕ) → length header ≤ 770 → length nonce ≤ 512
-    → length (final_front (client_final_of header nonce [] [])) ≤ 2048
-unfolding final_front
+    → length (client_final_without_proof (client_final_of header nonce [] [])) ≤ 2048
+unfolding client_final_without_proof
 front_short header nonce short is_nonce =
     omega (arith, length-append (codes "c=" ++ base64 header) (44 ∷ (codes "r=" ++ nonce)), field_bound header 257 (omega arith))
 
 -- the front is the same for every proof
-pub same_front : (header nonce proof : List ℕ) → final_front (client_final_of header nonce [] []) ≡ final_front (client_final_of header nonce [] proof)
-unfolding final_front
+pub same_front : (header nonce proof : List ℕ) → client_final_without_proof (client_final_of header nonce [] []) ≡ client_final_without_proof (client_final_of header nonce [] proof)
+unfolding client_final_without_proof
 same_front header nonce proof = refl
 
 pub front_fails : {T : Type 0} (r : Result T WriteFault) (f : WriteFault) (header nonce : List ℕ) → r ≡ Err f
     → AreBytes header → 1 ≤ length header → length header ≤ 770 → IsNonce 512 nonce
     → (r ≡ Err Unwritable → IsField 1536 header × IsNonce 512 nonce → ⊥)
-    → (r ≡ Err OverLimit → IsField 1536 header × IsNonce 512 nonce × (2048 < length (final_front (client_final_of header nonce [] []))))
+    → (r ≡ Err OverLimit → IsField 1536 header × IsNonce 512 nonce × (2048 < length (client_final_without_proof (client_final_of header nonce [] []))))
     → (r ≡ Err NoMemory → ⊥) → ⊥
 front_fails r f header nonce failed bytes some short is_nonce unwritable over no_memory =
     let field = field_of_bytes 1536 header bytes some (omega (arith, short)) in
@@ -189,10 +189,10 @@ answer_fails r f header nonce proof failed can short unwritable over =
     (λ e. let long = over e in omega (arith, long.1, answer_short header nonce proof short can.nonce_class.at_most can.proof_class.at_most))
 
 -- the length of the client's own header
-pub header_range : (w : ClientOne) (m : Mechanism) (limits : Limits) (name : List ℕ) (authz : Option (List ℕ)) (own t1 header : List ℕ)
-    → IsStarted w m limits name authz own t1 → header ≡ w.header.items → (1 ≤ length header) × (length header ≤ 770)
-header_range w m limits name authz own t1 header started same =
-    let range = header_length name authz own t1 started.first started.is_first in
+pub header_range : (w : ClientOne) (l : Started) (header : List ℕ)
+    → IsStarted w l → header ≡ w.header.items → (1 ≤ length header) × (length header ≤ 770)
+header_range w l header started same =
+    let range = header_length l.name l.authzid l.nonce l.client_first started.first started.is_first in
     let long : length header ≡ length (header_text started.first) = ap length (same ∙ started.header) in
     (omega (arith, long, range.0), omega (arith, long, range.1))
 
@@ -205,18 +205,18 @@ same_signature : (m n : Mechanism) (password salt other auth text : List ℕ) (c
 same_signature m n password salt other auth text count also e f g h = λ i. signature_of (e i) password (f i) (g i) (h i)
 
 -- a client-final message that is written is honest, and its signature is the one to expect
-pub expecting : (w : ClientOne) (two : ClientTwo) (m : Mechanism) (limits : Limits) (name : List ℕ) (authz : Option (List ℕ)) (own t1 t2 password header nonce salt front proof : List ℕ) (count : ℕ) (p : ServerFirstParts)
-    → (started : IsStarted w m limits name authz own t1) → IsServerFirst t2 p
+pub expecting : (w : ClientOne) (two : ClientTwo) (l : Started) (server_first password header nonce salt front proof : List ℕ) (count : ℕ) (p : ServerFirstParts)
+    → (started : IsStarted w l) → IsServerFirst server_first p
     → header ≡ w.header.items → nonce ≡ p.nonce → salt ≡ p.salt → count ≡ p.count
-    → front ≡ final_front (client_final_of header nonce [] [])
-    → proof ≡ proof_of w.mechanism password salt count (auth_front started.first t2 ++ front)
-    → two.expected.items ≡ signature_of w.mechanism password salt count (auth_front started.first t2 ++ front)
+    → front ≡ client_final_without_proof (client_final_of header nonce [] [])
+    → proof ≡ proof_of w.mechanism password salt count (auth_front started.first server_first ++ front)
+    → two.expected.items ≡ signature_of w.mechanism password salt count (auth_front started.first server_first ++ front)
     → IsClientFinal (client_final_text (client_final_of header nonce [] proof)) (client_final_of header nonce [] proof)
-    → IsExpecting two m password name authz own t1 t2 (client_final_text (client_final_of header nonce [] proof))
-expecting w two m limits name authz own t1 t2 password header nonce salt front proof count p started is_challenge is_header is_nonce is_salt is_count is_front is_proof is_signature is_final =
+    → IsExpecting two (answered l password server_first (client_final_text (client_final_of header nonce [] proof)))
+expecting w two l server_first password header nonce salt front proof count p started is_challenge is_header is_nonce is_salt is_count is_front is_proof is_signature is_final =
     let q : ClientFinalParts = client_final_of header nonce [] proof in
-    let auth : auth_front started.first t2 ++ front ≡ auth_message started.first t2 q =
-    ap (λ (text : List ℕ). auth_front started.first t2 ++ text) (is_front ∙ same_front header nonce proof) in
+    let auth : auth_front started.first server_first ++ front ≡ auth_message started.first server_first q =
+    ap (λ (text : List ℕ). auth_front started.first server_first ++ text) (is_front ∙ same_front header nonce proof) in
     record {
       honest = record {
         first = started.first;
@@ -229,10 +229,10 @@ expecting w two m limits name authz own t1 t2 password header nonce salt front p
           channel = is_header ∙ started.header;
           sent_nonce = is_nonce;
           plain = refl;
-          proof = is_proof ∙ same_proof w.mechanism m password salt p.salt _ _ count p.count started.mechanism is_salt is_count auth;
+          proof = is_proof ∙ same_proof w.mechanism l.mechanism password salt p.salt _ _ count p.count started.mechanism is_salt is_count auth;
         };
       };
       signature = two.expected.items;
-      signed = is_signature ∙ same_signature w.mechanism m password salt p.salt _ _ count p.count started.mechanism is_salt is_count auth;
+      signed = is_signature ∙ same_signature w.mechanism l.mechanism password salt p.salt _ _ count p.count started.mechanism is_salt is_count auth;
       expected = refl;
     }

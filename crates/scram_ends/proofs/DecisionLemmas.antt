@@ -5,14 +5,15 @@ use Rattle.std.specs.Str.{bytes_eq}
 use Rattle.std.specs.declared.option.Option.{Option}
 use Rattle.std.specs.declared.option.Option.TheVariants.{None, Some}
 use Rattle.std.proofs.lemmas.Bool.{cases_Bool, cases_lt, both_ways}
-use Rattle.mac_core.specs.Chosen.{length_by, stored_key_by}
+use Rattle.mac_core.specs.Mechanism.{length_by, stored_key_by}
 use Rattle.mac_core.specs.Keys.{xor_bytes}
-use Rattle.mac_core.specs.declared.chosen.Mechanism.{Mechanism}
+use Rattle.mac_core.specs.declared.mechanism.Mechanism.{Mechanism}
 use Rattle.mac_core.proofs.AmongLemmas.{any_among}
 use Rattle.scram_text.specs.Messages.{header_text, ClientFinalParts, client_final_mandatory}
 use Rattle.scram_text.proofs.DecisionLemmas.{Decided, decided_by, decided_both, decided_test, decided_nat, decided_same}
 use Rattle.scram_text.proofs.GrammarLemmas.{client_final_law}
 use Rattle.scram_ends.specs.Entry.{Keys, Entry}
+use Rattle.scram_ends.specs.Stages.{Challenged}
 use Rattle.scram_ends.specs.Auth.{auth_message, client_signature, server_signature, IsProof}
 use Rattle.scram_ends.specs.Opening.{Opening, IsOpening, IsAllowed}
 use Rattle.scram_ends.specs.Verdict.{row, Asks, Meets, Passes, IsSignature, accept, refuse}
@@ -27,11 +28,11 @@ decided_among names name =
     decided_by (list_any (λ x. bytes_eq x name) names ≡ true) (Contains names name)
     (any_among names name).0 (any_among names name).1 (decided_test _)
 
-decided_allowed : (e : Entry) (name : List ℕ) (authz : Option (List ℕ)) → Decided (IsAllowed e name authz)
+decided_allowed : (e : Entry) (name : List ℕ) (authzid : Option (List ℕ)) → Decided (IsAllowed e name authzid)
 decided_allowed e name None = inl tt
-decided_allowed e name (Some authz) = elim (decided_same authz name) [
+decided_allowed e name (Some authzid) = elim (decided_same authzid name) [
   | inl own ↦ inl (inl own)
-  | inr other ↦ elim (decided_among e.act_as authz) [
+  | inr other ↦ elim (decided_among e.act_as authzid) [
     | inl among ↦ inl (inr among)
     | inr not_among ↦ inr (λ allowed. elim allowed [ inl own ↦ other own | inr among ↦ not_among among ])
   ]
@@ -58,34 +59,34 @@ decided_keys m (Some keys) auth proof =
     (decided_proof m keys auth proof)
 
 -- what a row asks of the parts is decided
-decided_asked : (r : Refusal) (e : Entry) (m : Mechanism) (t2 : List ℕ) (o : Opening) (p : ClientFinalParts) → Decided (Asks r e m t2 o p)
-decided_asked InvalidEncoding e m t2 o p = inl tt
-decided_asked ExtensionsNotSupported e m t2 o p = elim (cases_Bool (client_final_mandatory p)) [
+decided_asked : (r : Refusal) (l : Challenged) (o : Opening) (p : ClientFinalParts) → Decided (Asks r l o p)
+decided_asked InvalidEncoding l o p = inl tt
+decided_asked ExtensionsNotSupported l o p = elim (cases_Bool (client_final_mandatory p)) [
   | inl asks ↦ inr (λ none. both_ways (client_final_mandatory p) none asks)
   | inr none ↦ inl none
 ]
-decided_asked OtherNonce e m t2 o p = decided_same p.nonce o.challenge.nonce
-decided_asked Channel e m t2 o p = decided_same p.channel (header_text o.first)
-decided_asked InvalidProof e m t2 o p = decided_keys m e.keys (auth_message o.first t2 p) p.proof
-decided_asked NotAuthorised e m t2 o p = decided_allowed e o.name o.authz
+decided_asked OtherNonce l o p = decided_same p.nonce o.challenge.nonce
+decided_asked Channel l o p = decided_same p.channel (header_text o.first)
+decided_asked InvalidProof l o p = decided_keys l.mechanism l.entry.keys (auth_message o.first l.server_first p) p.proof
+decided_asked NotAuthorised l o p = decided_allowed l.entry o.name o.authzid
 
 -- a text that is no client-final message meets no row, and one that is meets a row where its parts do
-decided_meets : (r : Refusal) (e : Entry) (m : Mechanism) (t1 t2 t3 : List ℕ) (o : Opening) → IsOpening e t1 t2 o → Decided (Meets r e m t1 t2 t3)
-decided_meets r e m t1 t2 t3 o is_opening = elim (client_final_law t3) [
+decided_meets : (r : Refusal) (l : Challenged) (client_final : List ℕ) (o : Opening) → IsOpening l.entry l.client_first l.server_first o → Decided (Meets r l client_final)
+decided_meets r l client_final o is_opening = elim (client_final_law client_final) [
   | inr none ↦ inr (λ meets. none meets.final meets.is_final)
-  | inl found ↦ decided_by (Asks r e m t2 o found.0) (Meets r e m t1 t2 t3)
+  | inl found ↦ decided_by (Asks r l o found.0) (Meets r l client_final)
       (λ asked. record { opening = o; final = found.0; is_opening = is_opening; is_final = found.1; asked = asked })
-      (asked_of r e m t1 t2 t3 o found.0 is_opening found.1)
-      (decided_asked r e m t2 o found.0)
+      (asked_of r l client_final o found.0 is_opening found.1)
+      (decided_asked r l o found.0)
 ]
 
-decided_passes : (r : Refusal) (e : Entry) (m : Mechanism) (t1 t2 t3 : List ℕ) (o : Opening) → IsOpening e t1 t2 o → Decided (Passes r e m t1 t2 t3)
-decided_passes InvalidEncoding e m t1 t2 t3 o is_opening = elim (client_final_law t3) [ inl found ↦ inl found | inr none ↦ inr (λ h. none h.0 h.1) ]
-decided_passes ExtensionsNotSupported e m t1 t2 t3 o is_opening = decided_meets ExtensionsNotSupported e m t1 t2 t3 o is_opening
-decided_passes OtherNonce e m t1 t2 t3 o is_opening = decided_meets OtherNonce e m t1 t2 t3 o is_opening
-decided_passes Channel e m t1 t2 t3 o is_opening = decided_meets Channel e m t1 t2 t3 o is_opening
-decided_passes InvalidProof e m t1 t2 t3 o is_opening = decided_meets InvalidProof e m t1 t2 t3 o is_opening
-decided_passes NotAuthorised e m t1 t2 t3 o is_opening = decided_meets NotAuthorised e m t1 t2 t3 o is_opening
+decided_passes : (r : Refusal) (l : Challenged) (client_final : List ℕ) (o : Opening) → IsOpening l.entry l.client_first l.server_first o → Decided (Passes r l client_final)
+decided_passes InvalidEncoding l client_final o is_opening = elim (client_final_law client_final) [ inl found ↦ inl found | inr none ↦ inr (λ h. none h.0 h.1) ]
+decided_passes ExtensionsNotSupported l client_final o is_opening = decided_meets ExtensionsNotSupported l client_final o is_opening
+decided_passes OtherNonce l client_final o is_opening = decided_meets OtherNonce l client_final o is_opening
+decided_passes Channel l client_final o is_opening = decided_meets Channel l client_final o is_opening
+decided_passes InvalidProof l client_final o is_opening = decided_meets InvalidProof l client_final o is_opening
+decided_passes NotAuthorised l client_final o is_opening = decided_meets NotAuthorised l client_final o is_opening
 
 -- the number of each row is from 1 to 6
 row_range : (q : Refusal) → (1 ≤ row q) × (row q ≤ 6)
@@ -140,17 +141,17 @@ first_refused P decided =
     ]
 
 -- the signature, where the proof passes
-signature_of_proof : (e : Entry) (m : Mechanism) (t1 t2 t3 : List ℕ) → Meets InvalidProof e m t1 t2 t3
-    → (signature : List ℕ) × IsSignature e m t1 t2 t3 signature
-signature_of_proof e m t1 t2 t3 meets =
+signature_of_proof : (l : Challenged) (client_final : List ℕ) → Meets InvalidProof l client_final
+    → (signature : List ℕ) × IsSignature l client_final signature
+signature_of_proof l client_final meets =
     let proof = meets.asked in (
-      server_signature m proof.0 (auth_message meets.opening.first t2 meets.final),
+      server_signature l.mechanism proof.0 (auth_message meets.opening.first l.server_first meets.final),
       record { opening = meets.opening; final = meets.final; keys = proof.0; is_opening = meets.is_opening; is_final = meets.is_final; has_keys = proof.1; signed = refl },
     )
 
 pub some_is_due : SomeIsDue
-some_is_due e m t1 t2 t3 o is_opening =
-    elim (first_refused (λ r. Passes r e m t1 t2 t3) (λ r. decided_passes r e m t1 t2 t3 o is_opening)) [
+some_is_due l client_final o is_opening =
+    elim (first_refused (λ r. Passes r l client_final) (λ r. decided_passes r l client_final o is_opening)) [
       | inl found ↦ (refuse found.0, (found.1, found.2))
-      | inr all ↦ let signed = signature_of_proof e m t1 t2 t3 (all InvalidProof) in (accept signed.0, (all, signed.1))
+      | inr all ↦ let signed = signature_of_proof l client_final (all InvalidProof) in (accept signed.0, (all, signed.1))
     ]

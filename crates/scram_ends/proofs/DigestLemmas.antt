@@ -12,9 +12,9 @@ use Rattle.sha2.proofs.Facts256.{length-sha256}
 use Rattle.mac_core.specs.Digest.{length-sha1}
 use Rattle.mac_core.specs.Hmac.{hmac}
 use Rattle.mac_core.specs.Keys.{xor_bytes}
-use Rattle.mac_core.specs.Chosen.{hash_by, length_by, hmac_by}
-use Rattle.mac_core.specs.declared.chosen.Mechanism.{Mechanism}
-use Rattle.mac_core.specs.declared.chosen.Mechanism.TheVariants.{ScramSha1, ScramSha256}
+use Rattle.mac_core.specs.Mechanism.{hash_by, length_by, hmac_by}
+use Rattle.mac_core.specs.declared.mechanism.Mechanism.{Mechanism}
+use Rattle.mac_core.specs.declared.mechanism.Mechanism.TheVariants.{ScramSha1, ScramSha256}
 
 -- each element is a byte
 abbrev pub AreBytes : List ℕ → Type 0

@@ -1,11 +1,10 @@
 -- Honest logins succeed.
 use Rattle.std.proofs.Common.{◌≡◌, ℕ, ◌≤◌, inl, List, [], ◌++◌, length, sym, ◌∙◌, ap, subst, refl, arith}
 use Rattle.std.specs.Prelude.{codes}
-use Rattle.std.specs.declared.option.Option.{Option}
-use Rattle.mac_core.specs.Chosen.{length_by, hi_by, client_key_by, stored_key_by}
+use Rattle.mac_core.specs.Mechanism.{length_by, hi_by, client_key_by, stored_key_by}
 use Rattle.mac_core.specs.Keys.{xor_bytes}
-use Rattle.mac_core.specs.declared.chosen.Mechanism.{Mechanism}
-use Rattle.mac_core.specs.declared.chosen.Mechanism.TheVariants.{ScramSha1, ScramSha256}
+use Rattle.mac_core.specs.declared.mechanism.Mechanism.{Mechanism}
+use Rattle.mac_core.specs.declared.mechanism.Mechanism.TheVariants.{ScramSha1, ScramSha256}
 use Rattle.scram_text.specs.Parts.{have_mandatory}
 use Rattle.scram_text.specs.Messages.{ClientFirstParts, ServerFirstParts, server_first_mandatory, verified, server_final_text}
 use Rattle.scram_text.specs.Written.{server_final_of}
@@ -15,12 +14,13 @@ use Rattle.scram_text.proofs.ComposeLemmas.{signature_text, server_final_related
 use Rattle.scram_text.proofs.ClientFirstLemmas.{client_first_once}
 use Rattle.scram_text.proofs.ServerFirstLemmas.{server_first_once}
 use Rattle.scram_ends.specs.Entry.{Entry, password_keys}
+use Rattle.scram_ends.specs.Stages.{Challenged, Answered, challenged_login}
 use Rattle.scram_ends.specs.Auth.{auth_message, client_signature, server_signature, IsProof, proof_of, signature_of}
 use Rattle.scram_ends.specs.Opening.{IsOpening}
 use Rattle.scram_ends.specs.Verdict.{accept, IsDue, due_text, final_due}
 use Rattle.scram_ends.specs.Login.{IsAuthentic, IsValidLogin}
 use Rattle.scram_ends.specs.First.{IsChallengeTo}
-use Rattle.scram_ends.specs.Honest.{IsHonest}
+use Rattle.scram_ends.specs.Honest.{IsHonest, honest_signature}
 use Rattle.scram_ends.specs.Laws.{HonestLogsIn}
 use Rattle.scram_ends.proofs.VerdictLemmas.{accepts_exactly_valid}
 use Rattle.scram_ends.proofs.DigestLemmas.{AreBytes, mac_bytes, length-mac, length-xor, xor_back}
@@ -59,19 +59,18 @@ proved m password salt auth proof count is =
     }
 
 -- what an honest client's first message and the account's challenge open
-opened : (e : Entry) (m : Mechanism) (password name : List ℕ) (authz : Option (List ℕ)) (nonce own t1 t2 t3 : List ℕ)
-    → 1 ≤ length own → IsChallengeTo e t1 own t2 → (honest : IsHonest password m name authz nonce t1 t2 t3)
-    → IsOpening e t1 t2 (record { first = honest.first; name = name; authz = authz; challenge = honest.challenge })
-opened e m password name authz nonce own t1 t2 t3 some challenge honest =
-    let first : challenge.first ≡ honest.first = client_first_once t1 challenge.first honest.first challenge.is_first honest.is_first.is_first in
-    let same = server_first_once t2 honest.challenge _ honest.is_challenge challenge.is_challenge in
+opened : (e : Entry) (own : List ℕ) (l : Answered) → 1 ≤ length own → IsChallengeTo e l.client_first own l.server_first → (honest : IsHonest l)
+    → IsOpening e l.client_first l.server_first (record { first = honest.first; name = l.name; authzid = l.authzid; challenge = honest.challenge })
+opened e own l some challenge honest =
+    let first : challenge.first ≡ honest.first = client_first_once l.client_first challenge.first honest.first challenge.is_first honest.is_first.is_first in
+    let same = server_first_once l.server_first honest.challenge _ honest.is_challenge challenge.is_challenge in
     record {
       is_first = honest.is_first.is_first;
       taken_up = record {
         not_mandatory = honest.is_first.not_mandatory;
         unbound = inl honest.is_first.flag;
         is_name = honest.is_first.is_name;
-        is_authz = honest.is_first.is_authz;
+        is_authzid = honest.is_first.is_authzid;
       };
       is_challenge = honest.is_challenge;
       not_mandatory = ap (λ (p : ServerFirstParts). server_first_mandatory p) same;
@@ -89,10 +88,10 @@ same_signature : (m : Mechanism) (password salt other auth : List ℕ) (count al
 same_signature m password salt other auth count also e f = λ i. signature_of m password (e i) (f i) auth
 
 -- a valid login makes acceptance due with the signature that its last message bears
-due_of_valid : (e : Entry) (m : Mechanism) (t1 t2 t3 t4 : List ℕ) (v : IsValidLogin e m t1 t2 t3 t4)
-    → IsDue e m t1 t2 t3 (accept (server_signature m v.keys (auth_message v.opening.first t2 v.final)))
-due_of_valid e m t1 t2 t3 t4 v = (
-  ((accepts_exactly_valid e m t1 t2 t3 t4).1 v).1.0,
+due_of_valid : (l : Challenged) (client_final server_final : List ℕ) (v : IsValidLogin l client_final server_final)
+    → IsDue l client_final (accept (server_signature l.mechanism v.keys (auth_message v.opening.first l.server_first v.final)))
+due_of_valid l client_final server_final v = (
+  ((accepts_exactly_valid l client_final server_final).1 v).1.0,
   record {
     opening = v.opening;
     final = v.final;
@@ -105,18 +104,20 @@ due_of_valid e m t1 t2 t3 t4 v = (
 )
 
 pub honest_logs_in : HonestLogsIn
-honest_logs_in e m password name authz nonce own t1 t2 t3 has_keys allowed some challenge honest =
-    let auth = auth_message honest.first t2 honest.final in
-    let keys = password_keys m password e.salt e.count in
-    let signature = signature_of m password honest.challenge.salt honest.challenge.count auth in
-    let is_opening = opened e m password name authz nonce own t1 t2 t3 some challenge honest in
-    let same : signature ≡ server_signature m keys auth = same_signature m password _ e.salt auth _ e.count is_opening.salt is_opening.count in
+honest_logs_in e own l has_keys allowed some challenge honest =
+    let m = l.mechanism in
+    let here = challenged_login e m l.client_first l.server_first in
+    let auth = auth_message honest.first l.server_first honest.final in
+    let keys = password_keys m l.password e.salt e.count in
+    let signature = honest_signature l honest in
+    let is_opening = opened e own l some challenge honest in
+    let same : signature ≡ server_signature m keys auth = same_signature m l.password _ e.salt auth _ e.count is_opening.salt is_opening.count in
     let long : length signature ≡ length_by m = length-mac m _ auth in
     let range = length_range m in
     let authentic : IsAuthentic (due_text (accept signature)) signature =
     shown signature (mac_bytes m _ auth) (omega (arith, long, range.0)) (omega (arith, long, range.1)) in
-    let valid : IsValidLogin e m t1 t2 t3 (due_text (accept signature)) = record {
-      opening = record { first = honest.first; name = name; authz = authz; challenge = honest.challenge };
+    let valid : IsValidLogin here l.client_final (due_text (accept signature)) = record {
+      opening = record { first = honest.first; name = l.name; authzid = l.authzid; challenge = honest.challenge };
       final = honest.final;
       keys = keys;
       is_opening = is_opening;
@@ -125,12 +126,12 @@ honest_logs_in e m password name authz nonce own t1 t2 t3 has_keys allowed some 
       nonce = honest.is_final.sent_nonce;
       channel = honest.is_final.channel;
       has_keys = has_keys;
-      proof = proved m password e.salt auth honest.final.proof e.count
-          (honest.is_final.proof ∙ same_proof m password _ e.salt auth _ e.count is_opening.salt is_opening.count);
+      proof = proved m l.password e.salt auth honest.final.proof e.count
+          (honest.is_final.proof ∙ same_proof m l.password _ e.salt auth _ e.count is_opening.salt is_opening.count);
       allowed = allowed;
       authentic = subst (λ (s : List ℕ). IsAuthentic (due_text (accept signature)) s) same authentic;
     } in (
-      subst (λ (s : List ℕ). IsDue e m t1 t2 t3 (accept s)) (sym same) (due_of_valid e m t1 t2 t3 _ valid),
+      subst (λ (s : List ℕ). IsDue here l.client_final (accept s)) (sym same) (due_of_valid here l.client_final _ valid),
       authentic,
       valid,
     )

@@ -1,15 +1,16 @@
 -- The challenge that a server sends opens a login.
 use Rattle.std.proofs.Common.{◌≡◌, ◌≤◌, ◌-◌, ℕ, List, [], ◌++◌, length, take, drop, ap, subst, refl, arith, ◌∙◌}
 use Rattle.std.proofs.lemmas.Grind.{common_steps}
-use Rattle.mac_core.specs.Chosen.{length_by, hmac_by}
-use Rattle.mac_core.specs.declared.chosen.Mechanism.{Mechanism}
-use Rattle.mac_core.specs.declared.chosen.Mechanism.TheVariants.{ScramSha1, ScramSha256}
+use Rattle.mac_core.specs.Mechanism.{length_by, hmac_by}
+use Rattle.mac_core.specs.declared.mechanism.Mechanism.{Mechanism}
+use Rattle.mac_core.specs.declared.mechanism.Mechanism.TheVariants.{ScramSha1, ScramSha256}
 use Rattle.mac_core.proofs.LengthLemmas.{length-hmac_by}
 use Rattle.scram_text.specs.declared.fault.WriteFault.{WriteFault}
 use Rattle.scram_text.specs.declared.fault.WriteFault.TheVariants.{Unwritable, OverLimit, NoMemory}
 use Rattle.scram_text.specs.Messages.{ClientFirstParts, IsClientFirst, IsServerFirst}
 use Rattle.scram_text.specs.Written.{server_first_of}
 use Rattle.scram_ends.specs.Entry.{Entry}
+use Rattle.scram_ends.specs.Stages.{Challenged}
 use Rattle.scram_ends.specs.Auth.{auth_message}
 use Rattle.scram_ends.specs.Verdict.{Due, accept, IsDue}
 use Rattle.scram_ends.specs.Opening.{Opening, IsOpening}
@@ -17,22 +18,22 @@ use Rattle.scram_ends.specs.First.{ShowsTaken, ShowsOpening}
 use Rattle.scram_ends.specs.declared.first.Taken.{Taken}
 
 -- a client-first message that is taken up and a challenge to it are an opening, of the parts that were taken
-pub challenge_opens : (e : Entry) (t1 own t2 sent : List ℕ) (first : ClientFirstParts) (taken : Taken)
-    → IsClientFirst t1 first → ShowsTaken taken first → sent ≡ taken.nonce.now ++ own → 1 ≤ length own
-    → IsServerFirst t2 (server_first_of sent e.salt e.count [])
-    → (o : Opening) × IsOpening e t1 t2 o × ShowsOpening taken sent o
-challenge_opens e t1 own t2 sent first taken is_first shows same some is_challenge =
-    let o : Opening = record { first = first; name = taken.name; authz = taken.authzid; challenge = server_first_of sent e.salt e.count [] } in
+pub challenge_opens : (e : Entry) (client_first own server_first sent : List ℕ) (first : ClientFirstParts) (taken : Taken)
+    → IsClientFirst client_first first → ShowsTaken taken first → sent ≡ taken.nonce.now ++ own → 1 ≤ length own
+    → IsServerFirst server_first (server_first_of sent e.salt e.count [])
+    → (o : Opening) × IsOpening e client_first server_first o × ShowsOpening taken sent o
+challenge_opens e client_first own server_first sent first taken is_first shows same some is_challenge =
+    let o : Opening = record { first = first; name = taken.name; authzid = taken.authzid; challenge = server_first_of sent e.salt e.count [] } in
     let longer : sent ≡ first.nonce ++ own = same ∙ ap (λ (n : List ℕ). n ++ own) shows.nonce in (
       o,
       record { is_first = is_first; taken_up = shows.taken_up; is_challenge = is_challenge; not_mandatory = refl; longer = (own, longer, some); salt = refl; count = refl },
-      record { header = shows.header; bare = shows.bare; name = refl; authz = refl; nonce = refl },
+      record { header = shows.header; bare = shows.bare; name = refl; authzid = refl; nonce = refl },
     )
 
 -- what follows the front of a list
-pub behind : (items front text : List ℕ) (start : ℕ) → items ≡ front ++ text → start ≡ length front
+pub after_front : (items front text : List ℕ) (start : ℕ) → items ≡ front ++ text → start ≡ length front
     → take (length items - start) (drop start items) ≡ text
-behind items front text start same at = rw (same, at) (grind (arith, common_steps))
+after_front items front text start same at = rw (same, at) (grind (arith, common_steps))
 
 -- a signature as long as a MAC is not empty
 is_signed : (m : Mechanism) (mac signature : List ℕ) → length mac ≡ length_by m → signature ≡ mac → length signature ≡ 0 → ⊥
@@ -40,12 +41,12 @@ is_signed ScramSha1 mac signature len same none = omega (arith, len, ap length s
 is_signed ScramSha256 mac signature len same none = omega (arith, len, ap length same, none)
 
 -- a verdict that is due has a signature to write, so the only fault is that memory runs out
-pub memory_alone : (e : Entry) (m : Mechanism) (t1 t2 t3 : List ℕ) (d : Due) (fault : WriteFault) → IsDue e m t1 t2 t3 d
+pub memory_alone : (l : Challenged) (client_final : List ℕ) (d : Due) (fault : WriteFault) → IsDue l client_final d
     → (fault ≡ Unwritable → (signature : List ℕ) × (d ≡ accept signature) × (length signature ≡ 0)) → (fault ≡ OverLimit → ⊥)
     → fault ≡ NoMemory
-memory_alone e m t1 t2 t3 d NoMemory due empty over = refl
-memory_alone e m t1 t2 t3 d OverLimit due empty over = absurd (over refl)
-memory_alone e m t1 t2 t3 d Unwritable due empty over =
+memory_alone l client_final d NoMemory due empty over = refl
+memory_alone l client_final d OverLimit due empty over = absurd (over refl)
+memory_alone l client_final d Unwritable due empty over =
     let none = empty refl in
-    let s = (subst (λ (x : Due). IsDue e m t1 t2 t3 x) none.1 due).1 in
-    absurd (is_signed m (hmac_by m s.keys.server (auth_message s.opening.first t2 s.final)) none.0 (length-hmac_by m _ _) s.signed none.2)
+    let s = (subst (λ (x : Due). IsDue l client_final x) none.1 due).1 in
+    absurd (is_signed l.mechanism (hmac_by l.mechanism s.keys.server (auth_message s.opening.first l.server_first s.final)) none.0 (length-hmac_by l.mechanism _ _) s.signed none.2)

@@ -1,9 +1,9 @@
 -- What both ends sign, and what shows that an end has its key (RFC 5802, section 3).
 use Rattle.std.specs.Prelude.{ℕ, ◌≡◌, List, [], ◌∷◌, ◌++◌, length}
-use Rattle.mac_core.specs.Chosen.{length_by, hmac_by, hi_by, client_key_by, stored_key_by}
+use Rattle.mac_core.specs.Mechanism.{length_by, hmac_by, hi_by, client_key_by, stored_key_by}
 use Rattle.mac_core.specs.Keys.{xor_bytes}
-use Rattle.mac_core.specs.declared.chosen.Mechanism.{Mechanism}
-use Rattle.scram_text.specs.Messages.{ClientFirstParts, bare_text, ClientFinalParts, final_front}
+use Rattle.mac_core.specs.declared.mechanism.Mechanism.{Mechanism}
+use Rattle.scram_text.specs.Messages.{ClientFirstParts, bare_text, ClientFinalParts, client_final_without_proof}
 use Rattle.scram_ends.specs.Entry.{Keys, password_keys}
 
 -- AuthMessage as far as the challenge: client-first-bare, comma, server-first, comma. A message's text
@@ -13,7 +13,7 @@ auth_front first challenge = bare_text first ++ 44 ∷ [] ++ challenge ++ 44 ∷
 
 -- AuthMessage: after these, client-final-without-proof
 abbrev pub auth_message : ClientFirstParts → List ℕ → ClientFinalParts → List ℕ
-auth_message first challenge final = auth_front first challenge ++ final_front final
+auth_message first challenge final = auth_front first challenge ++ client_final_without_proof final
 
 -- ClientSignature = HMAC(StoredKey, AuthMessage)
 abbrev pub client_signature : Mechanism → Keys → List ℕ → List ℕ

@@ -1,14 +1,12 @@
 -- What a client stands for at each of its steps, and why it ends a login.
 use Rattle.std.specs.Prelude.{ℕ, ◌≡◌, ◌≢◌, ◌≤◌, ◌<◌, ◌⊎◌, true, false, List, ◌++◌, length}
-use Rattle.std.specs.declared.option.Option.{Option}
 use Rattle.std.specs.declared.result.Result.{Result}
 use Rattle.std.specs.declared.result.Result.TheVariants.{Ok, Err}
-use Rattle.mac_core.specs.declared.chosen.Mechanism.{Mechanism}
 use Rattle.scram_text.specs.Messages.{ClientFirstParts, header_text, bare_text, ServerFirstParts, IsServerFirst, server_first_mandatory, verified, failed, ServerFinalParts, IsServerFinal, server_final_mandatory}
 use Rattle.scram_text.specs.Faults.{IsServerFirstFault, IsServerFinalFault}
 use Rattle.scram_text.specs.declared.fault.WriteFault.{WriteFault}
-use Rattle.scram_ends.specs.Auth.{auth_message, signature_of}
-use Rattle.scram_ends.specs.Honest.{IsHonestFirst, IsHonest}
+use Rattle.scram_ends.specs.Stages.{Started, Answered}
+use Rattle.scram_ends.specs.Honest.{IsHonestFirst, IsHonest, honest_signature}
 use Rattle.scram_ends.specs.declared.client.Limits.{Limits}
 use Rattle.scram_ends.specs.declared.client.ClientOne.{ClientOne}
 use Rattle.scram_ends.specs.declared.client.ClientTwo.{ClientTwo}
@@ -17,22 +15,21 @@ use Rattle.scram_ends.specs.declared.client.OneRefused.TheVariants.{Spent, Back}
 use Rattle.scram_ends.specs.declared.client.ClientFault.{ClientFault}
 use Rattle.scram_ends.specs.declared.client.ClientFault.TheVariants.{Text, Mandatory, NonceNotMine, NonceNotLonger, CountOutside, ServerRefused, WrongSignature}
 
--- the client has sent this first message, by this mechanism and within these limits
-pub record IsStarted (w : ClientOne) (m : Mechanism) (limits : Limits) (name : List ℕ) (authz : Option (List ℕ)) (own t1 : List ℕ) : Type 0 where
+-- the client has sent the first message of this login
+pub record IsStarted (w : ClientOne) (l : Started) : Type 0 where
   pub first : ClientFirstParts
-  pub is_first : IsHonestFirst name authz own t1 first
-  pub mechanism : w.mechanism ≡ m
-  pub within : w.limits ≡ limits
+  pub is_first : IsHonestFirst l.name l.authzid l.nonce l.client_first first
+  pub mechanism : w.mechanism ≡ l.mechanism
+  pub within : w.limits ≡ l.limits
   pub bare : w.bare.items ≡ bare_text first
   pub header : w.header.items ≡ header_text first
-  pub nonce : w.nonce.items ≡ own
+  pub nonce : w.nonce.items ≡ l.nonce
 
--- the client has sent the third message of an honest login, and expects the signature of the password's
--- own server key
-pub record IsExpecting (w : ClientTwo) (m : Mechanism) (password name : List ℕ) (authz : Option (List ℕ)) (own t1 t2 t3 : List ℕ) : Type 0 where
-  pub honest : IsHonest password m name authz own t1 t2 t3
+-- the client has sent the last message of this login, honestly, and expects the server's signature
+pub record IsExpecting (w : ClientTwo) (l : Answered) : Type 0 where
+  pub honest : IsHonest l
   pub signature : List ℕ
-  pub signed : signature ≡ signature_of m password honest.challenge.salt honest.challenge.count (auth_message honest.first t2 honest.final)
+  pub signed : signature ≡ honest_signature l honest
   pub expected : w.expected.items ≡ signature
 
 -- the nonce is the client's own, followed by something of the server's
@@ -40,8 +37,8 @@ abbrev pub IsLonger : List ℕ → List ℕ → Type 0
 IsLonger own nonce = (more : List ℕ) × (nonce ≡ own ++ more) × (1 ≤ length more)
 
 -- a client within these limits, with this nonce of its own, answers the challenge
-pub record IsAnswerable (limits : Limits) (own t2 : List ℕ) (challenge : ServerFirstParts) : Type 0 where
-  pub is_challenge : IsServerFirst t2 challenge
+pub record IsAnswerable (limits : Limits) (own server_first : List ℕ) (challenge : ServerFirstParts) : Type 0 where
+  pub is_challenge : IsServerFirst server_first challenge
   pub not_mandatory : server_first_mandatory challenge ≡ false
   pub longer : IsLonger own challenge.nonce
   pub at_least : limits.least ≤ challenge.count
@@ -55,24 +52,24 @@ IsOutside limits count = (count < limits.least) ⊎ (limits.most < count)
 -- text is no server-first message, with its first fault; it is mandatory; its nonce does not begin with
 -- the client's; it is the client's; its count is outside the limits
 abbrev pub IsChallengeFault : Limits → List ℕ → List ℕ → ClientFault → Type 0
-IsChallengeFault limits own t2 (Text fault) = ((p : ServerFirstParts) → IsServerFirst t2 p → ⊥) × IsServerFirstFault t2 fault
-IsChallengeFault limits own t2 Mandatory = (p : ServerFirstParts) × IsServerFirst t2 p × (server_first_mandatory p ≡ true)
-IsChallengeFault limits own t2 NonceNotMine =
-    (p : ServerFirstParts) × IsServerFirst t2 p × (server_first_mandatory p ≡ false)
+IsChallengeFault limits own server_first (Text fault) = ((p : ServerFirstParts) → IsServerFirst server_first p → ⊥) × IsServerFirstFault server_first fault
+IsChallengeFault limits own server_first Mandatory = (p : ServerFirstParts) × IsServerFirst server_first p × (server_first_mandatory p ≡ true)
+IsChallengeFault limits own server_first NonceNotMine =
+    (p : ServerFirstParts) × IsServerFirst server_first p × (server_first_mandatory p ≡ false)
     × ((more : List ℕ) → p.nonce ≢ own ++ more)
-IsChallengeFault limits own t2 NonceNotLonger =
-    (p : ServerFirstParts) × IsServerFirst t2 p × (server_first_mandatory p ≡ false) × (p.nonce ≡ own)
-IsChallengeFault limits own t2 CountOutside =
-    (p : ServerFirstParts) × IsServerFirst t2 p × (server_first_mandatory p ≡ false)
+IsChallengeFault limits own server_first NonceNotLonger =
+    (p : ServerFirstParts) × IsServerFirst server_first p × (server_first_mandatory p ≡ false) × (p.nonce ≡ own)
+IsChallengeFault limits own server_first CountOutside =
+    (p : ServerFirstParts) × IsServerFirst server_first p × (server_first_mandatory p ≡ false)
     × IsLonger own p.nonce × IsOutside limits p.count
-IsChallengeFault limits own t2 ServerRefused = ⊥
-IsChallengeFault limits own t2 WrongSignature = ⊥
+IsChallengeFault limits own server_first ServerRefused = ⊥
+IsChallengeFault limits own server_first WrongSignature = ⊥
 
 -- the client has answered the challenge, or would have: its answer was not written
-abbrev pub IsAnswered : Result ClientTwo OneRefused → Type 0
-IsAnswered (Ok two) = Unit {0}
-IsAnswered (Err (Back client fault)) = Unit {0}
-IsAnswered (Err (Spent fault)) = ⊥
+abbrev pub HasAnswered : Result ClientTwo OneRefused → Type 0
+HasAnswered (Ok two) = Unit {0}
+HasAnswered (Err (Back client fault)) = Unit {0}
+HasAnswered (Err (Spent fault)) = ⊥
 
 -- a fact of the fault, where the client has ended the login
 abbrev pub IfSpent : Result ClientTwo OneRefused → (ClientFault → Type 0) → Type 0
@@ -90,14 +87,14 @@ IfBack (Err (Spent fault)) fact = Unit {0}
 -- holds: the text is no server-final message, with its first fault; it is mandatory; it is an error; its
 -- verifier is another
 abbrev pub IsLastFault : List ℕ → List ℕ → ClientFault → Type 0
-IsLastFault signature t4 (Text fault) = ((p : ServerFinalParts) → IsServerFinal t4 p → ⊥) × IsServerFinalFault t4 fault
-IsLastFault signature t4 Mandatory = (p : ServerFinalParts) × IsServerFinal t4 p × (server_final_mandatory p ≡ true)
-IsLastFault signature t4 ServerRefused =
-    (p : ServerFinalParts) × IsServerFinal t4 p × (server_final_mandatory p ≡ false)
+IsLastFault signature server_final (Text fault) = ((p : ServerFinalParts) → IsServerFinal server_final p → ⊥) × IsServerFinalFault server_final fault
+IsLastFault signature server_final Mandatory = (p : ServerFinalParts) × IsServerFinal server_final p × (server_final_mandatory p ≡ true)
+IsLastFault signature server_final ServerRefused =
+    (p : ServerFinalParts) × IsServerFinal server_final p × (server_final_mandatory p ≡ false)
     × ((value : List ℕ) × (p.outcome ≡ failed value))
-IsLastFault signature t4 WrongSignature =
-    (p : ServerFinalParts) × IsServerFinal t4 p × (server_final_mandatory p ≡ false)
+IsLastFault signature server_final WrongSignature =
+    (p : ServerFinalParts) × IsServerFinal server_final p × (server_final_mandatory p ≡ false)
     × ((other : List ℕ) × (p.outcome ≡ verified other) × (other ≢ signature))
-IsLastFault signature t4 NonceNotMine = ⊥
-IsLastFault signature t4 NonceNotLonger = ⊥
-IsLastFault signature t4 CountOutside = ⊥
+IsLastFault signature server_final NonceNotMine = ⊥
+IsLastFault signature server_final NonceNotLonger = ⊥
+IsLastFault signature server_final CountOutside = ⊥

@@ -1,10 +1,10 @@
 -- What a server keeps of an account for one mechanism, and what both ends make of a password.
 use Rattle.std.specs.Prelude.{ℕ, List, option_map}
 use Rattle.std.specs.declared.option.Option.{Option}
-use Rattle.mac_core.specs.Chosen.{hi_by, client_key_by, stored_key_by, server_key_by}
-use Rattle.mac_core.specs.declared.chosen.Mechanism.{Mechanism}
+use Rattle.mac_core.specs.Mechanism.{hi_by, client_key_by, stored_key_by, server_key_by}
+use Rattle.mac_core.specs.declared.mechanism.Mechanism.{Mechanism}
 use Rattle.mac_core.specs.declared.keys.ScramKeys.{ScramKeys}
-use Rattle.scram_ends.specs.declared.entry.KeysView.{KeysView}
+use Rattle.scram_ends.specs.declared.keys_view.KeysView.{KeysView}
 
 -- StoredKey and ServerKey (RFC 5802, section 3)
 pub record Keys : Type 0 where

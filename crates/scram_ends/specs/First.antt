@@ -5,7 +5,7 @@ use Rattle.scram_text.specs.Messages.{ClientFirstParts, header_text, bare_text, 
 use Rattle.scram_text.specs.Faults.{IsClientFirstFault}
 use Rattle.scram_text.specs.Written.{server_first_of}
 use Rattle.scram_ends.specs.Entry.{Entry}
-use Rattle.scram_ends.specs.Opening.{IsNameOf, IsAuthzOf, IsUnbound, IsTakenUp, Opening, IsOpening}
+use Rattle.scram_ends.specs.Opening.{IsNameOf, IsAuthzidOf, IsUnbound, IsTakenUp, Opening, IsOpening}
 use Rattle.scram_ends.specs.declared.first.Taken.{Taken}
 use Rattle.scram_ends.specs.declared.first.FirstFault.{FirstFault}
 use Rattle.scram_ends.specs.declared.first.FirstFault.TheVariants.{Text, Mandatory, BindingAsked, OutsideProfile}
@@ -14,10 +14,10 @@ use Rattle.scram_ends.specs.declared.recorded.RecordedFault.TheVariants.{First, 
 
 -- the server's challenge to a client-first message: the client's nonce followed by the server's own
 -- part, the account's salt and count, and no extensions
-pub record IsChallengeTo (e : Entry) (t1 own t2 : List ℕ) : Type 0 where
+pub record IsChallengeTo (e : Entry) (client_first own server_first : List ℕ) : Type 0 where
   pub first : ClientFirstParts
-  pub is_first : IsClientFirst t1 first
-  pub is_challenge : IsServerFirst t2 (server_first_of (first.nonce ++ own) e.salt e.count [])
+  pub is_first : IsClientFirst client_first first
+  pub is_challenge : IsServerFirst server_first (server_first_of (first.nonce ++ own) e.salt e.count [])
 
 -- what a server takes from a client-first message that it takes up
 pub record ShowsTaken (taken : Taken) (first : ClientFirstParts) : Type 0 where
@@ -31,25 +31,25 @@ pub record ShowsOpening (taken : Taken) (sent : List ℕ) (o : Opening) : Type 0
   pub header : taken.header.now ≡ header_text o.first
   pub bare : taken.bare.now ≡ bare_text o.first
   pub name : taken.name ≡ o.name
-  pub authz : taken.authzid ≡ o.authz
+  pub authzid : taken.authzid ≡ o.authzid
   pub nonce : sent ≡ o.challenge.nonce
 
 -- why a server takes up no login, the first reason that holds: the text is no client-first message, with
 -- its first fault; it is mandatory; its flag is "p=" and a name; a name in it is not plain
-abbrev pub IsFirstFault : List ℕ → FirstFault → Type 0
-IsFirstFault t1 (Text fault) = ((p : ClientFirstParts) → IsClientFirst t1 p → ⊥) × IsClientFirstFault t1 fault
-IsFirstFault t1 Mandatory = (p : ClientFirstParts) × IsClientFirst t1 p × (client_first_mandatory p ≡ true)
-IsFirstFault t1 BindingAsked =
-    (p : ClientFirstParts) × IsClientFirst t1 p × (client_first_mandatory p ≡ false)
+abbrev pub IsRefusedWith : List ℕ → FirstFault → Type 0
+IsRefusedWith client_first (Text fault) = ((p : ClientFirstParts) → IsClientFirst client_first p → ⊥) × IsClientFirstFault client_first fault
+IsRefusedWith client_first Mandatory = (p : ClientFirstParts) × IsClientFirst client_first p × (client_first_mandatory p ≡ true)
+IsRefusedWith client_first BindingAsked =
+    (p : ClientFirstParts) × IsClientFirst client_first p × (client_first_mandatory p ≡ false)
     × ((binding : List ℕ) × (p.flag ≡ codes "p=" ++ binding))
-IsFirstFault t1 OutsideProfile =
-    (p : ClientFirstParts) × IsClientFirst t1 p × (client_first_mandatory p ≡ false) × IsUnbound p.flag
-    × ((name : List ℕ) (authz : Option (List ℕ)) → IsNameOf name p.name → IsAuthzOf authz p.authz → ⊥)
+IsRefusedWith client_first OutsideProfile =
+    (p : ClientFirstParts) × IsClientFirst client_first p × (client_first_mandatory p ≡ false) × IsUnbound p.flag
+    × ((name : List ℕ) (authzid : Option (List ℕ)) → IsNameOf name p.name → IsAuthzidOf authzid p.authzid → ⊥)
 
 -- why two recorded texts open no login of this account, the first reason that holds: a server does not
 -- take up the first text, or it does and the second is no challenge to it
 abbrev pub IsRecordedFault : Entry → List ℕ → List ℕ → RecordedFault → Type 0
-IsRecordedFault e t1 t2 (First fault) = IsFirstFault t1 fault
-IsRecordedFault e t1 t2 NotThisChallenge =
-    ((p : ClientFirstParts) × (name : List ℕ) × (authz : Option (List ℕ)) × IsClientFirst t1 p × IsTakenUp p name authz)
-    × ((o : Opening) → IsOpening e t1 t2 o → ⊥)
+IsRecordedFault e client_first server_first (First fault) = IsRefusedWith client_first fault
+IsRecordedFault e client_first server_first NotThisChallenge =
+    ((p : ClientFirstParts) × (name : List ℕ) × (authzid : Option (List ℕ)) × IsClientFirst client_first p × IsTakenUp p name authzid)
+    × ((o : Opening) → IsOpening e client_first server_first o → ⊥)

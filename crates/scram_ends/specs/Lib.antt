@@ -1,4 +1,5 @@
 pub mod Entry
+pub mod Stages
 pub mod Auth
 pub mod Opening
 pub mod Verdict

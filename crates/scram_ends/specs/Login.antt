@@ -1,9 +1,9 @@
 -- A valid login (RFC 5802, sections 3 and 5), as conditions on its four whole messages.
 use Rattle.std.specs.Prelude.{ℕ, ◌≡◌, false, List}
 use Rattle.std.specs.declared.option.Option.TheVariants.{Some}
-use Rattle.mac_core.specs.declared.chosen.Mechanism.{Mechanism}
 use Rattle.scram_text.specs.Messages.{header_text, ClientFinalParts, IsClientFinal, client_final_mandatory, verified, ServerFinalParts, IsServerFinal, server_final_mandatory}
-use Rattle.scram_ends.specs.Entry.{Keys, Entry}
+use Rattle.scram_ends.specs.Entry.{Keys}
+use Rattle.scram_ends.specs.Stages.{Challenged}
 use Rattle.scram_ends.specs.Auth.{auth_message, server_signature, IsProof}
 use Rattle.scram_ends.specs.Opening.{Opening, IsOpening, IsAllowed}
 
@@ -15,17 +15,17 @@ pub record IsAuthentic (text signature : List ℕ) : Type 0 where
   pub not_mandatory : server_final_mandatory last ≡ false
   pub verifier : last.outcome ≡ verified signature
 
--- the four texts are a login that this account accepts
-pub record IsValidLogin (e : Entry) (m : Mechanism) (t1 t2 t3 t4 : List ℕ) : Type 0 where
+-- the login is valid, with these two last messages
+pub record IsValidLogin (l : Challenged) (client_final server_final : List ℕ) : Type 0 where
   pub opening : Opening
   pub final : ClientFinalParts
   pub keys : Keys
-  pub is_opening : IsOpening e t1 t2 opening
-  pub is_final : IsClientFinal t3 final
+  pub is_opening : IsOpening l.entry l.client_first l.server_first opening
+  pub is_final : IsClientFinal client_final final
   pub not_mandatory : client_final_mandatory final ≡ false
   pub nonce : final.nonce ≡ opening.challenge.nonce
   pub channel : final.channel ≡ header_text opening.first
-  pub has_keys : e.keys ≡ Some keys
-  pub proof : IsProof m keys (auth_message opening.first t2 final) final.proof
-  pub allowed : IsAllowed e opening.name opening.authz
-  pub authentic : IsAuthentic t4 (server_signature m keys (auth_message opening.first t2 final))
+  pub has_keys : l.entry.keys ≡ Some keys
+  pub proof : IsProof l.mechanism keys (auth_message opening.first l.server_first final) final.proof
+  pub allowed : IsAllowed l.entry opening.name opening.authzid
+  pub authentic : IsAuthentic server_final (server_signature l.mechanism keys (auth_message opening.first l.server_first final))

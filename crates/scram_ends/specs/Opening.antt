@@ -14,36 +14,36 @@ pub record IsNameOf (name part : List ℕ) : Type 0 where
   pub spelled : SpellsName name part
 
 -- the authorisation name of `a=`: there is none, or its saslname spells this plain name
-abbrev pub IsAuthzOf : Option (List ℕ) → Option (List ℕ) → Type 0
-IsAuthzOf None None = Unit {0}
-IsAuthzOf (Some name) (Some part) = IsNameOf name part
-IsAuthzOf None (Some part) = ⊥
-IsAuthzOf (Some name) None = ⊥
+abbrev pub IsAuthzidOf : Option (List ℕ) → Option (List ℕ) → Type 0
+IsAuthzidOf None None = Unit {0}
+IsAuthzidOf (Some name) (Some part) = IsNameOf name part
+IsAuthzidOf None (Some part) = ⊥
+IsAuthzidOf (Some name) None = ⊥
 
 -- the flag asks for no channel binding (RFC 5802, section 6)
 abbrev pub IsUnbound : List ℕ → Type 0
 IsUnbound flag = (flag ≡ codes "n") ⊎ (flag ≡ codes "y")
 
 -- a server takes up this client-first message, of this name and authorisation name
-pub record IsTakenUp (first : ClientFirstParts) (name : List ℕ) (authz : Option (List ℕ)) : Type 0 where
+pub record IsTakenUp (first : ClientFirstParts) (name : List ℕ) (authzid : Option (List ℕ)) : Type 0 where
   pub not_mandatory : client_first_mandatory first ≡ false
   pub unbound : IsUnbound first.flag
   pub is_name : IsNameOf name first.name
-  pub is_authz : IsAuthzOf authz first.authz
+  pub is_authzid : IsAuthzidOf authzid first.authzid
 
 -- the parts of the first two messages, and the names in plain bytes
 pub record Opening : Type 0 where
   pub first : ClientFirstParts
   pub name : List ℕ
-  pub authz : Option (List ℕ)
+  pub authzid : Option (List ℕ)
   pub challenge : ServerFirstParts
 
 -- the texts open a login of this account: a client-first message that a server takes up, and a challenge
 -- to it with a longer nonce, which begins with the client's, and with the account's salt and count
-pub record IsOpening (e : Entry) (t1 t2 : List ℕ) (o : Opening) : Type 0 where
-  pub is_first : IsClientFirst t1 o.first
-  pub taken_up : IsTakenUp o.first o.name o.authz
-  pub is_challenge : IsServerFirst t2 o.challenge
+pub record IsOpening (e : Entry) (client_first server_first : List ℕ) (o : Opening) : Type 0 where
+  pub is_first : IsClientFirst client_first o.first
+  pub taken_up : IsTakenUp o.first o.name o.authzid
+  pub is_challenge : IsServerFirst server_first o.challenge
   pub not_mandatory : server_first_mandatory o.challenge ≡ false
   pub longer : (own : List ℕ) × (o.challenge.nonce ≡ o.first.nonce ++ own) × (1 ≤ length own)
   pub salt : o.challenge.salt ≡ e.salt
@@ -52,4 +52,4 @@ pub record IsOpening (e : Entry) (t1 t2 : List ℕ) (o : Opening) : Type 0 where
 -- the account of this name may act as the authorisation name: as itself, or as a name in its act_as
 abbrev pub IsAllowed : Entry → List ℕ → Option (List ℕ) → Type 0
 IsAllowed e name None = Unit {0}
-IsAllowed e name (Some authz) = (authz ≡ name) ⊎ Contains e.act_as authz
+IsAllowed e name (Some authzid) = (authzid ≡ name) ⊎ Contains e.act_as authzid

@@ -2,11 +2,12 @@
 use Rattle.std.specs.Prelude.{ℕ, ◌≡◌, ◌↔◌, IsTrue, List}
 use Rattle.std.specs.declared.option.Option.{Option}
 use Rattle.std.specs.declared.option.Option.TheVariants.{None, Some}
-use Rattle.mac_core.specs.Chosen.{IsScramMac}
-use Rattle.mac_core.specs.declared.chosen.Mechanism.{Mechanism}
+use Rattle.mac_core.specs.Mechanism.{IsScramMac}
+use Rattle.mac_core.specs.declared.mechanism.Mechanism.{Mechanism}
 use Rattle.scram_text.specs.Messages.{header_text}
 use Rattle.scram_text.specs.declared.fault.WriteFault.{WriteFault}
-use Rattle.scram_ends.specs.Entry.{Keys, Entry}
+use Rattle.scram_ends.specs.Entry.{Keys}
+use Rattle.scram_ends.specs.Stages.{Challenged}
 use Rattle.scram_ends.specs.Auth.{auth_front}
 use Rattle.scram_ends.specs.Opening.{Opening, IsOpening, IsAllowed}
 use Rattle.scram_ends.specs.declared.signing.Signing.{Signing}
@@ -28,14 +29,14 @@ IsSigningFor (Some s) m (Some keys) front = IsSigning s m keys front
 IsSigningFor None m (Some keys) front = ⊥
 IsSigningFor (Some s) m None front = ⊥
 
--- the value stands for a login of this account that these two messages open
-pub record StandsFor (w : ServerWait) (e : Entry) (m : Mechanism) (t1 t2 : List ℕ) : Type 0 where
+-- the value stands for this login
+pub record StandsFor (w : ServerWait) (l : Challenged) : Type 0 where
   pub opening : Opening
-  pub is_opening : IsOpening e t1 t2 opening
+  pub is_opening : IsOpening l.entry l.client_first l.server_first opening
   pub nonce : w.nonce.items ≡ opening.challenge.nonce
   pub header : w.header.items ≡ header_text opening.first
-  pub allowed : IsTrue w.allowed ↔ IsAllowed e opening.name opening.authz
-  pub signing : IsSigningFor w.signing m e.keys (auth_front opening.first t2)
+  pub allowed : IsTrue w.allowed ↔ IsAllowed l.entry opening.name opening.authzid
+  pub signing : IsSigningFor w.signing l.mechanism l.entry.keys (auth_front opening.first l.server_first)
   pub unspent : w.spent ≡ None
 
 -- the value is spent: its message could not be written, for this reason. It stands for no login.

@@ -8,8 +8,8 @@ ghost use Rattle.std.specs.Bool.{OnTrue, OnFalse};
 ghost use Rattle.std.specs.declared.option.Option.{Option};
 ghost use Rattle.scram_text.specs.Messages.{ClientFirstParts, IsClientFirst};
 ghost use Rattle.scram_text.specs.Shown.{flag_text};
-ghost use Rattle.scram_ends.specs.Opening.{IsNameOf, IsAuthzOf, IsUnbound, IsTakenUp};
-ghost use Rattle.scram_ends.specs.First.{IsFirstFault, ShowsTaken};
+ghost use Rattle.scram_ends.specs.Opening.{IsNameOf, IsAuthzidOf, IsUnbound, IsTakenUp};
+ghost use Rattle.scram_ends.specs.First.{IsRefusedWith, ShowsTaken};
 ghost use Rattle.scram_ends.specs.Faults.{first_number};
 ghost use Rattle.scram_ends.specs.declared.first.FirstFault.TheVariants.{Text};
 
@@ -61,12 +61,12 @@ impl From<TextFault> for FirstFault {
 /// The name that a client-first message gives, in plain bytes: a server looks its account up. Answers the
 /// first of these faults: 20 where the text is no client-first message, 21 where it is mandatory, 22 where
 /// its flag is `p=`, and 23 where a name or an authorisation name is outside its limits.
-pub fn first_name(t1: &[u8]) -> Result<PlainName, FirstFault>
-    ensures ok { IfOk result (λ name. (first : ClientFirstParts) × (authz : Option (List ℕ))
-        × IsClientFirst t1.now first × IsTakenUp first name authz) }
-    ensures err { IfErr result (λ fault. IsFirstFault t1.now fault) }
+pub fn first_name(client_first: &[u8]) -> Result<PlainName, FirstFault>
+    ensures ok { IfOk result (λ name. (first : ClientFirstParts) × (authzid : Option (List ℕ))
+        × IsClientFirst client_first.now first × IsTakenUp first name authzid) }
+    ensures err { IfErr result (λ fault. IsRefusedWith client_first.now fault) }
 {
-    Ok(take_up(t1)?.name)
+    Ok(take_up(client_first)?.name)
 }
 
 /// What a server takes from a client-first message. Slices are slices of the message.
@@ -80,14 +80,14 @@ pub(crate) struct Taken<'a> {
 }
 
 /// Reads the message, and refuses it as `first_name` does.
-pub(crate) fn take_up(t1: &[u8]) -> Result<Taken<'_>, FirstFault>
-    ensures ok { IfOk result (λ taken. (first : ClientFirstParts) × IsClientFirst t1.now first
+pub(crate) fn take_up(client_first: &[u8]) -> Result<Taken<'_>, FirstFault>
+    ensures ok { IfOk result (λ taken. (first : ClientFirstParts) × IsClientFirst client_first.now first
         × ShowsTaken taken first) }
     ensures nonce { IfOk result (λ taken. length taken.nonce.now ≤ 256) }
     ensures header { IfOk result (λ taken. length taken.header.now ≤ 2048) }
-    ensures err { IfErr result (λ fault. IsFirstFault t1.now fault) }
+    ensures err { IfErr result (λ fault. IsRefusedWith client_first.now fault) }
 {
-    let message = read_client_first(t1)?;
+    let message = read_client_first(client_first)?;
     if message.mandatory {
         return Err(FirstFault::Mandatory);
     }
@@ -121,9 +121,9 @@ fn names_of(
     name: &SaslText<'_>,
     authzid: &Option<SaslText<'_>>,
 ) -> Option<(PlainName, Option<PlainName>)>
-    ensures some { IfSome result (λ names. IsNameOf names.0 name.now × IsAuthzOf names.1 authzid.now) }
-    ensures none { IfNone result ((plain : List ℕ) (authz : Option (List ℕ)) → IsNameOf plain name.now
-        → IsAuthzOf authz authzid.now → ⊥) }
+    ensures some { IfSome result (λ names. IsNameOf names.0 name.now × IsAuthzidOf names.1 authzid.now) }
+    ensures none { IfNone result ((plain : List ℕ) (act_as : Option (List ℕ)) → IsNameOf plain name.now
+        → IsAuthzidOf act_as authzid.now → ⊥) }
 {
     let plain = plain_of(name)?;
     match authzid {

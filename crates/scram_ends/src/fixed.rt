@@ -15,7 +15,7 @@ pub(crate) fn copy_of<const N: usize>(bytes: &[u8]) -> ArrayVec<u8, N>
 }
 
 /// The bytes of `front`, followed by those of `back`.
-pub(crate) fn joined<const N: usize>(front: &[u8], back: &[u8]) -> ArrayVec<u8, N>
+pub(crate) fn concatenated<const N: usize>(front: &[u8], back: &[u8]) -> ArrayVec<u8, N>
     requires { length front.now + length back.now ≤ N }
     ensures { result.items ≡ front.now ++ back.now }
 {

@@ -18,10 +18,10 @@
 #![tactic(auto)]
 
 mod client;
-mod entry;
 mod first;
 mod fixed;
 mod honest;
+mod keys_view;
 pub mod laws;
 mod recorded;
 mod server;
@@ -30,13 +30,10 @@ mod verdict;
 mod written;
 
 pub use client::{Authenticated, Client, ClientFault, ClientOne, ClientTwo, Limits, OneRefused};
-pub use entry::KeysView;
 pub use first::{FirstFault, first_name};
 pub use honest::honest_login;
+pub use keys_view::KeysView;
 pub use mac_core::Mechanism;
 pub use recorded::RecordedFault;
 pub use server::{FirstRefused, ServerWait, server_first};
 pub use verdict::{Judged, Refusal, Verdict};
-
-#[cfg(test)]
-mod tests;

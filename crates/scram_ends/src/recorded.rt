@@ -5,15 +5,16 @@ ghost use Rattle.std.specs.Bool.{OnTrue, OnFalse};
 ghost use Rattle.scram_text.specs.Messages.{ClientFirstParts, IsClientFirst, ServerFirstParts, IsServerFirst};
 ghost use Rattle.scram_text.specs.Shown.{ShowsServerFirst};
 ghost use Rattle.scram_ends.specs.Entry.{entry_of};
+ghost use Rattle.scram_ends.specs.Stages.{challenged_login};
 ghost use Rattle.scram_ends.specs.Opening.{IsTakenUp, Opening, IsOpening};
 ghost use Rattle.scram_ends.specs.First.{IsRecordedFault};
 ghost use Rattle.scram_ends.specs.Standing.{StandsFor};
 ghost use Rattle.scram_ends.specs.Faults.{recorded_number};
 ghost use Rattle.scram_ends.specs.declared.recorded.RecordedFault.TheVariants.{First};
 
-use crate::entry::KeysView;
 use crate::first::{FirstFault, take_up};
 use crate::fixed::are_same;
+use crate::keys_view::KeysView;
 use crate::server::{ServerWait, wait_for};
 use mac_core::Mechanism;
 use scram_text::{ServerFirst, read_server_first};
@@ -59,31 +60,34 @@ impl ServerWait {
     pub fn recorded(
         mechanism: Mechanism,
         view: &KeysView<'_>,
-        t1: &[u8],
-        t2: &[u8],
+        client_first: &[u8],
+        server_first: &[u8],
     ) -> Result<ServerWait, RecordedFault>
-        ensures ok { IfOk result (λ wait. StandsFor wait (entry_of view.now) mechanism t1.now t2.now) }
-        ensures err { IfErr result (λ fault. IsRecordedFault (entry_of view.now) t1.now t2.now fault) }
+        ensures ok { IfOk result (λ wait. StandsFor wait
+            (challenged_login (entry_of view.now) mechanism client_first.now server_first.now)) }
+        ensures err { IfErr result (λ fault. IsRecordedFault (entry_of view.now)
+            client_first.now server_first.now fault) }
     {
-        let taken = take_up(t1)?;
-        let Ok(challenge) = read_server_first(t2) else {
+        let taken = take_up(client_first)?;
+        let Ok(challenge) = read_server_first(server_first) else {
             return Err(RecordedFault::NotThisChallenge);
         };
         if !is_challenge_to(view, taken.nonce, &challenge) {
             return Err(RecordedFault::NotThisChallenge);
         }
-        Ok(wait_for(mechanism, view, &taken, challenge.nonce, t2))
+        Ok(wait_for(mechanism, view, &taken, challenge.nonce, server_first))
     }
 }
 
 // Whether a challenge that was read is one to this nonce, for this account.
 fn is_challenge_to(view: &KeysView<'_>, nonce: &[u8], challenge: &ServerFirst<'_>) -> bool
-    ensures opens { OnTrue result ((t1 t2 : List ℕ) (o : Opening) → IsClientFirst t1 o.first
-        → IsTakenUp o.first o.name o.authz → IsServerFirst t2 o.challenge
+    ensures opens { OnTrue result ((client_first server_first : List ℕ) (o : Opening)
+        → IsClientFirst client_first o.first → IsTakenUp o.first o.name o.authzid → IsServerFirst server_first o.challenge
         → nonce.now ≡ o.first.nonce → ShowsServerFirst challenge.now o.challenge
-        → IsOpening (entry_of view.now) t1 t2 o) }
-    ensures not { OnFalse result ((t1 t2 : List ℕ) (o : Opening) → nonce.now ≡ o.first.nonce
-        → ShowsServerFirst challenge.now o.challenge → IsOpening (entry_of view.now) t1 t2 o → ⊥) }
+        → IsOpening (entry_of view.now) client_first server_first o) }
+    ensures not { OnFalse result ((client_first server_first : List ℕ) (o : Opening)
+        → nonce.now ≡ o.first.nonce → ShowsServerFirst challenge.now o.challenge
+        → IsOpening (entry_of view.now) client_first server_first o → ⊥) }
 {
     if challenge.mandatory {
         return false;

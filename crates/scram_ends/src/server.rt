@@ -12,21 +12,21 @@
 //! has no keys as it refuses a wrong proof.
 ghost use Rattle.std.specs.Prelude.{◌≡◌, ◌≢◌, ◌≤◌, ◌<◌, ◌+◌, ◌↔◌, ℕ, List, ◌++◌, length, IsTrue, IfOk, IfErr, OnErr, IsErrAnd, vec_len, vec_capacity, Contains};
 ghost use Rattle.std.specs.declared.option.Option.{Option};
-ghost use Rattle.mac_core.specs.declared.chosen.Mechanism.{Mechanism};
-ghost use Rattle.scram_text.specs.Messages.{header_text, ClientFirstParts, bare_text, IsClientFirst, ClientFinalParts};
+ghost use Rattle.scram_text.specs.Messages.{header_text, ClientFirstParts, bare_text, IsClientFirst, ClientFinalParts, IsServerFinal};
 ghost use Rattle.scram_text.specs.Shown.{ShowsClientFinal};
-ghost use Rattle.scram_ends.specs.Entry.{Entry, entry_of};
+ghost use Rattle.scram_ends.specs.Entry.{entry_of};
+ghost use Rattle.scram_ends.specs.Stages.{Challenged, challenged_login};
 ghost use Rattle.scram_ends.specs.Auth.{auth_front};
 ghost use Rattle.scram_ends.specs.Opening.{IsTakenUp, IsAllowed, Opening, IsOpening};
-ghost use Rattle.scram_ends.specs.Verdict.{Due, refuse, IsDue, IsWeighed, due_of, due_text, verdict_of};
+ghost use Rattle.scram_ends.specs.Verdict.{Due, refuse, IsDue, IsWeighed, due_of, due_text, final_due, verdict_of};
 ghost use Rattle.scram_ends.specs.Login.{IsValidLogin};
 ghost use Rattle.scram_ends.specs.Standing.{IsSigningFor, StandsFor, IsSpent};
-ghost use Rattle.scram_ends.specs.First.{IsFirstFault, IsChallengeTo, ShowsOpening};
+ghost use Rattle.scram_ends.specs.First.{IsRefusedWith, IsChallengeTo, ShowsOpening};
 ghost use Rattle.scram_ends.specs.Faults.{first_refused_number};
 
-use crate::entry::KeysView;
 use crate::first::{FirstFault, Taken, take_up};
-use crate::fixed::{are_same, copy_of, joined};
+use crate::fixed::{are_same, concatenated, copy_of};
+use crate::keys_view::KeysView;
 use crate::signing::Signing;
 use crate::verdict::{Judged, Refusal, Verdict};
 use crate::written::{write_challenge, write_judgement};
@@ -79,31 +79,33 @@ pub struct ServerWait {
 pub fn server_first<A: Allocator>(
     mechanism: Mechanism,
     view: &KeysView<'_>,
-    t1: &[u8],
+    client_first: &[u8],
     own: &NoncePart,
     out: &mut Vec<u8, A>,
 ) -> Result<ServerWait, FirstRefused>
     requires { 1 ≤ view.now.count }
     // The challenge is appended, and the value stands for it.
-    ensures ok { IfOk result (λ wait. (t2 : List ℕ) × (out.new.items ≡ out.old.items ++ t2)
-        × IsChallengeTo (entry_of view.now) t1.now own.now t2
-        × StandsFor wait (entry_of view.now) mechanism t1.now t2) }
+    ensures ok { IfOk result (λ wait. (server_first : List ℕ)
+        × (out.new.items ≡ out.old.items ++ server_first)
+        × IsChallengeTo (entry_of view.now) client_first.now own.now server_first
+        × StandsFor wait (challenged_login (entry_of view.now) mechanism client_first.now server_first)) }
     ensures err { OnErr result (out.new.items ≡ out.old.items) }
     ensures capacity { vec_capacity out.old ≤ vec_capacity out.new }
-    ensures first { IfErr result (λ r. (f : FirstFault) → r ≡ FirstRefused.First f → IsFirstFault t1.now f) }
+    ensures first { IfErr result (λ r. (f : FirstFault) → r ≡ FirstRefused.First f
+        → IsRefusedWith client_first.now f) }
     // After a client-first message that is taken up, the only fault is that memory ran out.
     ensures taken { IfErr result (λ r. (f : WriteFault) → r ≡ FirstRefused.Write f
         → (f ≡ WriteFault.NoMemory) × ((first : ClientFirstParts) × (name : List ℕ)
-        × (authz : Option (List ℕ)) × IsClientFirst t1.now first × IsTakenUp first name authz)) }
+        × (authzid : Option (List ℕ)) × IsClientFirst client_first.now first × IsTakenUp first name authzid)) }
     ensures no_memory { IfErr result (λ r. r ≡ FirstRefused.Write WriteFault.NoMemory
-        → (t2 : List ℕ) × IsChallengeTo (entry_of view.now) t1.now own.now t2
-        × (vec_capacity out.old < vec_len out.old + length t2)) }
+        → (server_first : List ℕ) × IsChallengeTo (entry_of view.now) client_first.now own.now server_first
+        × (vec_capacity out.old < vec_len out.old + length server_first)) }
 {
-    let taken = match take_up(t1) {
+    let taken = match take_up(client_first) {
         Ok(taken) => taken,
         Err(fault) => return Err(FirstRefused::First(fault)),
     };
-    let nonce: ArrayVec<u8, 512> = joined(taken.nonce, own.bytes());
+    let nonce: ArrayVec<u8, 512> = concatenated(taken.nonce, own.bytes());
     let nonce = nonce.as_slice();
     let start = out.len();
     match write_challenge(nonce, &view.salt, view.count, out) {
@@ -122,9 +124,9 @@ pub(crate) fn wait_for(
 ) -> ServerWait
     requires nonce { length nonce.now ≤ 512 }
     requires header { length taken.now.header.now ≤ 2048 }
-    ensures { (t1 : List ℕ) (o : Opening) → IsOpening (entry_of view.now) t1 challenge.now o
-        → ShowsOpening taken.now nonce.now o
-        → StandsFor result (entry_of view.now) mechanism t1 challenge.now }
+    ensures { (client_first : List ℕ) (o : Opening)
+        → IsOpening (entry_of view.now) client_first challenge.now o → ShowsOpening taken.now nonce.now o
+        → StandsFor result (challenged_login (entry_of view.now) mechanism client_first challenge.now) }
 {
     ServerWait {
         nonce: copy_of(nonce),
@@ -174,23 +176,21 @@ impl ServerWait {
     /// not exactly the gs2-header of client-first (Channel), the account has no keys or the proof is not by them
     /// (InvalidProof), the account may not act as the authorisation name (NotAuthorised). Else the login is
     /// accepted, with the server's signature. A spent value refuses as InvalidProof. It takes no memory.
-    pub fn judge(self, t3: &[u8]) -> Judged
-        ensures due { (e : Entry) (m : Mechanism) (t1 t2 : List ℕ) → StandsFor self e m t1 t2
-            → IsDue e m t1 t2 t3.now (due_of result) }
+    pub fn judge(self, client_final: &[u8]) -> Judged
+        ensures due { (l : Challenged) → StandsFor self l → IsDue l client_final.now (due_of result) }
         ensures spent { (fault : WriteFault) → IsSpent self fault
             → due_of result ≡ refuse Refusal.InvalidProof }
     {
         if self.spent.is_some() {
             return Judged::Refused(Refusal::InvalidProof);
         }
-        self.verdict_on(t3)
+        self.verdict_on(client_final)
     }
 
-    fn verdict_on(&self, t3: &[u8]) -> Judged
-        ensures { (e : Entry) (m : Mechanism) (t1 t2 : List ℕ) → StandsFor self.now e m t1 t2
-            → IsDue e m t1 t2 t3.now (due_of result) }
+    fn verdict_on(&self, client_final: &[u8]) -> Judged
+        ensures { (l : Challenged) → StandsFor self.now l → IsDue l client_final.now (due_of result) }
     {
-        match read_client_final(t3) {
+        match read_client_final(client_final) {
             Ok(last) => self.weigh(&last),
             Err(_) => Judged::Refused(Refusal::InvalidEncoding),
         }
@@ -198,9 +198,8 @@ impl ServerWait {
 
     // The verdict on the parts.
     fn weigh(&self, last: &ClientFinal<'_>) -> Judged
-        ensures { (e : Entry) (m : Mechanism) (t1 t2 : List ℕ) (s : StandsFor self.now e m t1 t2)
-            (p : ClientFinalParts) → ShowsClientFinal last.now p
-            → IsWeighed e m t2 s.opening p (due_of result) }
+        ensures { (l : Challenged) (s : StandsFor self.now l) (p : ClientFinalParts)
+            → ShowsClientFinal last.now p → IsWeighed l s.opening p (due_of result) }
     {
         if last.mandatory {
             return Judged::Refused(Refusal::ExtensionsNotSupported);
@@ -231,17 +230,17 @@ impl ServerWait {
     /// that stands for a login meets, it is spent, and answers this fault to every later call.
     pub fn finish<A: Allocator>(
         self,
-        t3: &[u8],
+        client_final: &[u8],
         out: &mut Vec<u8, A>,
     ) -> Result<Verdict, (ServerWait, WriteFault)>
-        // The message due is appended, and the verdict is the one that it bears.
-        ensures ok { IfOk result (λ v. (e : Entry) (m : Mechanism) (t1 t2 : List ℕ)
-            → StandsFor self e m t1 t2 → (d : Due) × IsDue e m t1 t2 t3.now d × (v ≡ verdict_of d)
-            × (out.new.items ≡ out.old.items ++ due_text d)) }
+        // The message due, a server-final message, is appended, and the verdict is the one that it bears.
+        ensures ok { IfOk result (λ v. (l : Challenged) → StandsFor self l
+            → (d : Due) × IsDue l client_final.now d × (v ≡ verdict_of d)
+            × (out.new.items ≡ out.old.items ++ due_text d) × IsServerFinal (due_text d) (final_due d)) }
         // A login is accepted exactly where it is valid.
-        ensures valid { IfOk result (λ v. (e : Entry) (m : Mechanism) (t1 t2 : List ℕ)
-            → StandsFor self e m t1 t2 → (t4 : List ℕ) × (out.new.items ≡ out.old.items ++ t4)
-            × ((v ≡ Verdict.Accepted) ↔ IsValidLogin e m t1 t2 t3.now t4)) }
+        ensures valid { IfOk result (λ v. (l : Challenged) → StandsFor self l
+            → (server_final : List ℕ) × (out.new.items ≡ out.old.items ++ server_final)
+            × ((v ≡ Verdict.Accepted) ↔ IsValidLogin l client_final.now server_final)) }
         ensures err { OnErr result (out.new.items ≡ out.old.items) }
         ensures capacity { vec_capacity out.old ≤ vec_capacity out.new }
         ensures back { IfErr result (λ r. r.1 ≡ WriteFault.NoMemory → r.0 ≡ self) }
@@ -249,17 +248,16 @@ impl ServerWait {
         ensures again { (fault : WriteFault) → IsSpent self fault
             → IsErrAnd result (λ r. (r.0 ≡ self) × (r.1 ≡ fault)) }
         // Where the value stands for a login, the only fault is that memory ran out.
-        ensures memory { IfErr result (λ r. (e : Entry) (m : Mechanism) (t1 t2 : List ℕ)
-            → StandsFor self e m t1 t2 → r.1 ≡ WriteFault.NoMemory) }
-        ensures no_memory { IfErr result (λ r. (e : Entry) (m : Mechanism) (t1 t2 : List ℕ)
-            → StandsFor self e m t1 t2 → (d : Due) × IsDue e m t1 t2 t3.now d
-            × (length (due_text d) ≤ 2048)
+        ensures memory { IfErr result (λ r. (l : Challenged) → StandsFor self l
+            → r.1 ≡ WriteFault.NoMemory) }
+        ensures no_memory { IfErr result (λ r. (l : Challenged) → StandsFor self l
+            → (d : Due) × IsDue l client_final.now d × (length (due_text d) ≤ 2048)
             × (vec_capacity out.old < vec_len out.old + length (due_text d))) }
     {
         if let Some(fault) = self.spent {
             return Err((self, fault));
         }
-        let judged = self.verdict_on(t3);
+        let judged = self.verdict_on(client_final);
         match write_judgement(&judged, out) {
             Ok(()) => Ok(judged.verdict()),
             Err(WriteFault::NoMemory) => Err((self, WriteFault::NoMemory)),

@@ -1,7 +1,7 @@
 //! The keys of an account at work on one login: AuthMessage (RFC 5802, section 3) is never kept, but two
 //! MACs take it in as it comes: one by StoredKey checks the client's proof, one by ServerKey signs.
 ghost use Rattle.std.specs.Prelude.{◌≡◌, ◌≤◌, ◌↔◌, ℕ, List, [], ◌∷◌, ◌++◌, length, IsTrue};
-ghost use Rattle.mac_core.specs.Chosen.{length_by, hmac_by, IsScramMac};
+ghost use Rattle.mac_core.specs.Mechanism.{length_by, hmac_by, IsScramMac};
 ghost use Rattle.scram_text.specs.Messages.{ClientFirstParts, bare_text};
 ghost use Rattle.scram_ends.specs.Entry.{Keys, keys_of};
 ghost use Rattle.scram_ends.specs.Auth.{auth_front, server_signature, IsProof};
@@ -39,12 +39,12 @@ impl Signing {
     }
 
     /// Whether the proof is that of the account's keys, where AuthMessage ends with
-    /// client-final-without-proof.
-    pub(crate) fn is_proof(&self, without_proof: &[u8], proof: &Tag) -> bool
+    /// client-final-message-without-proof.
+    pub(crate) fn is_proof(&self, client_final_without_proof: &[u8], proof: &Tag) -> bool
         ensures { (m : Mechanism) (keys : Keys) (front : List ℕ) → IsSigning self.now m keys front
-            → (IsTrue result ↔ IsProof m keys (front ++ without_proof.now) proof.now.items) }
+            → (IsTrue result ↔ IsProof m keys (front ++ client_final_without_proof.now) proof.now.items) }
     {
-        let signature = signed(&self.client, without_proof);
+        let signature = signed(&self.client, client_final_without_proof);
         if proof.len() != signature.len() {
             return false;
         }
@@ -52,12 +52,12 @@ impl Signing {
         are_same(stored.as_slice(), self.stored.as_slice())
     }
 
-    /// The server's signature, where AuthMessage ends with client-final-without-proof.
-    pub(crate) fn signature(&self, without_proof: &[u8]) -> Tag
+    /// The server's signature, where AuthMessage ends with client-final-message-without-proof.
+    pub(crate) fn signature(&self, client_final_without_proof: &[u8]) -> Tag
         ensures { (m : Mechanism) (keys : Keys) (front : List ℕ) → IsSigning self.now m keys front
-            → result.items ≡ server_signature m keys (front ++ without_proof.now) }
+            → result.items ≡ server_signature m keys (front ++ client_final_without_proof.now) }
     {
-        signed(&self.server, without_proof)
+        signed(&self.server, client_final_without_proof)
     }
 }
 

@@ -41,7 +41,7 @@ impl Refusal {
     }
 }
 
-/// The verdict on a login, whose message was written for the client.
+/// A server's verdict, without what it signed.
 #[derive(Clone, Copy, Debug, PartialEq, Eq)]
 pub enum Verdict {
     /// The login is valid.
@@ -51,7 +51,7 @@ pub enum Verdict {
     Refused(Refusal),
 }
 
-/// The verdict on a login, whose message was not written.
+/// A server's verdict, with the signature of an acceptance.
 #[derive(Drop)]
 pub enum Judged {
     /// The login is valid, and this is the server's signature.

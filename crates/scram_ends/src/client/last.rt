@@ -1,32 +1,27 @@
 //! The end of a login for the client: whether server-final bears the signature that it expects.
-ghost use Rattle.std.specs.Prelude.{◌≡◌, ℕ, List, IfErr, OnOk, IsOk};
-ghost use Rattle.std.specs.declared.option.Option.{Option};
+ghost use Rattle.std.specs.Prelude.{◌≡◌, IfErr, OnOk, IsOk};
+ghost use Rattle.scram_ends.specs.Stages.{Answered};
 ghost use Rattle.scram_ends.specs.Login.{IsAuthentic};
 ghost use Rattle.scram_ends.specs.Client.{IsExpecting, IsLastFault};
 
 use crate::client::{Authenticated, ClientFault, ClientTwo};
-use mac_core::Mechanism;
 use scram_text::{FinalResult, read_server_final};
 
 impl ClientTwo {
-    /// Checks that `t4` shows that the server has the keys of the client's password (RFC 5802, section
-    /// 5): it is a server-final message, which may have extensions, and its verifier is the server
-    /// signature of the three messages before it. Else the fault is the first of these: 24 for a text
-    /// that is no server-final message, 25 for a mandatory one, 29 for an error and 30 for another
+    /// Checks that `server_final` shows that the server has the keys of the client's password (RFC 5802,
+    /// section 5): it is a server-final message, which may have extensions, and its verifier is the
+    /// server signature of the three messages before it. Else the fault is the first of these: 24 for a
+    /// text that is no server-final message, 25 for a mandatory one, 29 for an error and 30 for another
     /// verifier.
-    pub fn last(self, t4: &[u8]) -> Result<Authenticated, ClientFault>
-        ensures ok { OnOk result ((m : Mechanism) (password name : List ℕ) (authz : Option (List ℕ))
-            (own t1 t2 t3 : List ℕ) → (x : IsExpecting self m password name authz own t1 t2 t3)
-            → IsAuthentic t4.now x.signature) }
-        ensures only { (m : Mechanism) (password name : List ℕ) (authz : Option (List ℕ))
-            (own t1 t2 t3 : List ℕ) → (x : IsExpecting self m password name authz own t1 t2 t3)
-            → IsAuthentic t4.now x.signature → IsOk result }
-        ensures err { IfErr result (λ fault. (m : Mechanism) (password name : List ℕ)
-            (authz : Option (List ℕ)) (own t1 t2 t3 : List ℕ)
-            → (x : IsExpecting self m password name authz own t1 t2 t3)
-            → IsLastFault x.signature t4.now fault) }
+    pub fn last(self, server_final: &[u8]) -> Result<Authenticated, ClientFault>
+        ensures ok { OnOk result ((l : Answered) (x : IsExpecting self l)
+            → IsAuthentic server_final.now x.signature) }
+        ensures only { (l : Answered) (x : IsExpecting self l)
+            → IsAuthentic server_final.now x.signature → IsOk result }
+        ensures err { IfErr result (λ fault. (l : Answered) (x : IsExpecting self l)
+            → IsLastFault x.signature server_final.now fault) }
     {
-        let last = read_server_final(t4)?;
+        let last = read_server_final(server_final)?;
         if last.mandatory {
             return Err(ClientFault::Mandatory);
         }

@@ -3,6 +3,7 @@ ghost use Rattle.std.specs.Prelude.{◌≡◌, ◌≤◌, ◌<◌, ◌+◌, ℕ,
 ghost use Rattle.std.specs.Option.{option_copied};
 ghost use Rattle.scram_text.specs.Class.{IsPlainName, IsNoncePart};
 ghost use Rattle.scram_text.specs.Messages.{ClientFirstParts};
+ghost use Rattle.scram_ends.specs.Stages.{started};
 ghost use Rattle.scram_ends.specs.Honest.{IsHonestFirst};
 ghost use Rattle.scram_ends.specs.Client.{IsStarted};
 
@@ -26,14 +27,16 @@ impl Client {
         out: &mut Vec<u8, A>,
     ) -> Result<ClientOne, WriteFault>
         requires { 1 ≤ limits.least }
-        ensures ok { IfOk result (λ client. (t1 : List ℕ) × (out.new.items ≡ out.old.items ++ t1)
-            × IsStarted client mechanism limits name.now (option_copied authzid.entry) nonce.now t1) }
+        ensures ok { IfOk result (λ client. (client_first : List ℕ)
+            × (out.new.items ≡ out.old.items ++ client_first)
+            × IsStarted client (started mechanism limits name.now (option_copied authzid.entry)
+            nonce.now client_first)) }
         ensures err { OnErr result (out.new.items ≡ out.old.items) }
         ensures capacity { vec_capacity out.old ≤ vec_capacity out.new }
         ensures no_memory { IfErr result (λ fault. (fault ≡ WriteFault.NoMemory)
-            × ((t1 : List ℕ) × (first : ClientFirstParts)
-            × IsHonestFirst name.now (option_copied authzid.entry) nonce.now t1 first
-            × (vec_capacity out.old < vec_len out.old + length t1))) }
+            × ((client_first : List ℕ) × (first : ClientFirstParts)
+            × IsHonestFirst name.now (option_copied authzid.entry) nonce.now client_first first
+            × (vec_capacity out.old < vec_len out.old + length client_first))) }
     {
         let start = out.len();
         are_in_class(name, authzid, nonce);

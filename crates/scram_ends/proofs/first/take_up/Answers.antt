@@ -13,15 +13,15 @@ returns-in_default-clause-err c =
       found.1,
       none,
       unbound,
-      λ name authz is_name is_authz. c.in_default.ensures.none name authz (rw shows.name is_name) (rw shows.authzid is_authz),
+      λ name authzid is_name is_authzid. c.in_default.ensures.none name authzid (rw shows.name is_name) (rw shows.authzid is_authzid),
     )
 
 -- the header is a front of the message
-header_short : (t1 : List ℕ) (p : ClientFirstParts) (header : List ℕ) → IsClientFirst t1 p → header ≡ header_text p → length header ≤ 2048
+header_short : (client_first : List ℕ) (p : ClientFirstParts) (header : List ℕ) → IsClientFirst client_first p → header ≡ header_text p → length header ≤ 2048
 unfolding client_first_text
-header_short t1 p header is same = omega (arith, ap length is.spelled, ap length same, length-append (header_text p) (bare_text p), is.short)
+header_short client_first p header is same = omega (arith, ap length is.spelled, ap length same, length-append (header_text p) (bare_text p), is.short)
 
 pub returns-clause-header : goal.returns-clause-header
 returns-clause-header c =
     let found = c.in_ok-message.ensures.found in
-    header_short c.args.t1.now found.0 c.in_ok-message.message.header.now found.1 found.2.header
+    header_short c.args.client_first.now found.0 c.in_ok-message.message.header.now found.1 found.2.header

@@ -12,9 +12,9 @@ use Rattle.scram_ends.proofs.client.Client.start.Goals as goal
 pub returns-in_err-write_client_first-clause-no_memory : goal.returns-in_err-write_client_first-clause-no_memory
 returns-in_err-write_client_first-clause-no_memory g c =
     let e = err_from_is_err_and c.from_residual.result c.from_residual.ensures.1 in
-    let authz = option_copied c.args.authzid in
-    let first = client_first_of NoBinding authz c.args.name.now c.args.nonce.now [] in
-    let full = first_fails c.write_client_first.result _ authz c.args.name.now c.args.nonce.now c.in_err-write_client_first.was
+    let authzid = option_copied c.args.authzid in
+    let first = client_first_of NoBinding authzid c.args.name.now c.args.nonce.now [] in
+    let full = first_fails c.write_client_first.result _ authzid c.args.name.now c.args.nonce.now c.in_err-write_client_first.was
     c.are_in_class.ensures.authzid c.are_in_class.ensures.name c.are_in_class.ensures.nonce
     c.write_client_first.ensures.unwritable c.write_client_first.ensures.over_limit in
     let room = c.write_client_first.ensures.no_memory (c.in_err-write_client_first.was ∙ ap (λ (x : WriteFault). Err x) full) in
@@ -23,7 +23,7 @@ returns-in_err-write_client_first-clause-no_memory g c =
       (
         client_first_text first,
         first,
-        honest_first authz c.args.name.now c.args.nonce.now (client_first_text first) c.are_in_class.ensures.authzid c.are_in_class.ensures.name room.0,
+        honest_first authzid c.args.name.now c.args.nonce.now (client_first_text first) c.are_in_class.ensures.authzid c.are_in_class.ensures.name room.0,
         room.1,
       ),
     )
@@ -35,15 +35,15 @@ copy_of-requires g c =
 
 pub copy_of-requires-2 : goal.copy_of-requires-2
 copy_of-requires-2 g c =
-    let authz = option_copied c.args.authzid in
-    let first = client_first_of NoBinding authz c.args.name.now c.args.nonce.now [] in
+    let authzid = option_copied c.args.authzid in
+    let first = client_first_of NoBinding authzid c.args.name.now c.args.nonce.now [] in
     let start : c.len-start.result ≡ length c.args.out.now.items = search rules in
     let written = appended c.deref.result.now c.write_client_first.new.out.items c.args.out.now.items (client_first_text first) c.len-start.result
     c.deref.ensures.value c.in_ok-write_client_first.ensures.ok start in
     let shows = c.in-Ok.ensures.only first
-    (subst (λ (t1 : List ℕ). IsClientFirst t1 first) (sym written) c.in_ok-write_client_first.ensures.related) in (
+    (subst (λ (client_first : List ℕ). IsClientFirst client_first first) (sym written) c.in_ok-write_client_first.ensures.related) in (
       omega arith,
-      header_fits c.args.name.now authz c.args.nonce.now (client_first_text first) c.in-Ok.message.header.now first
-          (honest_first authz c.args.name.now c.args.nonce.now (client_first_text first) c.are_in_class.ensures.authzid c.are_in_class.ensures.name c.in_ok-write_client_first.ensures.related)
+      header_fits c.args.name.now authzid c.args.nonce.now (client_first_text first) c.in-Ok.message.header.now first
+          (honest_first authzid c.args.name.now c.args.nonce.now (client_first_text first) c.are_in_class.ensures.authzid c.are_in_class.ensures.name c.in_ok-write_client_first.ensures.related)
           shows.header,
     )

@@ -2,16 +2,16 @@ use Rattle.scram_ends.proofs.ChallengeLemmas.{not_refused, fault_of}
 use Rattle.scram_ends.proofs.client.ClientOne.first.Goals as goal
 
 pub returns-in-Ok-answer-clause-ok : goal.returns-in-Ok-answer-clause-ok
-returns-in-Ok-answer-clause-ok g c = λ m limits name authz own t1 started.
+returns-in-Ok-answer-clause-ok g c = λ l started.
     let taken = c.in-Ok.ensures.ok in
-    c.in-Ok-answer.ensures.ok m limits name authz own t1 taken.0 started taken.2.is_challenge taken.1
+    c.in-Ok-answer.ensures.ok l taken.0 started taken.2.is_challenge taken.1
 
 pub returns-in-Err-answer-clause-no_memory : goal.returns-in-Err-answer-clause-no_memory
-returns-in-Err-answer-clause-no_memory g c = λ m limits name authz own t1 started.
+returns-in-Err-answer-clause-no_memory g c = λ l started.
     let taken = c.in-Ok.ensures.ok in
-    c.in-Err-answer.ensures.no_memory m limits name authz own t1 taken.0 started taken.2.is_challenge taken.1
+    c.in-Err-answer.ensures.no_memory l taken.0 started taken.2.is_challenge taken.1
 
 pub returns-in-Err-clause-only : goal.returns-in-Err-clause-only
-returns-in-Err-clause-only g c = λ m limits name authz own t1 challenge started answerable.
-    absurd (not_refused limits own c.args.t2.now c.in-Err.fault challenge
-    (fault_of c.args.self m limits name authz own t1 c.args.t2.now c.in-Err.fault started c.in-Err.ensures.err) answerable)
+returns-in-Err-clause-only g c = λ l challenge started answerable.
+    absurd (not_refused l.limits l.nonce c.args.server_first.now c.in-Err.fault challenge
+    (fault_of c.args.self l c.args.server_first.now c.in-Err.fault started c.in-Err.ensures.err) answerable)

@@ -7,24 +7,24 @@ use Rattle.scram_ends.proofs.ServerLemmas.{memory_alone}
 use Rattle.scram_ends.proofs.server.ServerWait.finish.Goals as goal
 
 pub returns-in-Ok-clause-valid : goal.returns-in-Ok-clause-valid
-returns-in-Ok-clause-valid g c = λ e m t1 t2 stands.
+returns-in-Ok-clause-valid g c = λ l stands.
     let d = due_of c.verdict_on-judged.result in (
       due_text d,
       c.in-Ok.ensures.ok,
-      rw c.verdict.ensures (valid_iff e m t1 t2 c.args.t3.now d (c.verdict_on-judged.ensures e m t1 t2 stands) c.in-Ok.ensures.related),
+      rw c.verdict.ensures (valid_iff l c.args.client_final.now d (c.verdict_on-judged.ensures l stands) c.in-Ok.ensures.related),
     )
 
 pub returns-in-Err-clause-memory : goal.returns-in-Err-clause-memory
-returns-in-Err-clause-memory g c = λ e m t1 t2 stands.
-    memory_alone e m t1 t2 c.args.t3.now (due_of c.verdict_on-judged.result) c.in-Err.fault (c.verdict_on-judged.ensures e m t1 t2 stands)
+returns-in-Err-clause-memory g c = λ l stands.
+    memory_alone l c.args.client_final.now (due_of c.verdict_on-judged.result) c.in-Err.fault (c.verdict_on-judged.ensures l stands)
     (λ same. c.in-Err.ensures.unwritable (ap (λ (f : WriteFault). Err f) same)) (λ same. c.in-Err.ensures.over_limit (ap (λ (f : WriteFault). Err f) same))
 
 pub returns-in-Err-clause-no_memory : goal.returns-in-Err-clause-no_memory
-returns-in-Err-clause-no_memory g c = λ e m t1 t2 stands.
+returns-in-Err-clause-no_memory g c = λ l stands.
     let d = due_of c.verdict_on-judged.result in
-    let due = c.verdict_on-judged.ensures e m t1 t2 stands in
+    let due = c.verdict_on-judged.ensures l stands in
     let memory : c.in-Err.fault ≡ NoMemory =
-    memory_alone e m t1 t2 c.args.t3.now d c.in-Err.fault due
+    memory_alone l c.args.client_final.now d c.in-Err.fault due
     (λ same. c.in-Err.ensures.unwritable (ap (λ (f : WriteFault). Err f) same)) (λ same. c.in-Err.ensures.over_limit (ap (λ (f : WriteFault). Err f) same)) in
     let room = c.in-Err.ensures.no_memory (ap (λ (f : WriteFault). Err f) memory) in
     (d, due, room.0, room.1)

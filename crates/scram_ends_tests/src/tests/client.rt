@@ -2,10 +2,10 @@
 ghost use Rattle.std.specs.Prelude.{◌≤◌};
 
 use crate::tests::logins::{Exchange, OTHERS, PUBLISHED};
-use crate::{
+use linked_list_allocator::LocalHeap;
+use scram_ends::{
     Authenticated, Client, ClientFault, ClientOne, ClientTwo, Limits, Mechanism, OneRefused,
 };
-use linked_list_allocator::LocalHeap;
 use scram_text::{NoncePart, Password, PlainName, TextFault, TextWhy, WriteFault};
 use std::alloc::{Allocator, Global};
 use std::process::Abort;

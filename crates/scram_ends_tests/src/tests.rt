@@ -2,12 +2,12 @@
 //! those of other software, and that each call can succeed.
 ghost use Rattle.std.specs.Prelude.{◌≤◌, IfSome};
 
-use crate::{
+use linked_list_allocator::LocalHeap;
+use mac_core::{ScramMac, Tag, xor};
+use scram_ends::{
     FirstFault, FirstRefused, Judged, KeysView, Mechanism, RecordedFault, Refusal, ServerWait,
     Verdict, first_name, server_first,
 };
-use linked_list_allocator::LocalHeap;
-use mac_core::{ScramMac, Tag, xor};
 use scram_text::{
     FinalResult, NoncePart, PlainName, Salt, TextFault, TextWhy, WriteFault, compose_front,
     read_client_first, read_server_first, write_client_final, write_server_final,

@@ -302,7 +302,7 @@ fn refused_memory(rt: HostRuntime) -> Result<(), Fail> {
     };
     assert_eq!(rt; fault, WriteFault::NoMemory);
     assert_eq!(rt; none.len(), 0);
-    // The same call again, with room.
+    // The call once more, with room.
     let mut out = Vec::new(alloc);
     let verdict = wait.finish(last.as_bytes(), &mut out).ok();
     assert_eq!(rt; verdict, Some(Verdict::Accepted));

@@ -63,7 +63,7 @@ fn refused_records(rt: HostRuntime) -> Result<(), Fail> {
 }
 
 // The verdict due to RFC 5802's client where this challenge is recorded.
-fn due_behind(alloc: Global, challenge: &str) -> Result<Option<Refusal>, Fail> {
+fn due_after(alloc: Global, challenge: &str) -> Result<Option<Refusal>, Fail> {
     let view = pencil(&[]).ok_or("an account")?;
     let [first, _, _, _] = SHA1;
     let Ok(read) = read_client_first(first.as_bytes()) else {
@@ -87,11 +87,11 @@ fn due_behind(alloc: Global, challenge: &str) -> Result<Option<Refusal>, Fail> {
 fn other_challenges(rt: HostRuntime) -> Result<(), Fail> {
     let alloc = rt.alloc();
     let extended = format!(in alloc; "{},x=1", SHA1[1])?;
-    assert_eq!(rt; due_behind(alloc, extended.as_str())?, None);
+    assert_eq!(rt; due_after(alloc, extended.as_str())?, None);
     let own = "0123456789abcdef0123456789abcdef0123456789abcdef0123456789abcdef";
     let long = format!(in alloc;
         "r=fyko+d2lbbFgONRv9qkxdawL{own}{own}{own}{own}0,s=QSXCR+Q6sek8bf92,i=4096"
     )?;
-    assert_eq!(rt; due_behind(alloc, long.as_str())?, None);
+    assert_eq!(rt; due_after(alloc, long.as_str())?, None);
     Ok(())
 }

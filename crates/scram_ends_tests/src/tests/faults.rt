@@ -1,6 +1,6 @@
 //! The text of each fault of both ends, which says what is wrong and what to do about it.
 use super::*;
-use crate::ClientFault;
+use scram_ends::ClientFault;
 
 fn no_name() -> TextFault {
     TextFault {

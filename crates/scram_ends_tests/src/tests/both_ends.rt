@@ -1,7 +1,7 @@
 //! Both ends in one login: each is given what the other wrote.
 use super::logins::{Exchange, PUBLISHED};
 use super::*;
-use crate::{Authenticated, Client, Limits};
+use scram_ends::{Authenticated, Client, Limits};
 use scram_text::Password;
 
 // Each message is the published one, where `own` is the server's part of the nonce.

@@ -1,0 +1,5 @@
+use Rattle.scram_ends.proofs.OpeningLemmas.{not_taken_up}
+use Rattle.scram_ends.proofs.laws.refused_is_not_taken_up.Goals as goal
+
+pub returns : goal.returns
+returns c = not_taken_up

@@ -1,0 +1,81 @@
+-- A login at each of its stages. The values of this crate keep none of the messages: their contracts say
+-- which login they stand for.
+use Rattle.std.specs.Prelude.{ℕ, List}
+use Rattle.std.specs.declared.option.Option.{Option}
+use Rattle.mac_core.specs.declared.mechanism.Mechanism.{Mechanism}
+use Rattle.scram_ends.specs.Entry.{Entry}
+use Rattle.scram_ends.specs.declared.client.Limits.{Limits}
+
+-- a login that a client has started
+pub record Started : Type 0 where
+  -- the mechanism that it uses
+  pub mechanism : Mechanism
+  -- the iteration counts that it accepts
+  pub limits : Limits
+  -- the user's name, in plain bytes
+  pub name : List ℕ
+  -- the name that the user asks to act as, in plain bytes, where there is one
+  pub authzid : Option (List ℕ)
+  -- the client's own nonce
+  pub nonce : List ℕ
+  -- client-first-message, as it was sent
+  pub client_first : List ℕ
+
+-- a login that a server has challenged
+pub record Challenged : Type 0 where
+  -- the account for the mechanism, or a decoy
+  pub entry : Entry
+  -- the mechanism that the client uses
+  pub mechanism : Mechanism
+  -- client-first-message, as it was received
+  pub client_first : List ℕ
+  -- server-first-message, as it was sent
+  pub server_first : List ℕ
+
+-- a login whose challenge a client has answered
+pub record Answered : Type 0 where
+  -- the mechanism that it uses
+  pub mechanism : Mechanism
+  -- the user's password, in plain bytes
+  pub password : List ℕ
+  -- the user's name, in plain bytes
+  pub name : List ℕ
+  -- the name that the user asks to act as, in plain bytes, where there is one
+  pub authzid : Option (List ℕ)
+  -- the client's own nonce
+  pub nonce : List ℕ
+  -- client-first-message, as it was sent
+  pub client_first : List ℕ
+  -- server-first-message, as it was received
+  pub server_first : List ℕ
+  -- client-final-message, as it was sent
+  pub client_final : List ℕ
+
+-- the login of this client
+abbrev pub started : Mechanism → Limits → (name : List ℕ) → (authzid : Option (List ℕ)) → (nonce client_first : List ℕ) → Started
+started mechanism limits name authzid nonce client_first = record {
+  mechanism = mechanism;
+  limits = limits;
+  name = name;
+  authzid = authzid;
+  nonce = nonce;
+  client_first = client_first;
+}
+
+-- the login of this account, with these two messages
+abbrev pub challenged_login : Entry → Mechanism → (client_first server_first : List ℕ) → Challenged
+challenged_login entry mechanism client_first server_first =
+    record { entry = entry; mechanism = mechanism; client_first = client_first; server_first = server_first }
+
+-- the login that was started, with this password and the two later messages
+abbrev pub answered : Started → (password server_first client_final : List ℕ) → Answered
+answered l password server_first client_final = record {
+  mechanism = l.mechanism;
+  password = password;
+  name = l.name;
+  authzid = l.authzid;
+  nonce = l.nonce;
+  client_first = l.client_first;
+  server_first = server_first;
+  client_final = client_final;
+}

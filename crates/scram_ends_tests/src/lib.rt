@@ -1,0 +1,5 @@
+//! Tests of `scram_ends`.
+#![tactic(auto)]
+
+#[cfg(test)]
+mod tests;
