@@ -13,8 +13,8 @@ use Rattle.otp_core.specs.declared.token.kinds.TotpFields.{TotpFields}
 use Rattle.book_format.specs.Account.{AccountFields}
 use Rattle.book_format.specs.Book.{BookFields}
 use Rattle.book_format.specs.Keys.{hash_name}
-use Rattle.book_format.specs.Reading.{text_of, integer_of, number_of, bytes_within, bytes_of, mech_of, hash_named, hash_of, optional, last_of, drift_of, hotp_of, totp_of, kind_of, token_of, are_texts, item_count, plain_name_of, names_in, names_of, act_as_of, act_as_at, account_of, named_account_of, accounts_from, top_of, book_of}
-use Rattle.book_format.specs.Trees.{HoldsText, HoldsBytes, HoldsNumber, HoldsOption, IsMechTree, IsHotpTree, IsLastStep, IsTotpTree, IsTokenTree, AreNames, IsNameList, HoldsNames, IsAccountTree, AreAccountTrees, IsBookTree}
+use Rattle.book_format.specs.Reading.{text_of, integer_of, number_of, number_or_zero, bytes_within, bytes_of, mech_of, hash_named, hash_of, optional, last_of, drift_of, hotp_of, totp_of, kind_of, token_of, are_texts, item_count, plain_name_of, names_in, names_of, act_as_of, act_as_at, account_of, named_account_of, accounts_from, top_of, book_of}
+use Rattle.book_format.specs.Trees.{HoldsText, HoldsBytes, HoldsNumber, HoldsNumberOrZero, HoldsOption, IsMechTree, IsHotpTree, IsLastStep, IsTotpTree, IsTokenTree, AreNames, IsNameList, HoldsNames, IsAccountTree, AreAccountTrees, IsBookTree}
 use Rattle.book_format.specs.declared.account.MechKeys.{MechKeys}
 use Rattle.book_format.specs.declared.fault.BookWhy.{BookWhy}
 
@@ -31,6 +31,12 @@ pub number_held : (key : List ℕ) (least most n : ℕ) (ms : Members) (why : Bo
     → number_of key least most why ms ≡ Ok n
 unfolding number_of integer_of
 number_held key least most n ms why h = rw (h.there, between least n most h.enough h.few) refl
+
+pub number_or_zero_held : (key : List ℕ) (most n : ℕ) (ms : Members) (why : BookWhy) → HoldsNumberOrZero key most n ms
+    → number_or_zero key most why ms ≡ Ok n
+unfolding number_or_zero
+number_or_zero_held key most n ms why (inl none) = rw (none.0, none.1) refl
+number_or_zero_held key most n ms why (inr some) = rw some.there (number_held key 0 most n ms why some)
 
 pub mech_held : (len : ℕ) (d : Data) (keys : MechKeys) → IsMechTree len d keys → mech_of len d ≡ Ok keys
 unfolding mech_of
@@ -64,7 +70,7 @@ drift_held key most token ms there few = rw (there, le-leb (nat_abs token.drift)
 hotp_held : (d : Data) (token : HotpFields) (h : IsHotpTree d token) → hotp_of h.members ≡ Ok token
 unfolding hotp_of
 hotp_held d token h =
-    rw (h.known, bytes_held _ _ _ _ _ _ h.secret, number_held _ _ _ _ _ _ h.digits, number_held _ _ _ _ _ _ h.next, number_held _ _ _ _ _ _ h.look_ahead, number_held _ _ _ _ _ _ h.limit, number_held _ _ _ _ _ _ h.failures) refl
+    rw (h.known, bytes_held _ _ _ _ _ _ h.secret, number_held _ _ _ _ _ _ h.digits, number_held _ _ _ _ _ _ h.next, number_held _ _ _ _ _ _ h.look_ahead, number_or_zero_held _ _ _ _ _ h.sync_ahead, number_held _ _ _ _ _ _ h.limit, number_held _ _ _ _ _ _ h.failures) refl
 
 totp_held : (d : Data) (token : TotpFields) (h : IsTotpTree d token) → totp_of h.members ≡ Ok token
 unfolding totp_of

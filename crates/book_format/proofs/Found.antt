@@ -1,6 +1,6 @@
 -- A book that was read is that of the tree.
-use Rattle.std.proofs.Common.{◌≡◌, ◌≤◌, ◌+◌, ◌&&◌, nat_le, ◌==◌, nat_abs, ℤ, pos, negsuc, ℕ, List, [], ◌∷◌, length, map, codes, true, Option, Some, None, ok_or, Result, Ok, Err, refl, sym, ap, subst, ◌∙◌, arith, inl, inr}
-use Rattle.std.specs.Option.{option_and_then, unwrap_or}
+use Rattle.std.proofs.Common.{◌≡◌, ◌≤◌, ◌+◌, ◌&&◌, if◌then◌else◌, nat_le, ◌==◌, nat_abs, ℤ, pos, negsuc, ℕ, List, [], ◌∷◌, length, map, codes, true, Option, Some, None, ok_or, Result, Ok, Err, refl, sym, ap, subst, ◌∙◌, arith, inl, inr}
+use Rattle.std.specs.Option.{is_some, option_and_then, unwrap_or}
 use Rattle.std.proofs.lemmas.Bool.{cases_Bool, and_parts}
 use Rattle.std.proofs.lemmas.Bool.Decides.{nat_tests}
 use Rattle.std.specs.List.{list_all}
@@ -21,8 +21,8 @@ use Rattle.otp_core.specs.declared.token.kinds.TotpFields.{TotpFields}
 use Rattle.book_format.specs.Account.{AccountFields, AreKeys, IsAccount}
 use Rattle.book_format.specs.Book.{BookFields, AreAccounts, IsBook}
 use Rattle.book_format.specs.Keys.{top_keys, account_keys, mech_table_keys, hotp_keys, totp_keys, hash_name, is_among}
-use Rattle.book_format.specs.Reading.{demand, table_of, known_keys, text_of, integer_of, number_within, number_of, bytes_in, bytes_within, bytes_of, mech_of, hash_named, hash_of, optional, last_of, drift_of, hotp_of, totp_of, kind_of, token_of, are_texts, item_count, plain_name_of, names_in, names_of, act_as_of, act_as_at, account_of, named_account_of, in_account, at_top, accounts_from, accounts_in, is_one, TopFields, table_at, top_of, book_of}
-use Rattle.book_format.specs.Trees.{HoldsText, HoldsBytes, HoldsNumber, HoldsOption, IsMechTree, IsHotpTree, IsLastStep, IsTotpTree, IsTokenTree, AreNames, IsNameList, HoldsNames, IsAccountTree, AreAccountTrees, HoldsAccounts, IsBookTree}
+use Rattle.book_format.specs.Reading.{demand, table_of, known_keys, text_of, integer_of, number_within, number_of, number_or_zero, bytes_in, bytes_within, bytes_of, mech_of, hash_named, hash_of, optional, last_of, drift_of, hotp_of, totp_of, kind_of, token_of, are_texts, item_count, plain_name_of, names_in, names_of, act_as_of, act_as_at, account_of, named_account_of, in_account, at_top, accounts_from, accounts_of_table, is_one, TopFields, table_at, top_of, book_of}
+use Rattle.book_format.specs.Trees.{HoldsText, HoldsBytes, HoldsNumber, HoldsNumberOrZero, HoldsOption, IsMechTree, IsHotpTree, IsLastStep, IsTotpTree, IsTokenTree, AreNames, IsNameList, HoldsNames, IsAccountTree, AreAccountTrees, HoldsAccounts, IsBookTree}
 use Rattle.book_format.specs.declared.account.MechKeys.{MechKeys}
 use Rattle.book_format.specs.declared.fault.BookWhy.{BookWhy}
 use Rattle.book_format.specs.declared.fault.BookWhy.TheVariants.{Key, Format, Name, Salt, Count, KeyLength, Token}
@@ -59,8 +59,8 @@ step_said d z h = absurd (cc h)
 
 -- numbers and bytes in their ranges
 
-parts : (least n most : ℕ) → (nat_le least n && nat_le n most) ≡ true → (least ≤ n) × (n ≤ most)
-parts least n most h = (low least n most h, high least n most h)
+bounds_of : (least n most : ℕ) → (nat_le least n && nat_le n most) ≡ true → (least ≤ n) × (n ≤ most)
+bounds_of least n most h = (low least n most h, high least n most h)
   where
     low : (least n most : ℕ) → (nat_le least n && nat_le n most) ≡ true → least ≤ n
     low least n most h = grind (arith, nat_tests)
@@ -73,7 +73,7 @@ within_said least most (negsuc m) n h = absurd (cc h)
 within_said least most (pos m) n h = elim (cases_Bool (nat_le least m && nat_le m most)) [
   | inl is ↦
       let same : m ≡ n = some_same m n (rw is at h) in
-      let range = parts least m most is in
+      let range = bounds_of least m most is in
       (ap pos same, subst (λ k. least ≤ k) same range.0, subst (λ k. k ≤ most) same range.1)
   | inr not ↦
       let none = rw not at h in absurd (cc none)
@@ -88,7 +88,7 @@ bytes_in_said least most (Err e) v h = absurd (cc h)
 bytes_in_said least most (Ok bytes) v h = elim (cases_Bool (nat_le least (length bytes) && nat_le (length bytes) most)) [
   | inl is ↦
       let same : bytes ≡ v.items = some_same bytes v (rw is at h) in
-      let range = parts least (length bytes) most is in
+      let range = bounds_of least (length bytes) most is in
       (ap Ok same, subst (λ k. least ≤ length k) same range.0, subst (λ k. length k ≤ most) same range.1)
   | inr not ↦
       let none = rw not at h in absurd (cc none)
@@ -112,6 +112,16 @@ number_found key least most why ms n h =
     let (z, said, within) = bind_ok (integer_of key ms) _ n h in
     let (value, enough, few) = within_said least most z n (ok_or_ok _ why n within) in
     record { there = integer_said (get_member key ms) z said ∙ ap (λ y. Some (integer y)) value; enough = enough; few = few }
+
+pub number_or_zero_found : (key : List ℕ) (most : ℕ) (why : BookWhy) (ms : Members) (n : ℕ) → number_or_zero key most why ms ≡ Ok n
+    → HoldsNumberOrZero key most n ms
+unfolding number_or_zero
+number_or_zero_found key most why ms n h = by_key (get_member key ms) refl h
+  where
+    by_key : (there : Option Data) → get_member key ms ≡ there → (if is_some there then number_of key 0 most why ms else Ok 0) ≡ Ok n
+        → HoldsNumberOrZero key most n ms
+    by_key None at read = inl (at, sym (ok_same 0 n read))
+    by_key (Some d) at read = inr (number_found key 0 most why ms n read)
 
 -- a value that may be missing is as it was read
 option_found : {T : Type 0} (key : List ℕ) (read : Data → Result T BookWhy) (Is : Data → T → Type 0) (found : (d : Data) (x : T) → read d ≡ Ok x → Is d x)
@@ -191,9 +201,10 @@ hotp_found d ms token is_table kind h =
     let (digits, digits_read, h2) = bind_ok (number_of (codes "digits") 6 8 Token ms) _ token h1 in
     let (next, next_read, h3) = bind_ok (number_of (codes "next") 0 9223372036854775807 Token ms) _ token h2 in
     let (look_ahead, look_ahead_read, h4) = bind_ok (number_of (codes "look_ahead") 0 100 Token ms) _ token h3 in
-    let (limit, limit_read, h5) = bind_ok (number_of (codes "limit") 1 100 Token ms) _ token h4 in
-    let (failures, failures_read, h6) = bind_ok (number_of (codes "failures") 0 limit Token ms) _ token h5 in
-    subst (λ t. IsHotpTree d t) (ok_same _ token h6) (record {
+    let (sync_ahead, sync_ahead_read, h5) = bind_ok (number_or_zero (codes "sync_ahead") 1000 Token ms) _ token h4 in
+    let (limit, limit_read, h6) = bind_ok (number_of (codes "limit") 1 100 Token ms) _ token h5 in
+    let (failures, failures_read, h7) = bind_ok (number_of (codes "failures") 0 limit Token ms) _ token h6 in
+    subst (λ t. IsHotpTree d t) (ok_same _ token h7) (record {
       members = ms;
       is_table = is_table;
       kind = kind;
@@ -202,6 +213,7 @@ hotp_found d ms token is_table kind h =
       digits = number_found _ _ _ _ ms digits digits_read;
       next = number_found _ _ _ _ ms next next_read;
       look_ahead = number_found _ _ _ _ ms look_ahead look_ahead_read;
+      sync_ahead = number_or_zero_found _ _ _ ms sync_ahead sync_ahead_read;
       limit = number_found _ _ _ _ ms limit limit_read;
       failures = number_found _ _ _ _ ms failures failures_read;
     })
@@ -271,7 +283,7 @@ name_found text name h = elim (cases_Bool (nat_le 1 (length text) && nat_le (len
   | inl is ↦
       let same : text ≡ name = ok_same text name (rw is at h) in
       let (length_fits, each) = and_parts (nat_le 1 (length text) && nat_le (length text) 255) (list_all is_plain text) is in
-      let (least, most) = parts 1 (length text) 255 length_fits in
+      let (least, most) = bounds_of 1 (length text) 255 length_fits in
       (same, subst IsPlainName same (record { at_least = least; at_most = most; each = each }))
   | inr not ↦
       let none = rw not at h in absurd (cc none)
@@ -359,14 +371,14 @@ accounts_found index (member key d ms) entries h =
     let (same, plain, tree) = entry_parts key d entry (in_account_ok index _ entry read) in
     subst (λ es. AreAccountTrees (member key d ms) es) (ok_same (entry ∷ others) entries h1) (same, plain, tree, accounts_found (index + 1) ms others more)
 
-table_at_found : (there : Option Data) (o : Option Members) → table_at there ≡ Ok o → (accounts : List (List ℕ × AccountFields)) → accounts_in o ≡ Ok accounts
+table_at_found : (there : Option Data) (o : Option Members) → table_at there ≡ Ok o → (accounts : List (List ℕ × AccountFields)) → accounts_of_table o ≡ Ok accounts
     → (key : List ℕ) (ms : Members) → get_member key ms ≡ there → HoldsAccounts key accounts ms
 table_at_found None o h accounts read key ms at =
-    let none = subst (λ o. accounts_in o ≡ Ok accounts) (sym (ok_same None o h)) read in
+    let none = subst (λ o. accounts_of_table o ≡ Ok accounts) (sym (ok_same None o h)) read in
     inl (at, sym (ok_same [] accounts none))
 table_at_found (Some d) o h accounts read key ms at =
     let (named, is_table, same) = bind_ok (table_of d) _ o h in
-    let some = subst (λ o. accounts_in o ≡ Ok accounts) (sym (ok_same (Some named) o same)) read in
+    let some = subst (λ o. accounts_of_table o ≡ Ok accounts) (sym (ok_same (Some named) o same)) read in
     inr (named, at ∙ ap Some (table_said d named is_table), accounts_found 0 named accounts some)
 
 one_said : (o : Option Data) → is_one (option_and_then as_integer o) ≡ true → o ≡ Some (integer (pos 1))
@@ -383,7 +395,7 @@ pub book_found : (ms : Members) (book : BookFields) → book_of ms ≡ Ok book �
 unfolding book_of top_of
 book_found ms book h =
     let (top, top_read, h0) = bind_ok (at_top (top_of ms)) _ book h in
-    let (accounts, accounts_read, h1) = bind_ok (accounts_in top.accounts) _ book h0 in
+    let (accounts, accounts_read, h1) = bind_ok (accounts_of_table top.accounts) _ book h0 in
     let g = at_top_ok (top_of ms) top top_read in
     let (u, format, g0) = bind_ok (demand (is_one (option_and_then as_integer (get_member (codes "format") ms))) Format) _ top g in
     let (v, known, g1) = bind_ok (known_keys (is_among top_keys) ms) _ top g0 in

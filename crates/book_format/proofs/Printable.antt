@@ -42,8 +42,8 @@ token_flat : (t : Fields) → IsFlat 1 (token_tree t)
 unfolding hotp_tree totp_tree
 token_flat (Hotp t) = (omega arith, refl)
 token_flat (Totp t) =
-    let behind = last_flat t.last _ (omega arith, refl) in
-    (omega (arith, behind.0), behind.1)
+    let after = last_flat t.last _ (omega arith, refl) in
+    (omega (arith, after.0), after.1)
 
 account_flat : (a : AccountFields) → IsFlat 2 (account_tree a)
 unfolding account_tree

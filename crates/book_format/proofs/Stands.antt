@@ -54,6 +54,7 @@ hotp_stands t fits secret digits back = record {
   digits = holds_number (codes "digits") 6 8 t.digits _ refl digits.0 digits.1;
   next = holds_number (codes "next") 0 _ t.next _ refl (omega arith) fits.next;
   look_ahead = holds_number (codes "look_ahead") 0 100 t.look_ahead _ refl (omega arith) fits.look_ahead;
+  sync_ahead = inr (holds_number (codes "sync_ahead") 0 1000 t.sync_ahead _ refl (omega arith) fits.sync_ahead);
   limit = holds_number (codes "limit") 1 100 t.limit _ refl fits.some_limit fits.limit;
   failures = holds_number (codes "failures") 0 t.limit t.failures _ refl (omega arith) fits.failures;
 }

@@ -7,7 +7,7 @@ use Rattle.toml.specs.Data.{Members}
 use Rattle.toml.specs.Parse.{parse_document}
 use Rattle.book_format.specs.Account.{AccountFields}
 use Rattle.book_format.specs.Book.{BookFields, IsBook}
-use Rattle.book_format.specs.Reading.{TopFields, tree_in, top_of, accounts_in, book_of, book_in}
+use Rattle.book_format.specs.Reading.{TopFields, tree_in, top_of, accounts_of_table, book_of, book_in}
 use Rattle.book_format.specs.Trees.{IsBookText}
 use Rattle.book_format.specs.declared.fault.BookFault.{BookFault}
 use Rattle.book_format.specs.declared.fault.BookWhy.{BookWhy}
@@ -24,11 +24,11 @@ pub no_top : (bytes : List ℕ) (ms : Members) (why : BookWhy) → tree_in bytes
 unfolding book_in book_of
 no_top bytes ms why read h = rw (read, ← h) refl
 
-pub no_accounts : (bytes : List ℕ) (ms : Members) (top : TopFields) (fault : BookFault) → tree_in bytes ≡ Ok ms → Ok top ≡ top_of ms → accounts_in top.accounts ≡ Err fault → book_in bytes ≡ Err fault
+pub no_accounts : (bytes : List ℕ) (ms : Members) (top : TopFields) (fault : BookFault) → tree_in bytes ≡ Ok ms → Ok top ≡ top_of ms → accounts_of_table top.accounts ≡ Err fault → book_in bytes ≡ Err fault
 unfolding book_in book_of
 no_accounts bytes ms top fault read h accounts = rw (read, ← h, accounts) refl
 
-pub whole : (bytes : List ℕ) (ms : Members) (top : TopFields) (entries : List (List ℕ × AccountFields)) → tree_in bytes ≡ Ok ms → Ok top ≡ top_of ms → accounts_in top.accounts ≡ Ok entries
+pub whole : (bytes : List ℕ) (ms : Members) (top : TopFields) (entries : List (List ℕ × AccountFields)) → tree_in bytes ≡ Ok ms → Ok top ≡ top_of ms → accounts_of_table top.accounts ≡ Ok entries
     → book_in bytes ≡ Ok (record { decoy_key = top.decoy_key; decoy_count = top.decoy_count; accounts = entries })
 unfolding book_in book_of
 whole bytes ms top entries read h accounts = rw (read, ← h, accounts) refl

@@ -22,7 +22,7 @@ mech_table_keys = codes "salt" ∷ codes "count" ∷ codes "stored" ∷ codes "s
 abbrev pub hotp_keys : List (List ℕ)
 hotp_keys =
     codes "kind" ∷ codes "secret" ∷ codes "digits" ∷ codes "next" ∷ codes "look_ahead"
-    ∷ codes "limit" ∷ codes "failures" ∷ []
+    ∷ codes "sync_ahead" ∷ codes "limit" ∷ codes "failures" ∷ []
 
 -- the keys of a TOTP token
 abbrev pub totp_keys : List (List ℕ)

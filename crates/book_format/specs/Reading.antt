@@ -61,6 +61,10 @@ number_of key least most why ms = do
   number ← integer_of key ms
   ok_or (number_within least most number) why
 
+-- the whole number at a key, at most `most`, or 0 where the key is missing
+unfoldable pub number_or_zero : List ℕ → ℕ → BookWhy → Members → Result ℕ BookWhy
+number_or_zero key most why ms = if is_some (get_member key ms) then number_of key 0 most why ms else Ok 0
+
 -- bytes, where their number is from `least` to `most`
 abbrev pub bytes_in : {E : Type 0} → ℕ → ℕ → Result (List ℕ) E → Option (ArrayVec ℕ)
 bytes_in least most (Ok bytes) =
@@ -96,9 +100,10 @@ hotp_of ms = do
   digits ← number_of (codes "digits") 6 8 Token ms
   next ← number_of (codes "next") 0 (2 ^ 63 - 1) Token ms
   look_ahead ← number_of (codes "look_ahead") 0 100 Token ms
+  sync_ahead ← number_or_zero (codes "sync_ahead") 1000 Token ms
   limit ← number_of (codes "limit") 1 100 Token ms
   failures ← number_of (codes "failures") 0 limit Token ms
-  Ok (record { secret = secret.items; digits = digits; next = next; look_ahead = look_ahead; limit = limit; failures = failures })
+  Ok (record { secret = secret.items; digits = digits; next = next; look_ahead = look_ahead; sync_ahead = sync_ahead; limit = limit; failures = failures })
 
 -- the hash function of this name
 abbrev pub hash_named : List ℕ → Option OtpHash
@@ -243,9 +248,9 @@ accounts_from index (member key d ms) = do
   Ok (entry ∷ entries)
 
 -- the accounts of a table, none where it is missing
-abbrev pub accounts_in : Option Members → Result (List (List ℕ × AccountFields)) BookFault
-accounts_in None = Ok []
-accounts_in (Some ms) = accounts_from 0 ms
+abbrev pub accounts_of_table : Option Members → Result (List (List ℕ × AccountFields)) BookFault
+accounts_of_table None = Ok []
+accounts_of_table (Some ms) = accounts_from 0 ms
 
 -- the value is the number 1
 abbrev pub is_one : Option ℤ → Bool
@@ -277,7 +282,7 @@ top_of ms = do
 unfoldable pub book_of : Members → Result BookFields BookFault
 book_of ms = do
   top ← at_top (top_of ms)
-  accounts ← accounts_in top.accounts
+  accounts ← accounts_of_table top.accounts
   Ok (record { decoy_key = top.decoy_key; decoy_count = top.decoy_count; accounts = accounts })
 
 -- the tree of a text
@@ -295,12 +300,12 @@ abbrev pub IsFirstFault : List ℕ → BookFault → Type 0
 IsFirstFault bytes fault = book_in bytes ≡ Err fault
 
 -- a reader answers what is read here, seen through a function; or, at any place, that memory ran out
-abbrev pub Gives : {X Y : Type 0} → (X → Y) → Result X BookWhy → Result Y BookWhy → Type 0
-Gives look result read = MatchResult result (λ x. read ≡ Ok (look x)) (λ why. (why ≡ NoMemory) ⊎ (read ≡ Err why))
+abbrev pub IsReadAs : {X Y : Type 0} → (X → Y) → Result X BookWhy → Result Y BookWhy → Type 0
+IsReadAs look result read = MatchResult result (λ x. read ≡ Ok (look x)) (λ why. (why ≡ NoMemory) ⊎ (read ≡ Err why))
 
 -- a reader answers what is read here, where a fault has its account; or, at any place, that memory ran out
-abbrev pub GivesFault : {X Y : Type 0} → (X → Y) → Result X BookFault → Result Y BookFault → Type 0
-GivesFault look result read =
+abbrev pub IsReadOrFault : {X Y : Type 0} → (X → Y) → Result X BookFault → Result Y BookFault → Type 0
+IsReadOrFault look result read =
     MatchResult result (λ x. read ≡ Ok (look x)) (λ fault. (fault.why ≡ NoMemory) ⊎ (read ≡ Err fault))
 
 -- a result, seen through a function

@@ -34,6 +34,10 @@ pub record HoldsNumber (key : List ℕ) (least most n : ℕ) (ms : Members) : Ty
   pub enough : least ≤ n
   pub few : n ≤ most
 
+-- the table has a whole number at a key, at most `most`; where it has no such key the number is 0
+abbrev pub HoldsNumberOrZero : List ℕ → ℕ → ℕ → Members → Type 0
+HoldsNumberOrZero key most n ms = ((get_member key ms ≡ None) × (n ≡ 0)) ⊎ HoldsNumber key 0 most n ms
+
 -- the table has at a key what is asked of a value, or it has no such key
 abbrev pub HoldsOption : {T : Type 0} → List ℕ → (Data → T → Type 0) → Option T → Members → Type 0
 HoldsOption key Is None ms = get_member key ms ≡ None
@@ -49,7 +53,7 @@ pub record IsMechTree (len : ℕ) (d : Data) (keys : MechKeys) : Type 0 where
   pub stored : HoldsBytes (codes "stored") len len keys.keys.stored.items members
   pub server : HoldsBytes (codes "server") len len keys.keys.server.items members
 
--- the table of a HOTP token
+-- the table of a HOTP token. With no key `sync_ahead` it is 0.
 pub record IsHotpTree (d : Data) (token : HotpFields) : Type 0 where
   pub members : Members
   pub is_table : d ≡ table members
@@ -59,6 +63,7 @@ pub record IsHotpTree (d : Data) (token : HotpFields) : Type 0 where
   pub digits : HoldsNumber (codes "digits") 6 8 token.digits members
   pub next : HoldsNumber (codes "next") 0 (2 ^ 63 - 1) token.next members
   pub look_ahead : HoldsNumber (codes "look_ahead") 0 100 token.look_ahead members
+  pub sync_ahead : HoldsNumberOrZero (codes "sync_ahead") 1000 token.sync_ahead members
   pub limit : HoldsNumber (codes "limit") 1 100 token.limit members
   pub failures : HoldsNumber (codes "failures") 0 token.limit token.failures members
 

@@ -21,7 +21,7 @@ hex_tree bytes = string (encode_lower bytes)
 abbrev pub number_tree : ℕ → Data
 number_tree n = integer (pos n)
 
--- a key that is there only with a value
+-- the members with a key before them, where the key has a value
 abbrev pub perhaps : List ℕ → Option Data → Members → Members
 perhaps key None rest = rest
 perhaps key (Some value) rest = member key value rest
@@ -43,7 +43,8 @@ hotp_tree t = table (
     member (codes "limit") (number_tree t.limit) (
     member (codes "look_ahead") (number_tree t.look_ahead) (
     member (codes "next") (number_tree t.next) (
-    member (codes "secret") (hex_tree t.secret) no_members)))))))
+    member (codes "secret") (hex_tree t.secret) (
+    member (codes "sync_ahead") (number_tree t.sync_ahead) no_members))))))))
 
 -- the keys of a TOTP token: `last` only where a step has passed
 abbrev pub totp_members : TotpFields → Members

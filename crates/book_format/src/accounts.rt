@@ -2,7 +2,7 @@
 ghost use Rattle.std.specs.Prelude.{◌≡◌, ◌≤◌, IfOk, MatchResult, ◌⊎◌, codes, Some};
 ghost use Rattle.toml.specs.Data.{get_member};
 ghost use Rattle.toml.specs.View.{view, items_view, table_view};
-ghost use Rattle.book_format.specs.Reading.{Gives, GivesFault, optional, mech_of, plain_name_of, are_texts, names_in, names_of, act_as_of, act_as_at, token_of, account_of, named_account_of, accounts_from, in_account};
+ghost use Rattle.book_format.specs.Reading.{IsReadAs, IsReadOrFault, optional, mech_of, plain_name_of, are_texts, names_in, names_of, act_as_of, act_as_at, token_of, account_of, named_account_of, accounts_from, in_account};
 ghost use Rattle.book_format.specs.declared.fault.BookWhy.TheVariants.{NoMemory};
 
 use crate::account::{Account, MechKeys};
@@ -26,7 +26,7 @@ pub(crate) fn accounts_from(
     alloc: Global,
     table: &Table,
 ) -> Result<BTreeMap<PlainName, Account>, BookFault>
-    ensures { GivesFault (λ m. m.entries) result (accounts_from 0 (table_view table.now)) }
+    ensures { IsReadOrFault (λ m. m.entries) result (accounts_from 0 (table_view table.now)) }
 {
     let mut accounts = BTreeMap::new(alloc);
     let mut index = 0;
@@ -58,7 +58,7 @@ fn named_account_of(
     key: &str,
     value: &Value,
 ) -> Result<(PlainName, Account), BookWhy>
-    ensures { Gives (λ e. e) result (named_account_of key.now (view value.now)) }
+    ensures { IsReadAs (λ e. e) result (named_account_of key.now (view value.now)) }
 {
     let name = plain_name_of(key)?;
     let account = account_of(alloc, value)?;
@@ -73,7 +73,7 @@ fn plain_name_of(text: &str) -> Result<PlainName, BookWhy>
 
 #[tactic(auto, unfolding(crate::specs::Reading::account_of))]
 fn account_of(alloc: Global, value: &Value) -> Result<Account, BookWhy>
-    ensures { Gives (λ a. a) result (account_of (view value.now)) }
+    ensures { IsReadAs (λ a. a) result (account_of (view value.now)) }
 {
     let table = table_of(value)?;
     known_keys(table, &["sha1", "sha256", "act_as", "token"])?;
@@ -112,7 +112,7 @@ fn token_at(table: &Table) -> Result<Option<Token>, BookWhy>
 
 // The names that the account may act as: none where there is no key `act_as`.
 fn act_as_at(alloc: Global, table: &Table) -> Result<Vec<PlainName>, BookWhy>
-    ensures { Gives (λ v. v.items) result (act_as_at (get_member (codes "act_as") (table_view table.now))) }
+    ensures { IsReadAs (λ v. v.items) result (act_as_at (get_member (codes "act_as") (table_view table.now))) }
 {
     match at(table, "act_as") {
         Some(value) => act_as_of(alloc, value),
@@ -123,7 +123,7 @@ fn act_as_at(alloc: Global, table: &Table) -> Result<Vec<PlainName>, BookWhy>
 // The names of a list.
 #[tactic(auto, unfolding(crate::specs::Reading::act_as_of))]
 fn act_as_of(alloc: Global, value: &Value) -> Result<Vec<PlainName>, BookWhy>
-    ensures { Gives (λ v. v.items) result (act_as_of (view value.now)) }
+    ensures { IsReadAs (λ v. v.items) result (act_as_of (view value.now)) }
 {
     let list = value.as_array().ok_or(BookWhy::Key)?;
     names_of(alloc, list.as_slice())
@@ -132,7 +132,7 @@ fn act_as_of(alloc: Global, value: &Value) -> Result<Vec<PlainName>, BookWhy>
 // The names: the types of all are judged before the value of any. Their number is judged before their
 // values too, since both faults are `Name`.
 fn names_of(alloc: Global, list: &[Value]) -> Result<Vec<PlainName>, BookWhy>
-    ensures { Gives (λ v. v.items) result (names_of (items_view list.now)) }
+    ensures { IsReadAs (λ v. v.items) result (names_of (items_view list.now)) }
 {
     if !are_texts(list) {
         return Err(BookWhy::Key);
@@ -156,7 +156,7 @@ fn are_texts(list: &[Value]) -> bool
 
 #[tactic(auto, unfolding(crate::specs::Reading::names_in))]
 fn names_in(alloc: Global, list: &[Value]) -> Result<Vec<PlainName>, BookWhy>
-    ensures { Gives (λ v. v.items) result (names_in (items_view list.now)) }
+    ensures { IsReadAs (λ v. v.items) result (names_in (items_view list.now)) }
 {
     let mut names = Vec::new(alloc);
     for value in list {

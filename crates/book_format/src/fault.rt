@@ -1,6 +1,6 @@
 //! Why a text is no account book.
 ghost use Rattle.std.specs.Prelude.{◌≡◌};
-ghost use Rattle.book_format.specs.Faults.{why_number};
+ghost use Rattle.book_format.specs.Faults.{book_why_number};
 
 use std::fmt;
 use thiserror::Error;
@@ -49,7 +49,7 @@ pub enum BookWhy {
 impl BookWhy {
     /// The fault's number: 60 to 67, or 99.
     pub fn number(&self) -> u16
-        ensures { result ≡ why_number self.now }
+        ensures { result ≡ book_why_number self.now }
     {
         *self as u16
     }
@@ -70,7 +70,7 @@ pub struct BookFault {
 impl BookFault {
     /// The fault's number: 60 to 67, or 99.
     pub fn number(&self) -> u16
-        ensures { result ≡ why_number self.now.why }
+        ensures { result ≡ book_why_number self.now.why }
     {
         self.why.number()
     }

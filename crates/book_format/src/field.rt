@@ -5,7 +5,7 @@ ghost use Rattle.std.specs.Str.{bytes_eq};
 ghost use Rattle.toml.specs.Data.{get_member};
 ghost use Rattle.toml.specs.View.{view, table_view};
 ghost use Rattle.book_format.specs.Keys.{has_only};
-ghost use Rattle.book_format.specs.Reading.{seen, table_of, known_keys, text_of, integer_of, number_within, number_of, bytes_within, bytes_of};
+ghost use Rattle.book_format.specs.Reading.{seen, table_of, known_keys, text_of, integer_of, number_within, number_of, number_or_zero, bytes_within, bytes_of};
 
 use crate::fault::BookWhy;
 use arrayvec::ArrayVec;
@@ -108,6 +108,24 @@ pub(crate) fn number_of(
 {
     let number = integer_of(table, key)?;
     number_within(least, most, number).ok_or(why)
+}
+
+/// The whole number at a key, at most `most`, or 0 where the key is missing. `Key` where the value has another
+/// type, and `why` where it is another number.
+#[tactic(auto, unfolding(crate::specs::Reading::number_or_zero))]
+pub(crate) fn number_or_zero(
+    table: &Table,
+    key: &str,
+    most: u64,
+    why: BookWhy,
+) -> Result<u64, BookWhy>
+    ensures value { result ≡ number_or_zero key.now most why (table_view table.now) }
+    ensures most { IfOk result (λ n. n ≤ most) }
+{
+    match at(table, key) {
+        Some(_) => number_of(table, key, 0, most, why),
+        None => Ok(0),
+    }
 }
 
 /// The bytes of a hexadecimal text in either case, where their number is from `least` to `most`.

@@ -10,10 +10,10 @@
 //! | the document | `format`, `decoy_key`, `decoy_count`, `accounts` |
 //! | an account | `sha1`, `sha256`, `act_as`, `token` |
 //! | `sha1`, `sha256` | `salt`, `count`, `stored`, `server` |
-//! | `token`, a HOTP one | `kind`, `secret`, `digits`, `next`, `look_ahead`, `limit`, `failures` |
+//! | `token`, a HOTP one | `kind`, `secret`, `digits`, `next`, `look_ahead`, `sync_ahead`, `limit`, `failures` |
 //! | `token`, a TOTP one | `kind`, `hash`, `secret`, `digits`, `t0`, `step`, `back`, `ahead`, `max_drift`, `last`, `drift`, `limit`, `failures` |
 //!
-//! `accounts`, each key of an account, and `last` may be missing. Bytes are hexadecimal text: both
+//! `accounts`, each key of an account, `sync_ahead` and `last` may be missing. Bytes are hexadecimal text: both
 //! cases are read, and lower case is written.
 //!
 //! ```rust
@@ -38,6 +38,3 @@ mod write;
 pub use account::{Account, MechKeys};
 pub use contents::Contents;
 pub use fault::{BookFault, BookWhy};
-
-#[cfg(test)]
-mod tests;

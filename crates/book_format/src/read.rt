@@ -4,7 +4,7 @@ ghost use Rattle.toml.specs.Data.{get_member, as_integer};
 ghost use Rattle.toml.specs.View.{table_view};
 ghost use Rattle.book_format.specs.Book.{BookFields};
 ghost use Rattle.book_format.specs.Trees.{IsBookText};
-ghost use Rattle.book_format.specs.Reading.{Gives, GivesFault, TopFields, seen, at_top, tree_in, top_of, table_at, accounts_in, book_of, book_in, is_one, IsFirstFault};
+ghost use Rattle.book_format.specs.Reading.{IsReadAs, IsReadOrFault, TopFields, seen, at_top, tree_in, top_of, table_at, accounts_of_table, book_of, book_in, is_one, IsFirstFault};
 ghost use Rattle.book_format.specs.declared.fault.BookWhy.TheVariants.{NoMemory};
 ghost use Rattle.book_format.specs.declared.read.Top.{Top};
 
@@ -42,7 +42,7 @@ impl Contents {
 }
 
 fn contents_of(alloc: Global, bytes: &[u8]) -> Result<Contents, BookFault>
-    ensures { GivesFault (λ c. c) result (book_in bytes.now) }
+    ensures { IsReadOrFault (λ c. c) result (book_in bytes.now) }
 {
     let document = match document_of(alloc, bytes) {
         Ok(document) => document,
@@ -52,7 +52,7 @@ fn contents_of(alloc: Global, bytes: &[u8]) -> Result<Contents, BookFault>
         Ok(top) => top,
         Err(why) => return Err(at_top(why)),
     };
-    match accounts_in(alloc, top.accounts) {
+    match accounts_of_table(alloc, top.accounts) {
         Ok(accounts) => Ok(Contents {
             decoy_key: top.decoy_key,
             decoy_count: top.decoy_count,
@@ -71,7 +71,7 @@ fn at_top(why: BookWhy) -> BookFault
 // The TOML document of the bytes.
 #[tactic(auto, unfolding(crate::specs::Reading::tree_in))]
 fn document_of(alloc: Global, bytes: &[u8]) -> Result<Table, BookWhy>
-    ensures { Gives table_view result (tree_in bytes.now) }
+    ensures { IsReadAs table_view result (tree_in bytes.now) }
 {
     match toml::table_from_slice(alloc, bytes) {
         Ok(table) => Ok(table),
@@ -133,11 +133,11 @@ fn table_at<'a>(table: &'a Table, key: &str) -> Result<Option<&'a Table>, BookWh
 }
 
 // The accounts of a table, or none where it is missing.
-fn accounts_in(
+fn accounts_of_table(
     alloc: Global,
     table: Option<&Table>,
 ) -> Result<BTreeMap<PlainName, Account>, BookFault>
-    ensures { GivesFault (λ m. m.entries) result (accounts_in (option_map (λ m. table_view m.now) table.entry)) }
+    ensures { IsReadOrFault (λ m. m.entries) result (accounts_of_table (option_map (λ m. table_view m.now) table.entry)) }
 {
     match table {
         Some(table) => accounts_from(alloc, table),

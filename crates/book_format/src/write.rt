@@ -10,8 +10,6 @@ ghost use Rattle.book_format.specs.Written.{hex_tree, book_tree, accounts_tree};
 
 mod account;
 mod put;
-#[cfg(test)]
-mod tests;
 mod token;
 
 use crate::account::Account;

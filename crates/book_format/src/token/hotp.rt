@@ -1,4 +1,4 @@
-//! A HOTP token: `secret`, `digits`, `next`, `look_ahead`, `limit`, `failures`.
+//! A HOTP token: `secret`, `digits`, `next`, `look_ahead`, `sync_ahead`, `limit`, `failures`.
 ghost use Rattle.std.specs.Prelude.{◌≡◌, IfOk};
 ghost use Rattle.toml.specs.View.{table_view};
 ghost use Rattle.otp_core.specs.Settings.{IsHotpInRange};
@@ -6,7 +6,7 @@ ghost use Rattle.otp_core.specs.declared.token.kinds.Fields.TheVariants.{Hotp};
 ghost use Rattle.book_format.specs.Reading.{hotp_of};
 
 use crate::fault::BookWhy;
-use crate::field::{bytes_of, known_keys, number_of};
+use crate::field::{bytes_of, known_keys, number_of, number_or_zero};
 use crate::token::setting::{MOST_COUNTER, digits_of, secret_of};
 use otp_core::{HotpFields, Token};
 use toml::Table;
@@ -26,6 +26,7 @@ pub(super) fn hotp_of(table: &Table) -> Result<HotpFields, BookWhy>
             "digits",
             "next",
             "look_ahead",
+            "sync_ahead",
             "limit",
             "failures",
         ],
@@ -34,6 +35,7 @@ pub(super) fn hotp_of(table: &Table) -> Result<HotpFields, BookWhy>
     let digits = number_of(table, "digits", 6, 8, BookWhy::Token)?;
     let next = number_of(table, "next", 0, MOST_COUNTER + 1, BookWhy::Token)?;
     let look_ahead = number_of(table, "look_ahead", 0, 100, BookWhy::Token)?;
+    let sync_ahead = number_or_zero(table, "sync_ahead", 1000, BookWhy::Token)?;
     let limit = number_of(table, "limit", 1, 100, BookWhy::Token)?;
     let failures = number_of(table, "failures", 0, limit, BookWhy::Token)?;
     Ok(HotpFields {
@@ -41,6 +43,7 @@ pub(super) fn hotp_of(table: &Table) -> Result<HotpFields, BookWhy>
         digits: digits_of(digits),
         next,
         look_ahead,
+        sync_ahead,
         limit,
         failures,
     })

@@ -41,6 +41,7 @@ fn hotp_value(alloc: Global, fields: &HotpFields) -> Result<Value, AllocError>
     )?;
     put_number(alloc, &mut table, "next", fields.next as i64)?;
     put_number(alloc, &mut table, "look_ahead", fields.look_ahead as i64)?;
+    put_number(alloc, &mut table, "sync_ahead", fields.sync_ahead as i64)?;
     put_number(alloc, &mut table, "limit", fields.limit as i64)?;
     put_number(alloc, &mut table, "failures", fields.failures as i64)?;
     Ok(Value::Table(table))

@@ -17,19 +17,19 @@ pub invariant_of-result : goal.invariant_of-result
 invariant_of-result c =
     let top = c.in-Ok-top_of.top in
     let seen : TopFields = record { decoy_key = top.decoy_key; decoy_count = top.decoy_count; accounts = option_map (λ m. table_view m.now) top.accounts } in
-    text_in_range c.args.bytes.now _ (whole c.args.bytes.now _ seen c.in-Ok-accounts_in.accounts.entries c.in-Ok.ensures c.in-Ok-top_of.ensures c.in-Ok-accounts_in.ensures)
+    text_in_range c.args.bytes.now _ (whole c.args.bytes.now _ seen c.in-Ok-accounts_of_table.accounts.entries c.in-Ok.ensures c.in-Ok-top_of.ensures c.in-Ok-accounts_of_table.ensures)
 
-pub returns-in-Ok-accounts_in : goal.returns-in-Ok-accounts_in
-returns-in-Ok-accounts_in c =
+pub returns-in-Ok-accounts_of_table : goal.returns-in-Ok-accounts_of_table
+returns-in-Ok-accounts_of_table c =
     let top = c.in-Ok-top_of.top in
     let seen : TopFields = record { decoy_key = top.decoy_key; decoy_count = top.decoy_count; accounts = option_map (λ m. table_view m.now) top.accounts } in
-    whole c.args.bytes.now _ seen c.in-Ok-accounts_in.accounts.entries c.in-Ok.ensures c.in-Ok-top_of.ensures c.in-Ok-accounts_in.ensures
+    whole c.args.bytes.now _ seen c.in-Ok-accounts_of_table.accounts.entries c.in-Ok.ensures c.in-Ok-top_of.ensures c.in-Ok-accounts_of_table.ensures
 
 pub returns : goal.returns
 returns c =
     let top = c.in-Ok-top_of.top in
     let seen : TopFields = record { decoy_key = top.decoy_key; decoy_count = top.decoy_count; accounts = option_map (λ m. table_view m.now) top.accounts } in
-    elim c.in-Err-accounts_in.ensures [
+    elim c.in-Err-accounts_of_table.ensures [
       | inl memory ↦ inl memory
-      | inr read ↦ inr (no_accounts c.args.bytes.now _ seen c.in-Err-accounts_in.fault c.in-Ok.ensures c.in-Ok-top_of.ensures read)
+      | inr read ↦ inr (no_accounts c.args.bytes.now _ seen c.in-Err-accounts_of_table.fault c.in-Ok.ensures c.in-Ok-top_of.ensures read)
     ]

@@ -2,7 +2,7 @@
 use super::*;
 
 // Faults of each key: missing, of another type, or out of its range.
-const HOTP_EDITS: [(&str, &str, u16); 33] = [
+const HOTP_EDITS: [(&str, &str, u16); 39] = [
     ("kind = \"hotp\"\n", "", 62),
     ("kind = \"hotp\"", "kind = 1", 62),
     ("kind = \"hotp\"", "kind = \"HOTP\"", 67),
@@ -28,6 +28,12 @@ const HOTP_EDITS: [(&str, &str, u16); 33] = [
     ("look_ahead = 3", "look_ahead = []", 62),
     ("look_ahead = 3", "look_ahead = 101", 67),
     ("look_ahead = 3", "look_ahead = -1", 67),
+    ("limit = 3", "sync_ahead = \"8\"\nlimit = 3", 62),
+    ("limit = 3", "sync_ahead = 1001\nlimit = 3", 67),
+    ("limit = 3", "sync_ahead = -1\nlimit = 3", 67),
+    ("look_ahead = 3", "look_ahead = 101\nsync_ahead = []", 67),
+    ("limit = 3", "sync_ahead = []\nlimit = 0", 62),
+    ("limit = 3", "sync_ahead = 1001\nlimit = []", 67),
     ("limit = 3\n", "", 62),
     ("limit = 3", "limit = false", 62),
     ("limit = 3", "limit = 0", 67),
@@ -52,8 +58,9 @@ fn faults_of_a_hotp_token(rt: HostRuntime) -> Result<(), Fail> {
     Ok(())
 }
 
-const TOTP_EDITS: [(&str, &str, u16); 35] = [
+const TOTP_EDITS: [(&str, &str, u16); 36] = [
     ("kind = \"totp\"", "kind = \"totp\"\nnext = 0", 62),
+    ("kind = \"totp\"", "kind = \"totp\"\nsync_ahead = 0", 62),
     ("kind = \"totp\"", "kind = \"hotp\"", 62),
     ("hash = \"sha1\"\n", "", 62),
     ("hash = \"sha1\"", "hash = 1", 62),
@@ -110,6 +117,8 @@ fn settings_at_their_ends(rt: HostRuntime) -> Result<(), Fail> {
     let rows = [
         (HOTP, "next = 0", "next = 9223372036854775807"),
         (HOTP, "look_ahead = 3", "look_ahead = 100"),
+        (HOTP, "limit = 3", "sync_ahead = 0\nlimit = 3"),
+        (HOTP, "limit = 3", "sync_ahead = 1000\nlimit = 3"),
         (HOTP, "limit = 3", "limit = 100"),
         (HOTP, "limit = 3", "limit = 1"),
         (HOTP, "failures = 0", "failures = 3"),

@@ -1,6 +1,6 @@
 //! What no contract shows: that the definitions are those of the format, by books that a person wrote,
 //! and that each fault comes at each place that can have it.
-use crate::{Account, BookFault, BookWhy, Contents, MechKeys};
+use book_format::{Account, BookFault, BookWhy, Contents, MechKeys};
 use otp_core::{Fields, OtpHash};
 use std::alloc::{AllocError, Global};
 use std::test::Fail;
@@ -9,6 +9,7 @@ mod accounts;
 mod books;
 mod document;
 mod tokens;
+mod writing;
 
 // The keys of the document.
 const TOP: &str = concat!(

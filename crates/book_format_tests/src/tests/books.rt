@@ -64,11 +64,28 @@ fn account_with_a_hotp_token(rt: HostRuntime) -> Result<(), Fail> {
     let numbers = [
         fields.next,
         fields.look_ahead,
+        fields.sync_ahead,
         fields.limit,
         fields.failures,
     ];
-    assert_eq!(rt; numbers, [0, 3, 3, 0]);
+    assert_eq!(rt; numbers, [0, 3, 0, 3, 0]);
     assert_eq!(rt; fields.digits.count(), 6);
+    Ok(())
+}
+
+#[test]
+fn tokens_with_sync_ahead(rt: HostRuntime) -> Result<(), Fail> {
+    for (line, sync_ahead) in [("sync_ahead = 0", 0), ("sync_ahead = 8", 8)] {
+        let new = format!(in rt.alloc(); "{line}\nlimit = 3")?;
+        let text = edited(rt.alloc(), [USER, HOTP], "limit = 3", new.as_str())?;
+        let book = book_of(rt.alloc(), text.as_str())?;
+        let (_, account) = only_account(&book).ok_or("one account")?;
+        let token = account.token.as_ref().ok_or("its token")?;
+        let Fields::Hotp(fields) = token.fields() else {
+            return Err("a HOTP token".into());
+        };
+        assert_eq!(rt; [fields.look_ahead, fields.sync_ahead], [3, sync_ahead]);
+    }
     Ok(())
 }
 

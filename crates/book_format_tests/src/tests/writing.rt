@@ -1,77 +1,8 @@
 //! Texts that were worked out by hand from the rules of the format.
-use super::account::account_value;
-use super::put::put;
-use crate::{Account, Contents, MechKeys};
-use mac_core::{ScramKeys, Tag};
-use otp_core::{Digits, HotpFields, Moment, OtpHash, Secret, Token, TotpFields};
-use scram_text::{PlainName, Salt};
-use std::alloc::Global;
+use book_format::Contents;
 use std::collections::BTreeMap;
 use std::process::Abort;
 use std::test::Fail;
-use toml::Table;
-
-fn empty_account(alloc: Global) -> Account {
-    Account {
-        sha1: None,
-        sha256: None,
-        act_as: Vec::new(alloc),
-        token: None,
-    }
-}
-
-fn keys_of(salt: &[u8], count: u32, stored: &[u8], server: &[u8]) -> Result<MechKeys, Fail> {
-    Ok(MechKeys {
-        salt: Salt::new(salt).ok_or("a salt")?,
-        count,
-        keys: ScramKeys {
-            stored: Tag::try_from(stored)?,
-            server: Tag::try_from(server)?,
-        },
-    })
-}
-
-fn hotp_token(next: u64, failures: u64) -> Result<Token, Fail> {
-    Ok(Token::hotp(HotpFields {
-        secret: Secret::new(b"12345678901234567890")?,
-        digits: Digits::new(6)?,
-        next,
-        look_ahead: 3,
-        limit: 5,
-        failures,
-    })?)
-}
-
-fn totp_token(hash: OtpHash, last: Option<u64>, drift: i64) -> Result<Token, Fail> {
-    Ok(Token::totp(TotpFields {
-        hash,
-        secret: Secret::new(b"12345678901234567890")?,
-        digits: Digits::new(8)?,
-        t0: Moment::new(253_402_300_799).ok_or("a moment")?,
-        step: 30,
-        back: 0,
-        ahead: 1,
-        max_drift: 2,
-        last,
-        drift,
-        limit: 100,
-        failures: 7,
-    })?)
-}
-
-// Checks the text of a table that has the account at a name.
-fn shows(
-    rt: &(impl AllocGlobal + Abort),
-    name: &str,
-    account: &Account,
-    want: &str,
-) -> Result<(), Fail> {
-    let alloc = rt.alloc();
-    let mut table = Table::new(alloc);
-    put(alloc, &mut table, name, account_value(alloc, account)?)?;
-    assert_eq!(rt; toml::table_to_string(alloc, &table)?.as_str(), want);
-    Ok(())
-}
 
 #[test]
 fn book_without_accounts(rt: HostRuntime) -> Result<(), Fail> {
@@ -93,53 +24,72 @@ format = 1
 
 #[test]
 fn names_in_quotes(rt: HostRuntime) -> Result<(), Fail> {
-    let account = empty_account(rt.alloc());
+    let alloc = rt.alloc();
     for (name, header) in [
-        ("user", "[user]"),
-        ("a-b_9", "[a-b_9]"),
-        ("a.b", "[\"a.b\"]"),
-        (" ", "[\" \"]"),
-        ("a=b", "[\"a=b\"]"),
-        ("'", "[\"'\"]"),
-        ("\"", "['\"']"),
-        ("\\", "['\\']"),
-        ("\"'", "[\"\\\"'\"]"),
+        ("\"user\"", "user"),
+        ("\"a-b_9\"", "a-b_9"),
+        ("'a.b'", "\"a.b\""),
+        ("' '", "\" \""),
+        ("'a=b'", "\"a=b\""),
+        ("\"'\"", "\"'\""),
+        ("\"\\\"\"", "'\"'"),
+        ("\"\\\\\"", "'\\'"),
+        ("\"\\\"'\"", "\"\\\"'\""),
     ] {
-        let want = format!(in rt.alloc(); "{header}\nact_as = []\n")?;
-        shows(&rt, name, &account, want.as_str())?;
+        let text = format!(in alloc; "{FRONT}[accounts.{name}]\n")?;
+        let want = format!(in alloc; "{FRONT_WRITTEN}\n[accounts.{header}]\nact_as = []\n")?;
+        writes(&rt, text.as_str(), want.as_str())?;
     }
     Ok(())
 }
 
-#[test]
-fn account_with_everything(rt: HostRuntime) -> Result<(), Fail> {
-    let mut act_as = Vec::new(rt.alloc());
-    for name in ["root", "adm in"] {
-        act_as.push(PlainName::new(name.as_bytes()).ok_or("a name")?)?;
-    }
-    let account = Account {
-        sha1: Some(keys_of(&[0x41, 0x0A], 4096, &[0xE9; 20], &[0x0F; 20])?),
-        sha256: Some(keys_of(&[0xFF], 1, &[0xAB; 32], &[0x00; 32])?),
-        act_as,
-        token: Some(totp_token(OtpHash::Sha512, Some(9_223_372_036_854_775_806), -2)?),
-    };
-    let want = "\
-[user]
+// The keys stand in the order of the documents, and bytes in upper case.
+const EVERYTHING: &str = "
+[accounts.user]
+act_as = [ \"root\", 'adm in' ]
+[accounts.user.token]
+kind = \"totp\"
+hash = \"sha512\"
+secret = \"3132333435363738393031323334353637383930\"
+digits = 8
+t0 = 253402300799
+step = 30
+back = 0
+ahead = 1
+max_drift = 2
+last = 9223372036854775806
+drift = -2
+limit = 100
+failures = 7
+[accounts.user.sha256]
+salt = \"FF\"
+count = 1
+stored = \"ABABABABABABABABABABABABABABABABABABABABABABABABABABABABABABABAB\"
+server = \"0000000000000000000000000000000000000000000000000000000000000000\"
+[accounts.user.sha1]
+salt = \"410A\"
+count = 4096
+stored = \"E9E9E9E9E9E9E9E9E9E9E9E9E9E9E9E9E9E9E9E9\"
+server = \"0F0F0F0F0F0F0F0F0F0F0F0F0F0F0F0F0F0F0F0F\"
+";
+
+const EVERYTHING_WRITTEN: &str = "
+[accounts.user]
 act_as = [\"root\", \"adm in\"]
 
-[user.sha1]
+[accounts.user.sha1]
 count = 4096
 salt = \"410a\"
 server = \"0f0f0f0f0f0f0f0f0f0f0f0f0f0f0f0f0f0f0f0f\"
 stored = \"e9e9e9e9e9e9e9e9e9e9e9e9e9e9e9e9e9e9e9e9\"
 
-[user.sha256]
+[accounts.user.sha256]
 count = 1
 salt = \"ff\"
 server = \"0000000000000000000000000000000000000000000000000000000000000000\"
 stored = \"abababababababababababababababababababababababababababababababab\"
 
-[user.token]
+[accounts.user.token]
 ahead = 1
 back = 0
 digits = 8
@@ -154,60 +104,39 @@ secret = \"3132333435363738393031323334353637383930\"
 step = 30
 t0 = 253402300799
 ";
-    shows(&rt, "user", &account, want)
-}
 
-// No step has passed, so there is no key `last`.
 #[test]
-fn token_without_last_step(rt: HostRuntime) -> Result<(), Fail> {
-    for (hash, name) in [(OtpHash::Sha1, "sha1"), (OtpHash::Sha256, "sha256")] {
-        let mut account = empty_account(rt.alloc());
-        account.token = Some(totp_token(hash, None, 1)?);
-        let want = format!(in rt.alloc();
-            "\
-[user]
-act_as = []
-
-[user.token]
-ahead = 1
-back = 0
-digits = 8
-drift = 1
-failures = 7
-hash = \"{name}\"
-kind = \"totp\"
-limit = 100
-max_drift = 2
-secret = \"3132333435363738393031323334353637383930\"
-step = 30
-t0 = 253402300799
-"
-        )?;
-        shows(&rt, "user", &account, want.as_str())?;
-    }
-    Ok(())
+fn account_with_everything(rt: HostRuntime) -> Result<(), Fail> {
+    let alloc = rt.alloc();
+    let text = format!(in alloc; "{FRONT}{EVERYTHING}")?;
+    let want = format!(in alloc; "{FRONT_WRITTEN}{EVERYTHING_WRITTEN}")?;
+    writes(&rt, text.as_str(), want.as_str())
 }
 
 // The greatest `next`, at which no counter can pass any more.
-#[test]
-fn hotp_token_at_its_end(rt: HostRuntime) -> Result<(), Fail> {
-    let mut account = empty_account(rt.alloc());
-    account.token = Some(hotp_token(9_223_372_036_854_775_807, 4)?);
-    let want = "\
-[user]
-act_as = []
+const HOTP_ENDED: &str = "
+[accounts.user.token]
+kind = \"hotp\"
+secret = \"3132333435363738393031323334353637383930\"
+digits = 6
+next = 9223372036854775807
+look_ahead = 100
+sync_ahead = 1000
+limit = 5
+failures = 4
+";
 
-[user.token]
+const HOTP_ENDED_WRITTEN: &str = "
+[accounts.user.token]
 digits = 6
 failures = 4
 kind = \"hotp\"
 limit = 5
-look_ahead = 3
+look_ahead = 100
 next = 9223372036854775807
 secret = \"3132333435363738393031323334353637383930\"
+sync_ahead = 1000
 ";
-    shows(&rt, "user", &account, want)
-}
 
 const FRONT: &str = "\
 format = 1
@@ -264,6 +193,32 @@ limit = 3
 look_ahead = 3
 next = 0
 secret = \"3132333435363738393031323334353637383930\"
+sync_ahead = 0
+";
+
+// That token, with a key that may be missing.
+const HOTP_SYNC: &str = "
+[accounts.user.token]
+kind = \"hotp\"
+secret = \"3132333435363738393031323334353637383930\"
+digits = 6
+next = 0
+look_ahead = 3
+sync_ahead = 8
+limit = 3
+failures = 0
+";
+
+const HOTP_SYNC_WRITTEN: &str = "
+[accounts.user.token]
+digits = 6
+failures = 0
+kind = \"hotp\"
+limit = 3
+look_ahead = 3
+next = 0
+secret = \"3132333435363738393031323334353637383930\"
+sync_ahead = 8
 ";
 
 const TOTP: &str = "
@@ -311,7 +266,13 @@ fn writes(rt: &(impl AllocGlobal + Abort), text: &str, want: &str) -> Result<(),
 #[test]
 fn books_that_were_read(rt: HostRuntime) -> Result<(), Fail> {
     let alloc = rt.alloc();
-    for (token, written) in [("", ""), (HOTP, HOTP_WRITTEN), (TOTP, TOTP_WRITTEN)] {
+    for (token, written) in [
+        ("", ""),
+        (HOTP, HOTP_WRITTEN),
+        (HOTP_SYNC, HOTP_SYNC_WRITTEN),
+        (HOTP_ENDED, HOTP_ENDED_WRITTEN),
+        (TOTP, TOTP_WRITTEN),
+    ] {
         let text = format!(in alloc; "{FRONT}{USER}{token}")?;
         let want = format!(in alloc; "{FRONT_WRITTEN}{USER_WRITTEN}{written}")?;
         writes(&rt, text.as_str(), want.as_str())?;

@@ -1,0 +1,5 @@
+//! Tests of `book_format`.
+#![tactic(auto)]
+
+#[cfg(test)]
+mod tests;
