@@ -1,8 +1,8 @@
 -- The account that a password is enrolled as.
 use Rattle.std.specs.Prelude.{ℕ, List, []}
 use Rattle.std.specs.declared.option.Option.TheVariants.{None, Some}
-use Rattle.mac_core.specs.declared.chosen.Mechanism.{Mechanism}
-use Rattle.mac_core.specs.declared.chosen.Mechanism.TheVariants.{ScramSha1, ScramSha256}
+use Rattle.mac_core.specs.declared.mechanism.Mechanism.{Mechanism}
+use Rattle.mac_core.specs.declared.mechanism.Mechanism.TheVariants.{ScramSha1, ScramSha256}
 use Rattle.scram_ends.specs.Entry.{password_keys}
 use Rattle.book_format.specs.Account.{AccountFields}
 use Rattle.book_format.specs.declared.account.MechKeys.{MechKeys}

@@ -1,6 +1,7 @@
 pub mod Accounts
 pub mod Enrolled
-pub mod Entry
+pub mod View
 pub mod Faults
+pub mod Laws
 pub mod Store
 pub mod Tokens

@@ -1,10 +1,9 @@
 -- The tokens of a book's accounts.
-use Rattle.std.specs.Prelude.{ℕ, List, ◌∷◌, option_and_then, Option}
-use Rattle.std.specs.declared.option.Option.TheVariants.{Some}
-use Rattle.otp_core.specs.Attempt.{Attempt, attempt_of}
-use Rattle.otp_core.specs.Attempt.Said.{OneText}
+use Rattle.std.specs.Prelude.{ℕ, ◌≡◌, List, ◌∷◌, option_and_then, Option, MatchOption}
+use Rattle.std.specs.declared.option.Option.TheVariants.{None, Some}
+use Rattle.otp_core.specs.Attempt.{Attempt, CodeTexts, attempt_of}
 use Rattle.otp_core.specs.History.{IsAfter}
-use Rattle.otp_core.specs.Reply.{IsDue}
+use Rattle.otp_core.specs.Reply.{IsDueReply}
 use Rattle.otp_core.specs.State.{advanced}
 use Rattle.otp_core.specs.declared.token.answer.Reply.{Reply}
 use Rattle.otp_core.specs.declared.token.kinds.Fields.{Fields}
@@ -23,9 +22,17 @@ with_token token account = record account { token = Some token }
 -- what an attempt on the token of the account of this name does: for every start and history that lead to the
 -- token, the reply is the one due after them, and with this attempt added they lead to the token that the
 -- account has afterwards
-pub record IsAttempt (old : BookFields) (name : List ℕ) (token : Fields) (moment : ℕ) (text : List ℕ) (reply : Reply)
+pub record IsAttempt (old : BookFields) (name : List ℕ) (token : Fields) (moment : ℕ) (said : CodeTexts) (reply : Reply)
     (new : BookFields) : Type 0 where
-  pub due : (start : Fields) (history : List Attempt) → IsAfter start history token → IsDue start history moment (OneText text) reply
+  pub due : (start : Fields) (history : List Attempt) → IsAfter start history token → IsDueReply start history moment said reply
   pub after : (start : Fields) (history : List Attempt) → IsAfter start history token
-      → IsAfter start (attempt_of moment (OneText text) reply ∷ history) (advanced token moment reply)
+      → IsAfter start (attempt_of moment said reply ∷ history) (advanced token moment reply)
   pub kept : IsChanged old name (with_token (advanced token moment reply)) new
+
+-- what comes of an attempt on the account of this name: a reply, where it has a token; where there is no account of the
+-- name or it has no token, no reply and no change
+abbrev pub IsAnswered : BookFields → List ℕ → ℕ → CodeTexts → Option Reply → BookFields → Type 0
+IsAnswered old name moment said answer new =
+    MatchOption (token_at old name)
+    ((answer ≡ None) × (new ≡ old))
+    (λ token. (reply : Reply) × (answer ≡ Some reply) × IsAttempt old name token moment said reply new)

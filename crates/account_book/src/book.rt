@@ -6,9 +6,9 @@ ghost use Rattle.book_format.specs.Book.{IsBook};
 ghost use Rattle.account_book.specs.Accounts.{account_at, accounts_of, with_act_as, IsChanged, IsRemoved};
 
 mod enrol;
-mod entry;
 mod text;
 mod tokens;
+mod view;
 
 use book_format::{Account, Contents};
 pub use enrol::EnrolFault;
@@ -53,6 +53,7 @@ impl Book {
     pub(crate) fn is_in_range(&self)
         ensures { IsBook self.now }
     {
+        // To look at a field brings the type's invariant into the proof.
         let _ = &self.contents.decoy_count;
     }
 

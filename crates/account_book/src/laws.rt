@@ -1,6 +1,7 @@
 //! What follows from the contracts of a book's calls.
 ghost use Rattle.std.specs.Prelude.{◌≡◌, IfOk};
 ghost use Rattle.book_format.specs.Book.{IsBook};
+ghost use Rattle.account_book.specs.Laws.{TokensAreApart, EntriesStay, TokensGoBack};
 
 use crate::book::Book;
 use book_format::BookWhy;
@@ -28,3 +29,18 @@ pub fn written_is_read(alloc: Global, book: &Book) -> Result<Book, AllocError>
         },
     }
 }
+
+/// Where one account gets another token, every other name has the token that it had.
+pub fn tokens_are_apart()
+    ensures { TokensAreApart }
+{}
+
+/// Where one account gets another token, a server keeps what it kept of every name: no token is in it.
+pub fn entries_stay()
+    ensures { EntriesStay }
+{}
+
+/// A token that is put back makes the book that there was.
+pub fn tokens_go_back()
+    ensures { TokensGoBack }
+{}

@@ -19,7 +19,7 @@ pub trait BookStore {
 
     /// Replaces the text that the store holds by `text`. After Ok it holds `text`. After Err it has failed,
     /// and holds `text` or the text from before; every later call is then Err and changes nothing. A store
-    /// fails only where its device fails in that call, or where `saves` comes to 2^64 - 1.
+    /// fails only where it can't replace its text in that call, or where `saves` comes to 2^64 - 1.
     fn save(&mut self, text: String) -> Result<(), StoreFault>
         ensures { Saves (facts self.old) (string_bytes text) result (facts self.new) };
 }

@@ -40,7 +40,7 @@ pub struct BookFile<'a, R: Files> {
 impl<'a, R: Files> Drop for BookFile<'a, R> {
     fn drop(self) {
         if let Some(next) = &self.next {
-            remove_next(self.rt, &self.place, next);
+            remove_own_next(self.rt, &self.place, next);
         }
         let BookFile {
             rt: _,
@@ -54,7 +54,7 @@ impl<'a, R: Files> Drop for BookFile<'a, R> {
 }
 
 // Removes the file of the next text, if it still has that name.
-fn remove_next<R: Files>(rt: &R, place: &Place, next: &R::File) {
+fn remove_own_next<R: Files>(rt: &R, place: &Place, next: &R::File) {
     let path = place.next.as_str();
     if is_named(rt, next, path).unwrap_or(false) {
         let _ = fs::remove_file(rt, path);
@@ -123,7 +123,7 @@ where
     pub fn replace(&mut self, text: &str) -> io::Result<()> {
         let replaced = self.write_next(text).and_then(|()| self.put_in_place());
         if let Some(next) = self.next.take() {
-            remove_next(self.rt, &self.place, &next);
+            remove_own_next(self.rt, &self.place, &next);
         }
         replaced
     }
@@ -159,7 +159,7 @@ where
         }
     }
 
-    // Gives the next file the book's name, and makes it the book.
+    // Gives the next file, which write_next has left open, the book's name, and makes it the book.
     fn put_in_place(&mut self) -> io::Result<()> {
         let (book, next) = (self.place.book.as_str(), self.place.next.as_str());
         if self.book.is_some() {
@@ -169,7 +169,7 @@ where
             fs::remove_file(self.rt, next)?;
         }
         let Some(file) = self.next.take() else {
-            return Ok(());
+            return Err(io::Error::from(ErrorKind::ResourceBusy));
         };
         if !is_named(self.rt, &file, book)? {
             return Err(io::Error::from(ErrorKind::NotFound));

@@ -51,6 +51,7 @@ where
     R::File: Lockable,
 {
     let wait = Wait::begin(rt)?;
+    // Bounded only because every function has to return; what ends it is in its body.
     for _ in 0..u64::MAX {
         let held = match open_plain(rt, place.book.as_str(), is_shared)? {
             Some(file) => try_book(rt, place, file, is_shared)?,
@@ -101,7 +102,7 @@ where
         return Ok(None);
     }
     let locked = file.metadata()?;
-    if !remove_next(rt, place, Some(&locked), is_shared)? {
+    if !clear_next(rt, place, Some(&locked), is_shared)? {
         return Ok(None);
     }
     let state = file.metadata()?;
@@ -144,6 +145,7 @@ where
     R::File: Lockable,
 {
     let wait = Wait::begin(rt)?;
+    // Bounded only because every function has to return; what ends it is in its body.
     for _ in 0..u64::MAX {
         if let Some(next) = try_next(rt, place, book, is_shared)? {
             return Ok(next);
@@ -167,7 +169,7 @@ where
     R::File: Lockable,
 {
     let next = place.next.as_str();
-    if !remove_next(rt, place, book, is_shared)? {
+    if !clear_next(rt, place, book, is_shared)? {
         return Ok(None);
     }
     match make_next(rt, next) {
@@ -214,7 +216,7 @@ where
 
 // Removes the file of the next text that a killed run left, whose lock is free. Returns false where another run
 // holds it. `book` is the metadata of the book that is held.
-fn remove_next<R>(
+fn clear_next<R>(
     rt: &R,
     place: &Place,
     book: Option<&Metadata>,

@@ -24,8 +24,6 @@ mod hold;
 mod lock;
 mod place;
 mod store;
-#[cfg(test)]
-mod tests;
 mod trust;
 mod wait;
 

@@ -1,7 +1,7 @@
 //! Adds an account with a password.
 ghost use Rattle.std.specs.Prelude.{◌≡◌, ◌≤◌, None, IfErr, OnOk, OnErr, MatchOption};
 ghost use Rattle.hex.specs.Hex.{IsBytes};
-ghost use Rattle.mac_core.specs.Chosen.{length_by};
+ghost use Rattle.mac_core.specs.Mechanism.{length_by};
 ghost use Rattle.book_format.specs.Account.{AreKeys};
 ghost use Rattle.account_book.specs.Accounts.{account_at, IsAdded};
 ghost use Rattle.account_book.specs.Enrolled.{enrolled, keys_from};

@@ -1,9 +1,9 @@
 //! The tokens of accounts, and attempts to pass with a code.
-ghost use Rattle.std.specs.Prelude.{◌≡◌, None, Some, is_some, MatchOption};
+ghost use Rattle.std.specs.Prelude.{◌≡◌, is_some, MatchOption};
 ghost use Rattle.otp_core.specs.Settings.{unlocked};
-ghost use Rattle.otp_core.specs.declared.token.answer.Reply.{Reply as TheReply};
+ghost use Rattle.otp_core.specs.Attempt.CodeTexts.{OneText, TwoTexts};
 ghost use Rattle.account_book.specs.Accounts.{account_at, IsChanged};
-ghost use Rattle.account_book.specs.Tokens.{IsAttempt, token_at, with_token};
+ghost use Rattle.account_book.specs.Tokens.{IsAnswered, token_at, with_token};
 
 use crate::book::Book;
 use otp_core::{Moment, Reply, Token};
@@ -39,13 +39,28 @@ impl Book {
     /// does, and keeps the token as it is afterwards. None where there is no account of the name or it has
     /// no token; then nothing changes.
     pub fn attempt(&mut self, name: &PlainName, moment: Moment, text: &[u8]) -> Option<Reply>
-        ensures { MatchOption (token_at self.old name.now)
-            ((result ≡ None) × (self.new ≡ self.old))
-            (λ token. (reply : TheReply) × (result ≡ Some reply)
-            × IsAttempt self.old name.now token moment text.now reply self.new) }
+        ensures { IsAnswered self.old name.now moment (OneText text.now) result self.new }
     {
         let mut token = self.token(name)?;
         let reply = token.attempt(moment, text);
+        self.put_token(name, token);
+        Some(reply)
+    }
+
+    /// Judges two texts as codes in a row at `moment` by the token of the account of this name, as `Token::sync` does, and
+    /// keeps the token as it is afterwards. None where there is no account of the name or it has no token; then nothing
+    /// changes.
+    pub fn sync(
+        &mut self,
+        name: &PlainName,
+        moment: Moment,
+        first: &[u8],
+        second: &[u8],
+    ) -> Option<Reply>
+        ensures { IsAnswered self.old name.now moment (TwoTexts first.now second.now) result self.new }
+    {
+        let mut token = self.token(name)?;
+        let reply = token.sync(moment, first, second);
         self.put_token(name, token);
         Some(reply)
     }

@@ -1,7 +1,7 @@
 //! A store in memory, which shows that the contract of `BookStore` can be met, and its saves.
 ghost use Rattle.std.specs.Prelude.{◌≡◌, ◌<◌, ◌+◌, ◌^◌, false, string_bytes, unwrap_or, option_map};
 
-use crate::{BookStore, StoreFault};
+use account_book::{BookStore, StoreFault};
 use std::test::Fail;
 
 // How the device of a store does its next save.
@@ -9,7 +9,7 @@ use std::test::Fail;
 enum Device {
     Works,
     FailsBefore,
-    FailsBehind,
+    FailsAfter,
 }
 
 // A store whose device is memory, which fails where `device` says so.
@@ -67,7 +67,7 @@ impl BookStore for Memory {
                 self.asked = Some(text);
                 Err(StoreFault)
             }
-            Device::FailsBehind => {
+            Device::FailsAfter => {
                 self.failed = true;
                 self.saved = text;
                 self.asked = None;
@@ -108,7 +108,7 @@ fn a_failed_save_leaves_the_old_text(rt: HostRuntime) -> Result<(), Fail> {
 // A device that fails after the new text is in place leaves the new one. Then no save is taken up.
 #[test]
 fn a_failed_store_stays_as_it_is(rt: HostRuntime) -> Result<(), Fail> {
-    let (mut store, answer) = saved_once(&rt, Device::FailsBehind)?;
+    let (mut store, answer) = saved_once(&rt, Device::FailsAfter)?;
     assert_eq!(rt; answer, Err(StoreFault));
     store.device = Device::Works;
     assert_eq!(rt;

@@ -1,9 +1,9 @@
 //! Tests of a book's file and its store, on files of a folder of their own.
 mod folder;
 
-use crate::faulty::{Calls, Faulty};
-use crate::{BookFile, FileStore, HoldFault};
 use account_book::{BookStore, StoreFault};
+use book_file::faulty::{Calls, Faulty};
+use book_file::{BookFile, FileStore, HoldFault};
 use folder::has;
 use std::fs;
 use std::fs::{File, OpenFile, Permissions};

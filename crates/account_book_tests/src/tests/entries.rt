@@ -1,6 +1,6 @@
 //! What a server sees of a name.
 use crate::tests::{name, two_accounts};
-use crate::{Book, KeysView, Mechanism};
+use account_book::{Book, KeysView, Mechanism};
 use std::process::Abort;
 use std::test::Fail;
 

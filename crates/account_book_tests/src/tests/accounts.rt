@@ -1,6 +1,6 @@
 //! Accounts that are added, changed and removed.
 use crate::tests::{DECOY_KEY, enrol, name, two_accounts};
-use crate::{Account, Book, EnrolFault, MechKeys};
+use account_book::{Account, Book, EnrolFault, MechKeys};
 use scram_text::PlainName;
 use std::process::Abort;
 use std::test::Fail;

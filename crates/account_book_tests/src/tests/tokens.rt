@@ -1,18 +1,19 @@
 //! Codes of RFC 4226, appendix D, by the tokens of accounts.
 use crate::tests::{name, two_accounts};
-use crate::{Book, Reply, Token};
+use account_book::{Book, Reply, Token};
 use otp_core::{Digits, Fields, HotpFields, Moment, OtpFault, Secret};
 use scram_text::PlainName;
 use std::process::Abort;
 use std::test::Fail;
 
-// A token with the RFC's secret: three failures lock it; it looks three counters ahead.
+// A token with the RFC's secret: three failures lock it; it looks three counters ahead, and eight for two codes in a row.
 fn token() -> Result<Token, OtpFault> {
     Token::hotp(HotpFields {
         secret: Secret::new(b"12345678901234567890")?,
         digits: Digits::new(6)?,
         next: 0,
         look_ahead: 3,
+        sync_ahead: 8,
         limit: 3,
         failures: 0,
     })
@@ -87,15 +88,62 @@ fn a_locked_account_is_unlocked(rt: HostRuntime) -> Result<(), Fail> {
 }
 
 #[test]
+fn pairs_are_kept(rt: HostRuntime) -> Result<(), Fail> {
+    let mut book = two_tokens(&rt)?;
+    let user = name(&rt, b"user");
+    for (first, second, reply, after) in [
+        (b"338314", b"969429", Reply::Fail, (0, 1)),
+        (b"969429", b"338314", Reply::Pass(4), (5, 0)),
+        (b"969429", b"338314", Reply::Fail, (5, 1)),
+        (b"399871", b"520489", Reply::Pass(9), (10, 0)),
+    ] {
+        assert_eq!(rt; book.sync(&user, moment(&rt), first, second), Some(reply));
+        assert_eq!(rt; state(&book, &user), Some(after));
+    }
+    assert_eq!(rt; state(&book, &name(&rt, b"user2")), Some((0, 0)));
+    Ok(())
+}
+
+#[test]
+fn codes_and_pairs_lock_together(rt: HostRuntime) -> Result<(), Fail> {
+    let mut book = two_tokens(&rt)?;
+    let user = name(&rt, b"user");
+    let now = moment(&rt);
+    assert_eq!(rt;
+        book.sync(&user, now, b"287082", b"969429"),
+        Some(Reply::Fail)
+    );
+    assert_eq!(rt; book.attempt(&user, now, b"399871"), Some(Reply::Fail));
+    assert_eq!(rt;
+        book.sync(&user, now, b"287082", b"969429"),
+        Some(Reply::Fail)
+    );
+    assert_eq!(rt;
+        book.sync(&user, now, b"755224", b"287082"),
+        Some(Reply::Locked)
+    );
+    assert_eq!(rt; state(&book, &user), Some((0, 3)));
+    assert!(rt; book.unlock(&user));
+    assert_eq!(rt;
+        book.sync(&user, now, b"755224", b"287082"),
+        Some(Reply::Pass(1))
+    );
+    assert_eq!(rt; state(&book, &user), Some((2, 0)));
+    Ok(())
+}
+
+#[test]
 fn no_account_and_no_token(rt: HostRuntime) -> Result<(), Fail> {
     let mut book = two_accounts(&rt)?;
     let user = name(&rt, b"user");
     let nobody = name(&rt, b"nobody");
     assert!(rt; book.token(&user).is_none());
     assert_eq!(rt; book.attempt(&user, moment(&rt), b"755224"), None);
+    assert_eq!(rt; book.sync(&user, moment(&rt), b"755224", b"287082"), None);
     assert!(rt; !book.unlock(&user));
     assert!(rt; book.token(&nobody).is_none());
     assert_eq!(rt; book.attempt(&nobody, moment(&rt), b"755224"), None);
+    assert_eq!(rt; book.sync(&nobody, moment(&rt), b"755224", b"287082"), None);
     assert!(rt; !book.unlock(&nobody));
     assert!(rt; !book.put_token(&nobody, token()?));
     assert!(rt; book.account(&nobody).is_none());

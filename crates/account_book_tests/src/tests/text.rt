@@ -1,7 +1,7 @@
 //! The text of a book.
-use crate::Book;
-use crate::laws::written_is_read;
 use crate::tests::{name, two_accounts};
+use account_book::Book;
+use account_book::laws::written_is_read;
 use std::process::Abort;
 use std::test::Fail;
 
@@ -50,6 +50,7 @@ limit = 3
 look_ahead = 3
 next = 1
 secret = \"3132333435363738393031323334353637383930\"
+sync_ahead = 0
 ";
 
 #[test]

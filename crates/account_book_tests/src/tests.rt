@@ -1,6 +1,6 @@
 //! What each call does, by values from outside: the published examples of RFC 5802, RFC 7677 and RFC 4226,
 //! and decoys' salts by Python's hmac.
-use crate::{Book, EnrolFault};
+use account_book::{Book, EnrolFault};
 use scram_text::{Password, PlainName, Salt};
 use std::process::Abort;
 use std::test::Fail;

@@ -1,9 +1,9 @@
 //! What a SCRAM server sees of a name.
 ghost use Rattle.std.specs.Prelude.{◌≡◌, ◌≤◌, length, option_copied, IfSome};
-ghost use Rattle.mac_core.specs.Chosen.{length_by};
+ghost use Rattle.mac_core.specs.Mechanism.{length_by};
 ghost use Rattle.scram_ends.specs.Entry.{entry_of};
 ghost use Rattle.book_format.specs.Account.{AreKeys, IsAccount};
-ghost use Rattle.account_book.specs.Entry.{decoy_entry, decoy_salt, entry_in, mech_keys};
+ghost use Rattle.account_book.specs.View.{decoy_entry, decoy_salt, entry_in, mech_keys};
 
 use crate::book::Book;
 use book_format::{Account, MechKeys};

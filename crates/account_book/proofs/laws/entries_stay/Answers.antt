@@ -1,0 +1,5 @@
+use Rattle.account_book.proofs.TokenLemmas.{entries_stay}
+use Rattle.account_book.proofs.laws.entries_stay.Goals as goal
+
+pub returns : goal.returns
+returns c = entries_stay

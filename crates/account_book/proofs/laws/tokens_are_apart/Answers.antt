@@ -1,0 +1,5 @@
+use Rattle.account_book.proofs.TokenLemmas.{tokens_are_apart}
+use Rattle.account_book.proofs.laws.tokens_are_apart.Goals as goal
+
+pub returns : goal.returns
+returns c = tokens_are_apart

@@ -1,0 +1,25 @@
+-- What changes, and what stays, where one account of a book gets another token.
+use Rattle.std.specs.Prelude.{ℕ, ◌≡◌, List, cond}
+use Rattle.std.specs.Str.{bytes_eq}
+use Rattle.std.specs.declared.option.Option.TheVariants.{Some}
+use Rattle.mac_core.specs.declared.mechanism.Mechanism.{Mechanism}
+use Rattle.otp_core.specs.declared.token.kinds.Fields.{Fields}
+use Rattle.book_format.specs.Book.{BookFields}
+use Rattle.account_book.specs.Accounts.{with_changed}
+use Rattle.account_book.specs.View.{entry_in}
+use Rattle.account_book.specs.Tokens.{token_at, with_token}
+
+-- the account of this name has the other token, and every other name the token that it had
+abbrev pub TokensAreApart : Type 0
+TokensAreApart = (old : BookFields) (name : List ℕ) (token next : Fields) → token_at old name ≡ Some token
+    → (other : List ℕ) → token_at (with_changed old name (with_token next)) other ≡ cond (bytes_eq name other) (Some next) (token_at old other)
+
+-- what a server keeps of a name stays as it was: it has no token in it
+abbrev pub EntriesStay : Type 0
+EntriesStay = (old : BookFields) (name : List ℕ) (token next : Fields) → token_at old name ≡ Some token
+    → (m : Mechanism) (other : List ℕ) → entry_in (with_changed old name (with_token next)) m other ≡ entry_in old m other
+
+-- a token that is put back makes the book that there was
+abbrev pub TokensGoBack : Type 0
+TokensGoBack = (old : BookFields) (name : List ℕ) (token next : Fields) → token_at old name ≡ Some token
+    → with_changed (with_changed old name (with_token next)) name (with_token token) ≡ old

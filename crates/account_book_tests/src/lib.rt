@@ -1,0 +1,5 @@
+//! Tests of `account_book`.
+#![tactic(auto)]
+
+#[cfg(test)]
+mod tests;

@@ -1,0 +1,5 @@
+//! Tests of `book_file`.
+#![tactic(auto)]
+
+#[cfg(test)]
+mod tests;
