@@ -3,10 +3,10 @@ use Rattle.std.proofs.Common.{◌≡◌, inl, inr, ℕ, Bool, true, false, List,
 use Rattle.std.specs.Prelude.{flat_map, map}
 use Rattle.std.specs.List.{AllByRecursion}
 use Rattle.log_grammar.specs.Lines.{LogLine, header, said, heard, cont, resp, auth, auth_with, mechs}
-use Rattle.log_grammar.specs.Sessions.{Told, Session, session, session_lines, session_told, Login, no_login, quits_login, with_first, without_first, login_lines, Invitation, no_word, turned_away, invited, invitation_lines, First, no_first, quits_first, begins, first_lines, Answer, no_answer, refused, challenged, answer_lines, Proof, no_proof, quits_proof, proves, Judgement, unjudged, denied, granted, Codes, no_code, quits_codes, asked, replied, halted_at, Quit, leaves, aborts, spoils, Farewell, silent, farewell}
+use Rattle.log_grammar.specs.Sessions.{Told, Session, session, session_lines, session_told, Login, no_login, quits_login, with_first, without_first, login_lines, Invitation, no_word, turned_away, invited, invitation_lines, First, no_first, quits_first, begins, first_lines, Answer, no_answer, refused, challenged, answer_lines, Proof, no_proof, quits_proof, proves, Judgement, unjudged, denied, granted, Codes, no_code, quits_codes, asked, replied, halted_at, Quit, departs, aborts, spoils, Farewell, silent, farewell}
 use Rattle.log_grammar.specs.Demands.{Demands, no_demands, FarewellMeets, QuitMeets, CodesMeet, JudgementMeets, ProofMeets, AnswerMeets, FirstMeets, InvitationMeets, LoginMeets, SessionMeets, AreReplies}
 use Rattle.log_grammar.specs.Places.{Place, before_all, between, offered, asks_bare, waits_first, got_first, waits_final, got_final, waits_code, got_code, leaving, over, halted, closing_place, farewell_place, quit_place, codes_place, judgement_place, proof_place, answer_place, first_place, invitation_place, login_place, session_place}
-use Rattle.log_grammar.specs.Clean.{OnlyLastOpen, place_behind, Begins}
+use Rattle.log_grammar.specs.Clean.{OnlyLastOpen, place_after, Begins}
 
 -- a place with no account named
 abbrev pub bare_place : Place → Place
@@ -19,7 +19,7 @@ bare_place (got_first m first) = got_first m first
 bare_place (waits_final m account first challenge) = waits_final m [] first challenge
 bare_place (got_final m account first challenge last) = got_final m [] first challenge last
 bare_place (waits_code account) = waits_code []
-bare_place (got_code account text) = got_code [] text
+bare_place (got_code account sent) = got_code [] sent
 bare_place leaving = leaving
 bare_place over = over
 bare_place halted = halted
@@ -84,16 +84,16 @@ farewell_bare silent = refl
 farewell_bare (farewell text closed) = closing_bare closed
 
 quit_bare : (q : Quit) → quit_place q ≡ bare_place (quit_place q)
-quit_bare (leaves closed) = closing_bare closed
+quit_bare (departs closed) = closing_bare closed
 quit_bare (aborts f) = farewell_bare f
 quit_bare (spoils f) = farewell_bare f
 
 codes_bare : (account : List ℕ) (c : Codes) → codes_place [] c ≡ bare_place (codes_place account c)
 codes_bare account no_code = refl
 codes_bare account (quits_codes q) = quit_bare q
-codes_bare account (asked text) = refl
-codes_bare account (replied text moment reply more) = codes_bare account more
-codes_bare account (halted_at text) = refl
+codes_bare account (asked sent) = refl
+codes_bare account (replied sent moment reply more) = codes_bare account more
+codes_bare account (halted_at sent) = refl
 
 judgement_bare : (m account first challenge last : List ℕ) (j : Judgement)
     → judgement_place m [] first challenge last j ≡ bare_place (judgement_place m account first challenge last j)
@@ -137,16 +137,16 @@ farewell_aside silent = tt
 farewell_aside (farewell text closed) = tt
 
 quit_aside : (q : Quit) → QuitMeets no_demands q
-quit_aside (leaves closed) = tt
+quit_aside (departs closed) = tt
 quit_aside (aborts f) = farewell_aside f
 quit_aside (spoils f) = farewell_aside f
 
 codes_aside : (c : Codes) → CodesMeet no_demands c
 codes_aside no_code = tt
 codes_aside (quits_codes q) = quit_aside q
-codes_aside (asked text) = tt
-codes_aside (replied text moment reply more) = codes_aside more
-codes_aside (halted_at text) = tt
+codes_aside (asked sent) = tt
+codes_aside (replied sent moment reply more) = codes_aside more
+codes_aside (halted_at sent) = tt
 
 judgement_aside : (m account first challenge last : List ℕ) (j : Judgement) → JudgementMeets no_demands m account first challenge last j
 judgement_aside m account first challenge last unjudged = tt
@@ -197,10 +197,10 @@ all_closed [] closed = tt
 all_closed (s ∷ []) closed = tt
 all_closed (s ∷ t ∷ more) closed = (session_bare s ∙ ap bare_place closed.0, all_closed (t ∷ more) closed.1)
 
-all_behind : (sessions : List Session) → place_behind (map bare sessions) ≡ bare_place (place_behind sessions)
-all_behind [] = refl
-all_behind (s ∷ []) = session_bare s
-all_behind (s ∷ t ∷ more) = all_behind (t ∷ more)
+all_after : (sessions : List Session) → place_after (map bare sessions) ≡ bare_place (place_after sessions)
+all_after [] = refl
+all_after (s ∷ []) = session_bare s
+all_after (s ∷ t ∷ more) = all_after (t ∷ more)
 
 pub no_demand : (before told : List Told) → AreReplies no_demands before told
 no_demand before [] = tt
@@ -218,6 +218,6 @@ aside d log place told (inr s) = (
     good = all_aside s.sessions;
     tells = refl;
     replies = no_demand [] (flat_map session_told (map bare s.sessions));
-    behind = ap bare_place s.behind ∙ sym (all_behind s.sessions);
+    after = ap bare_place s.after ∙ sym (all_after s.sessions);
   }),
 )

@@ -3,7 +3,7 @@ use Rattle.std.proofs.Common.{◌≡◌, ◌+◌, ℕ, suc, Bool, true, false, L
 use Rattle.std.specs.Prelude.{flat_map, count_by}
 use Rattle.std.proofs.lemmas.List.Sums.{sum_by-append}
 use Rattle.log_grammar.specs.Lines.{LogLine, header, said, mechs}
-use Rattle.log_grammar.specs.Sessions.{Session, session, session_lines, Login, no_login, quits_login, with_first, without_first, login_lines, Invitation, no_word, turned_away, invited, invitation_lines, First, no_first, quits_first, begins, first_lines, Answer, no_answer, refused, challenged, answer_lines, Proof, no_proof, quits_proof, proves, proof_lines, Judgement, unjudged, denied, granted, judgement_lines, Codes, no_code, quits_codes, asked, replied, halted_at, codes_lines, Quit, leaves, aborts, spoils, quit_lines, Farewell, silent, farewell, farewell_lines, closing_lines}
+use Rattle.log_grammar.specs.Sessions.{Session, session, session_lines, Login, no_login, quits_login, with_first, without_first, login_lines, Invitation, no_word, turned_away, invited, invitation_lines, First, no_first, quits_first, begins, first_lines, Answer, no_answer, refused, challenged, answer_lines, Proof, no_proof, quits_proof, proves, proof_lines, Judgement, unjudged, denied, granted, judgement_lines, Codes, no_code, quits_codes, asked, replied, halted_at, codes_lines, Quit, departs, aborts, spoils, quit_lines, Farewell, silent, farewell, farewell_lines, closing_lines}
 use Rattle.log_grammar.specs.Counts.{is_offer, counts_of}
 
 -- no line begins a session
@@ -19,16 +19,16 @@ goodbye silent = refl
 goodbye (farewell text closed) = closing closed
 
 quit : (q : Quit) → None (quit_lines q)
-quit (leaves closed) = closing closed
+quit (departs closed) = closing closed
 quit (aborts f) = goodbye f
 quit (spoils f) = goodbye f
 
 of_codes : (c : Codes) → None (codes_lines c)
 of_codes no_code = refl
 of_codes (quits_codes q) = quit q
-of_codes (asked text) = refl
-of_codes (replied text moment reply more) = of_codes more
-of_codes (halted_at text) = refl
+of_codes (asked sent) = refl
+of_codes (replied sent moment reply more) = of_codes more
+of_codes (halted_at sent) = refl
 
 of_judgement : (j : Judgement) → None (judgement_lines j)
 of_judgement unjudged = refl

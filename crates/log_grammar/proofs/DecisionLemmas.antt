@@ -8,7 +8,7 @@ use Rattle.otp_core.specs.declared.token.answer.Reply.{Reply}
 use Rattle.otp_core.specs.declared.token.answer.Reply.TheVariants.{Pass, Fail, Locked}
 use Rattle.log_grammar.specs.Payload.{IsMessage}
 use Rattle.log_grammar.specs.Words.{is_mech_char, is_code_char, is_space, IsMechName}
-use Rattle.log_grammar.specs.Lines.{ServerLine, mechs, cont, accepts, refuses, replies, halt, ClientLine, auth, auth_with, resp, abort, code, Line, from_server, from_client, LogLine, header, said, heard, bad, gone, ended, line_text, log_text, IsReplyInRange, IsServerInRange, IsClientInRange, IsLineInRange, IsLogInRange, IsLine, IsLogLine, IsNoLogLine}
+use Rattle.log_grammar.specs.Lines.{ServerLine, mechs, cont, accepts, refuses, replies, halt, ClientLine, auth, auth_with, resp, abort, code, sync, Line, from_server, from_client, LogLine, header, said, heard, bad, gone, ended, line_text, log_text, IsReplyInRange, IsServerInRange, IsClientInRange, IsLineInRange, IsLogInRange, IsLine, IsLogLine, IsNoLogLine}
 use Rattle.log_grammar.proofs.LineLemmas.{line_in, line_back, log_line_in, log_line_back}
 
 decided_each : {X : Type 0} (P : X → Type 0) → ((x : X) → Decided (P x)) → (xs : List X) → Decided (AllByRecursion P xs)
@@ -41,6 +41,7 @@ client_decided (auth_with mechanism message) = decided_both _ _ (name_decided me
 client_decided (resp message) = message_decided message
 client_decided abort = inl tt
 client_decided (code text) = run_decided is_code_char 16 text
+client_decided (sync first second) = decided_both _ _ (run_decided is_code_char 16 first) (run_decided is_code_char 16 second)
 
 ranges_decided : (line : Line) → Decided (IsLineInRange line)
 ranges_decided (from_server line) = server_decided line

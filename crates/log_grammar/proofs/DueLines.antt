@@ -59,7 +59,7 @@ goes_ok accounts place signature text wrong bears = absurd wrong
 
 no_reply_why : (accounts : Accounts) (place : Place) (told : List Told) (moment : ℕ) (signature : List ℕ)
     → IsWrongReply accounts place told moment (other_outcome (accepted signature)) → ⊥
-no_reply_why accounts (got_code account text) told moment signature (due, is, same) = cc same
+no_reply_why accounts (got_code account sent) told moment signature (due, is, same) = cc same
 no_reply_why accounts place told moment signature wrong = wrong
 
 word_of : (accounts : Accounts) (place : Place) (told : List Told) (line : LogLine) (signature : List ℕ)
@@ -121,6 +121,6 @@ by_why completes accounts fit before text lines place told (other_reply moment d
     the_line completes accounts fit before text lines place told (other_reply moment due) line lead wrong tt says writable
 
 pub each_line : FrontsBeginClean → EachLineThatIsDueMayStand
-each_line completes accounts fit bytes before text behind rest why line cut w other says writable =
-    let f = at_text accounts bytes before text behind rest why cut w in
+each_line completes accounts fit bytes before text after rest why line cut w other says writable =
+    let f = at_text accounts bytes before text after rest why cut w in
     by_why completes accounts fit before text f.lines f.place f.told why line f.lead f.wrong other says writable

@@ -13,18 +13,18 @@ use Rattle.log_grammar.specs.Laws.{ClassesFollowThePlace}
 use Rattle.log_grammar.specs.Examples.{AreWhole}
 use Rattle.log_grammar.proofs.CutLemmas.{cut_one_way}
 use Rattle.log_grammar.proofs.Completions.{each-append}
-use Rattle.log_grammar.proofs.FaultLemmas.{start, whole, clean_at, not_behind_lf, end_why, text_why, front_ends, last_why}
+use Rattle.log_grammar.proofs.FaultLemmas.{start, whole, clean_at, not_after_lf, end_why, text_why, front_ends, last_why}
 
 -- two lists, each with its last element, are related element by element: so are the lists before,
 -- and the last elements
-parts : {A B : Type 0} (P : A → B → Type 0) (xs : List A) (x : A) (ys : List B) (y : B) → AllZip P (xs ++ x ∷ []) (ys ++ y ∷ [])
+zip_last : {A B : Type 0} (P : A → B → Type 0) (xs : List A) (x : A) (ys : List B) (y : B) → AllZip P (xs ++ x ∷ []) (ys ++ y ∷ [])
     → AllZip P xs ys × P x y
-parts P [] x [] y h = (tt, h.0)
-parts P [] x (b ∷ []) y h = absurd h.1
-parts P [] x (b ∷ c ∷ ys) y h = absurd h.1
-parts P (a ∷ []) x [] y h = absurd h.1
-parts P (a ∷ c ∷ xs) x [] y h = absurd h.1
-parts P (a ∷ xs) x (b ∷ ys) y h = let more = parts P xs x ys y h.1 in ((h.0, more.0), more.1)
+zip_last P [] x [] y h = (tt, h.0)
+zip_last P [] x (b ∷ []) y h = absurd h.1
+zip_last P [] x (b ∷ c ∷ ys) y h = absurd h.1
+zip_last P (a ∷ []) x [] y h = absurd h.1
+zip_last P (a ∷ c ∷ xs) x [] y h = absurd h.1
+zip_last P (a ∷ xs) x (b ∷ ys) y h = let more = zip_last P xs x ys y h.1 in ((h.0, more.0), more.1)
 
 each : {A : Type 0} (P : A → Type 0) (xs : List A) (x : A) → AllByRecursion P (xs ++ x ∷ []) → AllByRecursion P xs × P x
 each P [] x h = (tt, h.0)
@@ -39,23 +39,23 @@ no_halt : (accounts : Accounts) (told : List Told) → Begins (demands accounts)
 no_halt accounts told (inl none) = cc none.1
 no_halt accounts told (inr s) = cc s.lines
 
-pub none_behind_halt : ClassesFollowThePlace → (accounts : Accounts) (log : List LogLine) (told : List Told) (class : LineClass)
+pub none_after_halt : ClassesFollowThePlace → (accounts : Accounts) (log : List LogLine) (told : List Told) (class : LineClass)
     → Begins (demands accounts) log halted told → IsClassDue log class → ⊥
-none_behind_halt classes accounts log told class begins due = (classes accounts log halted told class begins).0 due
+none_after_halt classes accounts log told class begins due = (classes accounts log halted told class begins).0 due
 
-pub more_behind_halt : HasOneClientFirst → SpellsOneName → ClassesFollowThePlace → (accounts : Accounts) (texts : List (List ℕ)) (log : List LogLine) (told : List Told)
+pub more_after_halt : HasOneClientFirst → SpellsOneName → ClassesFollowThePlace → (accounts : Accounts) (texts : List (List ℕ)) (log : List LogLine) (told : List Told)
     (text : List ℕ) (line : LogLine) → AreWhole (texts ++ text ∷ []) (log ++ line ∷ []) → Begins (demands accounts) log halted told
     → IsWhy accounts (ended_by_lf (texts ++ text ∷ [])) (length texts + 1) out_of_order
-more_behind_halt once names classes accounts texts [] told text line whole begins = absurd (no_halt accounts told begins)
-more_behind_halt once names classes accounts texts (first ∷ log) told text line whole begins =
-    let read = parts IsLogLine texts text (first ∷ log) line whole.0 in
+more_after_halt once names classes accounts texts [] told text line whole begins = absurd (no_halt accounts told begins)
+more_after_halt once names classes accounts texts (first ∷ log) told text line whole begins =
+    let read = zip_last IsLogLine texts text (first ∷ log) line whole.0 in
     let lacks = each LacksLf texts text whole.1 in
     last_why once names accounts texts first log halted told text line out_of_order (record { are = read.0; lack = lacks.0; begins = begins })
-    read.1 lacks.1 (λ f. f.goes) (inl (none_behind_halt classes accounts (first ∷ log) told (class_of line) begins, refl))
+    read.1 lacks.1 (λ f. f.goes) (inl (none_after_halt classes accounts (first ∷ log) told (class_of line) begins, refl))
 
 -- bytes without an LF have no whole line
 alone : (rest : List ℕ) → LacksLf rest → IsCut rest [] rest
-alone rest lacks = record { joined = refl; lines = tt; behind = lacks }
+alone rest lacks = record { bytes_are = refl; lines = tt; after = lacks }
 
 no_lines : (accounts : Accounts) (lines : List LogLine) (place : Place) (told : List Told) → AllZip IsLogLine [] lines → Spells (demands accounts) lines place told → ⊥
 no_lines accounts [] place told are s = cc s.lines
@@ -82,9 +82,9 @@ after_lines : (accounts : Accounts) (texts : List (List ℕ)) (log : List LogLin
 after_lines accounts texts log place told [] why are begins lacks some wrong = absurd (omega (arith, some))
 after_lines accounts texts log place told (c ∷ rest) why are begins lacks some wrong =
     let bytes = ended_by_lf texts ++ c ∷ rest in
-    let cut : IsCut bytes texts (c ∷ rest) = record { joined = refl; lines = are.1; behind = lacks } in
+    let cut : IsCut bytes texts (c ∷ rest) = record { bytes_are = refl; lines = are.1; after = lacks } in
     end_why accounts bytes texts (c ∷ rest) log place told why cut (record { are = are.0; lack = are.1; begins = begins })
-    (not_behind_lf accounts bytes texts c rest cut) wrong
+    (not_after_lf accounts bytes texts c rest cut) wrong
 
 pub part_is_cut : (accounts : Accounts) (texts : List (List ℕ)) (log : List LogLine) (place : Place) (told : List Told) (rest : List ℕ)
     → AreWhole texts log → Begins (demands accounts) log place told → LacksLf rest → 1 ≤ length rest → length rest ≤ 6202

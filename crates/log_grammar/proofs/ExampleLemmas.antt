@@ -1,11 +1,11 @@
 -- The small logs, line by line.
 use Rattle.std.proofs.Common.{◌≡◌, inl, inr, ℕ, ◌+◌, ◌≤◌, List, [], ◌∷◌, ◌++◌, length, get_or, refl, sym, ap, subst, arith}
 use Rattle.std.specs.Prelude.{codes}
-use Rattle.mac_core.specs.declared.chosen.Mechanism.{Mechanism}
-use Rattle.mac_core.specs.declared.chosen.Mechanism.TheVariants.{ScramSha1, ScramSha256}
+use Rattle.mac_core.specs.declared.mechanism.Mechanism.{Mechanism}
+use Rattle.mac_core.specs.declared.mechanism.Mechanism.TheVariants.{ScramSha1, ScramSha256}
 use Rattle.scram_text.specs.Laws.{SpellsOneName, HasOneClientFirst}
 use Rattle.scram_text.specs.Messages.{ClientFirstParts, header_text, client_first_text, bare_text}
-use Rattle.scram_text.specs.Parts.{authz_text}
+use Rattle.scram_text.specs.Parts.{authzid_text}
 use Rattle.log_grammar.specs.Words.{IsMechName}
 use Rattle.log_grammar.specs.Lines.{LogLine, header, said, heard, bad, gone, ended, mechs, cont, accepts, refuses, halt, auth, auth_with, abort, IsLogLine}
 use Rattle.log_grammar.specs.Bytes.{LacksLf, ended_by_lf}
@@ -128,13 +128,13 @@ pub not_offered_is_clean : (accounts : Accounts) → IsClean accounts (one_sessi
 not_offered_is_clean accounts = closed accounts _ _ (asks_bare (codes "PLAIN")) (lead_plain accounts) ((plain_not_offered, refl), refl) refl
 
 -- the empty message is no client-first
-some_text : (flag behind rest : List ℕ) → [] ≡ (flag ++ 44 ∷ behind) ++ rest → ⊥
-some_text [] behind rest e = cc e
-some_text (c ∷ flag) behind rest e = cc e
+some_text : (flag after rest : List ℕ) → [] ≡ (flag ++ 44 ∷ after) ++ rest → ⊥
+some_text [] after rest e = cc e
+some_text (c ∷ flag) after rest e = cc e
 
 no_message : (p : ClientFirstParts) → [] ≡ client_first_text p → ⊥
 unfolding client_first_text header_text
-no_message p e = some_text p.flag (authz_text p.authz ++ 44 ∷ []) (bare_text p) e
+no_message p e = some_text p.flag (authzid_text p.authzid ++ 44 ∷ []) (bare_text p) e
 
 pub refused_is_clean : (accounts : Accounts) → IsClean accounts (one_session (codes "C AUTH SCRAM-SHA-1 :" ∷ bare_no))
 refused_is_clean accounts =
@@ -163,38 +163,38 @@ invited_is_clean accounts =
 -- whole lines that end where no log may are cut
 cut_why : HasOneClientFirst → SpellsOneName → (accounts : Accounts) (texts : List (List ℕ)) (lines : List LogLine) (place : Place) (told : List Told)
     → Lead accounts texts lines place told → (MayEnd place → ⊥) → IsWhy accounts (ended_by_lf texts) (length texts + 1) is_cut
-cut_why parts once accounts texts lines place told l unended =
+cut_why one_first once accounts texts lines place told l unended =
     let cut = whole texts l.lack in
-    let unclean = not_at_end parts once accounts (ended_by_lf texts) texts lines place told cut l unended in
+    let unclean = not_at_end one_first once accounts (ended_by_lf texts) texts lines place told cut l unended in
     end_why accounts (ended_by_lf texts) texts [] lines place told is_cut cut l unclean (inl (omega arith, refl))
 
 -- small logs at fault
 pub empty_is_cut : HasOneClientFirst → SpellsOneName → (accounts : Accounts) → IsWhy accounts [] 1 is_cut
-empty_is_cut parts once accounts = cut_why parts once accounts [] [] before_all [] (start accounts) (λ h. h)
+empty_is_cut one_first once accounts = cut_why one_first once accounts [] [] before_all [] (start accounts) (λ h. h)
 
 pub offer_is_cut : HasOneClientFirst → SpellsOneName → (accounts : Accounts) → IsWhy accounts (one_session []) 3 is_cut
-offer_is_cut parts once accounts = cut_why parts once accounts _ _ offered [] (lead_offer accounts) (λ h. h)
+offer_is_cut one_first once accounts = cut_why one_first once accounts _ _ offered [] (lead_offer accounts) (λ h. h)
 
 pub gone_is_cut : HasOneClientFirst → SpellsOneName → (accounts : Accounts) → IsWhy accounts (one_session (codes "C GONE" ∷ [])) 4 is_cut
-gone_is_cut parts once accounts = cut_why parts once accounts _ _ over [] (lead_gone accounts) (λ h. h)
+gone_is_cut one_first once accounts = cut_why one_first once accounts _ _ over [] (lead_gone accounts) (λ h. h)
 
 pub auth_is_cut : HasOneClientFirst → SpellsOneName → (accounts : Accounts) → IsWhy accounts (one_session (codes "C AUTH SCRAM-SHA-1" ∷ [])) 4 is_cut
-auth_is_cut parts once accounts = cut_why parts once accounts _ _ (asks_bare (codes "SCRAM-SHA-1")) [] (lead_auth accounts) (λ h. h)
+auth_is_cut one_first once accounts = cut_why one_first once accounts _ _ (asks_bare (codes "SCRAM-SHA-1")) [] (lead_auth accounts) (λ h. h)
 
 pub invited_is_cut : HasOneClientFirst → SpellsOneName → (accounts : Accounts)
     → IsWhy accounts (one_session (codes "C AUTH SCRAM-SHA-1" ∷ codes "S CONT :" ∷ [])) 5 is_cut
-invited_is_cut parts once accounts = cut_why parts once accounts _ _ (waits_first (codes "SCRAM-SHA-1")) [] (lead_invited accounts) (λ h. h)
+invited_is_cut one_first once accounts = cut_why one_first once accounts _ _ (waits_first (codes "SCRAM-SHA-1")) [] (lead_invited accounts) (λ h. h)
 
 lead_abort : (accounts : Accounts)
     → Lead accounts (first_text ∷ offer_text ∷ codes "C ABORT" ∷ []) (header ∷ said (mechs (codes "SCRAM-SHA-256 SCRAM-SHA-1")) ∷ heard abort ∷ []) leaving []
 lead_abort accounts = lead_on accounts _ _ offered [] (codes "C ABORT") (heard abort) leaving (lead_offer accounts) is_abort refl refl tt
 
 pub abort_is_cut : HasOneClientFirst → SpellsOneName → (accounts : Accounts) → IsWhy accounts (one_session (codes "C ABORT" ∷ [])) 4 is_cut
-abort_is_cut parts once accounts = cut_why parts once accounts _ _ leaving [] (lead_abort accounts) (λ h. h)
+abort_is_cut one_first once accounts = cut_why one_first once accounts _ _ leaving [] (lead_abort accounts) (λ h. h)
 
 pub no_is_cut : HasOneClientFirst → SpellsOneName → (accounts : Accounts) → IsWhy accounts (one_session (codes "C ABORT" ∷ codes "S NO :" ∷ [])) 5 is_cut
-no_is_cut parts once accounts =
-    cut_why parts once accounts _ _ over [] (lead_on accounts _ _ leaving [] (codes "S NO :") (said (refuses [])) over (lead_abort accounts) is_no refl (refl, refl) tt) (λ h. h)
+no_is_cut one_first once accounts =
+    cut_why one_first once accounts _ _ over [] (lead_on accounts _ _ leaving [] (codes "S NO :") (said (refuses [])) over (lead_abort accounts) is_no refl (refl, refl) tt) (λ h. h)
 
 lead_bad : (accounts : Accounts)
     → Lead accounts (first_text ∷ offer_text ∷ codes "C BAD" ∷ []) (header ∷ said (mechs (codes "SCRAM-SHA-256 SCRAM-SHA-1")) ∷ bad ∷ []) leaving []
@@ -208,30 +208,30 @@ lead_refused accounts =
     (lead_offer accounts) is_auth_with refl refl tt
 
 pub bad_is_cut : HasOneClientFirst → SpellsOneName → (accounts : Accounts) → IsWhy accounts (one_session (codes "C BAD" ∷ [])) 4 is_cut
-bad_is_cut parts once accounts = cut_why parts once accounts _ _ leaving [] (lead_bad accounts) (λ h. h)
+bad_is_cut one_first once accounts = cut_why one_first once accounts _ _ leaving [] (lead_bad accounts) (λ h. h)
 
 pub bad_no_is_cut : HasOneClientFirst → SpellsOneName → (accounts : Accounts) → IsWhy accounts (one_session (codes "C BAD" ∷ codes "S NO :" ∷ [])) 5 is_cut
-bad_no_is_cut parts once accounts = cut_why parts once accounts _ _ over [] (lead_no accounts _ _ leaving (lead_bad accounts) (refl, refl) refl) (λ h. h)
+bad_no_is_cut one_first once accounts = cut_why one_first once accounts _ _ over [] (lead_no accounts _ _ leaving (lead_bad accounts) (refl, refl) refl) (λ h. h)
 
 pub plain_is_cut : HasOneClientFirst → SpellsOneName → (accounts : Accounts) → IsWhy accounts (one_session (codes "C AUTH PLAIN" ∷ [])) 4 is_cut
-plain_is_cut parts once accounts = cut_why parts once accounts _ _ (asks_bare (codes "PLAIN")) [] (lead_plain accounts) (λ h. h)
+plain_is_cut one_first once accounts = cut_why one_first once accounts _ _ (asks_bare (codes "PLAIN")) [] (lead_plain accounts) (λ h. h)
 
 pub plain_no_is_cut : HasOneClientFirst → SpellsOneName → (accounts : Accounts) → IsWhy accounts (one_session (codes "C AUTH PLAIN" ∷ codes "S NO :" ∷ [])) 5 is_cut
-plain_no_is_cut parts once accounts =
-    cut_why parts once accounts _ _ over []
+plain_no_is_cut one_first once accounts =
+    cut_why one_first once accounts _ _ over []
     (lead_no accounts _ _ (asks_bare (codes "PLAIN")) (lead_plain accounts) ((plain_not_offered, refl), refl) refl) (λ h. h)
 
 pub refused_is_cut : HasOneClientFirst → SpellsOneName → (accounts : Accounts) → IsWhy accounts (one_session (codes "C AUTH SCRAM-SHA-1 :" ∷ [])) 4 is_cut
-refused_is_cut parts once accounts = cut_why parts once accounts _ _ (got_first (codes "SCRAM-SHA-1") []) [] (lead_refused accounts) (λ h. h)
+refused_is_cut one_first once accounts = cut_why one_first once accounts _ _ (got_first (codes "SCRAM-SHA-1") []) [] (lead_refused accounts) (λ h. h)
 
 pub refused_no_is_cut : HasOneClientFirst → SpellsOneName → (accounts : Accounts) → IsWhy accounts (one_session (codes "C AUTH SCRAM-SHA-1 :" ∷ codes "S NO :" ∷ [])) 5 is_cut
-refused_no_is_cut parts once accounts =
-    cut_why parts once accounts _ _ over []
+refused_no_is_cut one_first once accounts =
+    cut_why one_first once accounts _ _ over []
     (lead_no accounts _ _ (got_first (codes "SCRAM-SHA-1") []) (lead_refused accounts) ((λ name l. no_message l.parts l.is_first.spelled, refl), refl) refl) (λ h. h)
 
 pub left_is_cut : HasOneClientFirst → SpellsOneName → (accounts : Accounts) → IsWhy accounts (one_session (codes "C AUTH SCRAM-SHA-1" ∷ codes "S CONT :" ∷ codes "C GONE" ∷ [])) 6 is_cut
-left_is_cut parts once accounts =
-    cut_why parts once accounts _ _ over []
+left_is_cut one_first once accounts =
+    cut_why one_first once accounts _ _ over []
     (lead_on accounts _ _ (waits_first (codes "SCRAM-SHA-1")) [] (codes "C GONE") gone over (lead_invited accounts) is_gone refl refl tt) (λ h. h)
 
 -- a class that is not due
@@ -240,15 +240,15 @@ not_due : (accounts : Accounts) (lines : List LogLine) (place : Place) (class : 
 not_due accounts lines place class begins none due = none ((classes_due accounts lines place [] class begins).0 due)
 
 pub abort_is_early : HasOneClientFirst → SpellsOneName → (accounts : Accounts) → IsWhy accounts (ended_by_lf (first_text ∷ codes "C ABORT" ∷ [])) 2 out_of_order
-abort_is_early parts once accounts =
+abort_is_early one_first once accounts =
     let l = lead_first accounts in
-    last_why parts once accounts (first_text ∷ []) header [] between [] (codes "C ABORT") (heard abort) out_of_order l is_abort refl (λ f. f.goes)
+    last_why one_first once accounts (first_text ∷ []) header [] between [] (codes "C ABORT") (heard abort) out_of_order l is_abort refl (λ f. f.goes)
     (inl (not_due accounts (header ∷ []) between _ l.begins (λ is. cc is), refl))
 
 pub halt_is_early : HasOneClientFirst → SpellsOneName → (accounts : Accounts) → IsWhy accounts (one_session (codes "S HALT" ∷ [])) 3 out_of_order
-halt_is_early parts once accounts =
+halt_is_early one_first once accounts =
     let l = lead_offer accounts in
-    last_why parts once accounts (first_text ∷ offer_text ∷ []) header _ offered [] (codes "S HALT") (said halt) out_of_order l is_halt refl (λ f. f.goes)
+    last_why one_first once accounts (first_text ∷ offer_text ∷ []) header _ offered [] (codes "S HALT") (said halt) out_of_order l is_halt refl (λ f. f.goes)
     (inl (
       not_due accounts _ offered _ l.begins (λ is. elim is [
         | inl one ↦ cc one
@@ -259,9 +259,9 @@ halt_is_early parts once accounts =
 
 -- a session that begins where `E` is due
 pub end_is_missing : HasOneClientFirst → SpellsOneName → (accounts : Accounts) → IsWhy accounts (one_session (codes "C GONE" ∷ offer_text ∷ [])) 4 out_of_order
-end_is_missing parts once accounts =
+end_is_missing one_first once accounts =
     let l = lead_gone accounts in
-    last_why parts once accounts (first_text ∷ offer_text ∷ codes "C GONE" ∷ []) header _ over [] offer_text _ out_of_order l is_offer refl (λ f. f.goes)
+    last_why one_first once accounts (first_text ∷ offer_text ∷ codes "C GONE" ∷ []) header _ over [] offer_text _ out_of_order l is_offer refl (λ f. f.goes)
     (inl (not_due accounts _ over _ l.begins (λ is. cc is), refl))
 
 -- a class that is due
@@ -274,27 +274,27 @@ other_names e = let wrong : 49 ≡ 50 = ap (λ (l : List ℕ). get_or l 10 0) e 
 
 pub other_offer_why : HasOneClientFirst → SpellsOneName → (accounts : Accounts)
     → IsWhy accounts (ended_by_lf (first_text ∷ codes "S MECHS SCRAM-SHA-1" ∷ [])) 2 other_mechs
-other_offer_why parts once accounts =
+other_offer_why one_first once accounts =
     let l = lead_first accounts in
-    last_why parts once accounts (first_text ∷ []) header [] between [] (codes "S MECHS SCRAM-SHA-1") (said (mechs (codes "SCRAM-SHA-1"))) other_mechs
+    last_why one_first once accounts (first_text ∷ []) header [] between [] (codes "S MECHS SCRAM-SHA-1") (said (mechs (codes "SCRAM-SHA-1"))) other_mechs
     l is_other_offer refl (λ f. other_names f.goes.0)
     (inr (is_due accounts (header ∷ []) between _ l.begins refl, between, [], l.begins, refl))
 
 pub invited_why : HasOneClientFirst → SpellsOneName → (accounts : Accounts)
     → IsWhy accounts (one_session (codes "C AUTH PLAIN" ∷ codes "S CONT :" ∷ [])) 4 (other_outcome (refused_with []))
-invited_why parts once accounts =
+invited_why one_first once accounts =
     let l = lead_plain accounts in
     let at = asks_bare (codes "PLAIN") in
-    last_why parts once accounts (first_text ∷ offer_text ∷ codes "C AUTH PLAIN" ∷ []) header _ at [] (codes "S CONT :") (said (cont [])) (other_outcome (refused_with []))
+    last_why one_first once accounts (first_text ∷ offer_text ∷ codes "C AUTH PLAIN" ∷ []) header _ at [] (codes "S CONT :") (said (cont [])) (other_outcome (refused_with []))
     l is_cont refl (λ f. plain_not_offered f.goes.0.0.0 f.goes.0.0.1)
     (inr (is_due accounts _ at _ l.begins refl, at, [], l.begins, inr (plain_not_offered, refl)))
 
 pub turned_away_why : HasOneClientFirst → SpellsOneName → (accounts : Accounts)
     → IsWhy accounts (one_session (codes "C AUTH SCRAM-SHA-1" ∷ codes "S NO :" ∷ [])) 4 other_challenge
-turned_away_why parts once accounts =
+turned_away_why one_first once accounts =
     let l = lead_auth accounts in
     let at = asks_bare (codes "SCRAM-SHA-1") in
-    last_why parts once accounts (first_text ∷ offer_text ∷ codes "C AUTH SCRAM-SHA-1" ∷ []) header _ at [] (codes "S NO :") (said (refuses [])) other_challenge
+    last_why one_first once accounts (first_text ∷ offer_text ∷ codes "C AUTH SCRAM-SHA-1" ∷ []) header _ at [] (codes "S NO :") (said (refuses [])) other_challenge
     l is_no refl (λ f. f.goes.0.0 ScramSha1 refl)
     (inr (is_due accounts _ at _ l.begins refl, at, [], l.begins, inl ((ScramSha1, refl), refl)))
 
@@ -315,9 +315,9 @@ two_are_clean accounts =
 
 -- the first line again
 pub header_again : HasOneClientFirst → SpellsOneName → (accounts : Accounts) → IsWhy accounts (ended_by_lf (first_text ∷ first_text ∷ [])) 2 out_of_order
-header_again parts once accounts =
+header_again one_first once accounts =
     let l = lead_first accounts in
-    last_why parts once accounts (first_text ∷ []) header [] between [] first_text header out_of_order l is_header refl (λ f. f.goes)
+    last_why one_first once accounts (first_text ∷ []) header [] between [] first_text header out_of_order l is_header refl (λ f. f.goes)
     (inl (not_due accounts (header ∷ []) between _ l.begins (λ is. cc is), refl))
 
 is_ok : IsLogLine (codes "S OK :") (said (accepts []))
@@ -335,24 +335,24 @@ some_error e = cc e
 
 pub accepted_why : HasOneClientFirst → SpellsOneName → (accounts : Accounts)
     → IsWhy accounts (one_session (codes "C ABORT" ∷ codes "S OK :" ∷ [])) 4 (other_outcome (refused_with []))
-accepted_why parts once accounts =
+accepted_why one_first once accounts =
     let l = lead_abort accounts in
-    last_why parts once accounts (first_text ∷ offer_text ∷ codes "C ABORT" ∷ []) header _ leaving [] (codes "S OK :") (said (accepts [])) (other_outcome (refused_with []))
+    last_why one_first once accounts (first_text ∷ offer_text ∷ codes "C ABORT" ∷ []) header _ leaving [] (codes "S OK :") (said (accepts [])) (other_outcome (refused_with []))
     l is_ok refl (λ f. f.goes) (inr (is_due accounts _ leaving _ l.begins refl, leaving, [], l.begins, refl))
 
 pub message_why : HasOneClientFirst → SpellsOneName → (accounts : Accounts)
     → IsWhy accounts (one_session (codes "C BAD" ∷ codes "S NO :e=other-error" ∷ [])) 4 (other_outcome (refused_with []))
-message_why parts once accounts =
+message_why one_first once accounts =
     let l = lead_bad accounts in
-    last_why parts once accounts (first_text ∷ offer_text ∷ codes "C BAD" ∷ []) header _ leaving [] (codes "S NO :e=other-error") (said (refuses (codes "e=other-error")))
+    last_why one_first once accounts (first_text ∷ offer_text ∷ codes "C BAD" ∷ []) header _ leaving [] (codes "S NO :e=other-error") (said (refuses (codes "e=other-error")))
     (other_outcome (refused_with [])) l is_error refl (λ f. some_error f.goes.0) (inr (is_due accounts _ leaving _ l.begins refl, leaving, [], l.begins, refl))
 
 pub not_first_why : HasOneClientFirst → SpellsOneName → (accounts : Accounts)
     → IsWhy accounts (one_session (codes "C AUTH SCRAM-SHA-1 :" ∷ codes "S CONT :" ∷ [])) 4 (other_outcome (refused_with []))
-not_first_why parts once accounts =
+not_first_why one_first once accounts =
     let l = lead_refused accounts in
     let at = got_first (codes "SCRAM-SHA-1") [] in
-    last_why parts once accounts (first_text ∷ offer_text ∷ codes "C AUTH SCRAM-SHA-1 :" ∷ []) header _ at [] (codes "S CONT :") (said (cont [])) (other_outcome (refused_with []))
+    last_why one_first once accounts (first_text ∷ offer_text ∷ codes "C AUTH SCRAM-SHA-1 :" ∷ []) header _ at [] (codes "S CONT :") (said (cont [])) (other_outcome (refused_with []))
     l is_cont refl (λ f. no_message f.goes.1.opening.first f.goes.1.opens.is_first.spelled)
     (inr (is_due accounts _ at _ l.begins refl, at, [], l.begins, inr (λ name is. no_message is.parts is.is_first.spelled, refl)))
 

@@ -21,12 +21,12 @@ cut_on : (bytes : List ℕ) (texts : List (List ℕ)) (more : List ℕ) → IsCu
     → (others : List (List ℕ)) × (rest : List ℕ) × IsCut (bytes ++ more) (texts ++ others) rest
 cut_on bytes texts more cut =
     let (others, rest, then) = cut_somehow more in
-    let front : bytes ≡ ended_by_lf texts = cut.joined ∙ append-nil (ended_by_lf texts) in
-    let joined : bytes ++ more ≡ ended_by_lf (texts ++ others) ++ rest =
-    ap (λ (b : List ℕ). b ++ more) front ∙ ap (λ (b : List ℕ). ended_by_lf texts ++ b) then.joined
+    let front : bytes ≡ ended_by_lf texts = cut.bytes_are ∙ append-nil (ended_by_lf texts) in
+    let bytes_are : bytes ++ more ≡ ended_by_lf (texts ++ others) ++ rest =
+    ap (λ (b : List ℕ). b ++ more) front ∙ ap (λ (b : List ℕ). ended_by_lf texts ++ b) then.bytes_are
     ∙ sym (append_assoc (ended_by_lf texts) (ended_by_lf others) rest)
     ∙ ap (λ (b : List ℕ). b ++ rest) (sym (flat_map-append (λ text. text ++ 10 ∷ []) texts others)) in
-    (others, rest, record { joined = joined; lines = each-append texts others cut.lines then.lines; behind = then.behind })
+    (others, rest, record { bytes_are = bytes_are; lines = each-append texts others cut.lines then.lines; after = then.after })
 
 -- the first lines of what begins a clean log are a front
 pub front_where_clean : (accounts : Accounts) (bytes : List ℕ) (texts : List (List ℕ)) (j : ℕ) → IsCut bytes texts [] → BeginsClean accounts bytes
@@ -43,7 +43,7 @@ front_where_clean accounts bytes texts j cut (more, clean) few =
 all_lines : (accounts : Accounts) (bytes : List ℕ) (texts : List (List ℕ)) → IsCut bytes texts [] → IsFront accounts (ended_by_lf (take (length texts) texts))
     → IsFront accounts bytes
 all_lines accounts bytes texts cut front =
-    subst (λ (b : List ℕ). IsFront accounts b) (sym (cut.joined ∙ append-nil (ended_by_lf texts)))
+    subst (λ (b : List ℕ). IsFront accounts b) (sym (cut.bytes_are ∙ append-nil (ended_by_lf texts)))
     (subst (λ (ts : List (List ℕ)). IsFront accounts (ended_by_lf ts)) (take-length texts) front)
 
 pub fronts_are_what_begins : FrontsBeginClean → FrontsAreWhatBeginsCleanLogs

@@ -19,13 +19,13 @@ use Rattle.log_grammar.proofs.Openings.{one_name, login_of}
 
 -- a challenge is that of one account: the client-first message has one name
 pub one_account : HasOneClientFirst → SpellsOneName → (accounts : Accounts) → OneAccount (demands accounts)
-one_account parts names accounts m first account other text a b =
-    one_name parts names m first account other (login_of accounts m first account text a) (login_of accounts m first other text b)
+one_account one_first names accounts m first account other text a b =
+    one_name one_first names m first account other (login_of accounts m first account text a) (login_of accounts m first other text b)
 
 pub one_reading : HasOneClientFirst → SpellsOneName → (accounts : Accounts) (log : List LogLine) (place other : Place) (told also : List Told)
     → Begins (demands accounts) log place told → Begins (demands accounts) log other also → (place ≡ other) × (told ≡ also)
-one_reading parts names accounts log place other told also begins begins' =
-    read_once (demands accounts) (one_account parts names accounts) (length log) log place other told also (omega arith) begins begins'
+one_reading one_first names accounts log place other told also begins begins' =
+    read_once (demands accounts) (one_account one_first names accounts) (length log) log place other told also (omega arith) begins begins'
 
 -- what ends with a line had a place before it where the line may stand
 pub stood_before : (accounts : Accounts) (log : List LogLine) (line : LogLine) (next : Place) (all : List Told)
@@ -69,7 +69,7 @@ fronts_front accounts bytes texts k (lines, place, told, are, begins) cut =
     let pairs = take_pairs IsLogLine k texts lines (subst (λ (ts : List (List ℕ)). AllZip IsLogLine ts lines) same are.2) in
     let split = subst (λ (l : List LogLine). Begins (demands accounts) l place told) (sym (take-append-drop k lines)) begins in
     let front = front_of (demands accounts) (length (drop k lines)) (take k lines) (drop k lines) place told (omega arith) split in
-    let whole : IsCut (ended_by_lf (take k texts)) (take k texts) [] = record { joined = sym (append-nil (ended_by_lf (take k texts))); lines = take_each LacksLf k texts cut.lines; behind = refl } in
+    let whole : IsCut (ended_by_lf (take k texts)) (take k texts) [] = record { bytes_are = sym (append-nil (ended_by_lf (take k texts))); lines = take_each LacksLf k texts cut.lines; after = refl } in
     (take k lines, front.0, front.1, (take k texts, whole, pairs), front.2)
 
 pub clean_front : (accounts : Accounts) (bytes : List ℕ) → IsClean accounts bytes → IsFront accounts bytes

@@ -1,8 +1,9 @@
 -- A session goes on by one line: where the line may stand at the session's place, there is a session with
 -- that line more.
 use Rattle.std.proofs.Common.{◌≡◌, ◌⊎◌, inl, inr, ℕ, true, false, List, [], ◌∷◌, ◌++◌, refl, sym, ◌∙◌, ap, append_assoc}
-use Rattle.log_grammar.specs.Lines.{LogLine, said, heard, bad, gone, ended, mechs, cont, accepts, refuses, replies, halt, auth, auth_with, resp, abort, code}
-use Rattle.log_grammar.specs.Sessions.{Told, told_of, Session, session, Login, no_login, quits_login, with_first, without_first, Invitation, no_word, turned_away, invited, First, no_first, quits_first, begins, Answer, no_answer, refused, challenged, Proof, no_proof, quits_proof, proves, Judgement, unjudged, denied, granted, Codes, no_code, quits_codes, asked, replied, halted_at, Quit, leaves, aborts, spoils, Farewell, silent, farewell}
+use Rattle.otp_core.specs.Attempt.{OneText, TwoTexts}
+use Rattle.log_grammar.specs.Lines.{LogLine, said, heard, bad, gone, ended, mechs, cont, accepts, refuses, replies, halt, auth, auth_with, resp, abort, code, sync, asking}
+use Rattle.log_grammar.specs.Sessions.{Told, told_of, Session, session, Login, no_login, quits_login, with_first, without_first, Invitation, no_word, turned_away, invited, First, no_first, quits_first, begins, Answer, no_answer, refused, challenged, Proof, no_proof, quits_proof, proves, Judgement, unjudged, denied, granted, Codes, no_code, quits_codes, asked, replied, halted_at, Quit, departs, aborts, spoils, Farewell, silent, farewell}
 use Rattle.log_grammar.specs.Demands.{Demands}
 use Rattle.log_grammar.specs.Places.{Place, between}
 use Rattle.log_grammar.specs.Steps.{Goes, told_at}
@@ -53,9 +54,9 @@ farewell_on d (farewell text false) line next meets h = absurd h
 
 quit_on : (d : Demands) (t : Quit) (line : LogLine) (next : Place) → (quit_part d).Meets t → Goes d ((quit_part d).place t) line next
     → GoesOn (quit_part d) t line next
-quit_on d (leaves true) line next meets h = inl refl
-quit_on d (leaves false) ended next meets h = inr (record { tree = leaves true; lines = refl; at = sym h; tells = refl; good = meets })
-quit_on d (leaves false) line next meets h = absurd h
+quit_on d (departs true) line next meets h = inl refl
+quit_on d (departs false) ended next meets h = inr (record { tree = departs true; lines = refl; at = sym h; tells = refl; good = meets })
+quit_on d (departs false) line next meets h = absurd h
 quit_on d (aborts f) line next meets h =
     within (farewell_part d) (quit_part d) aborts (heard abort ∷ []) [] (λ t. refl) (λ t. refl) (λ t. refl) (λ t m. m) f line next
     (farewell_on d f line next meets h)
@@ -65,21 +66,22 @@ quit_on d (spoils f) line next meets h =
 
 codes_on : (d : Demands) (account : List ℕ) (t : Codes) (line : LogLine) (next : Place) → (codes_part d account).Meets t → Goes d ((codes_part d account).place t) line next
     → GoesOn (codes_part d account) t line next
-codes_on d account no_code (heard (code text)) next meets h = inr (record { tree = asked text; lines = refl; at = sym h; tells = refl; good = tt })
+codes_on d account no_code (heard (code text)) next meets h = inr (record { tree = asked (OneText text); lines = refl; at = sym h; tells = refl; good = tt })
+codes_on d account no_code (heard (sync first second)) next meets h = inr (record { tree = asked (TwoTexts first second); lines = refl; at = sym h; tells = refl; good = tt })
 codes_on d account no_code (heard abort) next meets h = inr (record { tree = quits_codes (aborts silent); lines = refl; at = sym h; tells = refl; good = tt })
 codes_on d account no_code bad next meets h = inr (record { tree = quits_codes (spoils silent); lines = refl; at = sym h; tells = refl; good = tt })
-codes_on d account no_code gone next meets h = inr (record { tree = quits_codes (leaves false); lines = refl; at = sym h; tells = refl; good = tt })
+codes_on d account no_code gone next meets h = inr (record { tree = quits_codes (departs false); lines = refl; at = sym h; tells = refl; good = tt })
 codes_on d account no_code line next meets h = absurd h
 codes_on d account (quits_codes q) line next meets h =
     within (quit_part d) (codes_part d account) quits_codes [] [] (λ t. refl) (λ t. refl) (λ t. refl) (λ t m. m) q line next
     (quit_on d q line next meets h)
-codes_on d account (asked text) (said (replies moment reply)) next meets h = inr (record { tree = replied text moment reply no_code; lines = refl; at = sym h; tells = refl; good = tt })
-codes_on d account (asked text) (said halt) next meets h = inr (record { tree = halted_at text; lines = refl; at = sym h; tells = refl; good = tt })
-codes_on d account (asked text) line next meets h = absurd h
-codes_on d account (replied text moment reply more) line next meets h =
-    within (codes_part d account) (codes_part d account) (replied text moment reply) (heard (code text) ∷ said (replies moment reply) ∷ []) (told_of account moment text reply ∷ []) (λ t. refl) (λ t. refl) (λ t. refl) (λ t m. m) more line next
+codes_on d account (asked sent) (said (replies moment reply)) next meets h = inr (record { tree = replied sent moment reply no_code; lines = refl; at = sym h; tells = refl; good = tt })
+codes_on d account (asked sent) (said halt) next meets h = inr (record { tree = halted_at sent; lines = refl; at = sym h; tells = refl; good = tt })
+codes_on d account (asked sent) line next meets h = absurd h
+codes_on d account (replied sent moment reply more) line next meets h =
+    within (codes_part d account) (codes_part d account) (replied sent moment reply) (heard (asking sent) ∷ said (replies moment reply) ∷ []) (told_of account moment sent reply ∷ []) (λ t. refl) (λ t. refl) (λ t. refl) (λ t m. m) more line next
     (codes_on d account more line next meets h)
-codes_on d account (halted_at text) line next meets h = absurd h
+codes_on d account (halted_at sent) line next meets h = absurd h
 
 judgement_on : (d : Demands) (m account first challenge last : List ℕ) (t : Judgement) (line : LogLine) (next : Place) → (judgement_part d m account first challenge last).Meets t → Goes d ((judgement_part d m account first challenge last).place t) line next
     → GoesOn (judgement_part d m account first challenge last) t line next
@@ -98,7 +100,7 @@ proof_on : (d : Demands) (m account first challenge : List ℕ) (t : Proof) (lin
 proof_on d m account first challenge no_proof (heard (resp last)) next meets h = inr (record { tree = proves last unjudged; lines = refl; at = sym h; tells = refl; good = tt })
 proof_on d m account first challenge no_proof (heard abort) next meets h = inr (record { tree = quits_proof (aborts silent); lines = refl; at = sym h; tells = refl; good = tt })
 proof_on d m account first challenge no_proof bad next meets h = inr (record { tree = quits_proof (spoils silent); lines = refl; at = sym h; tells = refl; good = tt })
-proof_on d m account first challenge no_proof gone next meets h = inr (record { tree = quits_proof (leaves false); lines = refl; at = sym h; tells = refl; good = tt })
+proof_on d m account first challenge no_proof gone next meets h = inr (record { tree = quits_proof (departs false); lines = refl; at = sym h; tells = refl; good = tt })
 proof_on d m account first challenge no_proof line next meets h = absurd h
 proof_on d m account first challenge (quits_proof q) line next meets h =
     within (quit_part d) (proof_part d m account first challenge) quits_proof [] [] (λ t. refl) (λ t. refl) (λ t. refl) (λ t m. m) q line next
@@ -124,7 +126,7 @@ first_on : (d : Demands) (m : List ℕ) (t : First) (line : LogLine) (next : Pla
 first_on d m no_first (heard (resp first)) next meets h = inr (record { tree = begins first no_answer; lines = refl; at = sym h; tells = refl; good = tt })
 first_on d m no_first (heard abort) next meets h = inr (record { tree = quits_first (aborts silent); lines = refl; at = sym h; tells = refl; good = tt })
 first_on d m no_first bad next meets h = inr (record { tree = quits_first (spoils silent); lines = refl; at = sym h; tells = refl; good = tt })
-first_on d m no_first gone next meets h = inr (record { tree = quits_first (leaves false); lines = refl; at = sym h; tells = refl; good = tt })
+first_on d m no_first gone next meets h = inr (record { tree = quits_first (departs false); lines = refl; at = sym h; tells = refl; good = tt })
 first_on d m no_first line next meets h = absurd h
 first_on d m (quits_first q) line next meets h =
     within (quit_part d) (first_part d m) quits_first [] [] (λ t. refl) (λ t. refl) (λ t. refl) (λ t m. m) q line next
@@ -151,7 +153,7 @@ login_on d no_login (heard (auth m)) next meets h = inr (record { tree = without
 login_on d no_login (heard (auth_with m first)) next meets h = inr (record { tree = with_first m first no_answer; lines = refl; at = sym h; tells = refl; good = tt })
 login_on d no_login (heard abort) next meets h = inr (record { tree = quits_login (aborts silent); lines = refl; at = sym h; tells = refl; good = tt })
 login_on d no_login bad next meets h = inr (record { tree = quits_login (spoils silent); lines = refl; at = sym h; tells = refl; good = tt })
-login_on d no_login gone next meets h = inr (record { tree = quits_login (leaves false); lines = refl; at = sym h; tells = refl; good = tt })
+login_on d no_login gone next meets h = inr (record { tree = quits_login (departs false); lines = refl; at = sym h; tells = refl; good = tt })
 login_on d no_login line next meets h = absurd h
 login_on d (quits_login q) line next meets h =
     within (quit_part d) (login_part d) quits_login [] [] (λ t. refl) (λ t. refl) (λ t. refl) (λ t m. m) q line next

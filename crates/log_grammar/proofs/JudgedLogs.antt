@@ -18,11 +18,11 @@ use Rattle.log_grammar.proofs.ClassLemmas.{classes_due}
 use Rattle.log_grammar.proofs.Opened.{opened_at}
 use Rattle.log_grammar.proofs.Demanded.{Settled}
 use Rattle.log_grammar.proofs.Standings.{Follows, Standing, standing_at}
-use Rattle.log_grammar.proofs.FaultLemmas.{Lead, start, lead_on, clean_at, not_at_end, not_behind_lf, end_why, text_why, among, front_ends, front_starts, line_why}
+use Rattle.log_grammar.proofs.FaultLemmas.{Lead, start, lead_on, clean_at, not_at_end, not_after_lf, end_why, text_why, among, front_ends, front_starts, line_why}
 
 -- bytes are clean, or at fault
-abbrev Judged : Accounts → List ℕ → Type 0
-Judged accounts bytes = IsClean accounts bytes ⊎ ((k : ℕ) × (why : Why) × IsWhy accounts bytes k why)
+abbrev IsCleanOrAtFault : Accounts → List ℕ → Type 0
+IsCleanOrAtFault accounts bytes = IsClean accounts bytes ⊎ ((k : ℕ) × (why : Why) × IsWhy accounts bytes k why)
 
 -- after the texts that were read, one more was read too, or is at fault
 abbrev Next : Accounts → List ℕ → List (List ℕ) → List ℕ → Type 0
@@ -66,14 +66,14 @@ next_line s accounts bytes texts text more rest first lines place told line cut 
 next_line s accounts bytes texts text more rest first lines place told line cut l is (inr (inl undue)) =
     inr (
       out_of_order,
-      line_why s.known.parts s.known.names accounts bytes texts text more rest first lines place told line out_of_order cut l is
+      line_why s.known.one_first s.known.names accounts bytes texts text more rest first lines place told line out_of_order cut l is
           (λ f. undue (class_goes accounts (first ∷ lines) place told line l.begins f))
           (inl (λ due. undue ((classes_due accounts (first ∷ lines) place told (class_of line) l.begins).0 due), refl)),
     )
 next_line s accounts bytes texts text more rest first lines place told line cut l is (inr (inr f)) =
     inr (
       f.why,
-      line_why s.known.parts s.known.names accounts bytes texts text more rest first lines place told line f.why cut l is f.stuck
+      line_why s.known.one_first s.known.names accounts bytes texts text more rest first lines place told line f.why cut l is f.stuck
           (inr ((classes_due accounts (first ∷ lines) place told (class_of line) l.begins).1 f.of_class, place, told, l.begins, f.wrong)),
     )
 
@@ -105,16 +105,16 @@ may_end_decided halted = inl tt
 may_end_decided place = inr (λ none. none)
 
 -- after the last line
-behind_all : Settled → (accounts : Accounts) (bytes : List ℕ) (texts : List (List ℕ)) (rest : List ℕ) (lines : List LogLine) (place : Place) (told : List Told)
-    → IsCut bytes texts rest → Lead accounts texts lines place told → Judged accounts bytes
-behind_all s accounts bytes texts [] lines place told cut l = elim (may_end_decided place) [
+after_all : Settled → (accounts : Accounts) (bytes : List ℕ) (texts : List (List ℕ)) (rest : List ℕ) (lines : List LogLine) (place : Place) (told : List Told)
+    → IsCut bytes texts rest → Lead accounts texts lines place told → IsCleanOrAtFault accounts bytes
+after_all s accounts bytes texts [] lines place told cut l = elim (may_end_decided place) [
   | inl ends ↦ inl (clean_at accounts bytes texts lines place told cut l ends)
   | inr unended ↦
-      let unclean = not_at_end s.known.parts s.known.names accounts bytes texts lines place told cut l unended in
+      let unclean = not_at_end s.known.one_first s.known.names accounts bytes texts lines place told cut l unended in
       inr (length texts + 1, is_cut, end_why accounts bytes texts [] lines place told is_cut cut l unclean (inl (omega arith, refl)))
 ]
-behind_all s accounts bytes texts (c ∷ rest) lines place told cut l =
-    let unclean = not_behind_lf accounts bytes texts c rest cut in
+after_all s accounts bytes texts (c ∷ rest) lines place told cut l =
+    let unclean = not_after_lf accounts bytes texts c rest cut in
     elim (cases_lt 6202 (length (c ∷ rest))) [
       | inl over ↦ inr (length texts + 1, no_line, end_why accounts bytes texts (c ∷ rest) lines place told no_line cut l unclean (inr (over, refl)))
       | inr within ↦ inr (length texts + 1, is_cut, end_why accounts bytes texts (c ∷ rest) lines place told is_cut cut l unclean (inl (within, refl)))
@@ -122,9 +122,9 @@ behind_all s accounts bytes texts (c ∷ rest) lines place told cut l =
 
 -- the texts that are left, after those that were read
 walk : Settled → (accounts : Accounts) (bytes : List ℕ) (more texts : List (List ℕ)) (rest : List ℕ) (lines : List LogLine) (place : Place) (told : List Told)
-    → IsCut bytes (texts ++ more) rest → Lead accounts texts lines place told → Judged accounts bytes
+    → IsCut bytes (texts ++ more) rest → Lead accounts texts lines place told → IsCleanOrAtFault accounts bytes
 walk s accounts bytes [] texts rest lines place told cut l =
-    behind_all s accounts bytes texts rest lines place told (subst (λ (ts : List (List ℕ)). IsCut bytes ts rest) (append-nil texts) cut) l
+    after_all s accounts bytes texts rest lines place told (subst (λ (ts : List (List ℕ)). IsCut bytes ts rest) (append-nil texts) cut) l
 walk s accounts bytes (text ∷ more) texts rest lines place told cut l =
     elim (next_text s accounts bytes texts text more rest lines place told cut l) [
       | inl on ↦ walk s accounts bytes more (texts ++ text ∷ []) rest on.0 on.1 on.2
@@ -132,6 +132,6 @@ walk s accounts bytes (text ∷ more) texts rest lines place told cut l =
       | inr fault ↦ inr (length texts + 1, fault.0, fault.1)
     ]
 
-pub each_judged : Settled → (accounts : Accounts) (bytes : List ℕ) → Judged accounts bytes
+pub each_judged : Settled → (accounts : Accounts) (bytes : List ℕ) → IsCleanOrAtFault accounts bytes
 each_judged s accounts bytes =
     let cut = cut_somehow bytes in walk s accounts bytes cut.0 [] cut.1 [] before_all [] cut.2 (start accounts)

@@ -29,6 +29,8 @@ pub mod CountLemmas
 pub mod MomentLemmas
 pub mod LoginLemmas
 pub mod ReplyLemmas
+pub mod UsedCounters
+pub mod TwoCodes
 pub mod SessionLines
 pub mod OutcomeLemmas
 pub mod LineBytes

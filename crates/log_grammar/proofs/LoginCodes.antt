@@ -2,11 +2,12 @@
 use Rattle.std.proofs.Common.{◌≡◌, inl, inr, ℕ, true, false, List, [], ◌∷◌, ◌++◌, refl, sym, ◌∙◌, ap, subst, append_assoc, append-nil}
 use Rattle.std.specs.Prelude.{flat_map}
 use Rattle.std.specs.List.{AllByRecursion}
+use Rattle.otp_core.specs.Attempt.{CodeTexts}
 use Rattle.log_grammar.specs.Lines.{LogLine, header, said, heard, mechs, cont, auth, auth_with, resp}
-use Rattle.log_grammar.specs.Sessions.{Session, session, session_lines, Told, no_login, quits_login, with_first, without_first, no_word, turned_away, invited, no_first, quits_first, begins, Answer, no_answer, refused, challenged, answer_lines, answer_told, Proof, no_proof, quits_proof, proves, proof_told, Judgement, unjudged, denied, granted, judgement_told, Codes, no_code, quits_codes, asked, replied, halted_at, codes_told, Quit, leaves, aborts, spoils, Farewell, silent, farewell}
+use Rattle.log_grammar.specs.Sessions.{Session, session, session_lines, Told, no_login, quits_login, with_first, without_first, no_word, turned_away, invited, no_first, quits_first, begins, Answer, no_answer, refused, challenged, answer_lines, answer_told, Proof, no_proof, quits_proof, proves, proof_told, Judgement, unjudged, denied, granted, judgement_told, Codes, no_code, quits_codes, asked, replied, halted_at, codes_told, Quit, departs, aborts, spoils, Farewell, silent, farewell}
 use Rattle.log_grammar.specs.Demands.{Accounts, IsFirstOf, demands, SessionMeets, AnswerMeets}
 use Rattle.log_grammar.specs.Places.{got_code, farewell_place, quit_place, codes_place, judgement_place, proof_place, answer_place, session_place}
-use Rattle.log_grammar.specs.Clean.{place_behind}
+use Rattle.log_grammar.specs.Clean.{place_after}
 use Rattle.log_grammar.specs.Headline.{HasFirst, IsLoginOf, EachCodeIsOfItsLogin, EndsInLoginOf, EachCodeHasItsLogin}
 use Rattle.log_grammar.proofs.Openings.{login_of}
 
@@ -17,9 +18,9 @@ AllOf account told = AllByRecursion (λ t. t.account ≡ account) told
 by_codes : (account : List ℕ) (c : Codes) → AllOf account (codes_told account c)
 by_codes account no_code = tt
 by_codes account (quits_codes q) = tt
-by_codes account (asked text) = tt
-by_codes account (replied text moment reply more) = (refl, by_codes account more)
-by_codes account (halted_at text) = tt
+by_codes account (asked sent) = tt
+by_codes account (replied sent moment reply more) = (refl, by_codes account more)
+by_codes account (halted_at sent) = tt
 
 by_judgement : (account : List ℕ) (j : Judgement) → AllOf account (judgement_told account j)
 by_judgement account unjudged = tt
@@ -63,76 +64,76 @@ each_code accounts (session names (without_first m (invited text (begins first a
     (names, heard (auth m) ∷ said (cont []) ∷ heard (resp first) ∷ [], answer_lines a, inr refl, ap lines meets.1.0.1) meets.1.1
 
 -- after a client that ends the session no code waits for a reply
-farewell_no_code : (f : Farewell) (account text : List ℕ) → farewell_place f ≡ got_code account text → ⊥
-farewell_no_code silent account text e = cc e
-farewell_no_code (farewell message true) account text e = cc e
-farewell_no_code (farewell message false) account text e = cc e
+farewell_no_code : (f : Farewell) (account : List ℕ) (sent : CodeTexts) → farewell_place f ≡ got_code account sent → ⊥
+farewell_no_code silent account sent e = cc e
+farewell_no_code (farewell message true) account sent e = cc e
+farewell_no_code (farewell message false) account sent e = cc e
 
-quit_no_code : (q : Quit) (account text : List ℕ) → quit_place q ≡ got_code account text → ⊥
-quit_no_code (leaves true) account text e = cc e
-quit_no_code (leaves false) account text e = cc e
-quit_no_code (aborts f) account text e = farewell_no_code f account text e
-quit_no_code (spoils f) account text e = farewell_no_code f account text e
+quit_no_code : (q : Quit) (account : List ℕ) (sent : CodeTexts) → quit_place q ≡ got_code account sent → ⊥
+quit_no_code (departs true) account sent e = cc e
+quit_no_code (departs false) account sent e = cc e
+quit_no_code (aborts f) account sent e = farewell_no_code f account sent e
+quit_no_code (spoils f) account sent e = farewell_no_code f account sent e
 
 -- the account of a code that comes last
-last_code : (own : List ℕ) (c : Codes) (account text : List ℕ) → codes_place own c ≡ got_code account text → own ≡ account
-last_code own no_code account text e = absurd (cc e)
-last_code own (quits_codes q) account text e = absurd (quit_no_code q account text e)
-last_code own (asked word) account text e = cc e
-last_code own (replied word moment reply more) account text e = last_code own more account text e
-last_code own (halted_at word) account text e = absurd (cc e)
+last_code : (own : List ℕ) (c : Codes) (account : List ℕ) (sent : CodeTexts) → codes_place own c ≡ got_code account sent → own ≡ account
+last_code own no_code account sent e = absurd (cc e)
+last_code own (quits_codes q) account sent e = absurd (quit_no_code q account sent e)
+last_code own (asked word) account sent e = cc e
+last_code own (replied word moment reply more) account sent e = last_code own more account sent e
+last_code own (halted_at word) account sent e = absurd (cc e)
 
-last_judged : (m own first challenge last : List ℕ) (j : Judgement) (account text : List ℕ) → judgement_place m own first challenge last j ≡ got_code account text
+last_judged : (m own first challenge last : List ℕ) (j : Judgement) (account : List ℕ) (sent : CodeTexts) → judgement_place m own first challenge last j ≡ got_code account sent
     → own ≡ account
-last_judged m own first challenge last unjudged account text e = absurd (cc e)
-last_judged m own first challenge last (denied message true) account text e = absurd (cc e)
-last_judged m own first challenge last (denied message false) account text e = absurd (cc e)
-last_judged m own first challenge last (granted message c) account text e = last_code own c account text e
+last_judged m own first challenge last unjudged account sent e = absurd (cc e)
+last_judged m own first challenge last (denied message true) account sent e = absurd (cc e)
+last_judged m own first challenge last (denied message false) account sent e = absurd (cc e)
+last_judged m own first challenge last (granted message c) account sent e = last_code own c account sent e
 
-last_proved : (m own first challenge : List ℕ) (p : Proof) (account text : List ℕ) → proof_place m own first challenge p ≡ got_code account text → own ≡ account
-last_proved m own first challenge no_proof account text e = absurd (cc e)
-last_proved m own first challenge (quits_proof q) account text e = absurd (quit_no_code q account text e)
-last_proved m own first challenge (proves last j) account text e = last_judged m own first challenge last j account text e
+last_proved : (m own first challenge : List ℕ) (p : Proof) (account : List ℕ) (sent : CodeTexts) → proof_place m own first challenge p ≡ got_code account sent → own ≡ account
+last_proved m own first challenge no_proof account sent e = absurd (cc e)
+last_proved m own first challenge (quits_proof q) account sent e = absurd (quit_no_code q account sent e)
+last_proved m own first challenge (proves last j) account sent e = last_judged m own first challenge last j account sent e
 
-last_answered : (accounts : Accounts) (m first : List ℕ) (a : Answer) (account text : List ℕ) → AnswerMeets (demands accounts) m first a
-    → answer_place m first a ≡ got_code account text → IsFirstOf m first account
-last_answered accounts m first no_answer account text meets e = absurd (cc e)
-last_answered accounts m first (refused message true) account text meets e = absurd (cc e)
-last_answered accounts m first (refused message false) account text meets e = absurd (cc e)
-last_answered accounts m first (challenged own challenge p) account text meets e =
-    subst (IsFirstOf m first) (last_proved m own first challenge p account text e) (login_of accounts m first own challenge meets.0)
+last_answered : (accounts : Accounts) (m first : List ℕ) (a : Answer) (account : List ℕ) (sent : CodeTexts) → AnswerMeets (demands accounts) m first a
+    → answer_place m first a ≡ got_code account sent → IsFirstOf m first account
+last_answered accounts m first no_answer account sent meets e = absurd (cc e)
+last_answered accounts m first (refused message true) account sent meets e = absurd (cc e)
+last_answered accounts m first (refused message false) account sent meets e = absurd (cc e)
+last_answered accounts m first (challenged own challenge p) account sent meets e =
+    subst (IsFirstOf m first) (last_proved m own first challenge p account sent e) (login_of accounts m first own challenge meets.0)
 
 -- the login of a session whose last line is a code
-login_at : (accounts : Accounts) (s : Session) (account text : List ℕ) → SessionMeets (demands accounts) s → session_place s ≡ got_code account text
+login_at : (accounts : Accounts) (s : Session) (account : List ℕ) (sent : CodeTexts) → SessionMeets (demands accounts) s → session_place s ≡ got_code account sent
     → IsLoginOf s account
-login_at accounts (session names no_login) account text meets e = absurd (cc e)
-login_at accounts (session names (quits_login q)) account text meets e = absurd (quit_no_code q account text e)
-login_at accounts (session names (with_first m first a)) account text meets e =
-    (m, first, (names, heard (auth_with m first) ∷ [], answer_lines a, inl refl, refl), last_answered accounts m first a account text meets.1 e)
-login_at accounts (session names (without_first m no_word)) account text meets e = absurd (cc e)
-login_at accounts (session names (without_first m (turned_away message true))) account text meets e = absurd (cc e)
-login_at accounts (session names (without_first m (turned_away message false))) account text meets e = absurd (cc e)
-login_at accounts (session names (without_first m (invited message no_first))) account text meets e = absurd (cc e)
-login_at accounts (session names (without_first m (invited message (quits_first q)))) account text meets e = absurd (quit_no_code q account text e)
-login_at accounts (session names (without_first m (invited message (begins first a)))) account text meets e =
+login_at accounts (session names no_login) account sent meets e = absurd (cc e)
+login_at accounts (session names (quits_login q)) account sent meets e = absurd (quit_no_code q account sent e)
+login_at accounts (session names (with_first m first a)) account sent meets e =
+    (m, first, (names, heard (auth_with m first) ∷ [], answer_lines a, inl refl, refl), last_answered accounts m first a account sent meets.1 e)
+login_at accounts (session names (without_first m no_word)) account sent meets e = absurd (cc e)
+login_at accounts (session names (without_first m (turned_away message true))) account sent meets e = absurd (cc e)
+login_at accounts (session names (without_first m (turned_away message false))) account sent meets e = absurd (cc e)
+login_at accounts (session names (without_first m (invited message no_first))) account sent meets e = absurd (cc e)
+login_at accounts (session names (without_first m (invited message (quits_first q)))) account sent meets e = absurd (quit_no_code q account sent e)
+login_at accounts (session names (without_first m (invited message (begins first a)))) account sent meets e =
     let lines = λ (t : List ℕ). said (mechs names) ∷ heard (auth m) ∷ said (cont t) ∷ heard (resp first) ∷ answer_lines a in (
       m,
       first,
       (names, heard (auth m) ∷ said (cont []) ∷ heard (resp first) ∷ [], answer_lines a, inr refl, ap lines meets.1.0.1),
-      last_answered accounts m first a account text meets.1.1 e,
+      last_answered accounts m first a account sent meets.1.1 e,
     )
 
 -- the last of the sessions, after the others
-login_last : (accounts : Accounts) (sessions : List Session) (account text : List ℕ) → AllByRecursion (SessionMeets (demands accounts)) sessions
-    → place_behind sessions ≡ got_code account text → EndsInLoginOf (flat_map session_lines sessions) account
-login_last accounts [] account text good e = absurd (cc e)
-login_last accounts (s ∷ []) account text good e = (s, ([], append-nil (session_lines s)), login_at accounts s account text good.0 e)
-login_last accounts (s ∷ t ∷ more) account text good e =
-    let (last, (before, same), login) = login_last accounts (t ∷ more) account text good.1 e in
+login_last : (accounts : Accounts) (sessions : List Session) (account : List ℕ) (sent : CodeTexts) → AllByRecursion (SessionMeets (demands accounts)) sessions
+    → place_after sessions ≡ got_code account sent → EndsInLoginOf (flat_map session_lines sessions) account
+login_last accounts [] account sent good e = absurd (cc e)
+login_last accounts (s ∷ []) account sent good e = (s, ([], append-nil (session_lines s)), login_at accounts s account sent good.0 e)
+login_last accounts (s ∷ t ∷ more) account sent good e =
+    let (last, (before, same), login) = login_last accounts (t ∷ more) account sent good.1 e in
     (last, (session_lines s ++ before, ap (λ (l : List LogLine). session_lines s ++ l) same ∙ sym (append_assoc (session_lines s) before (session_lines last))), login)
 
 pub code_has_login : EachCodeHasItsLogin
-code_has_login accounts log account text told (inl none) = absurd (cc none.1)
-code_has_login accounts log account text told (inr s) =
-    let (last, (before, same), login) = login_last accounts s.sessions account text s.good (sym s.behind) in
+code_has_login accounts log account sent told (inl none) = absurd (cc none.1)
+code_has_login accounts log account sent told (inr s) =
+    let (last, (before, same), login) = login_last accounts s.sessions account sent s.good (sym s.after) in
     (last, (header ∷ before, s.lines ∙ ap (λ (l : List LogLine). header ∷ l) same), login)

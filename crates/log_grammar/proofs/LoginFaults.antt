@@ -1,15 +1,15 @@
 -- Valid logins that a log has as refused, and codes after them that it has answered by another reply.
 use Rattle.std.proofs.Common.{◌≡◌, inr, ℕ, List, [], ◌∷◌, ◌++◌, refl, sym, subst}
 use Rattle.std.specs.declared.option.Option.{Option}
-use Rattle.mac_core.specs.Chosen.{name_of}
-use Rattle.mac_core.specs.declared.chosen.Mechanism.{Mechanism}
+use Rattle.mac_core.specs.Mechanism.{name_of}
+use Rattle.mac_core.specs.declared.mechanism.Mechanism.{Mechanism}
 use Rattle.scram_ends.specs.Verdict.{accept, refuse}
 use Rattle.scram_ends.specs.Login.{IsAuthentic}
 use Rattle.scram_ends.specs.Laws.{AcceptsExactlyValid}
+use Rattle.otp_core.specs.Attempt.{CodeTexts}
 use Rattle.otp_core.specs.Secret.{IsMoment}
 use Rattle.otp_core.specs.declared.token.answer.Reply.{Reply}
-use Rattle.log_grammar.specs.Words.{IsCodeWord}
-use Rattle.log_grammar.specs.Lines.{header, said, heard, refuses, replies, code, log_text, IsReplyInRange, IsLogLine}
+use Rattle.log_grammar.specs.Lines.{header, said, heard, refuses, replies, asking, log_text, IsReplyInRange, IsClientInRange, IsLogLine}
 use Rattle.log_grammar.specs.Demands.{Accounts, IsReplyBy}
 use Rattle.log_grammar.specs.Places.{got_final, got_code}
 use Rattle.log_grammar.specs.Why.{other_outcome, other_reply, accepted, of_words, of_replies, IsWhy}
@@ -20,46 +20,46 @@ use Rattle.log_grammar.proofs.LineBytes.{text_lacks, reply_line}
 use Rattle.log_grammar.proofs.FaultLemmas.{last_why}
 use Rattle.log_grammar.proofs.LoginLemmas.{granted, lead_tried, lead_asked, by_name}
 
-refused_by : Known → AcceptsExactlyValid → (accounts : Accounts) (m : Mechanism) (name t1 t2 t3 t4 message : List ℕ) → IsLoginTo accounts (name_of m) name t1 t2 t3 t4
+refused_by : Known → AcceptsExactlyValid → (accounts : Accounts) (m : Mechanism) (name client_first server_first client_final server_final message : List ℕ) → IsLoginTo accounts (name_of m) name client_first server_first client_final server_final
     → IsLogLine (log_text (said (refuses message))) (said (refuses message))
-    → (signature : List ℕ) × IsAuthentic t4 signature
-    × IsWhy accounts (log_bytes (tried_log (name_of m) t1 t2 t3 ++ said (refuses message) ∷ [])) 6 (other_outcome (accepted signature))
-refused_by known valid accounts m name t1 t2 t3 t4 message l is =
-    let (signature, due, authentic) = granted valid accounts (name_of m) name t1 t2 t3 t4 l in
-    let lead = lead_tried accounts m name t1 t2 t3 t4 l in
-    let at = got_final (name_of m) name t1 t2 t3 in
+    → (signature : List ℕ) × IsAuthentic server_final signature
+    × IsWhy accounts (log_bytes (tried_log (name_of m) client_first server_first client_final ++ said (refuses message) ∷ [])) 6 (other_outcome (accepted signature))
+refused_by known valid accounts m name client_first server_first client_final server_final message l is =
+    let (signature, due, authentic) = granted valid accounts (name_of m) name client_first server_first client_final server_final l in
+    let lead = lead_tried accounts m name client_first server_first client_final server_final l in
+    let at = got_final (name_of m) name client_first server_first client_final in
     let line = said (refuses message) in (
       signature,
       authentic,
-      last_why known.parts known.names accounts _ header _ at [] (log_text line) line (other_outcome (accepted signature)) lead is
+      last_why known.one_first known.names accounts _ header _ at [] (log_text line) line (other_outcome (accepted signature)) lead is
           (text_lacks (log_text line) line is)
           (λ f.
-          let wrong = verdict_once known accounts (name_of m) name t1 t2 t3 (accept signature) (refuse f.goes.0.0) due f.goes.0.1 in cc wrong)
+          let wrong = verdict_once known accounts (name_of m) name client_first server_first client_final (accept signature) (refuse f.goes.0.0) due f.goes.0.1 in cc wrong)
           (inr ((classes_due accounts _ at [] of_words lead.begins).1 refl, at, [], lead.begins, (accept signature, due, refl))),
     )
 
 pub refused_logins : Known → AcceptsExactlyValid → RefusedLoginsAreAtFault
-refused_logins known valid accounts mechanism name t1 t2 t3 t4 message l is =
-    subst (λ (mech : List ℕ). (signature : List ℕ) × IsAuthentic t4 signature
-    × IsWhy accounts (log_bytes (tried_log mech t1 t2 t3 ++ said (refuses message) ∷ [])) 6 (other_outcome (accepted signature))) (sym l.offered)
-    (refused_by known valid accounts l.m name t1 t2 t3 t4 message (by_name accounts mechanism name t1 t2 t3 t4 l) is)
+refused_logins known valid accounts mechanism name client_first server_first client_final server_final message l is =
+    subst (λ (mech : List ℕ). (signature : List ℕ) × IsAuthentic server_final signature
+    × IsWhy accounts (log_bytes (tried_log mech client_first server_first client_final ++ said (refuses message) ∷ [])) 6 (other_outcome (accepted signature))) (sym l.offered)
+    (refused_by known valid accounts l.m name client_first server_first client_final server_final message (by_name accounts mechanism name client_first server_first client_final server_final l) is)
 
-answered_by : Known → AcceptsExactlyValid → (accounts : Accounts) (m : Mechanism) (name t1 t2 t3 t4 text : List ℕ) (moment : ℕ) (reply due : Option Reply)
-    → IsLoginTo accounts (name_of m) name t1 t2 t3 t4 → IsCodeWord text → IsMoment moment → IsReplyInRange reply
-    → IsReplyBy (accounts.token name) [] moment text due → (reply ≡ due → ⊥)
-    → IsWhy accounts (log_bytes (login_log (name_of m) t1 t2 t3 t4 ++ heard (code text) ∷ said (replies moment reply) ∷ [])) 8 (other_reply moment due)
-answered_by known valid accounts m name t1 t2 t3 t4 text moment reply due l is at range by other =
-    let lead = lead_asked valid accounts m name t1 t2 t3 t4 text l is in
-    let place = got_code name text in
+answered_by : Known → AcceptsExactlyValid → (accounts : Accounts) (m : Mechanism) (name client_first server_first client_final server_final : List ℕ) (sent : CodeTexts) (moment : ℕ) (reply due : Option Reply)
+    → IsLoginTo accounts (name_of m) name client_first server_first client_final server_final → IsClientInRange (asking sent) → IsMoment moment → IsReplyInRange reply
+    → IsReplyBy (accounts.token name) [] moment sent due → (reply ≡ due → ⊥)
+    → IsWhy accounts (log_bytes (login_log (name_of m) client_first server_first client_final server_final ++ heard (asking sent) ∷ said (replies moment reply) ∷ [])) 8 (other_reply moment due)
+answered_by known valid accounts m name client_first server_first client_final server_final sent moment reply due l is at range by other =
+    let lead = lead_asked valid accounts m name client_first server_first client_final server_final sent l is in
+    let place = got_code name sent in
     let line = said (replies moment reply) in
     let spelled = reply_line moment reply at range in
-    last_why known.parts known.names accounts _ header _ place [] (log_text line) line (other_reply moment due) lead spelled
+    last_why known.one_first known.names accounts _ header _ place [] (log_text line) line (other_reply moment due) lead spelled
     (text_lacks (log_text line) line spelled)
-    (λ f. other (reply_once known (accounts.token name) [] moment text reply due f.due.0 by))
+    (λ f. other (reply_once known (accounts.token name) [] moment sent reply due f.due.0 by))
     (inr ((classes_due accounts _ place [] of_replies lead.begins).1 refl, place, [], lead.begins, (due, by, refl)))
 
 pub other_replies : Known → AcceptsExactlyValid → OtherRepliesAreAtFault
-other_replies known valid accounts mechanism name t1 t2 t3 t4 text moment reply due l is at range by other =
-    subst (λ (mech : List ℕ). IsWhy accounts (log_bytes (login_log mech t1 t2 t3 t4 ++ heard (code text) ∷ said (replies moment reply) ∷ [])) 8 (other_reply moment due))
+other_replies known valid accounts mechanism name client_first server_first client_final server_final sent moment reply due l is at range by other =
+    subst (λ (mech : List ℕ). IsWhy accounts (log_bytes (login_log mech client_first server_first client_final server_final ++ heard (asking sent) ∷ said (replies moment reply) ∷ [])) 8 (other_reply moment due))
     (sym l.offered)
-    (answered_by known valid accounts l.m name t1 t2 t3 t4 text moment reply due (by_name accounts mechanism name t1 t2 t3 t4 l) is at range by other)
+    (answered_by known valid accounts l.m name client_first server_first client_final server_final sent moment reply due (by_name accounts mechanism name client_first server_first client_final server_final l) is at range by other)

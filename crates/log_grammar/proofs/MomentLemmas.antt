@@ -20,9 +20,9 @@ Timed told = AllByRecursion (λ t. IsMoment t.moment) told
 of_codes : (account : List ℕ) (c : Codes) → Ranged (codes_lines c) → Timed (codes_told account c)
 of_codes account no_code h = tt
 of_codes account (quits_codes q) h = tt
-of_codes account (asked text) h = tt
-of_codes account (replied text moment reply more) h = (h.1.0.0, of_codes account more h.1.1)
-of_codes account (halted_at text) h = tt
+of_codes account (asked sent) h = tt
+of_codes account (replied sent moment reply more) h = (h.1.0.0, of_codes account more h.1.1)
+of_codes account (halted_at sent) h = tt
 
 of_judgement : (account : List ℕ) (j : Judgement) → Ranged (judgement_lines j) → Timed (judgement_told account j)
 of_judgement account unjudged h = tt
@@ -62,15 +62,15 @@ parted : {A : Type 0} (P : A → Type 0) (front back : List A) → AllByRecursio
 parted P [] back h = (tt, h)
 parted P (a ∷ front) back h = let more = parted P front back h.1 in ((h.0, more.0), more.1)
 
-joined : {A : Type 0} (P : A → Type 0) (front back : List A) → AllByRecursion P front → AllByRecursion P back → AllByRecursion P (front ++ back)
-joined P [] back h k = k
-joined P (a ∷ front) back h k = (h.0, joined P front back h.1 k)
+all_append : {A : Type 0} (P : A → Type 0) (front back : List A) → AllByRecursion P front → AllByRecursion P back → AllByRecursion P (front ++ back)
+all_append P [] back h k = k
+all_append P (a ∷ front) back h k = (h.0, all_append P front back h.1 k)
 
 pub of_sessions : (sessions : List Session) → Ranged (flat_map session_lines sessions) → Timed (flat_map session_told sessions)
 of_sessions [] h = tt
 of_sessions (s ∷ sessions) h =
     let both = parted IsLogInRange (session_lines s) (flat_map session_lines sessions) h in
-    joined (λ t. IsMoment t.moment) (session_told s) (flat_map session_told sessions) (of_session s both.0) (of_sessions sessions both.1)
+    all_append (λ t. IsMoment t.moment) (session_told s) (flat_map session_told sessions) (of_session s both.0) (of_sessions sessions both.1)
 
 ranged : (texts : List (List ℕ)) (lines : List LogLine) → AllZip IsLogLine texts lines → Ranged lines
 ranged [] [] h = tt

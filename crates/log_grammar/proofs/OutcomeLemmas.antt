@@ -1,10 +1,12 @@
 -- The server's lines one by one: from which place each goes on.
 use Rattle.std.proofs.Common.{◌≡◌, inl, inr, ℕ, zero, suc, ◌≤◌, List, [], ◌∷◌, ◌++◌, length, reverse, refl, sym, ◌∙◌, ap, subst, arith, append_assoc, append-nil}
 use Rattle.std.specs.declared.option.Option.{Option}
-use Rattle.mac_core.specs.declared.chosen.Mechanism.{Mechanism}
+use Rattle.mac_core.specs.declared.mechanism.Mechanism.{Mechanism}
+use Rattle.scram_ends.specs.Stages.{challenged_login}
 use Rattle.scram_ends.specs.Verdict.{accept, refuse, IsDue}
 use Rattle.scram_ends.specs.Laws.{AtMostOneIsDue, AcceptsExactlyValid}
 use Rattle.scram_ends.specs.declared.verdict.Refusal.{Refusal}
+use Rattle.otp_core.specs.Attempt.{CodeTexts}
 use Rattle.otp_core.specs.declared.token.answer.Reply.{Reply}
 use Rattle.log_grammar.specs.Lines.{LogLine, said, mechs, cont, refuses, replies, halt}
 use Rattle.log_grammar.specs.Sessions.{Told}
@@ -32,8 +34,8 @@ on_quietly accounts log at told line next none begins goes =
     subst (λ (t : List Told). Begins (demands accounts) (log ++ line ∷ []) next t) same (goes_on (demands accounts) log at told line next begins goes due)
 
 -- what was told in a log's first lines comes first
-behind : (told before rest tells : List Told) → before ≡ told ++ rest → before ++ tells ≡ told ++ (rest ++ tells)
-behind told before rest tells same = ap (λ (l : List Told). l ++ tells) same ∙ append_assoc told rest tells
+told_before : (told before rest tells : List Told) → before ≡ told ++ rest → before ++ tells ≡ told ++ (rest ++ tells)
+told_before told before rest tells same = ap (λ (l : List Told). l ++ tells) same ∙ append_assoc told rest tells
 
 pub told_first : (accounts : Accounts) (n : ℕ) (log more : List LogLine) (place : Place) (told : List Told) → length more ≤ n
     → Begins (demands accounts) (log ++ more) place told
@@ -48,7 +50,7 @@ told_first accounts (suc n) log (x ∷ more) place told short begins =
     let s = stood_before accounts (log ++ last.0) last.1 place told (subst (λ (l : List LogLine). Begins (demands accounts) l place told) split begins) in
     let less = told_first accounts n log last.0 s.place s.told shorter s.begins in
     let tells = told_at s.place last.1 in
-    (less.0, less.1, less.2 ++ tells, less.3, s.tells ∙ behind less.1 s.told less.2 tells less.4)
+    (less.0, less.1, less.2 ++ tells, less.3, s.tells ∙ told_before less.1 s.told less.2 tells less.4)
 
 pub first_lines : FirstLinesBeginLogs
 first_lines accounts lines more place told begins = told_first accounts (length more) lines more place told (omega arith) begins
@@ -94,13 +96,13 @@ each_challenge accounts log text next told = (
 )
 
 -- from where NO goes on, and that it then follows no valid login
-invalid : AtMostOneIsDue → AcceptsExactlyValid → (accounts : Accounts) (mechanism name t1 t2 t3 : List ℕ) (why : Refusal)
-    → IsVerdict accounts mechanism name t1 t2 t3 (refuse why) → (t4 : List ℕ) → IsLoginTo accounts mechanism name t1 t2 t3 t4 → ⊥
-invalid once valid accounts mechanism name t1 t2 t3 why (m, named, due) t4 l =
+invalid : AtMostOneIsDue → AcceptsExactlyValid → (accounts : Accounts) (mechanism name client_first server_first client_final : List ℕ) (why : Refusal)
+    → IsVerdict accounts mechanism name client_first server_first client_final (refuse why) → (server_final : List ℕ) → IsLoginTo accounts mechanism name client_first server_first client_final server_final → ⊥
+invalid once valid accounts mechanism name client_first server_first client_final why (m, named, due) server_final l =
     let same = mechanism_once l.m m (sym l.offered ∙ named) in
-    let accepted = (valid (accounts.entry l.m name) l.m t1 t2 t3 t4).1 l.login in
-    let here = subst (λ (k : Mechanism). IsDue (accounts.entry k name) k t1 t2 t3 (accept accepted.0)) same accepted.1 in
-    let wrong = once (accounts.entry m name) m t1 t2 t3 (refuse why) (accept accepted.0) due here in cc wrong
+    let accepted = (valid (challenged_login (accounts.entry l.m name) l.m client_first server_first) client_final server_final).1 l.login in
+    let here = subst (λ (k : Mechanism). IsDue (challenged_login (accounts.entry k name) k client_first server_first) client_final (accept accepted.0)) same accepted.1 in
+    let wrong = once (challenged_login (accounts.entry m name) m client_first server_first) client_final (refuse why) (accept accepted.0) due here in cc wrong
 
 no_from : AtMostOneIsDue → AcceptsExactlyValid → (accounts : Accounts) (log : List LogLine) (text : List ℕ) (next at : Place) (all told : List Told)
     → all ≡ told ++ told_at at (said (refuses text)) → Begins (demands accounts) log at told → Goes (demands accounts) at (said (refuses text)) next
@@ -109,9 +111,9 @@ no_from once valid accounts log text next (asks_bare m) all told same b goes =
     (inl (m, quiet accounts log (asks_bare m) all told same b, goes.0.0, goes.0.1), goes.1)
 no_from once valid accounts log text next (got_first m first) all told same b goes =
     (inr (inl (m, first, quiet accounts log (got_first m first) all told same b, goes.0.0, goes.0.1)), goes.1)
-no_from once valid accounts log text next (got_final m name t1 t2 t3) all told same b goes =
+no_from once valid accounts log text next (got_final m name client_first server_first client_final) all told same b goes =
     let (why, is, due) = goes.0 in
-    (inr (inr (inl (m, name, t1, t2, t3, quiet accounts log (got_final m name t1 t2 t3) all told same b, (why, is, due), invalid once valid accounts m name t1 t2 t3 why is))), goes.1)
+    (inr (inr (inl (m, name, client_first, server_first, client_final, quiet accounts log (got_final m name client_first server_first client_final) all told same b, (why, is, due), invalid once valid accounts m name client_first server_first client_final why is))), goes.1)
 no_from once valid accounts log text next leaving all told same b goes = (inr (inr (inr (quiet accounts log leaving all told same b, goes.0))), goes.1)
 no_from once valid accounts log text next at all told same b goes = absurd goes
 
@@ -121,8 +123,8 @@ no_on accounts log text next told (inl (m, begins, none, bare)) at =
     on_quietly accounts log (asks_bare m) told (said (refuses text)) next refl begins ((none, bare), at)
 no_on accounts log text next told (inr (inl (m, first, begins, none, bare))) at =
     on_quietly accounts log (got_first m first) told (said (refuses text)) next refl begins ((none, bare), at)
-no_on accounts log text next told (inr (inr (inl (m, name, t1, t2, t3, begins, is, invalid)))) at =
-    on_quietly accounts log (got_final m name t1 t2 t3) told (said (refuses text)) next refl begins (is, at)
+no_on accounts log text next told (inr (inr (inl (m, name, client_first, server_first, client_final, begins, is, invalid)))) at =
+    on_quietly accounts log (got_final m name client_first server_first client_final) told (said (refuses text)) next refl begins (is, at)
 no_on accounts log text next told (inr (inr (inr (begins, bare)))) at =
     on_quietly accounts log leaving told (said (refuses text)) next refl begins (bare, at)
 
@@ -138,8 +140,8 @@ each_refusal once valid accounts log text next told = (
 reply_from : (accounts : Accounts) (log : List LogLine) (moment : ℕ) (reply : Option Reply) (next at : Place) (all told : List Told)
     → all ≡ told ++ told_at at (said (replies moment reply)) → AreReplies (demands accounts) (reverse told) (told_at at (said (replies moment reply)))
     → Begins (demands accounts) log at told → Goes (demands accounts) at (said (replies moment reply)) next → IsReplied accounts log moment reply next all
-reply_from accounts log moment reply next (got_code account text) all told same due b goes =
-    record { account = account; text = text; told = told; behind = b; due = due.0; tells = same; is_next = goes }
+reply_from accounts log moment reply next (got_code account sent) all told same due b goes =
+    record { account = account; sent = sent; told = told; after = b; due = due.0; tells = same; is_next = goes }
 reply_from accounts log moment reply next at all told same due b goes = absurd goes
 
 pub each_reply : EachReplyIsDue
@@ -149,17 +151,17 @@ each_reply accounts log moment reply next all = (
       reply_from accounts log moment reply next s.place all s.told s.tells s.due s.begins s.goes,
   λ r.
       subst (λ (t : List Told). Begins (demands accounts) (log ++ said (replies moment reply) ∷ []) next t) (sym r.tells)
-      (goes_on (demands accounts) log (got_code r.account r.text) r.told (said (replies moment reply)) next r.behind r.is_next (r.due, tt)),
+      (goes_on (demands accounts) log (got_code r.account r.sent) r.told (said (replies moment reply)) next r.after r.is_next (r.due, tt)),
 )
 
 -- from where HALT goes on
 abbrev EndsCode : Accounts → List LogLine → Place → List Told → Type 0
 EndsCode accounts log next told =
-    (account : List ℕ) × (text : List ℕ) × Begins (demands accounts) log (got_code account text) told × (next ≡ halted)
+    (account : List ℕ) × (sent : CodeTexts) × Begins (demands accounts) log (got_code account sent) told × (next ≡ halted)
 
 halt_from : (accounts : Accounts) (log : List LogLine) (next at : Place) (all told : List Told) → all ≡ told ++ told_at at (said halt)
     → Begins (demands accounts) log at told → Goes (demands accounts) at (said halt) next → EndsCode accounts log next all
-halt_from accounts log next (got_code account text) all told same b goes = (account, text, quiet accounts log (got_code account text) all told same b, goes)
+halt_from accounts log next (got_code account sent) all told same b goes = (account, sent, quiet accounts log (got_code account sent) all told same b, goes)
 halt_from accounts log next at all told same b goes = absurd goes
 
 pub each_halt : EachHaltEndsACode

@@ -1,7 +1,7 @@
 -- A log is read in one way: its place and what was told in it follow from its lines. Its first lines are
 -- again lines that a log may begin with.
 use Rattle.std.proofs.Common.{◌≡◌, inl, inr, ℕ, zero, suc, ◌≤◌, List, [], ◌∷◌, ◌++◌, length, sym, ◌∙◌, ap, subst, arith, append_assoc, append-nil}
-use Rattle.log_grammar.specs.Lines.{LogLine, header, said, heard, bad, gone, ended, mechs, cont, accepts, refuses, replies, halt, auth, auth_with, resp, abort, code}
+use Rattle.log_grammar.specs.Lines.{LogLine, header, said, heard, bad, gone, ended, mechs, cont, accepts, refuses, replies, halt, auth, auth_with, resp, abort, code, sync}
 use Rattle.log_grammar.specs.Sessions.{Told}
 use Rattle.log_grammar.specs.Demands.{Demands}
 use Rattle.log_grammar.specs.Places.{Place, before_all, between, offered, asks_bare, waits_first, got_first, waits_final, got_final, waits_code, got_code, leaving, over, halted}
@@ -62,6 +62,7 @@ final_once d m account first challenge last line p q h k = absurd h
 
 waits_code_once : (account : List ℕ) (line : LogLine) (p q : Place) → FromWaitsCode account line p → FromWaitsCode account line q → p ≡ q
 waits_code_once account (heard (code text)) p q h k = h ∙ sym k
+waits_code_once account (heard (sync first second)) p q h k = h ∙ sym k
 waits_code_once account (heard abort) p q h k = h ∙ sym k
 waits_code_once account bad p q h k = h ∙ sym k
 waits_code_once account gone p q h k = h ∙ sym k
@@ -99,7 +100,7 @@ goes_once d one (got_first m first) line p q h k = first_once d one m first line
 goes_once d one (waits_final m account first challenge) line p q h k = waits_final_once m account first challenge line p q h k
 goes_once d one (got_final m account first challenge last) line p q h k = final_once d m account first challenge last line p q h k
 goes_once d one (waits_code account) line p q h k = waits_code_once account line p q h k
-goes_once d one (got_code account text) line p q h k = code_once account line p q h k
+goes_once d one (got_code account sent) line p q h k = code_once account line p q h k
 goes_once d one leaving line p q h k = leaving_once d line p q h k
 goes_once d one over line p q h k = over_once line p q h k
 goes_once d one halted line p q h k = absurd h

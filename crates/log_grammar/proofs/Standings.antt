@@ -3,12 +3,13 @@ use Rattle.std.proofs.Common.{◌≡◌, ◌⊎◌, inl, inr, ℕ, List, [], rev
 use Rattle.std.specs.Prelude.{codes}
 use Rattle.scram_text.proofs.DecisionLemmas.{Decided, decided_both, decided_same}
 use Rattle.scram_ends.specs.Verdict.{Due}
-use Rattle.log_grammar.specs.Lines.{LogLine, header, said, heard, bad, gone, ended, mechs, cont, accepts, refuses, replies, halt, auth, auth_with, resp, abort, code}
+use Rattle.otp_core.specs.Attempt.{CodeTexts, OneText, TwoTexts}
+use Rattle.log_grammar.specs.Lines.{LogLine, header, said, heard, bad, gone, ended, mechs, cont, accepts, refuses, replies, halt, auth, auth_with, resp, abort, code, sync}
 use Rattle.log_grammar.specs.Sessions.{Told, told_of}
 use Rattle.log_grammar.specs.Demands.{Accounts, demands, IsVerdict, IsReplyDue, AreReplies, attempts_of}
 use Rattle.log_grammar.specs.Places.{Place, before_all, between, offered, asks_bare, waits_first, got_first, waits_final, got_final, waits_code, got_code, leaving, over, halted}
 use Rattle.log_grammar.specs.Steps.{Goes, told_at}
-use Rattle.log_grammar.specs.Why.{Why, other_mechs, other_challenge, other_outcome, other_reply, refused_with, outcome_of, LineClass, of_abort, of_bad, of_gone, class_of, IsQuitting, IsDueAt, IsWrongWord, IsWrongReply, IsWrong}
+use Rattle.log_grammar.specs.Why.{Why, other_mechs, other_challenge, other_outcome, other_reply, refused_with, outcome_of, LineClass, of_abort, of_code, of_sync, of_bad, of_gone, class_of, IsQuitting, IsDueAt, IsWrongWord, IsWrongReply, IsWrong}
 use Rattle.log_grammar.proofs.Openings.{offered_decided, login_decided}
 use Rattle.log_grammar.proofs.Opened.{Opened}
 use Rattle.log_grammar.proofs.Completions.{some_verdict}
@@ -51,6 +52,12 @@ no_turn class own no_own no_abort no_bad no_gone (inl is) = no_own is
 no_turn class own no_own no_abort no_bad no_gone (inr (inl is)) = no_abort is
 no_turn class own no_own no_abort no_bad no_gone (inr (inr (inl is))) = no_bad is
 no_turn class own no_own no_abort no_bad no_gone (inr (inr (inr is))) = no_gone is
+
+-- or where a code is due, or two in a row
+no_code_due : (class : LineClass) → (class ≡ of_code → ⊥) → (class ≡ of_sync → ⊥) → (class ≡ of_abort → ⊥) → (class ≡ of_bad → ⊥)
+    → (class ≡ of_gone → ⊥) → (class ≡ of_code) ⊎ ((class ≡ of_sync) ⊎ IsQuitting class) → ⊥
+no_code_due class no_code no_sync no_abort no_bad no_gone (inl is) = no_code is
+no_code_due class no_code no_sync no_abort no_bad no_gone (inr other) = no_turn class of_sync no_sync no_abort no_bad no_gone other
 
 -- it is decided whether something exists, said in one way and in the other
 there_decided : {A : Type 0} {P : A → Type 0} → ((a : A) × P a) ⊎ ((a : A) → P a → ⊥) → Decided ((a : A) × P a)
@@ -161,29 +168,31 @@ at_final s accounts told m account first challenge last (due, is) (heard abort) 
 at_final s accounts told m account first challenge last (due, is) line = inr (inl (λ e. cc e))
 
 at_waits_code : (accounts : Accounts) (told : List Told) (account : List ℕ) (line : LogLine) → Standing accounts (waits_code account) told line
-at_waits_code accounts told account (heard (code text)) = inl (record { next = got_code account text; goes = refl; due = tt })
+at_waits_code accounts told account (heard (code text)) = inl (record { next = got_code account (OneText text); goes = refl; due = tt })
+at_waits_code accounts told account (heard (sync first second)) =
+    inl (record { next = got_code account (TwoTexts first second); goes = refl; due = tt })
 at_waits_code accounts told account (heard abort) = inl (record { next = leaving; goes = refl; due = tt })
 at_waits_code accounts told account bad = inl (record { next = leaving; goes = refl; due = tt })
 at_waits_code accounts told account gone = inl (record { next = over; goes = refl; due = tt })
-at_waits_code accounts told account (said halt) = inr (inl (no_turn _ _ (λ e. cc e) (λ e. cc e) (λ e. cc e) (λ e. cc e)))
-at_waits_code accounts told account line = inr (inl (no_turn _ _ (λ e. cc e) (λ e. cc e) (λ e. cc e) (λ e. cc e)))
+at_waits_code accounts told account (said halt) = inr (inl (no_code_due _ (λ e. cc e) (λ e. cc e) (λ e. cc e) (λ e. cc e) (λ e. cc e)))
+at_waits_code accounts told account line = inr (inl (no_code_due _ (λ e. cc e) (λ e. cc e) (λ e. cc e) (λ e. cc e) (λ e. cc e)))
 
 -- why a reply is wrong
-reply_why : Settled → (accounts : Accounts) (account text : List ℕ) (told : List Told) (moment : ℕ)
-    → (why : Why) × IsWrongReply accounts (got_code account text) told moment why
-reply_why s accounts account text told moment =
-    let due = some_reply s.replies (accounts.token account) (attempts_of account (reverse told)) moment text in
+reply_why : Settled → (accounts : Accounts) (account : List ℕ) (sent : CodeTexts) (told : List Told) (moment : ℕ)
+    → (why : Why) × IsWrongReply accounts (got_code account sent) told moment why
+reply_why s accounts account sent told moment =
+    let due = some_reply s.replies (accounts.token account) (attempts_of account (reverse told)) moment sent in
     (other_reply moment due.0, (due.0, due.1, refl))
 
-at_code : Settled → (accounts : Accounts) (told : List Told) (account text : List ℕ) (line : LogLine) → Standing accounts (got_code account text) told line
-at_code s accounts told account text (said (replies moment reply)) =
-    by_demand accounts (got_code account text) told (said (replies moment reply)) (IsReplyDue accounts (reverse told) (told_of account moment text reply))
-    refl (reply_why s accounts account text told moment)
+at_code : Settled → (accounts : Accounts) (told : List Told) (account : List ℕ) (sent : CodeTexts) (line : LogLine) → Standing accounts (got_code account sent) told line
+at_code s accounts told account sent (said (replies moment reply)) =
+    by_demand accounts (got_code account sent) told (said (replies moment reply)) (IsReplyDue accounts (reverse told) (told_of account moment sent reply))
+    refl (reply_why s accounts account sent told moment)
     (λ is. record { next = waits_code account; goes = refl; due = (is, tt) }) (λ f. f.due.0)
-    (reply_decided s (accounts.token account) (attempts_of account (reverse told)) moment text reply)
-at_code s accounts told account text (said halt) = inl (record { next = halted; goes = refl; due = tt })
-at_code s accounts told account text (heard abort) = inr (inl (λ is. cc is))
-at_code s accounts told account text line = inr (inl (λ is. cc is))
+    (reply_decided s (accounts.token account) (attempts_of account (reverse told)) moment sent reply)
+at_code s accounts told account sent (said halt) = inl (record { next = halted; goes = refl; due = tt })
+at_code s accounts told account sent (heard abort) = inr (inl (λ is. cc is))
+at_code s accounts told account sent line = inr (inl (λ is. cc is))
 
 at_leaving : (accounts : Accounts) (told : List Told) (line : LogLine) → Standing accounts leaving told line
 at_leaving accounts told (said (refuses text)) =
@@ -215,7 +224,7 @@ standing_at s accounts (waits_final m account first challenge) told line opened 
 standing_at s accounts (got_final m account first challenge last) told line opened =
     at_final s accounts told m account first challenge last (some_verdict s.ground.verdicts accounts m account first challenge last opened) line
 standing_at s accounts (waits_code account) told line opened = at_waits_code accounts told account line
-standing_at s accounts (got_code account text) told line opened = at_code s accounts told account text line
+standing_at s accounts (got_code account sent) told line opened = at_code s accounts told account sent line
 standing_at s accounts leaving told line opened = at_leaving accounts told line
 standing_at s accounts over told line opened = at_over accounts told line
 standing_at s accounts halted told line opened = inr (inl (λ none. none))

@@ -2,6 +2,7 @@
 -- account of each code by the login of its session.
 use Rattle.std.specs.Prelude.{ℕ, ◌≡◌, ◌+◌, ◌⊎◌, ◌↔◌, List, [], ◌∷◌, ◌++◌, length, flat_map}
 use Rattle.std.specs.List.{AllByRecursion}
+use Rattle.otp_core.specs.Attempt.{CodeTexts}
 use Rattle.log_grammar.specs.Lines.{LogLine, header, said, ended, halt, mechs, log_text, IsLogLine}
 use Rattle.log_grammar.specs.Bytes.{ended_by_lf, IsCut}
 use Rattle.log_grammar.specs.Sessions.{Session, session_lines, Told, session_told}
@@ -87,5 +88,5 @@ EndsInLoginOf log account = (s : Session) × EndsWith log (session_lines s) × I
 
 -- where the reply to a code is due, the last lines are those of a session whose client-first names the account
 abbrev pub EachCodeHasItsLogin : Type 0
-EachCodeHasItsLogin = (accounts : Accounts) (log : List LogLine) (account text : List ℕ) (told : List Told)
-    → Begins (demands accounts) log (got_code account text) told → EndsInLoginOf log account
+EachCodeHasItsLogin = (accounts : Accounts) (log : List LogLine) (account : List ℕ) (sent : CodeTexts) (told : List Told)
+    → Begins (demands accounts) log (got_code account sent) told → EndsInLoginOf log account

@@ -1,12 +1,13 @@
 -- The server's lines one by one: where each may stand in a log, and which messages come before it.
 use Rattle.std.specs.Prelude.{ℕ, ◌≡◌, ◌⊎◌, ◌↔◌, List, [], ◌∷◌, ◌++◌, reverse}
 use Rattle.std.specs.declared.option.Option.{Option}
-use Rattle.mac_core.specs.declared.chosen.Mechanism.{Mechanism}
+use Rattle.mac_core.specs.declared.mechanism.Mechanism.{Mechanism}
 use Rattle.scram_ends.specs.Verdict.{refuse, due_text}
 use Rattle.scram_ends.specs.declared.verdict.Refusal.{Refusal}
+use Rattle.otp_core.specs.Attempt.{CodeTexts}
 use Rattle.otp_core.specs.declared.token.answer.Reply.{Reply}
 use Rattle.log_grammar.specs.Words.{offered_names}
-use Rattle.log_grammar.specs.Lines.{LogLine, said, heard, mechs, cont, refuses, replies, halt, auth, auth_with, resp, code}
+use Rattle.log_grammar.specs.Lines.{LogLine, said, heard, mechs, cont, refuses, replies, halt, auth, auth_with, resp, asking}
 use Rattle.log_grammar.specs.Sessions.{Told, told_of}
 use Rattle.log_grammar.specs.Demands.{Accounts, demands, NamesMechanism, IsFirstOf, IsChallenged, IsVerdict, IsReplyDue}
 use Rattle.log_grammar.specs.Places.{Place, between, offered, asks_bare, waits_first, got_first, waits_final, got_final, waits_code, got_code, leaving, over, halted}
@@ -39,7 +40,7 @@ HasItsMessages (waits_final mechanism account first challenge) log =
     (lines : List LogLine) × IsSentBy mechanism first lines × EndsWith log (lines ++ said (cont challenge) ∷ [])
 HasItsMessages (got_final mechanism account first challenge last) log =
     (lines : List LogLine) × IsSentBy mechanism first lines × EndsWith log (lines ++ said (cont challenge) ∷ heard (resp last) ∷ [])
-HasItsMessages (got_code account text) log = EndsWith log (heard (code text) ∷ [])
+HasItsMessages (got_code account sent) log = EndsWith log (heard (asking sent) ∷ [])
 HasItsMessages place log = Unit {0}
 
 -- the messages that a log's place has are those of its lines
@@ -75,10 +76,10 @@ IsRefusalDue accounts log text told =
     × ((m : Mechanism) → NamesMechanism mechanism m → ⊥) × (text ≡ []))
     ⊎ (((mechanism : List ℕ) × (first : List ℕ) × Begins (demands accounts) log (got_first mechanism first) told
     × ((name : List ℕ) → IsFirstOf mechanism first name → ⊥) × (text ≡ []))
-    ⊎ (((mechanism : List ℕ) × (name : List ℕ) × (t1 : List ℕ) × (t2 : List ℕ) × (t3 : List ℕ)
-    × Begins (demands accounts) log (got_final mechanism name t1 t2 t3) told
-    × ((why : Refusal) × IsVerdict accounts mechanism name t1 t2 t3 (refuse why) × (text ≡ due_text (refuse why)))
-    × ((t4 : List ℕ) → IsLoginTo accounts mechanism name t1 t2 t3 t4 → ⊥))
+    ⊎ (((mechanism : List ℕ) × (name : List ℕ) × (client_first : List ℕ) × (server_first : List ℕ) × (client_final : List ℕ)
+    × Begins (demands accounts) log (got_final mechanism name client_first server_first client_final) told
+    × ((why : Refusal) × IsVerdict accounts mechanism name client_first server_first client_final (refuse why) × (text ≡ due_text (refuse why)))
+    × ((server_final : List ℕ) → IsLoginTo accounts mechanism name client_first server_first client_final server_final → ⊥))
     ⊎ (Begins (demands accounts) log leaving told × (text ≡ []))))
 
 -- `S NO` may stand exactly where it is the refusal that is due
@@ -86,14 +87,14 @@ abbrev pub EachRefusalIsDue : Type 0
 EachRefusalIsDue = (accounts : Accounts) (log : List LogLine) (text : List ℕ) (next : Place) (told : List Told)
     → Begins (demands accounts) (log ++ said (refuses text) ∷ []) next told ↔ (IsRefusalDue accounts log text told × (next ≡ over))
 
--- the reply that is due to a code, after what was told of its account before
+-- the reply that is due to a code, or to two in a row, after what was told of its account before
 pub record IsReplied (accounts : Accounts) (log : List LogLine) (moment : ℕ) (reply : Option Reply) (next : Place) (all : List Told) : Type 0 where
   pub account : List ℕ
-  pub text : List ℕ
+  pub sent : CodeTexts
   pub told : List Told
-  pub behind : Begins (demands accounts) log (got_code account text) told
-  pub due : IsReplyDue accounts (reverse told) (told_of account moment text reply)
-  pub tells : all ≡ told ++ told_of account moment text reply ∷ []
+  pub after : Begins (demands accounts) log (got_code account sent) told
+  pub due : IsReplyDue accounts (reverse told) (told_of account moment sent reply)
+  pub tells : all ≡ told ++ told_of account moment sent reply ∷ []
   pub is_next : next ≡ waits_code account
 
 -- PASS, FAIL, LOCKED and NOCODE may stand exactly where they are that reply
@@ -101,8 +102,8 @@ abbrev pub EachReplyIsDue : Type 0
 EachReplyIsDue = (accounts : Accounts) (log : List LogLine) (moment : ℕ) (reply : Option Reply) (next : Place) (all : List Told)
     → Begins (demands accounts) (log ++ said (replies moment reply) ∷ []) next all ↔ IsReplied accounts log moment reply next all
 
--- `S HALT` may stand exactly after a code, whatever the code
+-- `S HALT` may stand exactly after a code, or two in a row, whatever they are
 abbrev pub EachHaltEndsACode : Type 0
 EachHaltEndsACode = (accounts : Accounts) (log : List LogLine) (next : Place) (told : List Told)
     → Begins (demands accounts) (log ++ said halt ∷ []) next told
-    ↔ ((account : List ℕ) × (text : List ℕ) × Begins (demands accounts) log (got_code account text) told × (next ≡ halted))
+    ↔ ((account : List ℕ) × (sent : CodeTexts) × Begins (demands accounts) log (got_code account sent) told × (next ≡ halted))

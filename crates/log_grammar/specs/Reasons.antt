@@ -4,7 +4,7 @@ use Rattle.std.specs.Prelude.{ℕ, ◌≡◌, ◌≤◌, ◌+◌, List, [], ◌�
 use Rattle.std.specs.declared.option.Option.{Option}
 use Rattle.std.specs.declared.option.Option.TheVariants.{Some}
 use Rattle.scram_ends.specs.Login.{IsAuthentic}
-use Rattle.otp_core.specs.Attempt.{Attempt}
+use Rattle.otp_core.specs.Attempt.{Attempt, CodeTexts}
 use Rattle.otp_core.specs.Secret.{IsMoment}
 use Rattle.otp_core.specs.Settings.{IsInRange}
 use Rattle.otp_core.specs.declared.token.answer.Reply.{Reply}
@@ -40,8 +40,8 @@ NamesWhatIsDue (other_reply moment due) = IsReplyInRange due
 
 -- the reply that is due to a token in its ranges has a counter in its own range
 abbrev pub DueRepliesCanBeWritten : Type 0
-DueRepliesCanBeWritten = (token : Fields) (attempts : List Attempt) (moment : ℕ) (text : List ℕ) (due : Option Reply)
-    → IsInRange token → IsMoment moment → IsReplyBy (Some token) attempts moment text due → IsReplyInRange due
+DueRepliesCanBeWritten = (token : Fields) (attempts : List Attempt) (moment : ℕ) (sent : CodeTexts) (due : Option Reply)
+    → IsInRange token → IsMoment moment → IsReplyBy (Some token) attempts moment sent due → IsReplyInRange due
 
 -- line k is one of the texts; and a line that says what the reason names as due, in its place, makes the first k lines
 -- begin a clean log

@@ -1,37 +1,38 @@
 -- Codes that passed in a log: each is that of its counter, inside the window, at no counter that passed before. And
--- a code that does pass.
-use Rattle.std.specs.Prelude.{ℕ, ◌≡◌, ◌<◌, List, [], ◌∷◌, ◌++◌, reverse}
+-- codes that do pass, one alone and two in a row.
+use Rattle.std.specs.Prelude.{ℕ, ◌≡◌, ◌<◌, ◌+◌, List, [], ◌∷◌, ◌++◌, reverse}
 use Rattle.std.specs.declared.option.Option.TheVariants.{Some}
+use Rattle.otp_core.specs.Attempt.{CodeTexts, passed}
 use Rattle.otp_core.specs.Secret.{IsDigitCount, IsMoment}
-use Rattle.otp_core.specs.Window.{IsCandidate}
-use Rattle.otp_core.specs.Reply.{code_text}
+use Rattle.otp_core.specs.Window.{IsAbove}
+use Rattle.otp_core.specs.Reply.{code_text, IsFitting}
 use Rattle.otp_core.specs.declared.token.answer.Reply.TheVariants.{Pass}
 use Rattle.otp_core.specs.declared.token.kinds.Fields.{Fields}
 use Rattle.otp_core.specs.declared.token.kinds.Fields.TheVariants.{Hotp}
 use Rattle.otp_core.specs.declared.token.kinds.HotpFields.{HotpFields}
 use Rattle.log_grammar.specs.Words.{IsCounter}
-use Rattle.log_grammar.specs.Lines.{LogLine, said, heard, gone, ended, replies, code}
+use Rattle.log_grammar.specs.Lines.{LogLine, said, heard, gone, ended, replies, code, sync}
 use Rattle.log_grammar.specs.Sessions.{Told}
 use Rattle.log_grammar.specs.Demands.{Accounts, attempts_of, demands}
 use Rattle.log_grammar.specs.Places.{Place, got_code, waits_code}
 use Rattle.log_grammar.specs.Clean.{Begins, IsClean}
 use Rattle.log_grammar.specs.Logins.{IsLoginTo, login_log, log_bytes}
 
--- the line that lets a code pass
+-- the line that lets a code, or two in a row, pass
 abbrev pub passes : (moment counter : ℕ) → LogLine
 passes moment counter = said (replies moment (Some (Pass counter)))
 
--- the log ends with a code of an account that has a token; the code is the token's for this counter, which could
--- pass at the moment, after what was told of the account before
+-- the log ends with a code, or with two in a row, of an account that has a token; the code is the token's for this
+-- counter, which could pass at the moment, after what was told of the account before; or the two are its codes for
+-- the counter before this one and for this one, and that one could pass as the first of two
 pub record IsCodeOf (accounts : Accounts) (log : List LogLine) (moment counter : ℕ) (next : Place) : Type 0 where
   pub account : List ℕ
-  pub text : List ℕ
+  pub sent : CodeTexts
   pub told : List Told
   pub token : Fields
-  pub behind : Begins (demands accounts) log (got_code account text) told
+  pub after : Begins (demands accounts) log (got_code account sent) told
   pub has_token : accounts.token account ≡ Some token
-  pub is_code : code_text token counter ≡ text
-  pub in_window : IsCandidate token (attempts_of account (reverse told)) moment counter
+  pub fits : IsFitting token (attempts_of account (reverse told)) moment sent counter
   pub is_next : next ≡ waits_code account
 
 -- PASS may stand only after such a code
@@ -46,11 +47,33 @@ CountersRise = (accounts : Accounts) (log more : List LogLine) (account : List �
     → Begins (demands accounts) ((log ++ passes moment counter ∷ []) ++ (more ++ passes later greater ∷ [])) (waits_code account) all
     → counter < greater
 
+-- counters, the latest first, each greater than all before it
+abbrev pub AreRising : List ℕ → Type 0
+AreRising [] = Unit {0}
+AreRising (c ∷ before) = IsAbove before c × AreRising before
+
+-- the counters that an account's codes use in a log, both counters of two codes in a row, rise: none is used twice
+abbrev pub NoCounterIsUsedTwice : Type 0
+NoCounterIsUsedTwice = (accounts : Accounts) (log : List LogLine) (place : Place) (told : List Told) (account : List ℕ)
+    → Begins (demands accounts) log place told → AreRising (passed (attempts_of account (reverse told)))
+
 -- after a valid login, the code of the next counter of an account's HOTP token passes, where failures do not lock it
 -- and the counter is not used up
 abbrev pub NextHotpCodePasses : Type 0
-NextHotpCodePasses = (accounts : Accounts) (mechanism name t1 t2 t3 t4 : List ℕ) (moment : ℕ) (t : HotpFields)
-    → IsLoginTo accounts mechanism name t1 t2 t3 t4 → IsMoment moment → accounts.token name ≡ Some (Hotp t)
+NextHotpCodePasses = (accounts : Accounts) (mechanism name client_first server_first client_final server_final : List ℕ) (moment : ℕ) (t : HotpFields)
+    → IsLoginTo accounts mechanism name client_first server_first client_final server_final → IsMoment moment → accounts.token name ≡ Some (Hotp t)
     → t.failures < t.limit → IsDigitCount t.digits → IsCounter t.next
     → let text = code_text (Hotp t) t.next in
-    IsClean accounts (log_bytes (login_log mechanism t1 t2 t3 t4 ++ heard (code text) ∷ passes moment t.next ∷ gone ∷ ended ∷ []))
+    IsClean accounts (log_bytes (login_log mechanism client_first server_first client_final server_final ++ heard (code text) ∷ passes moment t.next ∷ gone ∷ ended ∷ []))
+
+-- the line with two codes in a row: those of the next counter of a HOTP token and of the one after it
+abbrev pub next_two : HotpFields → LogLine
+next_two t = heard (sync (code_text (Hotp t) t.next) (code_text (Hotp t) (t.next + 1)))
+
+-- after a valid login, the next two codes in a row of an account's HOTP token pass by the counter of the second, where
+-- failures do not lock it and neither counter is used up
+abbrev pub NextTwoHotpCodesPass : Type 0
+NextTwoHotpCodesPass = (accounts : Accounts) (mechanism name client_first server_first client_final server_final : List ℕ) (moment : ℕ) (t : HotpFields)
+    → IsLoginTo accounts mechanism name client_first server_first client_final server_final → IsMoment moment → accounts.token name ≡ Some (Hotp t)
+    → t.failures < t.limit → IsDigitCount t.digits → IsCounter (t.next + 1)
+    → IsClean accounts (log_bytes (login_log mechanism client_first server_first client_final server_final ++ next_two t ∷ passes moment (t.next + 1) ∷ gone ∷ ended ∷ []))

@@ -1,18 +1,27 @@
 //! Small logs, judged by the definitions: which are clean, and where a log is at fault and why. Each is a theorem,
 //! on lines that need no hash.
-ghost use Rattle.std.specs.Prelude.{ℕ, ◌≡◌, ◌≤◌, ◌+◌, List, [], ◌∷◌, ◌++◌, length, codes, flat_map, Some};
+ghost use Rattle.std.specs.Prelude.{ℕ, ◌≡◌, ◌<◌, ◌≤◌, ◌+◌, List, [], ◌∷◌, ◌++◌, length, codes, flat_map, Some};
+ghost use Rattle.otp_core.specs.Secret.{IsDigitCount, IsMoment};
 ghost use Rattle.otp_core.specs.declared.token.answer.Reply.TheVariants.{Pass, Fail};
-ghost use Rattle.log_grammar.specs.Lines.{LogLine, header, said, heard, gone, ended, mechs, cont, accepts, replies, auth_with, resp, code, IsLogLine};
+ghost use Rattle.otp_core.specs.declared.token.kinds.Fields.TheVariants.{Hotp, Totp};
+ghost use Rattle.otp_core.specs.declared.token.kinds.HotpFields.{HotpFields};
+ghost use Rattle.otp_core.specs.declared.token.kinds.TotpFields.{TotpFields};
+ghost use Rattle.log_grammar.specs.Words.{IsCodeWord, IsCounter};
+ghost use Rattle.log_grammar.specs.Lines.{LogLine, header, said, heard, gone, ended, mechs, cont, accepts, replies, auth_with, resp, code, sync, IsLogLine};
 ghost use Rattle.log_grammar.specs.Bytes.{LacksLf, ended_by_lf};
 ghost use Rattle.log_grammar.specs.Counts.{counts_of};
 ghost use Rattle.log_grammar.specs.Sessions.{Told, Session, session_lines};
 ghost use Rattle.log_grammar.specs.Demands.{Accounts, demands};
 ghost use Rattle.log_grammar.specs.Places.{Place, halted};
 ghost use Rattle.log_grammar.specs.Clean.{Begins, IsClean};
-ghost use Rattle.log_grammar.specs.Why.{LineClass, IsClassDue, IsWhy, is_cut, no_line, out_of_order, other_mechs, other_challenge, other_outcome, refused_with};
+ghost use Rattle.log_grammar.specs.Why.{LineClass, IsClassDue, IsWhy, is_cut, no_line, out_of_order, other_mechs, other_challenge, other_outcome, other_reply, refused_with};
+ghost use Rattle.log_grammar.specs.Logins.{IsLoginTo, login_log, log_bytes};
+ghost use Rattle.log_grammar.specs.Replies.{passes, next_two};
 ghost use Rattle.log_grammar.specs.Examples.{first_text, offer_text, first_alone, one_session, bare_no, AreWhole};
 
 use crate::laws::classes_follow_the_place;
+use crate::logins::other_answers_to_logins_are_at_fault;
+use crate::replies::next_two_hotp_codes_pass;
 use scram_text::laws::{has_one_client_first, spells_one_name};
 
 /// These logs are clean: the first line alone; sessions that the client ends by `ABORT`, by a line that was not
@@ -128,7 +137,7 @@ pub fn lines_have_6202_bytes_at_most()
 {}
 
 /// Each session is counted once, by its first line; in a log of one login, its acceptance is counted, and the code
-/// that passed, and not the one that failed.
+/// that passed, and not the one that failed; and two codes in a row that passed are counted once.
 pub fn counted_logs()
     ensures sessions { (sessions : List Session)
         → (counts_of (header ∷ flat_map session_lines sessions)).sessions ≡ length sessions }
@@ -137,4 +146,32 @@ pub fn counted_logs()
         ∷ heard (resp last) ∷ said (accepts message) ∷ heard (code text) ∷ said (replies moment (Some (Pass counter)))
         ∷ heard (code text) ∷ said (replies moment (Some Fail)) ∷ gone ∷ ended ∷ [])
         ≡ record { sessions = 1; accepted = 1; passed = 1 } }
+    ensures two_codes { (names first challenge last message one other : List ℕ) (moment counter : ℕ)
+        → counts_of (header ∷ said (mechs names) ∷ heard (auth_with names first) ∷ said (cont challenge)
+        ∷ heard (resp last) ∷ said (accepts message) ∷ heard (sync one other) ∷ said (replies moment (Some (Pass counter)))
+        ∷ gone ∷ ended ∷ [])
+        ≡ record { sessions = 1; accepted = 1; passed = 1 } }
 {}
+
+/// After a valid login, the next two codes in a row of a HOTP token pass by the counter of the second: with that reply
+/// the log is clean, and with the counter of the first it is at fault there, and the reason names the pass that is due.
+/// A TOTP token has no two codes in a row that pass: a pass of two is at fault, and FAIL is due.
+pub fn logs_of_two_codes()
+    ensures passes { (accounts : Accounts) (mechanism name client_first server_first client_final server_final : List ℕ) (moment : ℕ) (t : HotpFields)
+        → IsLoginTo accounts mechanism name client_first server_first client_final server_final → IsMoment moment → accounts.token name ≡ Some (Hotp t)
+        → t.failures < t.limit → IsDigitCount t.digits → IsCounter (t.next + 1) → IsClean accounts
+        (log_bytes (login_log mechanism client_first server_first client_final server_final ++ next_two t ∷ passes moment (t.next + 1) ∷ gone ∷ ended ∷ [])) }
+    ensures first_counter { (accounts : Accounts) (mechanism name client_first server_first client_final server_final : List ℕ) (moment : ℕ) (t : HotpFields)
+        → IsLoginTo accounts mechanism name client_first server_first client_final server_final → IsMoment moment → accounts.token name ≡ Some (Hotp t)
+        → t.failures < t.limit → IsDigitCount t.digits → IsCounter (t.next + 1) → IsWhy accounts
+        (log_bytes (login_log mechanism client_first server_first client_final server_final ++ next_two t ∷ passes moment t.next ∷ [])) 8
+        (other_reply moment (Some (Pass (t.next + 1)))) }
+    ensures of_totp { (accounts : Accounts) (mechanism name client_first server_first client_final server_final first second : List ℕ) (moment counter : ℕ) (t : TotpFields)
+        → IsLoginTo accounts mechanism name client_first server_first client_final server_final → IsMoment moment → accounts.token name ≡ Some (Totp t)
+        → t.failures < t.limit → IsCodeWord first → IsCodeWord second → IsCounter counter → IsWhy accounts
+        (log_bytes (login_log mechanism client_first server_first client_final server_final ++ heard (sync first second) ∷ passes moment counter ∷ [])) 8
+        (other_reply moment (Some Fail)) }
+{
+    next_two_hotp_codes_pass();
+    other_answers_to_logins_are_at_fault();
+}

@@ -1,6 +1,6 @@
 //! Logins in a log: an `S OK` is the last message of a valid login, and each valid login can be recorded.
 ghost use Rattle.std.specs.Prelude.{ℕ, List, [], ◌∷◌, ◌++◌, codes};
-ghost use Rattle.mac_core.specs.declared.chosen.Mechanism.{Mechanism};
+ghost use Rattle.mac_core.specs.declared.mechanism.Mechanism.{Mechanism};
 ghost use Rattle.scram_text.specs.Class.{IsPlainName};
 ghost use Rattle.log_grammar.specs.Lines.{LogLine, said, halt};
 ghost use Rattle.log_grammar.specs.Demands.{Accounts, IsFit};
@@ -22,8 +22,8 @@ pub fn each_ok_ends_a_login()
     spells_one_name();
 }
 
-/// A log of a valid login is clean where the client then goes away, where a code is answered by a halt, and where
-/// it is answered by the reply that is due to it, or, where the account has no token, that it has none.
+/// A log of a valid login is clean where the client then goes away, where a code, or two in a row, is answered by a
+/// halt, and where it is answered by the reply that is due to it, or, where the account has no token, that it has none.
 pub fn logins_are_clean()
     ensures gone { LoginsAreClean }
     ensures halted { LoginsMayHalt }
@@ -32,8 +32,8 @@ pub fn logins_are_clean()
     acceptance_is_due_to_valid_logins();
 }
 
-/// A log that has a valid login as refused is at fault there, and so is one that has a code after it answered by a
-/// reply other than the one due. The reason names the acceptance, by its signature, and the reply that is due.
+/// A log that has a valid login as refused is at fault there, and so is one that has a code, or two in a row, after it
+/// answered by a reply other than the one due. The reason names the acceptance, by its signature, and the reply that is due.
 pub fn other_answers_to_logins_are_at_fault()
     ensures refused { RefusedLoginsAreAtFault }
     ensures answered { OtherRepliesAreAtFault }

@@ -35,13 +35,13 @@ pub fn each_refusal_is_due()
     at_most_one_verdict_is_due();
 }
 
-/// PASS, FAIL, LOCKED and NOCODE may stand exactly where they are the reply that is due to the code before them,
-/// after what was told of its account.
+/// PASS, FAIL, LOCKED and NOCODE may stand exactly where they are the reply that is due to the code before them, or to
+/// the two in a row, after what was told of its account.
 pub fn each_reply_is_due()
     ensures { EachReplyIsDue }
 {}
 
-/// `S HALT` may stand exactly after a code, whatever the code.
+/// `S HALT` may stand exactly after a code, or two in a row, whatever they are.
 pub fn each_halt_ends_a_code()
     ensures { EachHaltEndsACode }
 {}

@@ -1,5 +1,5 @@
 //! Codes that passed in a log.
-ghost use Rattle.log_grammar.specs.Replies.{EachPassIsACode, CountersRise, NextHotpCodePasses};
+ghost use Rattle.log_grammar.specs.Replies.{EachPassIsACode, CountersRise, NoCounterIsUsedTwice, NextHotpCodePasses, NextTwoHotpCodesPass};
 
 use crate::logins::logins_are_clean;
 use crate::outcomes::each_reply_is_due;
@@ -7,7 +7,8 @@ use otp_core::laws::candidates_are_new;
 use scram_text::laws::{has_one_client_first, spells_one_name};
 
 /// PASS may stand only after a code that is the token's for the counter that passes, which was inside the window
-/// (RFC 4226, section 7.4, and RFC 6238, sections 5.2 and 6).
+/// (RFC 4226, section 7.4, and RFC 6238, sections 5.2 and 6); or after two codes in a row that are the token's for the
+/// counter before it and for it, inside the window for two.
 pub fn each_pass_is_a_code()
     ensures { EachPassIsACode }
 {
@@ -25,10 +26,25 @@ pub fn counters_rise()
     spells_one_name();
 }
 
+/// No counter of an account is used twice in a log: those of its codes that passed, both of two codes in a row, rise.
+pub fn no_counter_is_used_twice()
+    ensures { NoCounterIsUsedTwice }
+{
+    candidates_are_new();
+}
+
 /// After a valid login the code of the next counter of a HOTP token passes, where failures do not lock it and the
 /// counter is not used up: a log with that pass is clean.
 pub fn next_hotp_code_passes()
     ensures { NextHotpCodePasses }
+{
+    logins_are_clean();
+}
+
+/// After a valid login the next two codes in a row of a HOTP token pass by the counter of the second, where failures
+/// do not lock it and neither counter is used up: a log with that pass is clean.
+pub fn next_two_hotp_codes_pass()
+    ensures { NextTwoHotpCodesPass }
 {
     logins_are_clean();
 }

@@ -9,6 +9,6 @@ returns c = λ accounts bytes k clean fault.
     let same = c.are_cut_one_way.ensures bytes are.0 fault.texts [] fault.rest are.1 fault.cut in
     let cut = subst (λ (rest : List ℕ). IsCut bytes fault.texts rest) (sym same.1) fault.cut in
     elim (cases_lt (length fault.texts) k) [
-      | inl behind ↦ fault.unclean (omega (arith, behind, fault.past)) clean
+      | inl after ↦ fault.unclean (omega (arith, after, fault.past)) clean
       | inr within ↦ fault.within within (c.first_lines_of_clean_logs_are_fronts.ensures accounts bytes fault.texts k clean cut)
     ]

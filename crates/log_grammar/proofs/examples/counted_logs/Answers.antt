@@ -7,3 +7,6 @@ returns-clause-sessions c = sessions_counted
 
 pub returns-clause-each : goal.returns-clause-each
 returns-clause-each c = λ names first challenge last message text moment counter. refl
+
+pub returns-clause-two_codes : goal.returns-clause-two_codes
+returns-clause-two_codes c = λ names first challenge last message one other moment counter. refl

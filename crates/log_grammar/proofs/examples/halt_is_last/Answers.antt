@@ -1,12 +1,12 @@
-use Rattle.log_grammar.proofs.EdgeLemmas.{halted_is_clean, none_behind_halt, more_behind_halt}
+use Rattle.log_grammar.proofs.EdgeLemmas.{halted_is_clean, none_after_halt, more_after_halt}
 use Rattle.log_grammar.proofs.examples.halt_is_last.Goals as goal
 
 pub returns-clause-clean : goal.returns-clause-clean
 returns-clause-clean c = halted_is_clean
 
 pub returns-clause-none : goal.returns-clause-none
-returns-clause-none c = none_behind_halt c.classes_follow_the_place.ensures
+returns-clause-none c = none_after_halt c.classes_follow_the_place.ensures
 
 pub returns-clause-more : goal.returns-clause-more
 returns-clause-more c =
-    more_behind_halt c.has_one_client_first.ensures c.spells_one_name.ensures c.classes_follow_the_place.ensures
+    more_after_halt c.has_one_client_first.ensures c.spells_one_name.ensures c.classes_follow_the_place.ensures

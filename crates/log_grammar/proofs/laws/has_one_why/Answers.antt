@@ -3,7 +3,7 @@ use Rattle.log_grammar.proofs.laws.has_one_why.Goals as goal
 
 pub returns : goal.returns
 returns c = why_once (record {
-  parts = c.has_one_client_first.ensures;
+  one_first = c.has_one_client_first.ensures;
   names = c.spells_one_name.ensures;
   verdicts = c.at_most_one_verdict_is_due.ensures;
   answers = c.only_one_reply_is_due.ensures;

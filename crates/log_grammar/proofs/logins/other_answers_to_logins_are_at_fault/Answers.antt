@@ -3,7 +3,7 @@ use Rattle.log_grammar.proofs.logins.other_answers_to_logins_are_at_fault.Goals 
 
 pub returns-clause-refused : goal.returns-clause-refused
 returns-clause-refused c = refused_logins (record {
-  parts = c.has_one_client_first.ensures;
+  one_first = c.has_one_client_first.ensures;
   names = c.spells_one_name.ensures;
   verdicts = c.at_most_one_verdict_is_due.ensures;
   answers = c.only_one_reply_is_due.ensures;
@@ -11,7 +11,7 @@ returns-clause-refused c = refused_logins (record {
 
 pub returns-clause-answered : goal.returns-clause-answered
 returns-clause-answered c = other_replies (record {
-  parts = c.has_one_client_first.ensures;
+  one_first = c.has_one_client_first.ensures;
   names = c.spells_one_name.ensures;
   verdicts = c.at_most_one_verdict_is_due.ensures;
   answers = c.only_one_reply_is_due.ensures;

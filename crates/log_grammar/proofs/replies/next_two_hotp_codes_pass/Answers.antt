@@ -1,0 +1,5 @@
+use Rattle.log_grammar.proofs.ReplyLemmas.{next_two_hotp_codes_pass}
+use Rattle.log_grammar.proofs.replies.next_two_hotp_codes_pass.Goals as goal
+
+pub returns : goal.returns
+returns c = next_two_hotp_codes_pass c.logins_are_clean.ensures.answered
