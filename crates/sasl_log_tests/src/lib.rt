@@ -1,0 +1,5 @@
+//! Tests of `sasl_log`.
+#![tactic(auto)]
+
+#[cfg(test)]
+mod tests;
