@@ -2,6 +2,7 @@
 //!
 //! `bench KIND COUNT TEXT` reads the message TEXT of that kind COUNT times, and prints how often it was
 //! read; `bench hotp COUNT SECRET` makes the codes of the counters below COUNT, and prints the last;
+//! `bench sync COUNT SECRET` looks COUNT times for two codes in a row, and prints how often it failed;
 //! `bench verdict COUNT TEXT` judges TEXT COUNT times as the client-final message of RFC 7677's example,
 //! and prints how often it was accepted; `bench book COUNT FILE` reads the bytes of FILE once and the
 //! account book of them COUNT times, and prints how often they were one, as `book 20 of 20`.
@@ -9,9 +10,11 @@
 
 mod book;
 mod login;
+mod pair;
 
 use crate::book::print_readings;
 use crate::login::print_verdicts;
+use crate::pair::print_failures;
 use mac_core::{HSha1, Prepared};
 use otp_core::{Digits, Secret, hotp_with};
 use scram_text::{read_client_final, read_client_first, read_server_final, read_server_first};
@@ -64,6 +67,7 @@ fn main(rt: HostRuntime) -> io::Result<ExitCode> {
     };
     match kind.as_str() {
         "hotp" => print_codes(&rt, text.as_bytes(), count)?,
+        "sync" => print_failures(&rt, text.as_bytes(), count)?,
         "verdict" => print_verdicts(&rt, text.as_bytes(), count)?,
         "book" => print_readings(&rt, text.as_str(), count)?,
         kind => println!(rt; "{kind} {}", readings(kind, text.as_bytes(), count))?,

@@ -1,7 +1,7 @@
 -- How a command ends without its answer.
 use Rattle.std.specs.Prelude.{ℕ, ◌≡◌, List, Option, MatchOption, string_bytes}
 use Rattle.book_format.specs.Account.{AccountFields}
-use Rattle.book_format.specs.Faults.{why_number}
+use Rattle.book_format.specs.Faults.{book_why_number}
 use Rattle.book_format.specs.declared.fault.BookFault.{BookFault}
 use Rattle.book_format.specs.declared.fault.BookWhy.{BookWhy}
 use Rattle.book_format.specs.declared.fault.BookWhy.TheVariants as why
@@ -38,7 +38,7 @@ IsTokenFault path found fault = MatchOption found (fault ≡ NoSuchAccount)
 -- what is wrong with a book's text, as a command says it: by its number, or that memory ran out
 abbrev pub of_why : BookWhy → Fault
 of_why why.NoMemory = NoMemory
-of_why other = BadBook (why_number other)
+of_why other = BadBook (book_why_number other)
 
 -- why a text is no account book, as a command says it
 abbrev pub of_book : BookFault → Fault

@@ -3,5 +3,5 @@ use Rattle.std.specs.Prelude.{◌≡◌, ◌≢◌, ℕ, List, length, slice_ind
 
 -- the text does not begin with a plus, and begins with a zero only where the zero is
 -- all of it
-abbrev pub IsBare : List ℕ → Type 0
-IsBare text = (slice_index text 0 ≢ 43) × (slice_index text 0 ≡ 48 → length text ≡ 1)
+abbrev pub IsPlainNumber : List ℕ → Type 0
+IsPlainNumber text = (slice_index text 0 ≢ 43) × (slice_index text 0 ≡ 48 → length text ≡ 1)

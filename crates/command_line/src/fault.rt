@@ -3,7 +3,7 @@ ghost use Rattle.std.specs.Prelude.{◌≡◌, ◌≢◌};
 ghost use Rattle.std.specs.IoError.{error_kind};
 ghost use Rattle.command_line.specs.Fault.{status_of};
 
-use crate::value::Judged;
+use crate::value::OptionName;
 use book_format::{BookFault, BookWhy};
 use std::alloc::AllocError;
 use std::io;
@@ -15,7 +15,7 @@ use thiserror::Error;
 pub enum Fault {
     /// The value of an option is not one that its help describes.
     #[error("bad value for --{0}")]
-    BadValue(Judged),
+    BadValue(OptionName),
 
     /// The first input line is no password: 1 to 1024 bytes from space to tilde (20 to 7E hex).
     #[error("bad password")]

@@ -4,9 +4,9 @@
 //! ```rust
 //! use command_line::Fault;
 //! use command_line::value;
-//! use command_line::value::Judged;
+//! use command_line::value::OptionName;
 //!
-//! assert!(rt; value::within(Judged::Step, "30", 1, 3600).is_ok_and(|step| step == 30));
+//! assert!(rt; value::within(OptionName::Step, "30", 1, 3600).is_ok_and(|step| step == 30));
 //! let fault: Fault = value::name("").err().ok_or("a name of no byte")?;
 //! assert_eq!(rt; fault.status(), 2);
 //! ```

@@ -2,10 +2,10 @@
 ghost use Rattle.std.specs.Prelude.{◌≡◌, ◌≢◌, ◌≤◌, ◌<◌, ◌^◌, ◌↔◌, ◌⊎◌, ℕ, List, Ok, length, IsTrue, IfSome, IfNone, IfOk, IfErr};
 ghost use Rattle.std.specs.Fmt.{decimal};
 ghost use Rattle.hex.specs.Hex.{decode_of};
-ghost use Rattle.mac_core.specs.Chosen.{name_of};
+ghost use Rattle.mac_core.specs.Mechanism.{name_of};
 ghost use Rattle.scram_text.specs.Class.{IsPlainName, IsSalt};
 ghost use Rattle.otp_core.specs.Secret.{IsSecretLength, IsMoment};
-ghost use Rattle.command_line.specs.Number.{IsBare};
+ghost use Rattle.command_line.specs.Number.{IsPlainNumber};
 ghost use Rattle.book_format.specs.Keys.{hash_name};
 ghost use Rattle.command_line.specs.Options.{option_name};
 
@@ -21,7 +21,7 @@ const LAST_MOMENT: u64 = 253_402_300_799;
 
 /// An option whose value the program judges, or takes as it is.
 #[derive(Clone, Copy, Debug)]
-pub enum Judged {
+pub enum OptionName {
     /// `--book`
     Book,
 
@@ -65,31 +65,31 @@ pub enum Judged {
     Step,
 }
 
-impl Judged {
+impl OptionName {
     /// The option's name, without its hyphens.
     pub fn name(&self) -> &'static str
         ensures { result.now ≡ option_name self.now }
     {
         match self {
-            Judged::Book => "book",
-            Judged::Log => "log",
-            Judged::Name => "name",
-            Judged::Random => "random",
-            Judged::Mechanism => "mechanism",
-            Judged::Salt => "salt",
-            Judged::Count => "count",
-            Judged::Secret => "secret",
-            Judged::Digits => "digits",
-            Judged::Counter => "counter",
-            Judged::Moment => "moment",
-            Judged::Hash => "hash",
-            Judged::T0 => "t0",
-            Judged::Step => "step",
+            OptionName::Book => "book",
+            OptionName::Log => "log",
+            OptionName::Name => "name",
+            OptionName::Random => "random",
+            OptionName::Mechanism => "mechanism",
+            OptionName::Salt => "salt",
+            OptionName::Count => "count",
+            OptionName::Secret => "secret",
+            OptionName::Digits => "digits",
+            OptionName::Counter => "counter",
+            OptionName::Moment => "moment",
+            OptionName::Hash => "hash",
+            OptionName::T0 => "t0",
+            OptionName::Step => "step",
         }
     }
 }
 
-impl fmt::Display for Judged {
+impl fmt::Display for OptionName {
     ghost use Rattle.std.specs.Prelude.{Some};
     ghost use Rattle.command_line.specs.Options.{option_name};
 
@@ -102,7 +102,7 @@ impl fmt::Display for Judged {
 
 // Whether the digits begin with no plus, and with no needless zero.
 fn is_bare(digits: &[u8]) -> bool
-    ensures { IsTrue result ↔ IsBare digits.now }
+    ensures { IsTrue result ↔ IsPlainNumber digits.now }
 {
     match digits {
         [b'+', ..] | [b'0', _, ..] => false,
@@ -125,7 +125,7 @@ pub fn number(text: &str) -> Option<u64>
 
 /// The number from `least` to `most` that `text` spells in decimal. Answers BadValue of the option
 /// for any other text.
-pub fn within(option: Judged, text: &str, least: u64, most: u64) -> Result<u64, Fault>
+pub fn within(option: OptionName, text: &str, least: u64, most: u64) -> Result<u64, Fault>
     ensures ok { IfOk result (λ n. (text.now ≡ decimal n) × (least ≤ n) × (n ≤ most)) }
     ensures err { IfErr result (λ fault. (fault ≡ Fault.BadValue option)
         × ((n : ℕ) → least ≤ n → n ≤ most → text.now ≢ decimal n)) }
@@ -139,10 +139,10 @@ pub fn within(option: Judged, text: &str, least: u64, most: u64) -> Result<u64, 
 /// The iteration count that `text` spells in decimal, 1 to 4294967295. Answers BadValue for any other text.
 pub fn count(text: &str) -> Result<u32, Fault>
     ensures ok { IfOk result (λ n. (text.now ≡ decimal n) × (1 ≤ n)) }
-    ensures err { IfErr result (λ fault. (fault ≡ Fault.BadValue Judged.Count)
+    ensures err { IfErr result (λ fault. (fault ≡ Fault.BadValue OptionName.Count)
         × ((n : ℕ) → 1 ≤ n → n < 2 ^ 32 → text.now ≢ decimal n)) }
 {
-    match within(Judged::Count, text, 1, u64::from(u32::MAX)) {
+    match within(OptionName::Count, text, 1, u64::from(u32::MAX)) {
         Ok(n) => Ok(n as u32),
         Err(fault) => Err(fault),
     }
@@ -151,10 +151,10 @@ pub fn count(text: &str) -> Result<u32, Fault>
 /// The number of digits of a code that `text` spells, 6 to 8. Answers BadValue for any other text.
 pub fn digits(text: &str) -> Result<Digits, Fault>
     ensures ok { IfOk result (λ digits. text.now ≡ decimal digits) }
-    ensures err { IfErr result (λ fault. (fault ≡ Fault.BadValue Judged.Digits)
+    ensures err { IfErr result (λ fault. (fault ≡ Fault.BadValue OptionName.Digits)
         × ((n : ℕ) → 6 ≤ n → n ≤ 8 → text.now ≢ decimal n)) }
 {
-    match within(Judged::Digits, text, 6, 8) {
+    match within(OptionName::Digits, text, 6, 8) {
         Ok(n) => {
             let Ok(digits) = Digits::new(n as u8) else {
                 unreachable!()
@@ -167,7 +167,7 @@ pub fn digits(text: &str) -> Result<Digits, Fault>
 
 /// The moment that `text` spells in seconds since 1970, at most 253402300799. Answers BadValue of the
 /// option for any other text.
-pub fn moment(option: Judged, text: &str) -> Result<Moment, Fault>
+pub fn moment(option: OptionName, text: &str) -> Result<Moment, Fault>
     ensures ok { IfOk result (λ moment. text.now ≡ decimal moment) }
     ensures err { IfErr result (λ fault. (fault ≡ Fault.BadValue option)
         × ((n : ℕ) → IsMoment n → text.now ≢ decimal n)) }
@@ -186,31 +186,31 @@ pub fn moment(option: Judged, text: &str) -> Result<Moment, Fault>
 /// The account name of this text, 1 to 255 bytes from space to tilde. Answers BadValue for any other text.
 pub fn name(text: &str) -> Result<PlainName, Fault>
     ensures ok { IfOk result (λ name. name ≡ text.now) }
-    ensures err { IfErr result (λ fault. (fault ≡ Fault.BadValue Judged.Name)
+    ensures err { IfErr result (λ fault. (fault ≡ Fault.BadValue OptionName.Name)
         × (IsPlainName text.now → ⊥)) }
 {
     match PlainName::new(text.as_bytes()) {
         Some(name) => Ok(name),
-        None => Err(Fault::BadValue(Judged::Name)),
+        None => Err(Fault::BadValue(OptionName::Name)),
     }
 }
 
 /// The SCRAM mechanism of this name: SCRAM-SHA-1 or SCRAM-SHA-256. Answers BadValue for any other text.
 pub fn mechanism(name: &str) -> Result<Mechanism, Fault>
     ensures ok { IfOk result (λ mechanism. name.now ≡ name_of mechanism) }
-    ensures err { IfErr result (λ fault. (fault ≡ Fault.BadValue Judged.Mechanism)
+    ensures err { IfErr result (λ fault. (fault ≡ Fault.BadValue OptionName.Mechanism)
         × ((mechanism : Mechanism) → name.now ≢ name_of mechanism)) }
 {
     match Mechanism::of_name(name.as_bytes()) {
         Some(mechanism) => Ok(mechanism),
-        None => Err(Fault::BadValue(Judged::Mechanism)),
+        None => Err(Fault::BadValue(OptionName::Mechanism)),
     }
 }
 
 /// The hash function of this name: `sha1`, `sha256` or `sha512`. Answers BadValue for any other text.
 pub fn hash(name: &str) -> Result<OtpHash, Fault>
     ensures ok { IfOk result (λ hash. name.now ≡ hash_name hash) }
-    ensures err { IfErr result (λ fault. (fault ≡ Fault.BadValue Judged.Hash)
+    ensures err { IfErr result (λ fault. (fault ≡ Fault.BadValue OptionName.Hash)
         × ((hash : OtpHash) → name.now ≢ hash_name hash)) }
 {
     if name == "sha1" {
@@ -220,13 +220,13 @@ pub fn hash(name: &str) -> Result<OtpHash, Fault>
     } else if name == "sha512" {
         Ok(OtpHash::Sha512)
     } else {
-        Err(Fault::BadValue(Judged::Hash))
+        Err(Fault::BadValue(OptionName::Hash))
     }
 }
 
 // The bytes that `text` spells in hexadecimal, in either case. Answers BadValue of the option for any
 // other text, NoMemory where memory runs out.
-fn bytes(alloc: Global, option: Judged, text: &str) -> Result<Vec<u8>, Fault>
+fn bytes(alloc: Global, option: OptionName, text: &str) -> Result<Vec<u8>, Fault>
     ensures ok { IfOk result (λ bytes. decode_of text.now ≡ Ok bytes.items) }
     ensures err { IfErr result (λ fault. (fault ≡ Fault.NoMemory)
         ⊎ ((fault ≡ Fault.BadValue option) × ((bytes : List ℕ) → decode_of text.now ≢ Ok bytes))) }
@@ -242,13 +242,13 @@ fn bytes(alloc: Global, option: Judged, text: &str) -> Result<Vec<u8>, Fault>
 /// any other text, NoMemory where memory runs out.
 pub fn salt(alloc: Global, text: &str) -> Result<Salt, Fault>
     ensures ok { IfOk result (λ salt. decode_of text.now ≡ Ok salt) }
-    ensures err { IfErr result (λ fault. (fault ≡ Fault.NoMemory) ⊎ ((fault ≡ Fault.BadValue Judged.Salt)
+    ensures err { IfErr result (λ fault. (fault ≡ Fault.NoMemory) ⊎ ((fault ≡ Fault.BadValue OptionName.Salt)
         × ((salt : List ℕ) → decode_of text.now ≡ Ok salt → IsSalt salt → ⊥))) }
 {
-    let bytes = bytes(alloc, Judged::Salt, text)?;
+    let bytes = bytes(alloc, OptionName::Salt, text)?;
     match Salt::new(bytes.as_slice()) {
         Some(salt) => Ok(salt),
-        None => Err(Fault::BadValue(Judged::Salt)),
+        None => Err(Fault::BadValue(OptionName::Salt)),
     }
 }
 
@@ -256,12 +256,12 @@ pub fn salt(alloc: Global, text: &str) -> Result<Salt, Fault>
 /// any other text, NoMemory where memory runs out.
 pub fn secret(alloc: Global, text: &str) -> Result<Secret, Fault>
     ensures ok { IfOk result (λ secret. decode_of text.now ≡ Ok secret) }
-    ensures err { IfErr result (λ fault. (fault ≡ Fault.NoMemory) ⊎ ((fault ≡ Fault.BadValue Judged.Secret)
+    ensures err { IfErr result (λ fault. (fault ≡ Fault.NoMemory) ⊎ ((fault ≡ Fault.BadValue OptionName.Secret)
         × ((secret : List ℕ) → decode_of text.now ≡ Ok secret → IsSecretLength (length secret) → ⊥))) }
 {
-    let bytes = bytes(alloc, Judged::Secret, text)?;
+    let bytes = bytes(alloc, OptionName::Secret, text)?;
     match Secret::new(bytes.as_slice()) {
         Ok(secret) => Ok(secret),
-        Err(_) => Err(Fault::BadValue(Judged::Secret)),
+        Err(_) => Err(Fault::BadValue(OptionName::Secret)),
     }
 }

@@ -1,27 +1,11 @@
 //! `scramotp`: the keys of SCRAM logins (RFC 5802, RFC 7677), one-time codes (RFC 4226, RFC 6238), a book of accounts
 //! that have them, and the audit of a recorded log, on the command line.
 //!
-//! `main` hands the words, the streams and the runtime to `run`, which does all the work.
+//! `main` hands the words, the streams and the runtime to `commands::run`, which does all the work.
 #![tactic(auto)]
 
-mod asked;
-mod audit;
-mod code;
-mod enrol;
-mod held_book;
-mod input;
-mod keys;
-mod progress;
-mod random;
-mod run;
-mod shown;
-#[cfg(test)]
-mod tests;
-mod unlock;
-mod verify;
-mod words;
-
 use command_line::Fault;
+use commands::{USAGE, run};
 use std::io::{BufReader, BufWriter, ErrorKind, Lock};
 use std::process::ExitCode;
 use std::{env, io};
@@ -33,7 +17,7 @@ fn main(rt: HostRuntime) -> ExitCode {
         Err(error) if error.kind() == ErrorKind::OutOfMemory => return no_memory(&rt),
         Err(_) => {
             let _ = eprintln!(rt; "error: the arguments are not UTF-8 text");
-            return ExitCode::from(run::USAGE);
+            return ExitCode::from(USAGE);
         }
     };
     let (Ok(mut input), Ok(mut output), Ok(mut faults)) = (
@@ -43,7 +27,7 @@ fn main(rt: HostRuntime) -> ExitCode {
     ) else {
         return no_memory(&rt);
     };
-    let status = run::run(&rt, words.as_slice(), &mut input, &mut output, &mut faults);
+    let status = run(&rt, words.as_slice(), &mut input, &mut output, &mut faults);
     ExitCode::from(status)
 }
 

@@ -1,0 +1,27 @@
+//! The commands of `scramotp`: the keys of SCRAM logins (RFC 5802, RFC 7677), one-time codes (RFC 4226, RFC 6238), a
+//! book of accounts that have them, and the audit of a recorded log.
+//!
+//! `run` does all the work of a run of the program, over words, streams and a runtime that are handed to it. So tests
+//! can hand in files and streams that fail.
+#![tactic(auto)]
+
+mod asked;
+mod audit;
+mod code;
+mod enrol;
+mod held_book;
+mod input;
+mod keys;
+mod program;
+mod progress;
+mod prompt;
+mod random;
+mod sent;
+mod shown;
+mod unlock;
+mod verify;
+mod words;
+
+pub use program::{USAGE, run};
+pub use progress::Watched;
+pub use prompt::Typed;

@@ -1,0 +1,130 @@
+//! One run of the program over words and streams.
+ghost use Rattle.std.specs.Prelude.{◌≡◌, ◌≤◌, IfOk};
+ghost use Rattle.command_line.specs.Fault.{status_of};
+
+use crate::progress::Watched;
+use crate::prompt::Typed;
+use crate::shown::Shown;
+use crate::{audit, code, enrol, keys, unlock, verify, words};
+use book_file::Lockable;
+use clap::ArgMatches;
+use clap::error::ErrorKind;
+use command_line::Fault;
+use std::alloc::{AllocError, Global};
+use std::convert::AsStr;
+use std::fs::Files;
+use std::io::Write;
+use std::time::Clock;
+
+/// The status of a run that did its work, and whose answer is a refusal.
+const REFUSED: u8 = 1;
+
+/// The status of words that the program does not understand.
+pub const USAGE: u8 = 2;
+
+/// Runs the command that `words` name, the program's own name first, and returns the exit status: 0 done, 1 refused
+/// or faulty, 2 usage, 3 files, input, output or memory. The answer, help and version go to `output`, everything
+/// else to `faults`; both are flushed.
+pub fn run<R, S, I, O, E>(rt: &R, words: &[S], input: &mut I, output: &mut O, faults: &mut E) -> u8
+where
+    R: Files + Clock + AllocGlobal,
+    R::File: Lockable,
+    S: AsStr,
+    I: Typed,
+    O: Write,
+    E: Watched,
+    ensures { result ≤ 3 }
+{
+    let alloc = rt.alloc();
+    let Ok(commands) = words::scramotp(alloc) else {
+        return report(alloc, faults, Fault::NoMemory);
+    };
+    match commands.try_get_matches_from(words) {
+        Ok(matches) => match dispatch(rt, &matches, input, output, faults) {
+            Ok(status) => status,
+            Err(fault) => report(alloc, faults, fault),
+        },
+        Err(error) if error.kind() == ErrorKind::OutOfMemory => {
+            report(alloc, faults, Fault::NoMemory)
+        }
+        Err(error) if error.use_stderr() => match usage_text(alloc, words) {
+            Ok(text) => {
+                let _ = faults.write_all(text.as_bytes());
+                let _ = faults.flush();
+                USAGE
+            }
+            Err(_) => report(alloc, faults, Fault::NoMemory),
+        },
+        Err(help) => {
+            if write!(output, "{help}").is_ok() && output.flush().is_ok() {
+                0
+            } else {
+                report(alloc, faults, Fault::CannotWriteOutput)
+            }
+        }
+    }
+}
+
+// Runs the command of the matches, and flushes what it printed. Returns the status: 0, or another where a code was
+// refused or a log is not clean.
+fn dispatch<R, I, O, E>(
+    rt: &R,
+    matches: &ArgMatches<'_>,
+    input: &mut I,
+    output: &mut O,
+    faults: &mut E,
+) -> Result<u8, Fault>
+where
+    R: Files + Clock + AllocGlobal,
+    R::File: Lockable,
+    I: Typed,
+    O: Write,
+    E: Watched,
+    ensures { IfOk result (λ status. status ≤ 3) }
+{
+    let mut status = 0;
+    match matches.subcommand() {
+        Some(("keys", words)) => keys::keys(rt.alloc(), words, input, output, faults)?,
+        Some(("enrol", words)) => enrol::enrol(rt, words, input, output, faults)?,
+        Some(("code", words)) => code::code(rt.alloc(), words, output)?,
+        Some(("verify", words)) => {
+            if !verify::verify(rt, words, input, output, faults)? {
+                status = REFUSED;
+            }
+        }
+        Some(("unlock", words)) => unlock::unlock(rt, words, output, faults)?,
+        Some(("audit", words)) => status = audit::audit(rt, words, output, faults)?,
+        _ => {}
+    }
+    output.flush().map_err(|_| Fault::CannotWriteOutput)?;
+    Ok(status)
+}
+
+// The usage fault of `clap` for these words. `clap` is given the words as they are shown, since it quotes them.
+fn usage_text<S: AsStr>(alloc: Global, words: &[S]) -> Result<String, AllocError> {
+    let shown = shown_words(alloc, words)?;
+    match words::scramotp(alloc)?.try_get_matches_from(shown.as_slice()) {
+        Err(error) => format!(in alloc; "{error}"),
+        Ok(_) => format!(in alloc; "error: an argument has a control character\n"),
+    }
+}
+
+fn shown_words<S: AsStr>(alloc: Global, words: &[S]) -> Result<Vec<String>, AllocError> {
+    let mut shown = Vec::new(alloc);
+    for word in words {
+        shown.push(format!(in alloc; "{}", Shown(word.as_str()))?)?;
+    }
+    Ok(shown)
+}
+
+// Prints a fault and returns its status.
+fn report<E: Write>(alloc: Global, faults: &mut E, fault: Fault) -> u8
+    ensures { result ≡ status_of fault }
+{
+    let _ = match format!(in alloc; "{fault}") {
+        Ok(text) => writeln!(faults, "scramotp: {}", Shown(text.as_str())),
+        Err(_) => writeln!(faults, "scramotp: {}", Fault::NoMemory),
+    };
+    let _ = faults.flush();
+    fault.status()
+}

@@ -1,0 +1,44 @@
+//! What is said to someone at a terminal before a command waits for input.
+ghost use Rattle.std.specs.Prelude.{◌≡◌, ◌&&◌, true, false, OnOk};
+ghost use Rattle.std.specs.Io.KnownBytes.{Appends};
+
+use crate::progress::Watched;
+use std::io;
+use std::io::{BufRead, BufReader, IsTerminal, Read, Write};
+
+/// What `keys` and `enrol` wait for.
+pub const PASSWORD: &str = "Type the password and press Enter; it is shown as you type.\n";
+
+/// What `verify` waits for.
+pub const CODES: &str = "Type one code a line; it is shown as you type. Ctrl-D ends.\n";
+
+/// Where input is read, which may be a terminal.
+pub trait Typed: BufRead {
+    /// Whether it is a terminal, where someone types.
+    fn is_typed(&self) -> bool;
+}
+
+impl<R: Read + IsTerminal + Drop> Typed for BufReader<R> {
+    fn is_typed(&self) -> bool {
+        self.get_ref().is_terminal()
+    }
+}
+
+/// Says on `faults` what is waited for, where `input` and `faults` are both terminals. Elsewhere it writes nothing.
+/// That it can't be said is no fault.
+pub fn ask<I: Typed, E: Watched>(input: &I, faults: &mut E, line: &str) {
+    let _ = say(input.is_typed(), faults.is_watched(), faults, line);
+}
+
+// Writes the line where someone types and watches, and nothing elsewhere.
+fn say<E: Write>(is_typed: bool, is_watched: bool, faults: &mut E, line: &str) -> io::Result<()>
+    ensures said { (is_typed && is_watched) ≡ true
+        → OnOk result (Appends (E.contents faults.old) (E.contents faults.new) line.now) }
+    ensures silent { (is_typed && is_watched) ≡ false → E.contents faults.new ≡ E.contents faults.old }
+{
+    if is_typed && is_watched {
+        faults.write_all(line.as_bytes())?;
+        faults.flush()?;
+    }
+    Ok(())
+}

@@ -1,0 +1,32 @@
+//! The command `unlock`: lets a token take codes again.
+use crate::held_book;
+use crate::words::given;
+use book_file::Lockable;
+use clap::ArgMatches;
+use command_line::value::OptionName;
+use command_line::{Fault, value};
+use std::fs::Files;
+use std::io::Write;
+use std::time::Clock;
+
+/// Judges the options in their order, holds and reads the book, sets the failures of the account's token
+/// to 0, and saves the book, also where they were 0. Faults: BadValue, CannotRead or CannotWrite where the
+/// book can't be held, BadBook, NoSuchAccount, NoToken and CannotWrite, in this order, CannotWriteOutput
+/// and NoMemory.
+pub fn unlock<R, O, E>(
+    rt: &R,
+    words: &ArgMatches<'_>,
+    output: &mut O,
+    faults: &mut E,
+) -> Result<(), Fault>
+where
+    R: Files + Clock + AllocGlobal,
+    R::File: Lockable,
+    O: Write,
+    E: Write,
+{
+    let name = value::name(given(words, OptionName::Name))?;
+    let mut held = held_book::open(rt, given(words, OptionName::Book), faults)?;
+    held.unlock(rt.alloc(), &name)?;
+    writeln!(output, "unlocked {}", name.text()).map_err(|_| Fault::CannotWriteOutput)
+}

@@ -1,0 +1,131 @@
+//! The command `verify`: judges each input line as a one-time code, or as two in a row.
+ghost use Rattle.std.specs.Prelude.{◌≡◌, ◌&&◌, ◌⊎◌, IfErr, IfOk, OnOk, string_bytes};
+ghost use Rattle.std.specs.Io.KnownBytes.{Appends};
+ghost use Rattle.otp_core.specs.Attempt.{CodeTexts};
+ghost use Rattle.commands.specs.Sent.{Says};
+ghost use Rattle.commands.specs.Verify.{is_passed, printed_reply, IsReplySaved};
+
+use crate::held_book;
+use crate::held_book::HeldBook;
+use crate::input::Lines;
+use crate::progress::Watched;
+use crate::prompt::{CODES, Typed, ask};
+use crate::sent::sent_by;
+use crate::words::given;
+use account_book::{BookStore, Reply};
+use book_file::Lockable;
+use clap::ArgMatches;
+use command_line::value::OptionName;
+use command_line::{Fault, value};
+use otp_core::Moment;
+use scram_text::PlainName;
+use std::alloc::Global;
+use std::fs::Files;
+use std::io::{BufRead, Write};
+use std::time::Clock;
+
+/// Judges the options in their order, holds and reads the book, answers each input line, and returns whether every
+/// code passed. At a terminal it asks for the codes once the book is held. Faults: BadValue, CannotRead or CannotWrite
+/// where the book can't be held, BadBook, NoSuchAccount and NoToken, in this order, then for each line
+/// CannotReadInput, CannotWrite and CannotWriteOutput, and NoMemory.
+pub fn verify<R, I, O, E>(
+    rt: &R,
+    words: &ArgMatches<'_>,
+    input: &mut I,
+    output: &mut O,
+    faults: &mut E,
+) -> Result<bool, Fault>
+where
+    R: Files + Clock + AllocGlobal,
+    R::File: Lockable,
+    I: Typed,
+    O: Write,
+    E: Watched,
+{
+    let alloc = rt.alloc();
+    let name = value::name(given(words, OptionName::Name))?;
+    let moment = value::moment(OptionName::Moment, given(words, OptionName::Moment))?;
+    let mut held = held_book::open(rt, given(words, OptionName::Book), faults)?;
+    held.check_token(&name)?;
+    ask(input, faults, CODES);
+    answer_lines(alloc, &mut held, &name, moment, input, output)
+}
+
+// Answers each line. What a line changes is saved before its reply is printed.
+fn answer_lines<S: BookStore, I: BufRead, O: Write>(
+    alloc: Global,
+    held: &mut HeldBook<'_, S>,
+    name: &PlainName,
+    moment: Moment,
+    input: &mut I,
+    output: &mut O,
+) -> Result<bool, Fault> {
+    let mut lines = Lines::new(input);
+    let mut all_passed = true;
+    // Bounded only because every function has to return; what ends it is in its body.
+    for _ in 0..u64::MAX {
+        let Some(line) = lines.next(alloc)? else {
+            break;
+        };
+        let reply = answer_line(alloc, held, name, moment, line.as_slice(), output)?;
+        all_passed = and_passed(all_passed, reply);
+    }
+    Ok(all_passed)
+}
+
+// Answers one line: judges what it sends, saves what that changes, and prints the reply.
+fn answer_line<S: BookStore, O: Write>(
+    alloc: Global,
+    held: &mut HeldBook<'_, S>,
+    name: &PlainName,
+    moment: Moment,
+    line: &[u8],
+    output: &mut O,
+) -> Result<Reply, Fault>
+    ensures printed { IfOk result (λ reply. Appends (O.contents output.old) (O.contents output.new)
+        (printed_reply reply moment)) }
+
+    // Where anything is printed, a reply was due to the line, and what it changed is saved.
+    ensures saved_first { (O.contents output.new ≡ O.contents output.old) ⊎ ((said : CodeTexts) × (reply : Reply)
+        × Says line.now said × IsReplySaved held.old.book name.now moment said reply held.new.book (S.facts held.new.store).saved) }
+{
+    let reply = held.attempt(alloc, name, moment, sent_by(line))?;
+    print_reply(alloc, moment, reply, output)?;
+    Ok(reply)
+}
+
+// Whether each reply so far is a pass, and this one too.
+fn and_passed(so_far: bool, reply: Reply) -> bool
+    ensures { result ≡ (so_far && is_passed reply) }
+{
+    so_far && matches!(reply, Reply::Pass(_))
+}
+
+// Prints a reply, and flushes it.
+fn print_reply<O: Write>(
+    alloc: Global,
+    moment: Moment,
+    reply: Reply,
+    output: &mut O,
+) -> Result<(), Fault>
+    ensures { OnOk result (Appends (O.contents output.old) (O.contents output.new) (printed_reply reply moment)) }
+{
+    let text = reply_text(alloc, moment, reply)?;
+    output
+        .write_all(text.as_bytes())
+        .map_err(|_| Fault::CannotWriteOutput)?;
+    output.flush().map_err(|_| Fault::CannotWriteOutput)
+}
+
+// The line that is printed for a reply.
+fn reply_text(alloc: Global, moment: Moment, reply: Reply) -> Result<String, Fault>
+    ensures ok { IfOk result (λ text. string_bytes text ≡ printed_reply reply moment) }
+    ensures err { IfErr result (λ fault. fault ≡ Fault.NoMemory) }
+{
+    let seconds = moment.seconds();
+    Ok(match reply {
+        Reply::Pass(counter) => format!(in alloc; "PASS {seconds} {counter}\n")?,
+        Reply::Fail => format!(in alloc; "FAIL {seconds}\n")?,
+        Reply::Locked => format!(in alloc; "LOCKED {seconds}\n")?,
+    })
+}

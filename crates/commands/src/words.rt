@@ -1,0 +1,236 @@
+//! The command words, as `clap` reads them.
+use clap::{Arg, ArgAction, ArgMatches, Command};
+use command_line::value::OptionName;
+use std::alloc::{AllocError, Global};
+
+const STATUSES: &str =
+    "Exit status: 0 done, 1 refused or faulty, 2 usage, 3 files, input, output or memory.";
+
+const KEYS_EXAMPLE: &str =
+    "The password is the first line of standard input, 1 to 1024 bytes from space to tilde. Typed at a
+terminal, it is shown.
+
+Example:
+  echo pencil | scramotp keys --mechanism SCRAM-SHA-1 \\
+      --salt 4125c247e43ab1e93c6dff76 --count 4096";
+
+const CODE_EXAMPLES: &str =
+    "With --counter the code is HOTP's, with SHA-1. Else --moment is needed, and it is TOTP's. Standard
+input is not read.
+
+Examples:
+  scramotp code --secret 3132333435363738393031323334353637383930 --counter 0
+  scramotp code --secret 3132333435363738393031323334353637383930 --digits 8 --moment 59";
+
+const ENROL_EXAMPLE: &str =
+    "The password is the first line of standard input, 1 to 1024 bytes from space to tilde. Typed at a
+terminal, it is shown. Prints `enrolled` and the name once the book is saved.
+
+The book is made, readable by its owner alone, where the file is not there. Put it into a folder
+that nobody else can write, nor the folders above it.
+
+The account gets keys for SCRAM-SHA-1 and SCRAM-SHA-256, with salts of 16 bytes. A login name
+without an account is answered by a decoy: with a salt of 16 bytes, and the count that the book has
+as decoy_count, 4096 in a new book. So with another --count, set decoy_count to it; else the count
+shows which names have accounts.
+
+Example:
+  echo pencil | scramotp enrol --book book.toml --name user";
+
+const VERIFY_EXAMPLE: &str =
+    "Each line of standard input is an attempt. Its reply is PASS, the moment and the counter that
+passed, or FAIL or LOCKED and the moment. PASS and FAIL are printed once the book is saved; LOCKED
+saves nothing. The book is locked until the input ends; other runs wait for it, up to 30 seconds.
+Exit status 0 means that every reply was PASS, also where there was none.
+
+A line as `SYNC 399871 520489`, with two codes in a row, finds a HOTP token that ran ahead of the
+book: it passes where the first is the code of `next` or of one of the `sync_ahead` counters
+after it.
+
+Nobody else may be able to write the book's folder, nor the folders above it.
+
+Example, after that of `scramotp enrol --help`: a token, and its first code
+  echo '[accounts.user.token]
+    kind = \"hotp\"
+    secret = \"3132333435363738393031323334353637383930\"
+    digits = 6
+    next = 0
+    look_ahead = 5
+    limit = 3
+    failures = 0' >>book.toml
+  echo 755224 | scramotp verify --book book.toml --name user --moment \"$(date +%s)\"";
+
+const UNLOCK_EXAMPLE: &str =
+    "A token is locked once as many codes in a row have failed as its limit says. Prints `unlocked` and
+the name once the book is saved. Standard input is not read.
+
+Nobody else may be able to write the book's folder, nor the folders above it.
+
+Example, after that of `scramotp verify --help`:
+  scramotp unlock --book book.toml --name user";
+
+const AUDIT_EXAMPLE: &str =
+    "The book is the one that the log began with, so keep a copy of it: a token has moved on since. It
+is read as it is, without a lock, and nothing is written. Standard input is read only where the log
+is /dev/stdin. Prints `clean` and the counts of sessions, accepted logins and codes that passed, or
+the first line at fault, why, and what was due. Exit status 0 means that the log is clean, 3 also
+that a read of it failed.
+
+Example, after that of `scramotp enrol --help`: a log whose client leaves at once
+  printf '%s\\n' 'SCRAMLOG 1' 'S MECHS SCRAM-SHA-256 SCRAM-SHA-1' 'C GONE' E >log.txt
+  scramotp audit --book book.toml --log log.txt";
+
+// An option that takes one value.
+fn option<'a>(alloc: Global, name: &'a str, value: &'a str, help: &'a str) -> Arg<'a> {
+    Arg::new(alloc, name)
+        .long(name)
+        .value_name(value)
+        .help(help)
+        .action(ArgAction::Set)
+}
+
+// An option that has to be given.
+fn required<'a>(alloc: Global, name: &'a str, value: &'a str, help: &'a str) -> Arg<'a> {
+    option(alloc, name, value, help).required(true)
+}
+
+fn book<'a>(alloc: Global) -> Arg<'a> {
+    required(alloc, "book", "FILE", "The account book")
+}
+
+fn name<'a>(alloc: Global) -> Arg<'a> {
+    required(
+        alloc,
+        "name",
+        "NAME",
+        "The account's name, 1 to 255 bytes from space to tilde",
+    )
+}
+
+fn keys<'a>(alloc: Global) -> Result<Command<'a>, AllocError> {
+    Command::new(alloc, "keys")
+        .about("Prints the stored key and the server key of a password")
+        .after_help(KEYS_EXAMPLE)
+        .arg(required(alloc, "mechanism", "NAME", "SCRAM-SHA-1 or SCRAM-SHA-256"))?
+        .arg(required(
+            alloc,
+            "salt",
+            "HEX",
+            "The salt, 1 to 64 bytes in hexadecimal",
+        ))?
+        .arg(required(alloc, "count", "N", "The iteration count, 1 to 4294967295"))
+}
+
+fn enrol<'a>(alloc: Global) -> Result<Command<'a>, AllocError> {
+    let count = option(alloc, "count", "N", "The iteration count, 1 to 4294967295");
+    let random = option(alloc, "random", "FILE", "Where random bytes are read");
+    Command::new(alloc, "enrol")
+        .about("Adds an account with a password to a book")
+        .after_help(ENROL_EXAMPLE)
+        .arg(book(alloc))?
+        .arg(name(alloc))?
+        .arg(count.default_value("4096"))?
+        .arg(random.default_value("/dev/urandom"))
+}
+
+fn code<'a>(alloc: Global) -> Result<Command<'a>, AllocError> {
+    let digits = option(alloc, "digits", "N", "The digits of the code, 6 to 8");
+    let hash = option(
+        alloc,
+        "hash",
+        "NAME",
+        "TOTP's hash function: sha1, sha256 or sha512",
+    );
+    let t0 = option(
+        alloc,
+        "t0",
+        "SECONDS",
+        "The moment at which TOTP's step 0 begins",
+    );
+    let step = option(alloc, "step", "SECONDS", "The length of a step, 1 to 3600");
+    Command::new(alloc, "code")
+        .about("Prints a one-time code")
+        .after_help(CODE_EXAMPLES)
+        .arg(required(
+            alloc,
+            "secret",
+            "HEX",
+            "The secret, 10 to 64 bytes in hexadecimal",
+        ))?
+        .arg(digits.default_value("6"))?
+        .arg(option(
+            alloc,
+            "counter",
+            "N",
+            "HOTP's counter, 0 to 9223372036854775806",
+        ))?
+        .arg(option(
+            alloc,
+            "moment",
+            "SECONDS",
+            "TOTP's moment, in seconds since 1970",
+        ))?
+        .arg(hash.default_value("sha1"))?
+        .arg(t0.default_value("0"))?
+        .arg(step.default_value("30"))
+}
+
+fn verify<'a>(alloc: Global) -> Result<Command<'a>, AllocError> {
+    Command::new(alloc, "verify")
+        .about("Judges one-time codes by an account's token")
+        .after_help(VERIFY_EXAMPLE)
+        .arg(book(alloc))?
+        .arg(name(alloc))?
+        .arg(required(
+            alloc,
+            "moment",
+            "SECONDS",
+            "The moment of the codes, in seconds since 1970",
+        ))
+}
+
+fn unlock<'a>(alloc: Global) -> Result<Command<'a>, AllocError> {
+    Command::new(alloc, "unlock")
+        .about("Lets a locked token take codes again")
+        .after_help(UNLOCK_EXAMPLE)
+        .arg(book(alloc))?
+        .arg(name(alloc))
+}
+
+fn audit<'a>(alloc: Global) -> Result<Command<'a>, AllocError> {
+    Command::new(alloc, "audit")
+        .about("Judges a recorded log by the book that it began with")
+        .after_help(AUDIT_EXAMPLE)
+        .arg(book(alloc))?
+        .arg(required(alloc, "log", "FILE", "The log"))
+}
+
+/// The program's commands and their options.
+pub fn scramotp<'a>(alloc: Global) -> Result<Command<'a>, AllocError> {
+    Command::new(alloc, "scramotp")
+        .bin_name("scramotp")?
+        .version("0.1.0")
+        .about(
+            "SCRAM keys, one-time codes, a book of accounts that have them, and the audit of a log",
+        )
+        .after_help(STATUSES)
+        .subcommand_required(true)
+        .disable_help_subcommand(true)
+        .subcommand(keys(alloc)?)?
+        .subcommand(enrol(alloc)?)?
+        .subcommand(code(alloc)?)?
+        .subcommand(verify(alloc)?)?
+        .subcommand(unlock(alloc)?)?
+        .subcommand(audit(alloc)?)
+}
+
+/// The value of an option, its default included, or None where none was given.
+pub fn optional<'a>(words: &ArgMatches<'a>, option: OptionName) -> Option<&'a str> {
+    let name = option.name();
+    words.get_str(name)
+}
+
+/// The value of an option that is required or has a default.
+pub fn given<'a>(words: &ArgMatches<'a>, option: OptionName) -> &'a str {
+    optional(words, option).unwrap_or("")
+}

@@ -1,0 +1,5 @@
+//! Tests of `commands`.
+#![tactic(auto)]
+
+#[cfg(test)]
+mod tests;

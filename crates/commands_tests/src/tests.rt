@@ -1,0 +1,203 @@
+//! Tests of `run`: each command once, and how a run ends where streams and files fail. What the program prints,
+//! case by case, is tested on the built program by the scripts in the repository's folder `tests`.
+mod books;
+mod prompts;
+mod streams;
+
+use book_file::Lockable;
+use commands::run;
+use std::fs::Files;
+use std::io;
+use std::io::{BufReader, ErrorKind, IsTerminal, Read, Write};
+use std::process::Abort;
+use std::test::Fail;
+use std::time::Clock;
+use streams::{Faults, Input};
+
+// The words of RFC 5802's example, and what the program prints for them and the password `pencil`.
+const KEYS: [&str; 8] = [
+    "scramotp",
+    "keys",
+    "--mechanism",
+    "SCRAM-SHA-1",
+    "--salt",
+    "4125c247e43ab1e93c6dff76",
+    "--count",
+    "4096",
+];
+
+const PRINTED: &str = "stored=e9d94660c39d65c38fbad91c358f14da0eef2bd6
+server=0fe09258b3ac852ba502cc62ba903eaacdbf7d31
+";
+
+const CANNOT_WRITE: &str = "scramotp: cannot write output\n";
+
+// Input that has these bytes, and whose every read after them fails with this kind of error: no terminal.
+#[derive(Drop)]
+struct Broken<'a> {
+    front: &'a [u8],
+    kind: ErrorKind,
+}
+
+impl Read for Broken<'_> {
+    fn read(&mut self, buf: &mut [u8]) -> io::Result<usize> {
+        if self.front.is_empty() {
+            return Err(io::Error::from(self.kind));
+        }
+        self.front.read(buf)
+    }
+}
+
+impl IsTerminal for Broken<'_> {
+    fn is_terminal(&self) -> bool {
+        false
+    }
+}
+
+// A writer that takes `room` bytes and then fails.
+#[derive(Drop)]
+struct Full {
+    room: usize,
+}
+
+impl Write for Full {
+    fn write(&mut self, buf: &[u8]) -> io::Result<usize> {
+        if self.room == 0 {
+            return Err(io::Error::from(ErrorKind::StorageFull));
+        }
+        let taken = buf.len().min(self.room);
+        self.room -= taken;
+        Ok(taken)
+    }
+
+    fn flush(&mut self) -> io::Result<()> {
+        Ok(())
+    }
+}
+
+// A writer that takes all bytes, and fails when it is flushed.
+#[derive(Drop)]
+struct Stuck;
+
+impl Write for Stuck {
+    fn write(&mut self, buf: &[u8]) -> io::Result<usize> {
+        Ok(buf.len())
+    }
+
+    fn flush(&mut self) -> io::Result<()> {
+        Err(io::Error::from(ErrorKind::BrokenPipe))
+    }
+}
+
+// Runs the words with the input, and compares status, output and faults.
+fn check<R>(rt: &R, words: &[&str], input: &str, want: (u8, &str, &str))
+where
+    R: Abort + Files + Clock + AllocGlobal,
+    R::File: Lockable,
+{
+    let mut output = Vec::new(rt.alloc());
+    let mut faults = Faults::new(rt.alloc(), false);
+    let mut input = Input::new(input, false);
+    let status = run(rt, words, &mut input, &mut output, &mut faults);
+    let (want_status, want_output, want_faults) = want;
+    assert_eq!(rt; status, want_status, "status of {words:?}");
+    assert!(rt;
+        output.as_slice() == want_output.as_bytes(),
+        "output of {words:?}"
+    );
+    assert!(rt;
+        faults.bytes.as_slice() == want_faults.as_bytes(),
+        "faults of {words:?}"
+    );
+}
+
+// RFC 5802's example, and the first codes of RFC 4226, appendix D, and RFC 6238, appendix B.
+#[test]
+fn without_a_book(rt: HostRuntime) {
+    let secret = "3132333435363738393031323334353637383930";
+    let hotp = ["scramotp", "code", "--secret", secret, "--counter", "0"];
+    let totp = [
+        "scramotp", "code", "--secret", secret, "--digits", "8", "--moment", "59",
+    ];
+    let cases: [(&[&str], (u8, &str, &str)); 4] = [
+        (&KEYS, (0, PRINTED, "")),
+        (&hotp, (0, "755224\n", "")),
+        (&totp, (0, "94287082\n", "")),
+        (&["scramotp", "--version"], (0, "scramotp 0.1.0\n", "")),
+    ];
+    for (words, want) in cases {
+        check(&rt, words, "pencil\n", want);
+    }
+}
+
+#[test]
+fn failing_input(rt: HostRuntime) -> Result<(), Fail> {
+    let alloc = rt.alloc();
+    let cases = [
+        (
+            "",
+            ErrorKind::ConnectionReset,
+            "scramotp: cannot read input\n",
+        ),
+        (
+            "pen",
+            ErrorKind::ConnectionReset,
+            "scramotp: cannot read input\n",
+        ),
+        ("pen", ErrorKind::OutOfMemory, "scramotp: no memory\n"),
+    ];
+    for (front, kind, want) in cases {
+        let mut output = Vec::new(alloc);
+        let mut faults = Faults::new(alloc, false);
+        let front = front.as_bytes();
+        let mut input = BufReader::new(alloc, Broken { front, kind })?;
+        let status = run(&rt, &KEYS, &mut input, &mut output, &mut faults);
+        assert_eq!(rt; status, 3, "{want}");
+        assert!(rt; output.is_empty(), "{want}");
+        assert!(rt; faults.bytes.as_slice() == want.as_bytes(), "{want}");
+    }
+    Ok(())
+}
+
+// No read is made after the first line: here it would fail.
+#[test]
+fn input_after_the_first_line(rt: HostRuntime) -> Result<(), Fail> {
+    let alloc = rt.alloc();
+    let mut output = Vec::new(alloc);
+    let mut faults = Faults::new(alloc, false);
+    let front = b"pencil\n".as_slice();
+    let kind = ErrorKind::ConnectionReset;
+    let mut input = BufReader::new(alloc, Broken { front, kind })?;
+    let status = run(&rt, &KEYS, &mut input, &mut output, &mut faults);
+    assert_eq!(rt; status, 0);
+    assert!(rt; faults.bytes.is_empty());
+    assert!(rt; output.as_slice() == PRINTED.as_bytes());
+    Ok(())
+}
+
+#[test]
+fn failing_output(rt: HostRuntime) {
+    for room in [0, 1, 48, 95] {
+        let mut faults = Faults::new(rt.alloc(), false);
+        let mut output = Full { room };
+        let mut input = Input::new("pencil\n", false);
+        let status = run(&rt, &KEYS, &mut input, &mut output, &mut faults);
+        assert_eq!(rt; status, 3, "{room}");
+        assert!(rt;
+            faults.bytes.as_slice() == CANNOT_WRITE.as_bytes(),
+            "{room}"
+        );
+    }
+}
+
+#[test]
+fn output_that_is_not_handed_on(rt: HostRuntime) {
+    let help = ["scramotp", "--help"];
+    for words in [KEYS.as_slice(), help.as_slice()] {
+        let mut faults = Faults::new(rt.alloc(), false);
+        let mut input = Input::new("pencil\n", false);
+        let status = run(&rt, words, &mut input, &mut Stuck, &mut faults);
+        assert_eq!(rt; status, 3);
+        assert!(rt; faults.bytes.as_slice() == CANNOT_WRITE.as_bytes());
+    }
+}

@@ -1,4 +1,0 @@
-pub mod Audit
-pub mod Code
-pub mod Keys
-pub mod Verify
