@@ -1,5 +1,6 @@
 #!/usr/bin/env python3
-"""Times the readers of the four messages beside the same by Python's re and base64, and codes beside oathtool.
+"""Times the readers of the four messages beside the same by Python's re and base64, and codes beside oathtool; and the
+search for two codes in a row.
 
 Usage: messages.py PROGRAM
 
@@ -16,6 +17,10 @@ import time
 COUNT = 300_000
 PYTHON_COUNT = 30_000
 CODES = 99_999
+SECRET = "12345678901234567890"
+# Searches for two codes in a row, and the codes that each makes for 1000 counters.
+SEARCHES = 200
+CODES_OF_SEARCH = 1001
 TURNS = 5
 NONCE = "fyko+d2lbbFgONRv9qkxdawL3rfcNHYJY1ZVvWVs7j"
 MESSAGES = {
@@ -58,12 +63,14 @@ def main():
         ours = min(seconds([program, kind, str(COUNT), text]) for _ in range(TURNS)) - start
         python = max(by_python(kind, text.encode()) for _ in range(TURNS))
         print(f"read {kind}: {COUNT / ours:,.0f} a second, Python's re and base64 {python:,.0f}")
-    codes = min(seconds([program, "hotp", str(CODES), "12345678901234567890"]) for _ in range(TURNS)) - start
+    codes = min(seconds([program, "hotp", str(CODES), SECRET]) for _ in range(TURNS)) - start
     line = f"HOTP codes: {CODES / codes:,.0f} a second"
     if shutil.which("oathtool"):
-        words = ["oathtool", "--hotp", "--window", str(CODES - 1), "3132333435363738393031323334353637383930"]
+        words = ["oathtool", "--hotp", "--window", str(CODES - 1), SECRET.encode().hex()]
         line += f", oathtool {CODES / min(seconds(words) for _ in range(TURNS)):,.0f}"
     print(line)
+    search = (min(seconds([program, "sync", str(SEARCHES), SECRET]) for _ in range(TURNS)) - start) / SEARCHES
+    print(f"two codes in a row among 1000: {CODES_OF_SEARCH / search:,.0f} codes a second, {search * 1000:.2f} ms")
 
 
 main()

@@ -332,7 +332,7 @@ def is_refused(book, runner):
     """Each command on a book of another says why it is not worked on, and leaves it as it was."""
     before = seen(book)
     for command in GOOD:
-        fault = f"{book} belongs to another user, who alone can save it\nscramotp: cannot write {book}"
+        fault = f"{book} belongs to another user: only that user and root can save it\nscramotp: cannot write {book}"
         says(command, well(command, book, **runner), 3, "", fault)
     same("the book of another", seen(book), before)
     same("its folder", os.listdir(os.path.dirname(book)), ["book"])

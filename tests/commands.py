@@ -4,8 +4,12 @@
 Usage: commands.py PROGRAM
 """
 import os
+import re
+import stat
 import subprocess
 import sys
+import tempfile
+import time
 import tomllib
 from hashlib import pbkdf2_hmac, sha1, sha256
 from hmac import digest
@@ -36,6 +40,17 @@ drift = 0
 limit = 3
 failures = 0
 """
+
+# What the example of each command prints, in an order in which they can be run: RFC 5802, section 5; RFC 4226, appendix D, and
+# RFC 6238, appendix B; the first code of RFC 4226 once more; a log in which no login was accepted.
+EXAMPLES = [
+    ("keys", KEYS_OF_PENCIL),
+    ("code", "755224\n94287082\n"),
+    ("enrol", "enrolled user\n"),
+    ("verify", "PASS {} 0\n"),
+    ("unlock", "unlocked user\n"),
+    ("audit", "clean sessions=1 accepted=0 codes=0\n"),
+]
 
 
 def check(words, text, status, printed="", fault=""):
@@ -201,12 +216,41 @@ def help_and_version(folder):
             ["keys", "--help"],
             ["--mechanism <NAME>  SCRAM-SHA-1", "--salt <HEX> ", "--count <N> ", "Example:\n  echo pencil |"],
         ),
-        (["enrol", "--help"], ["\nPut the book into a folder that nobody else can write"]),
-        (["verify", "--help"], ["The book is locked until the input ends"]),
+        (["enrol", "--help"], ["Put it into a folder\nthat nobody else can write", "a salt of 16 bytes", "4096 in a new book"]),
+        (["verify", "--help"], ["The book is locked until the input ends", "else may be able to write the book's folder"]),
+        (["unlock", "--help"], ["else may be able to write the book's folder", "Standard input is not read."]),
+        (["audit", "--help"], ["nothing is written", "Standard input is read only where the log\nis /dev/stdin."]),
+        (["code", "--help"], ["Standard\ninput is not read."]),
     ]:
-        run = subprocess.run([PROGRAM, *words], capture_output=True, text=True)
-        assert (run.returncode, run.stderr) == (0, ""), run
-        assert all(part in run.stdout for part in parts), run.stdout
+        text = help_of(words[:-1])
+        assert all(part in text for part in parts), text
+
+
+def help_of(words):
+    """What is printed for --help, in lines of at most 100 columns."""
+    run = subprocess.run([PROGRAM, *words, "--help"], capture_output=True, text=True)
+    assert (run.returncode, run.stderr) == (0, ""), run
+    assert all(len(line) <= 100 for line in run.stdout.splitlines()), run.stdout
+    return run.stdout
+
+
+def examples(folder):
+    """The example of each command runs as it stands, in a folder that is empty at first; `verify` has the moment of now."""
+    with tempfile.TemporaryDirectory() as commands:
+        os.symlink(PROGRAM, os.path.join(commands, "scramotp"))
+        environment = {**os.environ, "PATH": f"{commands}:{os.environ['PATH']}"}
+        for command, printed in EXAMPLES:
+            [example] = re.findall(r"^Examples?\b.*:.*\n((?:  .*\n?)+)\Z", help_of([command]), re.M)
+            began = int(time.time())
+            run = subprocess.run(
+                ["sh", "-ec", example], cwd=folder, env=environment, stdin=subprocess.DEVNULL, capture_output=True, text=True
+            )
+            moments = range(began, int(time.time()) + 1)
+            assert (run.returncode, run.stderr) == (0, ""), (command, run)
+            assert run.stdout in [printed.format(moment) for moment in moments], (command, run)
+    assert stat.S_IMODE(os.stat(os.path.join(folder, "book.toml")).st_mode) == 0o600
+    listed = re.findall(r"^  ([a-z]+) +[A-Z]", help_of([]).split("Commands:\n")[1].split("\n\n")[0], re.M)
+    assert sorted(listed) == sorted(command for command, _ in EXAMPLES), listed
 
 
 def input_limit(folder):
@@ -242,6 +286,41 @@ def hotp_codes(folder):
     verify(book, "5", "399871", 0, "PASS 5 8\n")
     verify(book, "5", "", 0, "")
     verify(book, "5", "\n", 1, "FAIL 5\n")
+
+
+def two_codes_in_a_row(folder):
+    """A line `SYNC text text` passes by two codes of RFC 4226, appendix D, in a row, and spends both."""
+    book = os.path.join(folder, "book")
+    far = "SYNC 399871 520489\n"
+    runs = [
+        (8, "399871\nSYNC 338314 969429\n" + far, "FAIL 5\nFAIL 5\nPASS 5 9\n"),
+        (8, "SYNC 969429 338314\n338314\n969429\n254676\n", "PASS 5 4\nFAIL 5\nFAIL 5\nPASS 5 5\n"),
+        (8, "SYNC 287082 969429\n" * 3 + "SYNC 755224 287082\n", "FAIL 5\n" * 3 + "LOCKED 5\n"),
+        (7, far, "FAIL 5\n"),
+        (0, "SYNC 287082 359152\nSYNC 755224 287082\n", "FAIL 5\nPASS 5 1\n"),
+        (None, "SYNC 287082 359152\nSYNC 755224 287082\n", "FAIL 5\nPASS 5 1\n"),
+    ]
+    for sync_ahead, text, printed in runs:
+        write(book, USER, hotp(3, 3, sync_ahead))
+        verify(book, "5", text, 1, printed)
+        assert token(book)["sync_ahead"] == (sync_ahead or 0), token(book)
+    write(book, USER, hotp(3, 3, 8))
+    verify(book, "5", far, 0, "PASS 5 9\n")
+    assert (token(book)["next"], token(book)["failures"]) == (10, 0), token(book)
+    write(book, USER, hotp(3, 100, 8))
+    for line in ["SYNC 755224", "SYNC 755224  287082", "SYNC  755224 287082", "SYNC 755224 287082 ", " SYNC 755224 287082",
+                 "sync 755224 287082", "SYNC 755224 287082\r", "SYNC 755224 287082 359152", "SYNC\t755224 287082",
+                 "C SYNC 755224 287082", "CODE 755224"]:
+        verify(book, "5", line, 1, "FAIL 5\n")
+    verify(book, "5", "SYNC 755224 287082", 0, "PASS 5 1\n")
+
+
+def two_steps_in_a_row(folder):
+    """A TOTP token passes by no two codes: a line `SYNC text text` fails, and counts."""
+    book = os.path.join(folder, "book")
+    write(book, USER, TOTP)
+    verify(book, "59", "SYNC 94287082 37359152\n94287082\n", 1, "FAIL 59\nPASS 59 1\n")
+    verify(book, "59", "SYNC 37359152 37359152\n" * 4, 1, "FAIL 59\n" * 3 + "LOCKED 59\n")
 
 
 def totp_codes(folder):
@@ -339,9 +418,12 @@ TESTS = [
     bad_codes,
     usage,
     help_and_version,
+    examples,
     input_limit,
     server_signature,
     hotp_codes,
+    two_codes_in_a_row,
+    two_steps_in_a_row,
     totp_codes,
     locked_tokens,
     enrolling,

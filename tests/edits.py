@@ -202,7 +202,9 @@ class Room:
             if (self.source / part).is_dir():
                 shutil.copytree(self.source / part, at / part)
         root = next(it for it in ("src/lib.rt", "src/main.rt") if (at / it).is_file())
-        self.words = [f"{kit()}/bin/rattle", "check", "--crate-name", crate, root, "--jobs", "1", "--incremental", "kept"]
+        # a build checks as a check does, but for a function that is not proved it offers no files, which takes a third of the time
+        self.words = [f"{kit()}/bin/rattle", "build", "--crate-name", crate, root, "--jobs", "1", "--incremental", "kept"]
+        self.words += ["-o", f"{crate}.rlib"]
         self.words += ["--antt-project", f"{kit()}/rattle/logic/antt-project.json", "--logic-built", f"{kit()}/logic_built"]
         for it in ["std", *uses[crate]]:
             self.words += ["--extern", f"{it}={rlib_of(base, it) if it in uses else f'{kit()}/rlibs/{it}.rlib'}"]

@@ -255,6 +255,20 @@ def a_hotp_token(folder):
     does(folder, verify(NAME, code(bytes.fromhex(SECRET), skipped)), printed=f"PASS 5 {skipped}\n")
 
 
+def a_fob_that_ran_ahead(folder):
+    """Two codes in a row pass where the first alone is too far ahead, and the token goes on after them."""
+    enrolled(folder)
+    [token] = blocks("Set a token", "toml")
+    Path(folder, "token.toml").write_text(token)
+    does(folder, "./edit-book book.toml cat - token.toml")
+    assert ran(folder, verify(NAME, code(bytes.fromhex(SECRET), 8)))[:2] == (1, "FAIL 5\n")
+    [sync] = blocks("Find a fob that ran ahead")
+    status, output, faults = ran(folder, sync)
+    assert (status, faults) == (0, "") and re.fullmatch(r"PASS \d+ 9\n", output), (output, faults)
+    assert ran(folder, sync)[0] == 1
+    does(folder, verify(NAME, code(bytes.fromhex(SECRET), 10)), printed="PASS 5 10\n")
+
+
 def a_password(folder):
     """New keys take the place of the old ones, by the new password; all else stays."""
     enrolled(folder)
@@ -375,6 +389,7 @@ def a_code_in_a_script(folder):
     assert lets_in(CODES[3]) == 1
     does(folder, "scramotp unlock --book book.toml --name user", printed="unlocked user\n")
     assert [lets_in(CODES[3]), lets_in(CODES[0], "-x"), lets_in(CODES[0], "-x")] == [0, 0, 1]
+    assert lets_in(f"SYNC {CODES[1]} {CODES[2]}", "-x") == 1
     assert [lets_in(CODES[4], "bare"), lets_in(CODES[4], "nobody"), lets_in(CODES[4], book="none")] == [1, 1, 1]
     silent = Path(folder, "silent", "scramotp")
     silent.parent.mkdir()
@@ -466,6 +481,7 @@ TESTS = [
     an_edit_gives_up,
     a_token,
     a_hotp_token,
+    a_fob_that_ran_ahead,
     a_password,
     a_removed_account,
     decoys,

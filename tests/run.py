@@ -24,6 +24,7 @@ TESTS = [
     "vectors.py",
     "commands.py",
     "process.sh",
+    "terminal.py",
     "story.py",
 ]
 

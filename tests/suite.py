@@ -13,8 +13,9 @@ decoy_count = 4096
 """
 
 
-def hotp(look_ahead, limit):
-    """A HOTP token for `user`, with the secret of RFC 4226's appendix D."""
+def hotp(look_ahead, limit, sync_ahead=None):
+    """A HOTP token for `user`, with the secret of RFC 4226's appendix D; it has no key `sync_ahead` without a number."""
+    sync = "" if sync_ahead is None else f"sync_ahead = {sync_ahead}\n"
     return f"""
 [accounts.user.token]
 kind = "hotp"
@@ -22,7 +23,7 @@ secret = "{SECRET}"
 digits = 6
 next = 0
 look_ahead = {look_ahead}
-limit = {limit}
+{sync}limit = {limit}
 failures = 0
 """
 
