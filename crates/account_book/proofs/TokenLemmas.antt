@@ -22,7 +22,7 @@ use Rattle.book_format.specs.Book.{BookFields}
 use Rattle.account_book.specs.Accounts.{name_cmp, account_at, with_changed}
 use Rattle.account_book.specs.View.{mech_keys, keys_entry, decoy_entry, entry_in}
 use Rattle.account_book.specs.Tokens.{token_at, with_token}
-use Rattle.account_book.specs.Laws.{TokensAreApart, EntriesStay, TokensGoBack}
+use Rattle.account_book.specs.Laws.{TokensAreApart, EntriesStay, TokensStay, TokensGoBack}
 
 -- the accounts of a book in which one is changed
 changed_at : (old : BookFields) (name : List ℕ) (change : AccountFields → AccountFields) (account : AccountFields) → account_at old name ≡ Some account
@@ -126,6 +126,14 @@ own_token : (o : Option AccountFields) (token : Fields) (account : AccountFields
     → o ≡ Some account → account.token ≡ Some token
 own_token None token account has found = absurd (cc has)
 own_token (Some other) token account has found = cc
+
+-- a token that is put where it stands changes nothing
+pub tokens_stay : TokensStay
+tokens_stay old name token has =
+    let owned = owner (account_at old name) token has in
+    changed_is old name (with_token token) owned.0 owned.1
+    ∙ ap (λ (es : List (List ℕ × AccountFields)). record old { accounts = es })
+    (set_back old.accounts name owned.0 token owned.1 (own_token (account_at old name) token owned.0 has owned.1))
 
 pub tokens_go_back : TokensGoBack
 tokens_go_back old name token next has =

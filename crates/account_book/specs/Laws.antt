@@ -19,6 +19,10 @@ abbrev pub EntriesStay : Type 0
 EntriesStay = (old : BookFields) (name : List ℕ) (token next : Fields) → token_at old name ≡ Some token
     → (m : Mechanism) (other : List ℕ) → entry_in (with_changed old name (with_token next)) m other ≡ entry_in old m other
 
+-- a token that is put where it stands changes nothing
+abbrev pub TokensStay : Type 0
+TokensStay = (old : BookFields) (name : List ℕ) (token : Fields) → token_at old name ≡ Some token → with_changed old name (with_token token) ≡ old
+
 -- a token that is put back makes the book that there was
 abbrev pub TokensGoBack : Type 0
 TokensGoBack = (old : BookFields) (name : List ℕ) (token next : Fields) → token_at old name ≡ Some token

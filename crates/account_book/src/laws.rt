@@ -1,7 +1,7 @@
 //! What follows from the contracts of a book's calls.
 ghost use Rattle.std.specs.Prelude.{◌≡◌, IfOk};
 ghost use Rattle.book_format.specs.Book.{IsBook};
-ghost use Rattle.account_book.specs.Laws.{TokensAreApart, EntriesStay, TokensGoBack};
+ghost use Rattle.account_book.specs.Laws.{TokensAreApart, EntriesStay, TokensStay, TokensGoBack};
 
 use crate::book::Book;
 use book_format::BookWhy;
@@ -38,6 +38,11 @@ pub fn tokens_are_apart()
 /// Where one account gets another token, a server keeps what it kept of every name: no token is in it.
 pub fn entries_stay()
     ensures { EntriesStay }
+{}
+
+/// A token that is put where it stands changes nothing.
+pub fn tokens_stay()
+    ensures { TokensStay }
 {}
 
 /// A token that is put back makes the book that there was.
