@@ -1,0 +1,69 @@
+-- What a keeper told, and a token that it puts back.
+use Rattle.std.proofs.Common.{◌≡◌, ◌≢◌, ℕ, List, [], ◌∷◌, refl, sym, ap, subst, ◌∙◌}
+use Rattle.std.specs.declared.option.Option.TheVariants.{Some}
+use Rattle.otp_core.specs.Attempt.{Attempt, CodeTexts, attempt_of}
+use Rattle.otp_core.specs.History.{IsAfter}
+use Rattle.otp_core.specs.Reply.{IsDueReply}
+use Rattle.otp_core.specs.State.{advanced}
+use Rattle.otp_core.specs.declared.token.answer.Reply.{Reply}
+use Rattle.otp_core.specs.declared.token.answer.Reply.TheVariants.{Pass, Fail, Locked}
+use Rattle.otp_core.specs.declared.token.kinds.Fields.{Fields}
+use Rattle.book_format.specs.Book.{BookFields}
+use Rattle.account_book.specs.Accounts.{IsChanged, with_changed}
+use Rattle.account_book.specs.Store.{StoreFacts}
+use Rattle.account_book.specs.Tokens.{token_at, with_token, IsAttempt, IsAnswered}
+use Rattle.account_book.proofs.MapLemmas.{is_changed}
+use Rattle.account_book.proofs.TokenLemmas.{tokens_go_back, tokens_stay}
+use Rattle.log_grammar.specs.Sessions.{told_of}
+use Rattle.sasl_log.proofs.TokenLemmas.{reply_by, book_after}
+use Rattle.sasl_desk.specs.Keeper.{IsTold, IsKept, HoldsText}
+
+-- a token judged what was sent, and leads on from where it was
+pub record IsStep (token : Fields) (moment : ℕ) (sent : CodeTexts) (reply : Reply) (now : Fields) : Type 0 where
+  pub due : (start : Fields) (history : List Attempt) → IsAfter start history token → IsDueReply start history moment sent reply
+  pub after : (start : Fields) (history : List Attempt) → IsAfter start history token → IsAfter start (attempt_of moment sent reply ∷ history) now
+  pub state : now ≡ advanced token moment reply
+
+attempted : (old new : BookFields) (name : List ℕ) (token now : Fields) (moment : ℕ) (sent : CodeTexts) (reply : Reply)
+    → IsStep token moment sent reply now → IsChanged old name (with_token now) new → IsAttempt old name token moment sent reply new
+attempted old new name token now moment sent reply step put = record {
+  due = step.due;
+  after = λ start history after. subst (λ (t : Fields). IsAfter start (attempt_of moment sent reply ∷ history) t) step.state (step.after start history after);
+  kept = subst (λ (t : Fields). IsChanged old name (with_token t) new) step.state put;
+}
+
+-- the reply to an attempt is told of the account
+pub told_by : (old new : BookFields) (name : List ℕ) (token now : Fields) (moment : ℕ) (sent : CodeTexts) (reply : Reply) → token_at old name ≡ Some token
+    → IsStep token moment sent reply now → IsChanged old name (with_token now) new → IsTold old (told_of name moment sent (Some reply)) new
+told_by old new name token now moment sent reply has step put =
+    let attempt = attempted old new name token now moment sent reply step put in
+    let answered : IsAnswered old name moment sent (Some reply) new = rw has (reply, refl, attempt) in
+    record {
+      due = λ accounts told h. reply_by accounts told old name moment sent (Some reply) new answered h;
+      after = λ accounts told h. book_after accounts told old name moment sent (Some reply) new (Some token) has (reply, refl, attempt) h;
+    }
+
+-- LOCKED is told of a book that stays as it was
+pub told_locked : (old : BookFields) (name : List ℕ) (token now : Fields) (moment : ℕ) (sent : CodeTexts) (reply : Reply) → token_at old name ≡ Some token
+    → IsStep token moment sent reply now → reply ≡ Locked → (was : StoreFacts)
+    → IsTold old (told_of name moment sent (Some reply)) old × IsKept (Some reply) old was old was
+told_locked old name token now moment sent reply has step locked was =
+    let same : now ≡ token = step.state ∙ ap (advanced token moment) locked in
+    let stays : old ≡ with_changed old name (with_token now) =
+    sym (ap (λ (t : Fields). with_changed old name (with_token t)) same ∙ tokens_stay old name token has) in
+    (told_by old old name token now moment sent reply has step (is_changed old name (with_token now) old stays), rw locked (refl, refl))
+
+-- a reply that is not LOCKED is kept by a store that holds the book's text
+pub kept_by : (old new : BookFields) (was now : StoreFacts) (reply : Reply) → reply ≢ Locked → HoldsText was new now → IsKept (Some reply) old was new now
+kept_by old new was now (Pass counter) apart holds = holds
+kept_by old new was now Fail apart holds = holds
+kept_by old new was now Locked apart holds = absurd (apart refl)
+
+-- a token that was put back
+pub put_back : (old mid new : BookFields) (name : List ℕ) (token next back : Fields) → token_at old name ≡ Some token → back ≡ token
+    → IsChanged old name (with_token next) mid → IsChanged mid name (with_token back) new → new ≡ old
+put_back old mid new name token next back has same first second =
+    second.book
+    ∙ ap (λ (b : BookFields). with_changed b name (with_token back)) first.book
+    ∙ ap (λ (t : Fields). with_changed (with_changed old name (with_token next)) name (with_token t)) same
+    ∙ tokens_go_back old name token next has

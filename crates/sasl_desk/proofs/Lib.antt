@@ -1,0 +1,10 @@
+pub mod SpentLemmas
+pub mod KeeperLemmas
+pub mod TurnLemmas
+pub mod WritableLemmas
+pub mod AnswerLemmas
+pub mod HeardLemmas
+pub mod PathLemmas
+pub mod RunLemmas
+pub mod StandLemmas
+pub mod RestartLemmas

@@ -1,0 +1,133 @@
+-- A desk's log is a front, and clean between sessions; and what is spent over runs one after another.
+use Rattle.std.proofs.Common.{◌≡◌, inl, inr, ◌⊎◌, true, ℕ, List, [], ◌∷◌, ◌++◌, reverse, map, refl, sym, ◌∙◌, ap, subst, append_assoc, append-nil}
+use Rattle.std.specs.List.{AllByRecursion}
+use Rattle.book_format.specs.Book.{BookFields}
+use Rattle.book_format.specs.Trees.{IsBookText}
+use Rattle.account_book.specs.Store.{StoreFacts}
+use Rattle.otp_core.specs.Laws.{BeginsWithItself}
+use Rattle.log_grammar.specs.Books.{accounts_in}
+use Rattle.log_grammar.specs.Laws.{HasOneReading}
+use Rattle.log_grammar.specs.Lines.{LogLine, log_text}
+use Rattle.log_grammar.specs.Sessions.{Told}
+use Rattle.log_grammar.specs.Demands.{demands}
+use Rattle.log_grammar.specs.Places.{Place, between, halted, MayEnd}
+use Rattle.log_grammar.specs.Clean.{Begins, Spells, AreLines, IsFront, IsClean}
+use Rattle.log_grammar.proofs.HeadlineLemmas.{are_lines, each_lacks}
+use Rattle.sasl_desk.specs.Keeper.{IsTold}
+use Rattle.sasl_desk.specs.Sessions.{CanBeWritten}
+use Rattle.sasl_desk.specs.Runs.{Call, run_lines, log_bytes}
+use Rattle.sasl_desk.specs.Spent.{AreDifferent, IsUsedUp, IsSpent, spent_by, SpentStaysSpent}
+use Rattle.sasl_desk.specs.Desks.{IsHeld, IsLostAfter, IsStoredAt, IsStateAt, all_spent, Stands, phase_of, session_phase}
+use Rattle.sasl_desk.specs.Restarts.{Run, IsRunOf, AreRuns, spent_in}
+use Rattle.sasl_desk.specs.declared.desk.Desk.{Desk}
+use Rattle.sasl_desk.specs.declared.desk.state.State.{State}
+use Rattle.sasl_desk.specs.declared.desk.state.State.TheVariants.{Closed, Open, Halted}
+use Rattle.sasl_desk.specs.declared.desk.state.Phase.TheVariants as phase
+use Rattle.sasl_desk.specs.declared.session.Session.{Session}
+use Rattle.sasl_desk.specs.declared.session.Session.TheVariants.{Offered, WaitsFirst, WaitsFinal, WaitsCode}
+use Rattle.sasl_desk.proofs.RunLemmas.{run_has_lines}
+use Rattle.sasl_desk.proofs.StandLemmas.{book_itself}
+
+-- the bytes of lines that can be written are these lines
+bytes_are_lines : (lines : List LogLine) → CanBeWritten lines → AreLines (log_bytes lines) lines []
+bytes_are_lines lines written = (
+  map log_text lines,
+  record { bytes_are = sym (append-nil (log_bytes lines)); lines = each_lacks lines written; after = refl },
+  are_lines lines written,
+)
+
+pub log_is_front : {S : Type 0} (facts : S → StoreFacts) (start : BookFields) (calls : List Call) (desk : Desk S) → Stands facts start calls desk
+    → IsFront (accounts_in start) (log_bytes (run_lines calls))
+log_is_front facts start calls desk s = (run_lines calls, s.place, s.told, bytes_are_lines (run_lines calls) s.written, s.begins)
+
+-- a log with lines is spelled by sessions
+spelled : (start : BookFields) (calls : List Call) (place : Place) (told : List Told) → Begins (demands (accounts_in start)) (run_lines calls) place told
+    → Spells (demands (accounts_in start)) (run_lines calls) place told
+spelled start calls place told (inl none) = absurd (run_has_lines calls none.0)
+spelled start calls place told (inr spells) = spells
+
+-- where no session is open, or the store has failed, a log may end
+closed_open : (going : Session) → session_phase going ≡ phase.Closed → ⊥
+closed_open Offered is = cc is
+closed_open (WaitsFirst mechanism) is = cc is
+closed_open (WaitsFinal waiting) is = cc is
+closed_open (WaitsCode name) is = cc is
+
+closed_ends : (start : BookFields) (own : List ℕ) (place : Place) (state : State) → IsStateAt (accounts_in start) own place state → phase_of state ≡ phase.Closed
+    → MayEnd place
+closed_ends start own place Closed at is = rw at tt
+closed_ends start own place (Open going part) at is = absurd (closed_open going is)
+closed_ends start own place Halted at is = absurd (cc is)
+
+lost_ends : (place : Place) (book : BookFields) (store : StoreFacts) → IsStoredAt place book store → store.failed ≡ true → MayEnd place
+lost_ends halted book store lost failed = tt
+lost_ends place book store held failed = absurd (cc (held.working, failed))
+
+pub log_is_clean : {S : Type 0} (facts : S → StoreFacts) (start : BookFields) (calls : List Call) (desk : Desk S) → Stands facts start calls desk
+    → (phase_of desk.state ≡ phase.Closed) ⊎ ((facts desk.keeper.store).failed ≡ true) → IsClean (accounts_in start) (log_bytes (run_lines calls))
+log_is_clean facts start calls desk s ends = (
+  run_lines calls,
+  s.place,
+  s.told,
+  bytes_are_lines (run_lines calls) s.written,
+  spelled start calls s.place s.told s.begins,
+  elim ends [
+    | inl closed ↦ closed_ends start _ s.place desk.state s.is_state closed
+    | inr failed ↦ lost_ends s.place desk.keeper.book (facts desk.keeper.store) s.is_stored failed
+  ],
+)
+
+-- what is spent is so without some of it
+fewer_different : (ps qs : List (List ℕ × ℕ)) → AreDifferent (ps ++ qs) → AreDifferent qs
+fewer_different [] qs all = all
+fewer_different (p ∷ ps) qs all = fewer_different ps qs all.1
+
+fewer_used : (book : BookFields) (ps qs : List (List ℕ × ℕ)) → AllByRecursion (λ p. IsUsedUp book p.0 p.1) (ps ++ qs) → AllByRecursion (λ p. IsUsedUp book p.0 p.1) qs
+fewer_used book [] qs all = all
+fewer_used book (p ∷ ps) qs all = fewer_used book ps qs all.1
+
+fewer_spent : (book : BookFields) (ps qs : List (List ℕ × ℕ)) → IsSpent (ps ++ qs) book → IsSpent qs book
+fewer_spent book ps qs spent = record { different = fewer_different ps qs spent.different; used = fewer_used book ps qs spent.used }
+
+-- what was spent after one run
+spent_after_run : BeginsWithItself → SpentStaysSpent → HasOneReading → {S : Type 0} (facts : S → StoreFacts) (r : Run) (ps : List (List ℕ × ℕ))
+    → IsRunOf facts r → IsSpent ps r.start → IsSpent (all_spent (reverse r.told) ++ ps) r.left
+spent_after_run itself stays once facts r ps run spent =
+    let s = run.stands in
+    let same = once (accounts_in r.start) (run_lines r.calls) s.place r.place s.told r.told s.begins run.begins in
+    let own = subst (λ (t : List Told). IsSpent (all_spent (reverse t) ++ ps) run.desk.keeper.book) same.1 (s.spent ps spent) in
+    elim run.leaves [
+      | inl left ↦ subst (λ (b : BookFields). IsSpent (all_spent (reverse r.told) ++ ps) b) (sym left) own
+      | inr (t, is, one) ↦
+          let book = run.desk.keeper.book in
+          let self = book_itself itself book in
+          fewer_spent r.left (spent_by t) (all_spent (reverse r.told) ++ ps)
+          (stays book r.left t (all_spent (reverse r.told) ++ ps) is (one.due (accounts_in book) [] self) (one.after (accounts_in book) [] self) own)
+    ]
+
+pub spent_over_runs : BeginsWithItself → SpentStaysSpent → HasOneReading → {S : Type 0} (facts : S → StoreFacts) (first : BookFields) (runs : List Run)
+    (last : BookFields) (ps : List (List ℕ × ℕ)) → AreRuns facts first runs last → IsSpent ps first → IsSpent (spent_in runs ++ ps) last
+spent_over_runs itself stays once facts first [] last ps are spent = subst (λ (b : BookFields). IsSpent ps b) are spent
+spent_over_runs itself stays once facts first (r ∷ before) last ps (earlier, run, left) spent =
+    let until = spent_over_runs itself stays once facts first before r.start ps earlier spent in
+    subst (λ (b : BookFields). IsSpent ((all_spent (reverse r.told) ++ spent_in before) ++ ps) b) left
+    (subst (λ (l : List (List ℕ × ℕ)). IsSpent l r.left) (sym (append_assoc (all_spent (reverse r.told)) (spent_in before) ps))
+    (spent_after_run itself stays once facts r (spent_in before ++ ps) run until))
+
+held_or_lost : (place : Place) (book : BookFields) (store : StoreFacts) → IsStoredAt place book store → IsHeld book store ⊎ IsLostAfter book store
+held_or_lost halted book store lost = inr lost
+held_or_lost place book store held = inl held
+
+-- the store holds the text of a book that the desk leaves
+pub left_book : {S : Type 0} (facts : S → StoreFacts) (start : BookFields) (calls : List Call) (desk : Desk S) (s : Stands facts start calls desk)
+    → (r : Run) × IsRunOf facts r × (r.start ≡ start) × (r.calls ≡ calls) × IsBookText (facts desk.keeper.store).saved r.left
+left_book facts start calls desk s =
+    let run_to : BookFields → Run = λ left. record { start = start; calls = calls; place = s.place; told = s.told; left = left } in
+    elim (held_or_lost s.place desk.keeper.book (facts desk.keeper.store) s.is_stored) [
+      | inl held ↦ (run_to desk.keeper.book, record { desk = desk; stands = s; begins = s.begins; leaves = inl refl }, refl, refl, held.saved)
+      | inr lost ↦ elim lost.saved [
+        | inl before ↦ (run_to desk.keeper.book, record { desk = desk; stands = s; begins = s.begins; leaves = inl refl }, refl, refl, before)
+        | inr after ↦
+            (run_to lost.next, record { desk = desk; stands = s; begins = s.begins; leaves = inr (lost.t, lost.is_moment, lost.is_told) }, refl, refl, after)
+      ]
+    ]

@@ -1,0 +1,450 @@
+-- What a desk stands for after each of its calls.
+use Rattle.std.proofs.Common.{◌≡◌, inl, inr, ◌⊎◌, ◌+◌, true, false, ℕ, List, [], ◌∷◌, ◌++◌, reverse, length, filter, refl, sym, ◌∙◌, ap, subst, append_assoc, append-nil, arith}
+use Rattle.std.specs.List.{AllByRecursion}
+use Rattle.std.specs.declared.option.Option.{Option}
+use Rattle.std.specs.declared.option.Option.TheVariants.{None, Some}
+use Rattle.std.proofs.lemmas.List.{reverse-append}
+use Rattle.otp_core.specs.Attempt.{CodeTexts}
+use Rattle.otp_core.specs.Laws.{BeginsWithItself}
+use Rattle.otp_core.specs.Secret.{IsMoment}
+use Rattle.otp_core.specs.declared.token.answer.Reply.{Reply}
+use Rattle.otp_core.specs.declared.token.answer.Reply.TheVariants.{Pass, Fail, Locked}
+use Rattle.otp_core.specs.declared.token.kinds.Fields.{Fields}
+use Rattle.book_format.specs.Book.{BookFields}
+use Rattle.book_format.specs.Trees.{IsBookText}
+use Rattle.account_book.specs.Store.{StoreFacts, IsLost}
+use Rattle.account_book.specs.Tokens.{token_at}
+use Rattle.log_grammar.specs.Books.{accounts_in}
+use Rattle.log_grammar.specs.Laws.{GoesOnByALine, LinesLackLf}
+use Rattle.log_grammar.specs.Lines.{LogLine, header, said, heard, mechs, replies, halt, asking, log_text, IsLogLine}
+use Rattle.log_grammar.specs.Words.{offered_names}
+use Rattle.log_grammar.specs.Sessions.{Told, told_of}
+use Rattle.log_grammar.specs.Demands.{Accounts, Demands, demands, IsReplyDue, AreReplies}
+use Rattle.log_grammar.specs.Places.{Place, before_all, between, offered, waits_code, got_code, halted, MayEnd}
+use Rattle.log_grammar.specs.Steps.{Goes}
+use Rattle.log_grammar.specs.Clean.{Begins, Spells, AreLines, IsFront, IsClean}
+use Rattle.log_grammar.proofs.ExampleLemmas.{is_sha_256, is_sha_1}
+use Rattle.log_grammar.proofs.HeadlineLemmas.{are_lines, each_lacks}
+use Rattle.log_grammar.proofs.LineBytes.{reply_line}
+use Rattle.log_grammar.proofs.Shortening.{code_goes}
+use Rattle.sasl_log.specs.Logins.{KeepsEntries}
+use Rattle.sasl_log.specs.Texts.{CanBeLogLine}
+use Rattle.sasl_log.specs.Tokens.{LeadsTo, IsBookAfter}
+use Rattle.sasl_desk.specs.Events.{ClientEvent}
+use Rattle.sasl_desk.specs.Turns.{is_client_turn, IsPath}
+use Rattle.sasl_desk.specs.Keeper.{IsTold, HoldsText, LosesText, IsKept, IsJudged, IsJudgedInRange}
+use Rattle.sasl_desk.specs.Sessions.{IsAt, IsLeftAt, IsRecord, IsTurn, IsAsked, recorded_shown, said_lines, end_lines, answer_lines, turn_lines, CanBeWritten, IsOwnChallenge}
+use Rattle.sasl_desk.specs.Runs.{greets, hears, IsAtRest, Call, call_of, run_lines, own_part, log_bytes, wire_bytes, IsRun, IsTurnTaken}
+use Rattle.sasl_desk.specs.Spent.{IsSpent, spent_by, SpentStaysSpent}
+use Rattle.sasl_desk.specs.Desks.{IsStateAt, IsHeld, IsLostAfter, IsStoredAt, all_spent, Stands, Answers, IsCodeTurn, phase_of, session_phase, desk_of, state_with, judged_lines, judged_state, is_saving}
+use Rattle.sasl_desk.specs.declared.keeper.Keeper.{Keeper}
+use Rattle.sasl_desk.specs.declared.keeper.Judged.{Judged}
+use Rattle.sasl_desk.specs.declared.keeper.Judged.TheVariants.{Replied, Lost}
+use Rattle.sasl_desk.specs.declared.desk.Desk.{Desk}
+use Rattle.sasl_desk.specs.declared.desk.state.State.{State}
+use Rattle.sasl_desk.specs.declared.desk.state.State.TheVariants.{Closed, Open, Halted}
+use Rattle.sasl_desk.specs.declared.session.Session.{Session}
+use Rattle.sasl_desk.specs.declared.desk.state.Phase.TheVariants as phase
+use Rattle.sasl_desk.specs.declared.session.Session.TheVariants.{Offered, WaitsFirst, WaitsFinal, WaitsCode}
+use Rattle.sasl_desk.specs.declared.session.turn.Recorded.{Recorded}
+use Rattle.sasl_desk.specs.declared.session.turn.Recorded.TheVariants as recorded
+use Rattle.sasl_desk.specs.declared.session.turn.Saying.{Saying}
+use Rattle.sasl_desk.specs.declared.session.turn.Saying.TheVariants.{Nothing, Continues, Accepts, Refuses}
+use Rattle.sasl_desk.specs.declared.session.turn.Turn.{Turn}
+use Rattle.sasl_desk.proofs.PathLemmas.{client_turn, turn_path, turn_no_reply, goes_on_by_path}
+use Rattle.sasl_desk.proofs.RunLemmas.{all-append, left_rests, turn_rests, answer_bears, run_has_lines}
+
+-- without an attempt a book is the one after what was told of it
+leads_itself : BeginsWithItself → (o : Option Fields) → LeadsTo o [] o
+leads_itself begins None = tt
+leads_itself begins (Some token) = begins token
+
+pub book_itself : BeginsWithItself → (book : BookFields) → IsBookAfter (accounts_in book) [] book
+book_itself begins book = record { entries = λ m name. refl; tokens = λ name. leads_itself begins (token_at book name) }
+
+-- where it is the client's turn, the store has not failed
+held_in_turn : (at : Place) (book : BookFields) (store : StoreFacts) → is_client_turn at ≡ true → IsStoredAt at book store → IsHeld book store
+held_in_turn halted book store turn stored = absurd (cc turn)
+held_in_turn at book store turn stored = stored
+
+held_at_turn : (at : Place) (book : BookFields) (store : StoreFacts) → IsAtRest at → (at ≡ halted → ⊥) → IsHeld book store → IsStoredAt at book store
+held_at_turn halted book store rests going held = absurd (going refl)
+held_at_turn at book store rests going held = held
+
+-- the place at which a session is left is not that of a halt
+left_going : (accounts : Accounts) (at : Place) (going : Option Session) → IsLeftAt accounts at going → at ≡ halted → ⊥
+left_going accounts at None is same = cc (is, same)
+left_going accounts at (Some going) is same =
+    let turn : is_client_turn halted ≡ true = subst (λ (p : Place). is_client_turn p ≡ true) same (client_turn accounts at going is) in
+    cc turn
+
+left_state : (accounts : Accounts) (own part : List ℕ) (at : Place) (going : Option Session) → part ≡ own → IsLeftAt accounts at going
+    → IsStateAt accounts own at (state_with going part)
+left_state accounts own part at (Some going) same is = (is, same)
+left_state accounts own part at None same is = is
+
+-- a desk that begins
+header_written : CanBeLogLine header
+header_written = record { spelled = refl; ranges = tt; short = omega arith }
+
+stands_at_first : BeginsWithItself → GoesOnByALine → {S : Type 0} (facts : S → StoreFacts) (keeper : Keeper S) (was : StoreFacts)
+    → HoldsText was keeper.book (facts keeper.store) → Stands facts keeper.book [] (desk_of keeper Closed)
+stands_at_first itself law facts keeper was holds = record {
+  place = between;
+  told = [];
+  is_run = refl;
+  begins = law (accounts_in keeper.book) [] before_all [] header between (inl (refl, refl, refl)) refl tt;
+  written = (header_written, tt);
+  is_state = refl;
+  is_book = book_itself itself keeper.book;
+  is_stored = record { working = holds.saved.working; saved = subst (λ (t : List ℕ). IsBookText t keeper.book) (sym holds.saved.saved) holds.is_text };
+  spent = λ ps spent. spent;
+}
+
+pub stands_from : BeginsWithItself → GoesOnByALine → {S : Type 0} (facts : S → StoreFacts) (book : BookFields) (keeper : Keeper S) (was : StoreFacts)
+    → keeper.book ≡ book → HoldsText was book (facts keeper.store) → Stands facts book [] (desk_of keeper Closed)
+stands_from itself law facts book keeper was same holds =
+    subst (λ (b : BookFields). Stands facts b [] (desk_of keeper Closed)) same
+    (stands_at_first itself law facts keeper was (subst (λ (b : BookFields). HoldsText was b (facts keeper.store)) (sym same) holds))
+
+-- a desk that greets
+mechs_written : CanBeLogLine (said (mechs offered_names))
+mechs_written = record { spelled = refl; ranges = (is_sha_256, (is_sha_1, tt)); short = omega arith }
+
+pub stands_by_greeting : GoesOnByALine → {S : Type 0} (facts : S → StoreFacts) (start : BookFields) (calls : List Call) (keeper : Keeper S) (own : List ℕ)
+    → Stands facts start calls (desk_of keeper Closed)
+    → Stands facts start (call_of (greets own) (said (mechs offered_names) ∷ []) ∷ calls) (desk_of keeper (Open Offered own))
+stands_by_greeting law facts start calls keeper own s =
+    let accounts = accounts_in start in
+    let line = said (mechs offered_names) in
+    let begins = subst (λ (p : Place). Begins (demands accounts) (run_lines calls) p s.told) s.is_state s.begins in
+    let stored = subst (λ (p : Place). IsStoredAt p keeper.book (facts keeper.store)) s.is_state s.is_stored in
+    let on = law accounts (run_lines calls) between s.told line offered begins (refl, refl) tt in
+    record {
+      place = offered;
+      told = s.told;
+      is_run = (s.place, s.is_run, record { from = s.is_state; says = refl; waits = refl });
+      begins = subst (λ (t : List Told). Begins (demands accounts) (run_lines calls ++ line ∷ []) offered t) (append-nil s.told) on;
+      written = all-append CanBeLogLine (run_lines calls) (line ∷ []) s.written (mechs_written, tt);
+      is_state = (refl, refl);
+      is_book = s.is_book;
+      is_stored = stored;
+      spent = s.spent;
+    }
+
+-- a desk whose session answers a turn
+pub stands_by_turn : GoesOnByALine → {S : Type 0} (facts : S → StoreFacts) (start : BookFields) (calls : List Call) (keeper : Keeper S) (going : Session)
+    (own : List ℕ) (event : ClientEvent) (moment : ℕ) (turn : Turn) (message : List ℕ) → Stands facts start calls (desk_of keeper (Open going own))
+    → ((accounts : Accounts) (at : Place) → KeepsEntries accounts keeper.book → IsAt accounts at going → IsTurn accounts own event at turn message)
+    → CanBeWritten (turn_lines turn message)
+    → Stands facts start (call_of (hears event moment) (turn_lines turn message) ∷ calls) (desk_of keeper (state_with turn.answer.session own))
+stands_by_turn law facts start calls keeper going own event moment turn message s hears_it written =
+    let accounts = accounts_in start in
+    let is = s.is_state.0 in
+    let same = s.is_state.1 in
+    let t = hears_it accounts s.place s.is_book.entries is in
+    let path = turn_path accounts own event s.place going turn message is t in
+    let lines = turn_lines turn message in
+    record {
+      place = t.is_answer.next;
+      told = s.told;
+      is_run = (
+        s.place,
+        s.is_run,
+        record {
+          recorded = recorded_shown turn.recorded;
+          answered = answer_lines turn.answer message;
+          lines_are = refl;
+          is_record = t.is_record;
+          path = path;
+          rests = left_rests accounts t.is_answer.next turn.answer.session t.is_answer.left;
+          challenge = subst (λ (o : List ℕ). IsOwnChallenge accounts o t.is_answer.next) same t.is_answer.own_part;
+          plain = t.is_answer.plain;
+          moments = answer_bears moment turn.answer.says turn.answer.session message;
+        },
+      );
+      begins = goes_on_by_path law accounts (run_lines calls) s.place s.told lines t.is_answer.next s.begins path
+          (turn_no_reply accounts own event s.place turn message t);
+      written = all-append CanBeLogLine (run_lines calls) lines s.written written;
+      is_state = left_state accounts (own_part calls) own t.is_answer.next turn.answer.session same t.is_answer.left;
+      is_book = s.is_book;
+      is_stored = held_at_turn t.is_answer.next keeper.book (facts keeper.store) (left_rests accounts t.is_answer.next turn.answer.session t.is_answer.left)
+          (left_going accounts t.is_answer.next turn.answer.session t.is_answer.left)
+          (held_in_turn s.place keeper.book (facts keeper.store) (client_turn accounts s.place going is) s.is_stored);
+      spent = s.spent;
+    }
+
+-- no line of such a turn stands for a save
+recorded_saves : (kept : Recorded) (lines : List LogLine) → filter is_saving (recorded_shown kept ∷ lines) ≡ filter is_saving lines
+recorded_saves (recorded.Line line) lines = refl
+recorded_saves recorded.Bad lines = refl
+recorded_saves recorded.Gone lines = refl
+
+ends_save : (going : Option Session) → filter is_saving (end_lines going) ≡ []
+ends_save (Some going) = refl
+ends_save None = refl
+
+answer_saves : (says : Saying) (going : Option Session) (message : List ℕ) → filter is_saving (said_lines says message ++ end_lines going) ≡ []
+answer_saves Nothing going message = ends_save going
+answer_saves Continues going message = ends_save going
+answer_saves Accepts going message = ends_save going
+answer_saves Refuses going message = ends_save going
+
+pub turn_saves : (turn : Turn) (message : List ℕ) → filter is_saving (turn_lines turn message) ≡ []
+turn_saves turn message =
+    recorded_saves turn.recorded (answer_lines turn.answer message) ∙ answer_saves turn.answer.says turn.answer.session message
+
+-- after a reply the store holds the text of the book, if it held that of the book before it
+kept_held : (reply : Option Reply) (old new : BookFields) (was now : StoreFacts) → IsKept reply old was new now → IsHeld old was → IsHeld new now
+kept_held (Some (Pass c)) old new was now kept held =
+    record { working = kept.saved.working; saved = subst (λ (t : List ℕ). IsBookText t new) (sym kept.saved.saved) kept.is_text }
+kept_held (Some Fail) old new was now kept held =
+    record { working = kept.saved.working; saved = subst (λ (t : List ℕ). IsBookText t new) (sym kept.saved.saved) kept.is_text }
+kept_held (Some Locked) old new was now (same, unasked) held =
+    subst (λ (b : BookFields). IsHeld b now) (sym same) (subst (λ (f : StoreFacts). IsHeld old f) (sym unasked) held)
+kept_held None old new was now (same, unasked) held =
+    subst (λ (b : BookFields). IsHeld b now) (sym same) (subst (λ (f : StoreFacts). IsHeld old f) (sym unasked) held)
+
+-- what was spent after one more reply
+spent_after : BeginsWithItself → SpentStaysSpent → (start old new : BookFields) (told : List Told) (t : Told) → IsMoment t.moment → IsTold old t new
+    → ((ps : List (List ℕ × ℕ)) → IsSpent ps start → IsSpent (all_spent (reverse told) ++ ps) old)
+    → (ps : List (List ℕ × ℕ)) → IsSpent ps start → IsSpent (all_spent (reverse (told ++ t ∷ [])) ++ ps) new
+spent_after itself stays start old new told t is one before ps spent =
+    let own = book_itself itself old in
+    let on = stays old new t (all_spent (reverse told) ++ ps) is (one.due (accounts_in old) [] own) (one.after (accounts_in old) [] own) (before ps spent) in
+    subst (λ (l : List Told). IsSpent (all_spent l ++ ps) new) (sym (reverse-append told (t ∷ [])))
+    (subst (λ (l : List (List ℕ × ℕ)). IsSpent l new) (sym (append_assoc (spent_by t) (all_spent (reverse told)) ps)) on)
+
+-- a log goes on by a code, or two in a row, and its reply
+begins_by_reply : GoesOnByALine → (accounts : Accounts) (log : List LogLine) (name : List ℕ) (told : List Told) (moment : ℕ) (sent : CodeTexts) (reply : Option Reply)
+    → Begins (demands accounts) log (waits_code name) told → IsReplyDue accounts (reverse told) (told_of name moment sent reply)
+    → Begins (demands accounts) (log ++ heard (asking sent) ∷ said (replies moment reply) ∷ []) (waits_code name) (told ++ told_of name moment sent reply ∷ [])
+begins_by_reply law accounts log name told moment sent reply begins due =
+    let line = heard (asking sent) in
+    let first = law accounts log (waits_code name) told line (got_code name sent) begins (code_goes name sent) tt in
+    let quiet = subst (λ (t : List Told). Begins (demands accounts) (log ++ line ∷ []) (got_code name sent) t) (append-nil told) first in
+    let second = law accounts (log ++ line ∷ []) (got_code name sent) told (said (replies moment reply)) (waits_code name) quiet refl (due, tt) in
+    subst (λ (l : List LogLine). Begins (demands accounts) l (waits_code name) (told ++ told_of name moment sent reply ∷ []))
+    (append_assoc log (line ∷ []) (said (replies moment reply) ∷ [])) second
+
+-- a desk whose keeper judged a code, or two in a row
+pub stands_by_reply : BeginsWithItself → SpentStaysSpent → GoesOnByALine → {S : Type 0} (facts : S → StoreFacts) (start : BookFields) (calls : List Call)
+    (old new : Keeper S) (name own : List ℕ) (event : ClientEvent) (moment : ℕ) (sent : CodeTexts) (reply : Option Reply)
+    → Stands facts start calls (desk_of old (Open (WaitsCode name) own)) → IsRecord event (waits_code name) (heard (asking sent))
+    → CanBeLogLine (heard (asking sent)) → IsMoment moment → IsJudged old.book (facts old.store) name moment sent (Replied reply) new.book (facts new.store)
+    → IsJudgedInRange (Replied reply)
+    → Stands facts start (call_of (hears event moment) (judged_lines moment sent (Replied reply)) ∷ calls) (desk_of new (judged_state name own (Replied reply)))
+stands_by_reply itself stays law facts start calls old new name own event moment sent reply s is_record written is (one, kept) range =
+    let accounts = accounts_in start in
+    let at = s.is_state.0 in
+    let run = subst (λ (p : Place). IsRun accounts calls p) at s.is_run in
+    let begins = subst (λ (p : Place). Begins (demands accounts) (run_lines calls) p s.told) at s.begins in
+    let held = held_in_turn s.place old.book (facts old.store) (client_turn accounts s.place (WaitsCode name) at) s.is_stored in
+    record {
+      place = waits_code name;
+      told = s.told ++ told_of name moment sent reply ∷ [];
+      is_run = (
+        waits_code name,
+        run,
+        record {
+          recorded = heard (asking sent);
+          answered = said (replies moment reply) ∷ [];
+          lines_are = refl;
+          is_record = is_record;
+          path = (got_code name sent, code_goes name sent, (waits_code name, refl, refl));
+          rests = refl;
+          challenge = tt;
+          plain = (tt, tt);
+          moments = (refl, tt);
+        },
+      );
+      begins = begins_by_reply law accounts (run_lines calls) name s.told moment sent reply begins (one.due accounts s.told s.is_book);
+      written = all-append CanBeLogLine (run_lines calls) (judged_lines moment sent (Replied reply)) s.written (written, (reply_line moment reply is range, tt));
+      is_state = (refl, s.is_state.1);
+      is_book = one.after accounts s.told s.is_book;
+      is_stored = kept_held reply old.book new.book (facts old.store) (facts new.store) kept held;
+      spent = spent_after itself stays start old.book new.book s.told (told_of name moment sent reply) is one s.spent;
+    }
+
+halt_written : CanBeLogLine (said halt)
+halt_written = record { spelled = refl; ranges = tt; short = omega arith }
+
+-- the store failed in a save, and not before it
+lost_now : (was now : StoreFacts) (text : List ℕ) → was.failed ≡ false → ((was.failed ≡ true) × (now ≡ was)) ⊎ IsLost was text now → IsLost was text now
+lost_now was now text working (inl (failed, same)) = let never : false ≡ true = sym working ∙ failed in absurd (cc never)
+lost_now was now text working (inr lost) = lost
+
+-- a desk whose keeper lost a save
+pub stands_by_halt : GoesOnByALine → {S : Type 0} (facts : S → StoreFacts) (start : BookFields) (calls : List Call)
+    (old new : Keeper S) (name own : List ℕ) (event : ClientEvent) (moment : ℕ) (sent : CodeTexts)
+    → Stands facts start calls (desk_of old (Open (WaitsCode name) own)) → IsRecord event (waits_code name) (heard (asking sent))
+    → CanBeLogLine (heard (asking sent)) → IsMoment moment → IsJudged old.book (facts old.store) name moment sent Lost new.book (facts new.store)
+    → Stands facts start (call_of (hears event moment) (judged_lines moment sent Lost) ∷ calls) (desk_of new (judged_state name own Lost))
+stands_by_halt law facts start calls old new name own event moment sent s is_record written is (same, (reply, next, one, loses)) =
+    let accounts = accounts_in start in
+    let at = s.is_state.0 in
+    let run = subst (λ (p : Place). IsRun accounts calls p) at s.is_run in
+    let begins = subst (λ (p : Place). Begins (demands accounts) (run_lines calls) p s.told) at s.begins in
+    let held = held_in_turn s.place old.book (facts old.store) (client_turn accounts s.place (WaitsCode name) at) s.is_stored in
+    let lost = lost_now (facts old.store) (facts new.store) loses.text held.working loses.lost in
+    let lines = judged_lines moment sent Lost in
+    let path : IsPath (demands accounts) (waits_code name) lines halted = (got_code name sent, code_goes name sent, (halted, refl, refl)) in
+    let of_old : IsBookText (facts new.store).saved old.book ⊎ IsBookText (facts new.store).saved next = elim lost.saved [
+      | inl before ↦ inl (subst (λ (t : List ℕ). IsBookText t old.book) (sym before) held.saved)
+      | inr after ↦ inr (subst (λ (t : List ℕ). IsBookText t next) (sym after) loses.is_text)
+    ] in
+    record {
+      place = halted;
+      told = s.told;
+      is_run = (
+        waits_code name,
+        run,
+        record {
+          recorded = heard (asking sent);
+          answered = said halt ∷ [];
+          lines_are = refl;
+          is_record = is_record;
+          path = path;
+          rests = tt;
+          challenge = tt;
+          plain = (tt, tt);
+          moments = (tt, tt);
+        },
+      );
+      begins = goes_on_by_path law accounts (run_lines calls) (waits_code name) s.told lines halted begins path (tt, (tt, tt));
+      written = all-append CanBeLogLine (run_lines calls) lines s.written (written, (halt_written, tt));
+      is_state = tt;
+      is_book = subst (λ (b : BookFields). IsBookAfter accounts s.told b) (sym same) s.is_book;
+      is_stored = record {
+        failed = lost.failed;
+        t = told_of name moment sent reply;
+        next = next;
+        is_moment = is;
+        is_told = subst (λ (b : BookFields). IsTold b (told_of name moment sent reply) next) (sym same) one;
+        saved = subst (λ (b : BookFields). IsBookText (facts new.store).saved b ⊎ IsBookText (facts new.store).saved next) (sym same) of_old;
+      };
+      spent = λ ps spent. subst (λ (b : BookFields). IsSpent (all_spent (reverse s.told) ++ ps) b) (sym same) (s.spent ps spent);
+    }
+
+-- a desk whose keeper judged a code, or lost the save of one
+stands_by_code : BeginsWithItself → SpentStaysSpent → GoesOnByALine → {S : Type 0} (facts : S → StoreFacts) (start : BookFields) (calls : List Call)
+    (old new : Keeper S) (name own : List ℕ) (event : ClientEvent) (moment : ℕ) (sent : CodeTexts) (judged : Judged)
+    → Stands facts start calls (desk_of old (Open (WaitsCode name) own)) → IsRecord event (waits_code name) (heard (asking sent))
+    → CanBeLogLine (heard (asking sent)) → IsMoment moment → IsJudged old.book (facts old.store) name moment sent judged new.book (facts new.store)
+    → IsJudgedInRange judged
+    → Stands facts start (call_of (hears event moment) (judged_lines moment sent judged) ∷ calls) (desk_of new (judged_state name own judged))
+stands_by_code itself stays law facts start calls old new name own event moment sent (Replied reply) s is_record written is judged range =
+    stands_by_reply itself stays law facts start calls old new name own event moment sent reply s is_record written is judged range
+stands_by_code itself stays law facts start calls old new name own event moment sent Lost s is_record written is judged range =
+    stands_by_halt law facts start calls old new name own event moment sent s is_record written is judged
+
+-- one save for PASS, FAIL and HALT, and none for another reply
+saves_by_code : (moment : ℕ) (sent : CodeTexts) (name : List ℕ) (judged : Judged) (old new : BookFields) (was now : StoreFacts) → IsHeld old was
+    → IsJudged old was name moment sent judged new now → now.saves ≡ was.saves + length (filter is_saving (judged_lines moment sent judged))
+saves_by_code moment sent name (Replied (Some (Pass c))) old new was now held (one, kept) = kept.saved.taken_up.counted
+saves_by_code moment sent name (Replied (Some Fail)) old new was now held (one, kept) = kept.saved.taken_up.counted
+saves_by_code moment sent name (Replied (Some Locked)) old new was now held (one, kept) = let same = ap (λ (f : StoreFacts). f.saves) kept.1 in omega (arith, same)
+saves_by_code moment sent name (Replied None) old new was now held (one, kept) = let same = ap (λ (f : StoreFacts). f.saves) kept.1 in omega (arith, same)
+saves_by_code moment sent name Lost old new was now held (same, (reply, next, one, loses)) =
+    (lost_now was now loses.text held.working loses.lost).taken_up.counted
+
+-- what the store was given for it
+asked_by_code : (moment : ℕ) (sent : CodeTexts) (name : List ℕ) (judged : Judged) (old new : BookFields) (was now : StoreFacts) → IsHeld old was
+    → IsJudged old was name moment sent judged new now → (filter is_saving (judged_lines moment sent judged) ≡ [] → ⊥)
+    → (t : Told) × (next : BookFields) × IsTold old t next × IsBookText now.asked next
+asked_by_code moment sent name (Replied (Some (Pass c))) old new was now held (one, kept) some =
+    (told_of name moment sent (Some (Pass c)), new, one, subst (λ (t : List ℕ). IsBookText t new) (sym kept.saved.taken_up.asked) kept.is_text)
+asked_by_code moment sent name (Replied (Some Fail)) old new was now held (one, kept) some =
+    (told_of name moment sent (Some Fail), new, one, subst (λ (t : List ℕ). IsBookText t new) (sym kept.saved.taken_up.asked) kept.is_text)
+asked_by_code moment sent name (Replied (Some Locked)) old new was now held judged some = absurd (some refl)
+asked_by_code moment sent name (Replied None) old new was now held judged some = absurd (some refl)
+asked_by_code moment sent name Lost old new was now held (same, (reply, next, one, loses)) some = (
+  told_of name moment sent reply,
+  next,
+  one,
+  subst (λ (t : List ℕ). IsBookText t next) (sym (lost_now was now loses.text held.working loses.lost).taken_up.asked) loses.is_text,
+)
+
+-- the desk has halted only where the save was lost
+failed_by : (was now : StoreFacts) (text : List ℕ) → ((was.failed ≡ true) × (now ≡ was)) ⊎ IsLost was text now → now.failed ≡ true
+failed_by was now text (inl (failed, same)) = rw same failed
+failed_by was now text (inr lost) = lost.failed
+
+halts_by_code : (moment : ℕ) (sent : CodeTexts) (name own : List ℕ) (judged : Judged) (old new : BookFields) (was now : StoreFacts)
+    → IsJudged old was name moment sent judged new now → phase_of (judged_state name own judged) ≡ phase.Halted → now.failed ≡ true
+halts_by_code moment sent name own (Replied reply) old new was now judged is = absurd (cc is)
+halts_by_code moment sent name own Lost old new was now (same, (reply, next, one, loses)) is = failed_by was now loses.text loses.lost
+
+-- an open session, or none, is no halt
+open_goes_on : (going : Session) → session_phase going ≡ phase.Halted → ⊥
+open_goes_on Offered is = cc is
+open_goes_on (WaitsFirst mechanism) is = cc is
+open_goes_on (WaitsFinal waiting) is = cc is
+open_goes_on (WaitsCode name) is = cc is
+
+left_goes_on : (going : Option Session) (own : List ℕ) → phase_of (state_with going own) ≡ phase.Halted → ⊥
+left_goes_on None own is = cc is
+left_goes_on (Some going) own is = open_goes_on going is
+
+-- the session that waits for a code of this account was asked to hear one
+pub answers_by_code : BeginsWithItself → SpentStaysSpent → GoesOnByALine → {S : Type 0} (facts : S → StoreFacts) (old : Keeper S) (going : Session)
+    (name own : List ℕ) (event : ClientEvent) (moment : ℕ) (sent : CodeTexts) (wire wire' log log' : List ℕ) (new : Desk S) → going ≡ WaitsCode name
+    → ((accounts : Accounts) (at : Place) → KeepsEntries accounts old.book → IsAt accounts at going → IsAsked event at name (asking sent))
+    → CanBeLogLine (heard (asking sent)) → IsCodeTurn facts old name own moment sent wire wire' log log' new
+    → Answers facts (desk_of old (Open going own)) (hears event moment) wire wire' log log' new
+answers_by_code itself stays law {S} facts old going name own event moment sent wire wire' log log' new waits asked written t = record {
+  lines = judged_lines moment sent t.judged;
+  logged = t.logged;
+  sent = t.sent;
+  stands = λ start calls s.
+      let here = subst (λ (g : Session). Stands facts start calls (desk_of old (Open g own))) waits s in
+      let at = here.is_state.0 in
+      let is_asked = asked (accounts_in start) s.place s.is_book.entries s.is_state.0 in
+      let is_record = subst (λ (p : Place). IsRecord event p (heard (asking sent))) is_asked.place is_asked.is_record in
+      subst (λ (st : State). Stands facts start (call_of (hears event moment) (judged_lines moment sent t.judged) ∷ calls) (desk_of new.keeper st)) (sym t.is_state)
+      (stands_by_code itself stays law facts start calls old new.keeper name own event moment sent t.judged here is_record written t.is_moment t.is_judged t.in_range);
+  saves = λ start calls s.
+      saves_by_code moment sent name t.judged old.book new.keeper.book (facts old.store) (facts new.keeper.store)
+      (held_in_turn s.place old.book (facts old.store) (client_turn (accounts_in start) s.place going s.is_state.0) s.is_stored) t.is_judged;
+  asks = λ start calls s some.
+      asked_by_code moment sent name t.judged old.book new.keeper.book (facts old.store) (facts new.keeper.store)
+      (held_in_turn s.place old.book (facts old.store) (client_turn (accounts_in start) s.place going s.is_state.0) s.is_stored) t.is_judged some;
+  halts = λ is.
+      halts_by_code moment sent name own t.judged old.book new.keeper.book (facts old.store) (facts new.keeper.store) t.is_judged (rw t.is_state at is);
+}
+
+-- the session answered a turn
+pub answers_by_turn : GoesOnByALine → {S : Type 0} (facts : S → StoreFacts) (keeper : Keeper S) (going : Session) (own : List ℕ) (event : ClientEvent)
+    (moment : ℕ) (turn : Turn) (message wire wire' log log' : List ℕ) (new : Desk S)
+    → ((accounts : Accounts) (at : Place) → KeepsEntries accounts keeper.book → IsAt accounts at going → IsTurn accounts own event at turn message)
+    → CanBeWritten (turn_lines turn message) → new.keeper ≡ keeper → new.state ≡ state_with turn.answer.session own
+    → log' ≡ log ++ log_bytes (turn_lines turn message) → wire' ≡ wire ++ wire_bytes (turn_lines turn message)
+    → Answers facts (desk_of keeper (Open going own)) (hears event moment) wire wire' log log' new
+answers_by_turn law facts keeper going own event moment turn message wire wire' log log' new hears_it written same is_state logged sent = record {
+  lines = turn_lines turn message;
+  logged = logged;
+  sent = sent;
+  stands = λ start calls s.
+      rw (same, is_state) (stands_by_turn law facts start calls keeper going own event moment turn message s hears_it written);
+  saves = λ start calls s.
+      let none = ap (λ (l : List LogLine). length l) (turn_saves turn message) in
+      let unasked = ap (λ (k : Keeper _). (facts k.store).saves) same in
+      omega (arith, none, unasked);
+  asks = λ start calls s some. absurd (some (turn_saves turn message));
+  halts = λ is. absurd (left_goes_on turn.answer.session own (rw is_state at is));
+}
+
+-- the desk greeted a client
+pub answers_by_greeting : GoesOnByALine → {S : Type 0} (facts : S → StoreFacts) (keeper : Keeper S) (state : State) (own wire wire' log log' : List ℕ)
+    → state ≡ Closed → log' ≡ log ++ log_bytes (said (mechs offered_names) ∷ []) → wire' ≡ wire ++ wire_bytes (said (mechs offered_names) ∷ [])
+    → Answers facts (desk_of keeper state) (greets own) wire wire' log log' (desk_of keeper (Open Offered own))
+answers_by_greeting law facts keeper state own wire wire' log log' closed logged sent = record {
+  lines = said (mechs offered_names) ∷ [];
+  logged = logged;
+  sent = sent;
+  stands = λ start calls s.
+      stands_by_greeting law facts start calls keeper own (subst (λ (st : State). Stands facts start calls (desk_of keeper st)) closed s);
+  saves = λ start calls s. omega arith;
+  asks = λ start calls s some. absurd (some refl);
+  halts = λ is. absurd (cc is);
+}

@@ -1,0 +1,39 @@
+use Rattle.std.proofs.Common.{refl, sym, ◌∙◌}
+use Rattle.std.specs.declared.option.Option.TheVariants.{Some}
+use Rattle.sasl_desk.proofs.KeeperLemmas.{told_by, told_locked, kept_by, put_back}
+use Rattle.sasl_desk.proofs.keeper.Keeper.judge.Goals as goal
+
+pub returns-then-is_locked-clause-ok : goal.returns-then-is_locked-clause-ok
+returns-then-is_locked-clause-ok g c =
+    told_locked _ c.args.name.now c.in-Some.token c.reply_to-reply.new.token c.args.moment _ c.reply_to-reply.result (sym c.token.ensures ∙ c.in-Some.is)
+    (record { due = c.reply_to-reply.ensures.due; after = c.reply_to-reply.ensures.after; state = c.reply_to-reply.ensures.state })
+    c.if-is_locked.ensures.locked _
+
+pub returns-in-Err-clause-err : goal.returns-in-Err-clause-err
+returns-in-Err-clause-err g c = (
+  put_back _ _ _ c.args.name.now c.in-Some.token c.reply_to-reply.new.token c.copy-before.result (sym c.token.ensures ∙ c.in-Some.is) c.copy-before.ensures
+      c.put_token.ensures.put c.put_token-in-Err.ensures.put,
+  refl,
+)
+
+pub returns-in-Ok-saved-clause-ok : goal.returns-in-Ok-saved-clause-ok
+returns-in-Ok-saved-clause-ok g c = (
+  told_by _ _ c.args.name.now c.in-Some.token c.reply_to-reply.new.token c.args.moment _ c.reply_to-reply.result (sym c.token.ensures ∙ c.in-Some.is)
+      (record { due = c.reply_to-reply.ensures.due; after = c.reply_to-reply.ensures.after; state = c.reply_to-reply.ensures.state })
+      c.put_token.ensures.put,
+  kept_by _ _ _ _ c.reply_to-reply.result c.if-is_locked.ensures.open (record { text = _; is_text = c.in-Ok.ensures.stands; saved = c.in-Ok-saved.ensures }),
+)
+
+pub returns-in-Err-saved-clause-ok : goal.returns-in-Err-saved-clause-ok
+returns-in-Err-saved-clause-ok g c = (
+  put_back _ _ _ c.args.name.now c.in-Some.token c.reply_to-reply.new.token c.copy-before.result (sym c.token.ensures ∙ c.in-Some.is) c.copy-before.ensures
+      c.put_token.ensures.put c.put_token-in-Err-saved.ensures.put,
+  (
+    Some c.reply_to-reply.result,
+    c.put_token.new.self,
+    told_by _ _ c.args.name.now c.in-Some.token c.reply_to-reply.new.token c.args.moment _ c.reply_to-reply.result (sym c.token.ensures ∙ c.in-Some.is)
+        (record { due = c.reply_to-reply.ensures.due; after = c.reply_to-reply.ensures.after; state = c.reply_to-reply.ensures.state })
+        c.put_token.ensures.put,
+    record { text = _; is_text = c.in-Ok.ensures.stands; lost = c.in-Err-saved.ensures },
+  ),
+)

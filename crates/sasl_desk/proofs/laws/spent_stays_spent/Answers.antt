@@ -1,0 +1,5 @@
+use Rattle.sasl_desk.proofs.SpentLemmas.{spent_stays_spent}
+use Rattle.sasl_desk.proofs.laws.spent_stays_spent.Goals as goal
+
+pub returns : goal.returns
+returns c = spent_stays_spent c.legal_histories_join.ensures c.candidates_are_new.ensures

@@ -1,0 +1,26 @@
+use Rattle.std.proofs.Common.{◌≡◌}
+use Rattle.sasl_log.specs.Shown.{client_shown}
+use Rattle.sasl_desk.specs.Events.{sends, leaves}
+use Rattle.sasl_desk.proofs.HeardLemmas.{all_heard_of_line, no_line_record, memory_of_line}
+use Rattle.sasl_desk.proofs.session.Session.hear.Goals as goal
+
+pub returns-in-Gone-clause-heard : goal.returns-in-Gone-clause-heard
+returns-in-Gone-clause-heard g c = λ accounts at keeps is. rw (c.in-Gone.is, c.requires) (c.departed.ensures.turn accounts c.args.own.now at leaves tt)
+
+pub returns-in-Some-clause-heard : goal.returns-in-Some-clause-heard
+returns-in-Some-clause-heard g c = λ accounts at keeps is.
+    rw c.in-Line.is
+    (all_heard_of_line c.is_one_line.ensures accounts c.args.own.now (sends c.in-Line.text.now) (client_shown c.in-Some.line) at c.hear_line.result
+    c.hear_line.new.message.items c.in-Some.ensures.some (c.hear_line.ensures.heard accounts at keeps is))
+
+pub returns-in-None-clause-heard : goal.returns-in-None-clause-heard
+returns-in-None-clause-heard g c = λ accounts at keeps is.
+    rw (c.in-Line.is, c.requires)
+    (c.spoiled.ensures.turn accounts c.args.own.now at (sends c.in-Line.text.now)
+    (no_line_record (sends c.in-Line.text.now) at c.in-None.ensures.none (λ same. cc same)))
+
+pub returns-in-Some-clause-memory : goal.returns-in-Some-clause-memory
+returns-in-Some-clause-memory g c = λ line is.
+    let also = rw c.in-Line.is at is in
+    memory_of_line c.is_one_line.ensures (sends c.in-Line.text.now) (client_shown c.in-Some.line) line c.hear_line.result c.in-Some.ensures.some also
+    c.hear_line.ensures.memory

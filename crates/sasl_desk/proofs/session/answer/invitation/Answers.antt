@@ -1,0 +1,5 @@
+use Rattle.sasl_desk.proofs.AnswerLemmas.{invitation_due}
+use Rattle.sasl_desk.proofs.session.answer.invitation.Goals as goal
+
+pub returns-in-Some-clause-due : goal.returns-in-Some-clause-due
+returns-in-Some-clause-due c = λ accounts own. invitation_due accounts own c.args.name.now c.in-Some.mechanism c.in-Some.ensures.some

@@ -1,0 +1,5 @@
+use Rattle.sasl_desk.proofs.AnswerLemmas.{bare_no_due}
+use Rattle.sasl_desk.proofs.session.answer.refusal.Goals as goal
+
+pub returns-clause-due : goal.returns-clause-due
+returns-clause-due c = bare_no_due

@@ -1,0 +1,45 @@
+use Rattle.std.proofs.Common.{◌≡◌, ℕ, List, ◌++◌, sym, ◌∙◌, ap, subst, arith}
+use Rattle.scram_ends.specs.Stages.{challenged_login}
+use Rattle.scram_ends.specs.Verdict.{due_text, final_due}
+use Rattle.scram_ends.specs.declared.server.ServerWait.{ServerWait}
+use Rattle.sasl_desk.specs.Waiting.{waiting_of, IsChallenging}
+use Rattle.sasl_desk.proofs.AnswerLemmas.{verdict_due}
+use Rattle.sasl_desk.proofs.WritableLemmas.{final_written}
+use Rattle.sasl_desk.proofs.session.waiting.Waiting.finish.Goals as goal
+
+pub returns-in-Ok-clause-due : goal.returns-in-Ok-clause-due
+returns-in-Ok-clause-due g c = λ accounts own client_first server_first stands.
+    let here = rw (← c.self.view_is) at stands in
+    let (d, due, says, written, is) = c.in-Ok.ensures.ok _ here in
+    let message = written ∙ ap (λ (t : List ℕ). t ++ due_text d) c.requires in
+    rw (c.outcome.ensures, ← c.self.view_is)
+    (verdict_due accounts own c.self.inside.mechanism c.self.inside.name client_first server_first c.args.client_final.now c.finish.new.out.items
+    c.in-Ok.verdict d due says message is)
+
+pub returns-in-Ok-clause-lines : goal.returns-in-Ok-clause-lines
+returns-in-Ok-clause-lines g c =
+    let (entry, client_first, server_first, stands) = c.self.invariant in
+    let (d, due, says, written, is) = c.in-Ok.ensures.ok (challenged_login entry c.self.inside.mechanism client_first server_first) stands in
+    let message = written ∙ ap (λ (t : List ℕ). t ++ due_text d) c.requires in
+    rw c.outcome.ensures
+    (final_written c.in-Ok.verdict c.self.inside.name c.finish.new.out.items (due_text d) (final_due d) message is)
+
+pub invariant_of-result : goal.invariant_of-result
+invariant_of-result g c =
+    let (entry, client_first, server_first, stands) = c.self.invariant in
+    let memory = c.in-Err.ensures.memory (challenged_login entry c.self.inside.mechanism client_first server_first) stands in
+    subst (λ (w : ServerWait). IsChallenging w c.self.inside.mechanism) (sym (c.in-Err.ensures.back memory)) c.self.invariant
+
+pub returns-in-Err-clause-err : goal.returns-in-Err-clause-err
+returns-in-Err-clause-err g c =
+    let (entry, client_first, server_first, stands) = c.self.invariant in
+    let memory = c.in-Err.ensures.memory (challenged_login entry c.self.inside.mechanism client_first server_first) stands in (
+      ap (λ (w : ServerWait). waiting_of w c.self.inside.mechanism c.self.inside.name) (c.in-Err.ensures.back memory) ∙ c.self.view_is,
+      c.in-Err.ensures.err ∙ c.requires,
+    )
+
+pub returns-in-Err-clause-full : goal.returns-in-Err-clause-full
+returns-in-Err-clause-full g c =
+    let (entry, client_first, server_first, stands) = c.self.invariant in
+    let (d, due, short, room) = c.in-Err.ensures.no_memory (challenged_login entry c.self.inside.mechanism client_first server_first) stands in
+    omega (arith, short, room)

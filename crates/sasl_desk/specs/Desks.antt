@@ -1,0 +1,150 @@
+-- What a desk stands for: the book with which it began, and the run since.
+use Rattle.std.specs.Prelude.{ℕ, ◌≡◌, ◌+◌, ◌⊎◌, true, false, Bool, List, [], ◌∷◌, ◌++◌, reverse, length, filter}
+use Rattle.std.specs.declared.option.Option.{Option}
+use Rattle.std.specs.declared.option.Option.TheVariants.{None, Some}
+use Rattle.otp_core.specs.Attempt.{CodeTexts}
+use Rattle.otp_core.specs.Secret.{IsMoment}
+use Rattle.otp_core.specs.declared.token.answer.Reply.TheVariants.{Pass, Fail, Locked}
+use Rattle.book_format.specs.Book.{BookFields}
+use Rattle.book_format.specs.Trees.{IsBookText}
+use Rattle.account_book.specs.Store.{StoreFacts}
+use Rattle.log_grammar.specs.Books.{accounts_in}
+use Rattle.log_grammar.specs.Lines.{LogLine, said, heard, replies, halt, asking}
+use Rattle.log_grammar.specs.Sessions.{Told}
+use Rattle.log_grammar.specs.Demands.{Accounts, demands}
+use Rattle.log_grammar.specs.Places.{Place, between, halted}
+use Rattle.log_grammar.specs.Clean.{Begins}
+use Rattle.sasl_log.specs.Tokens.{IsBookAfter}
+use Rattle.sasl_desk.specs.Keeper.{IsTold, IsJudged, IsJudgedInRange}
+use Rattle.sasl_desk.specs.Runs.{Asked, Call, call_of, run_lines, own_part, log_bytes, wire_bytes, IsRun}
+use Rattle.sasl_desk.specs.Sessions.{IsAt, CanBeWritten}
+use Rattle.sasl_desk.specs.Spent.{IsSpent, spent_by}
+use Rattle.sasl_desk.specs.declared.session.Session.{Session}
+use Rattle.sasl_desk.specs.declared.session.Session.TheVariants.{Offered, WaitsFirst, WaitsFinal, WaitsCode}
+use Rattle.sasl_desk.specs.declared.keeper.Keeper.{Keeper}
+use Rattle.sasl_desk.specs.declared.keeper.Judged.{Judged}
+use Rattle.sasl_desk.specs.declared.keeper.Judged.TheVariants.{Replied, Lost}
+use Rattle.sasl_desk.specs.declared.desk.Desk.{Desk}
+use Rattle.sasl_desk.specs.declared.desk.state.State.{State}
+use Rattle.sasl_desk.specs.declared.desk.state.State.TheVariants.{Closed, Open, Halted}
+use Rattle.sasl_desk.specs.declared.desk.state.Phase.{Phase}
+use Rattle.sasl_desk.specs.declared.desk.state.Phase.TheVariants as phase
+
+-- the phase of an open session, by what its client may do
+abbrev pub session_phase : Session → Phase
+session_phase Offered = phase.WaitAuth
+session_phase (WaitsFirst mechanism) = phase.WaitFirst
+session_phase (WaitsFinal waiting) = phase.WaitFinal
+session_phase (WaitsCode name) = phase.WaitCode
+
+-- the phase of a desk
+abbrev pub phase_of : State → Phase
+phase_of Closed = phase.Closed
+phase_of (Open going own) = session_phase going
+phase_of Halted = phase.Halted
+
+-- the state of a desk whose log stands at this place. It may have halted at every place.
+abbrev pub IsStateAt : Accounts → (own : List ℕ) → Place → State → Type 0
+IsStateAt accounts own at Closed = at ≡ between
+IsStateAt accounts own at (Open going part) = IsAt accounts at going × (part ≡ own)
+IsStateAt accounts own at Halted = Unit {0}
+
+-- the store has not failed, and holds the text of the book
+pub record IsHeld (book : BookFields) (store : StoreFacts) : Type 0 where
+  pub working : store.failed ≡ false
+  pub saved : IsBookText store.saved book
+
+-- the store has failed as it saved the book with one more reply, which was due: it holds the text of the book from before
+-- it, or that of the book with it
+pub record IsLostAfter (book : BookFields) (store : StoreFacts) : Type 0 where
+  pub failed : store.failed ≡ true
+  pub t : Told
+  pub next : BookFields
+  pub is_moment : IsMoment t.moment
+  pub is_told : IsTold book t next
+  pub saved : IsBookText store.saved book ⊎ IsBookText store.saved next
+
+-- what the store holds where the log stands at this place: after `S HALT` a save was lost, and nowhere else
+abbrev pub IsStoredAt : Place → BookFields → StoreFacts → Type 0
+IsStoredAt halted book store = IsLostAfter book store
+IsStoredAt at book store = IsHeld book store
+
+-- the counters that replies use, with their accounts, the latest first
+abbrev pub all_spent : List Told → List (List ℕ × ℕ)
+all_spent [] = []
+all_spent (t ∷ before) = spent_by t ++ all_spent before
+
+-- a desk that began with a book has answered these calls, the latest of which comes first
+pub record Stands {S : Type 0} (facts : S → StoreFacts) (start : BookFields) (calls : List Call) (desk : Desk S) : Type 0 where
+  -- where the log stands, and the replies that were told
+  pub place : Place
+  pub told : List Told
+  -- what was asked is recorded and answered
+  pub is_run : IsRun (accounts_in start) calls place
+  -- a clean log may begin with the log's lines, and they can be written
+  pub begins : Begins (demands (accounts_in start)) (run_lines calls) place told
+  pub written : CanBeWritten (run_lines calls)
+  -- the session waits for what is due there
+  pub is_state : IsStateAt (accounts_in start) (own_part calls) place desk.state
+  -- the book has each reply in it, and the store holds its text, except after a save in which the store failed
+  pub is_book : IsBookAfter (accounts_in start) told desk.keeper.book
+  pub is_stored : IsStoredAt place desk.keeper.book (facts desk.keeper.store)
+  -- what was spent before is spent, and each counter that a reply used
+  pub spent : (ps : List (List ℕ × ℕ)) → IsSpent ps start → IsSpent (all_spent (reverse told) ++ ps) desk.keeper.book
+
+-- the desk of this keeper, in this state
+abbrev pub desk_of : {S : Type 0} → Keeper S → State → Desk S
+desk_of keeper state = record { keeper = keeper; state = state }
+
+-- two desks have the same book, store and state
+pub record IsSame {S : Type 0} (old new : Desk S) : Type 0 where
+  pub book : new.keeper.book ≡ old.keeper.book
+  pub store : new.keeper.store ≡ old.keeper.store
+  pub state : new.state ≡ old.state
+
+-- the state of a desk in which this session goes on, or none
+abbrev pub state_with : Option Session → (own : List ℕ) → State
+state_with (Some going) own = Open going own
+state_with None own = Closed
+
+-- the lines of a code that was judged, or of two in a row: that of the client, and the reply or `HALT`
+abbrev pub judged_lines : (moment : ℕ) → CodeTexts → Judged → List LogLine
+judged_lines moment sent (Replied reply) = heard (asking sent) ∷ said (replies moment reply) ∷ []
+judged_lines moment sent Lost = heard (asking sent) ∷ said halt ∷ []
+
+-- the state of a desk that judged a code of this account's client
+abbrev pub judged_state : (name own : List ℕ) → Judged → State
+judged_state name own (Replied reply) = Open (WaitsCode name) own
+judged_state name own Lost = Halted
+
+-- a code of this account's client, or two in a row, was judged by the keeper, and its lines were written
+pub record IsCodeTurn {S : Type 0} (facts : S → StoreFacts) (old : Keeper S) (name own : List ℕ) (moment : ℕ) (texts : CodeTexts)
+    (wire wire' log log' : List ℕ) (new : Desk S) : Type 0 where
+  pub judged : Judged
+  pub is_judged : IsJudged old.book (facts old.store) name moment texts judged new.keeper.book (facts new.keeper.store)
+  pub in_range : IsJudgedInRange judged
+  pub is_moment : IsMoment moment
+  pub logged : log' ≡ log ++ log_bytes (judged_lines moment texts judged)
+  pub sent : wire' ≡ wire ++ wire_bytes (judged_lines moment texts judged)
+  pub is_state : new.state ≡ judged_state name own judged
+
+-- a line that stands for a save: PASS, FAIL and HALT
+abbrev pub is_saving : LogLine → Bool
+is_saving (said (replies moment (Some (Pass counter)))) = true
+is_saving (said (replies moment (Some Fail))) = true
+is_saving (said halt) = true
+is_saving line = false
+
+-- what a call did: it added lines, and the desk that had answered some calls has answered this one, too
+pub record Answers {S : Type 0} (facts : S → StoreFacts) (old : Desk S) (asked : Asked) (wire wire' log log' : List ℕ) (new : Desk S) : Type 0 where
+  pub lines : List LogLine
+  pub logged : log' ≡ log ++ log_bytes lines
+  pub sent : wire' ≡ wire ++ wire_bytes lines
+  pub stands : (start : BookFields) (calls : List Call) → Stands facts start calls old → Stands facts start (call_of asked lines ∷ calls) new
+  pub saves : (start : BookFields) (calls : List Call) → Stands facts start calls old
+      → (facts new.keeper.store).saves ≡ (facts old.keeper.store).saves + length (filter is_saving lines)
+  -- what the store was given to save is the text of the book with one more reply, which was due
+  pub asks : (start : BookFields) (calls : List Call) → Stands facts start calls old → (filter is_saving lines ≡ [] → ⊥)
+      → (t : Told) × (next : BookFields) × IsTold old.keeper.book t next × IsBookText (facts new.keeper.store).asked next
+  -- a call halts the desk only by a save in which the store failed
+  pub halts : phase_of new.state ≡ phase.Halted → (facts new.keeper.store).failed ≡ true

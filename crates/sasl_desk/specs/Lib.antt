@@ -1,0 +1,10 @@
+pub mod Events
+pub mod Faults
+pub mod Keeper
+pub mod Spent
+pub mod Turns
+pub mod Waiting
+pub mod Sessions
+pub mod Runs
+pub mod Desks
+pub mod Restarts

@@ -1,0 +1,55 @@
+-- Counters of accounts that are used up: no code passes at one of them again, whatever is attempted later.
+use Rattle.std.specs.Prelude.{ℕ, ◌≡◌, ◌≢◌, ◌<◌, ◌⊎◌, List, [], ◌∷◌, ◌++◌, Option}
+use Rattle.std.specs.List.{AllByRecursion}
+use Rattle.std.specs.declared.option.Option.TheVariants.{None, Some}
+use Rattle.otp_core.specs.Attempt.{Attempt, CodeTexts, used_by}
+use Rattle.otp_core.specs.Secret.{IsMoment}
+use Rattle.otp_core.specs.Window.{IsCandidate, IsPairCandidate}
+use Rattle.otp_core.specs.History.{IsLegal}
+use Rattle.otp_core.specs.declared.token.answer.Reply.{Reply}
+use Rattle.otp_core.specs.declared.token.kinds.Fields.{Fields}
+use Rattle.book_format.specs.Book.{BookFields}
+use Rattle.account_book.specs.Tokens.{token_at}
+use Rattle.log_grammar.specs.Books.{accounts_in}
+use Rattle.log_grammar.specs.Sessions.{Told}
+use Rattle.log_grammar.specs.Demands.{IsReplyDue}
+use Rattle.sasl_log.specs.Tokens.{IsBookAfter}
+
+-- the account has a token, and this counter is below each that can pass with it, alone or as the first of a pair, at
+-- every moment and after every legal history
+pub record IsUsedUp (book : BookFields) (name : List ℕ) (counter : ℕ) : Type 0 where
+  pub token : Fields
+  pub has : token_at book name ≡ Some token
+  pub below : (history : List Attempt) (moment c : ℕ) → IsMoment moment → IsLegal token history
+      → (IsCandidate token history moment c ⊎ IsPairCandidate token history c) → counter < c
+
+-- no counter of an account stands twice
+abbrev pub AreDifferent : List (List ℕ × ℕ) → Type 0
+AreDifferent [] = Unit {0}
+AreDifferent (p ∷ ps) = AllByRecursion (λ q. p ≢ q) ps × AreDifferent ps
+
+-- counters, each with its account, that are different and all used up
+pub record IsSpent (ps : List (List ℕ × ℕ)) (book : BookFields) : Type 0 where
+  pub different : AreDifferent ps
+  pub used : AllByRecursion (λ p. IsUsedUp book p.0 p.1) ps
+
+-- the counters that a reply uses: of two codes in a row both
+abbrev pub counters_by : CodeTexts → Option Reply → List ℕ
+counters_by sent None = []
+counters_by sent (Some reply) = used_by sent reply
+
+-- each with the account
+abbrev pub with_name : List ℕ → List ℕ → List (List ℕ × ℕ)
+with_name name [] = []
+with_name name (c ∷ counters) = (name, c) ∷ with_name name counters
+
+-- the counters that what was told uses, with the account
+abbrev pub spent_by : Told → List (List ℕ × ℕ)
+spent_by t = with_name t.account (counters_by t.sent t.reply)
+
+-- what was spent stays spent, and the counters that a reply uses are others and are spent then, too: so over any number
+-- of replies, of any number of runs that go on from one another's books, no counter of an account passes twice
+abbrev pub SpentStaysSpent : Type 0
+SpentStaysSpent = (old new : BookFields) (t : Told) (ps : List (List ℕ × ℕ)) → IsMoment t.moment
+    → IsReplyDue (accounts_in old) [] t → IsBookAfter (accounts_in old) (t ∷ []) new
+    → IsSpent ps old → IsSpent (spent_by t ++ ps) new

@@ -1,0 +1,133 @@
+//! The keeper of a book: it judges codes by the book's tokens, and saves each change before it is told.
+ghost use Rattle.std.specs.Prelude.{◌≡◌, ◌≢◌, ◌∷◌, List, Some, IfErr, IfOk, OnErr};
+ghost use Rattle.std.specs.Bool.{OnTrue, OnFalse};
+ghost use Rattle.otp_core.specs.Attempt.{Attempt, attempt_of};
+ghost use Rattle.otp_core.specs.History.{IsAfter};
+ghost use Rattle.otp_core.specs.Reply.{IsDueReply};
+ghost use Rattle.otp_core.specs.State.{advanced};
+ghost use Rattle.otp_core.specs.declared.token.kinds.Fields.{Fields};
+ghost use Rattle.log_grammar.specs.Lines.{IsReplyInRange};
+ghost use Rattle.sasl_desk.specs.Keeper.{HoldsText, IsNotBegun, IsJudged, IsJudgedInRange, texts_of};
+
+use crate::fault::DeskFault;
+use crate::sent::Sent;
+use account_book::{Book, BookStore};
+use otp_core::{Moment, Reply, Token};
+use scram_text::PlainName;
+use std::alloc::{AllocError, Global};
+
+/// A book, and the store that holds its text.
+#[derive(Drop)]
+pub struct Keeper<S> {
+    book: Book,
+    store: S,
+}
+
+/// What came of a code, or of two in a row.
+#[derive(Clone, Copy, Debug, PartialEq, Eq)]
+pub enum Judged {
+    /// The reply, or None where the account has no token. What it changed is saved.
+    Replied(Option<Reply>),
+
+    /// The save failed: nothing may be told of the reply, and the book is as before.
+    Lost,
+}
+
+impl<S: BookStore> Keeper<S> {
+    /// A keeper of this book, whose text the store then holds. Halted where the save fails, and NoMemory, before the
+    /// store is asked; the book and the store are handed back.
+    pub fn begin(alloc: Global, book: Book, mut store: S) -> Result<Keeper<S>, (Book, S, DeskFault)>
+        ensures ok { IfOk result (λ keeper. (keeper.book ≡ book) × HoldsText (S.facts store) book (S.facts keeper.store)) }
+        ensures err { IfErr result (λ r. (r.0 ≡ book) × IsNotBegun (S.facts store) book r.2 (S.facts r.1)) }
+        ensures unasked { IfErr result (λ r. r.2 ≡ DeskFault.NoMemory → r.1 ≡ store) }
+    {
+        let text = match book.write(alloc) {
+            Ok(text) => text,
+            Err(_) => return Err((book, store, DeskFault::NoMemory)),
+        };
+        match store.save(text) {
+            Ok(()) => Ok(Keeper { book, store }),
+            Err(_) => Err((book, store, DeskFault::Halted)),
+        }
+    }
+
+    /// The book as it is now.
+    pub fn book(&self) -> &Book
+        ensures { result.now ≡ self.now.book }
+    {
+        &self.book
+    }
+
+    /// The book as it is now, and its store.
+    pub fn close(self) -> (Book, S)
+        ensures book { result.0 ≡ self.book }
+        ensures store { result.1 ≡ self.store }
+    {
+        (self.book, self.store)
+    }
+
+    /// Judges what the client of this account sent at a moment, as `Token::attempt` and `Token::sync` do. PASS and FAIL
+    /// are answered once the store holds the text of the book with this attempt in it; LOCKED and no token change
+    /// nothing, and ask nothing of the store. Where the save fails, the book is as before, and the store holds the text
+    /// from before or that of the book with this attempt. After an error, which is that memory ran out, nothing has
+    /// changed.
+    pub fn judge(
+        &mut self,
+        alloc: Global,
+        name: &PlainName,
+        moment: Moment,
+        sent: Sent<'_>,
+    ) -> Result<Judged, AllocError>
+        ensures ok { IfOk result (λ judged. IsJudged self.old.book (S.facts self.old.store) name.now moment (texts_of sent.entry)
+            judged self.new.book (S.facts self.new.store)) }
+        ensures counter { IfOk result IsJudgedInRange }
+        ensures err { OnErr result ((self.new.book ≡ self.old.book) × (self.new.store ≡ self.old.store)) }
+    {
+        let Some(mut token) = self.book.token(name) else {
+            return Ok(Judged::Replied(None));
+        };
+        let before = token.copy();
+        let reply = reply_to(&mut token, moment, sent);
+        if is_locked(reply) {
+            return Ok(Judged::Replied(Some(reply)));
+        }
+        self.book.put_token(name, token);
+        let saved = match self.book.write(alloc) {
+            Ok(text) => self.store.save(text),
+            Err(fault) => {
+                self.book.put_token(name, before);
+                return Err(fault);
+            }
+        };
+        match saved {
+            Ok(()) => Ok(Judged::Replied(Some(reply))),
+            Err(_) => {
+                self.book.put_token(name, before);
+                Ok(Judged::Lost)
+            }
+        }
+    }
+}
+
+// Judges what was sent by a token.
+fn reply_to(token: &mut Token, moment: Moment, sent: Sent<'_>) -> Reply
+    ensures due { (start : Fields) (history : List Attempt) → IsAfter start history token.old
+        → IsDueReply start history moment (texts_of sent.entry) result }
+    ensures after { (start : Fields) (history : List Attempt) → IsAfter start history token.old
+        → IsAfter start (attempt_of moment (texts_of sent.entry) result ∷ history) token.new }
+    ensures state { token.new ≡ advanced token.old moment result }
+    ensures counter { IsReplyInRange (Some result) }
+{
+    match sent {
+        Sent::One(text) => token.attempt(moment, text),
+        Sent::Two(first, second) => token.sync(moment, first, second),
+    }
+}
+
+// Whether the reply is LOCKED, which changes nothing.
+fn is_locked(reply: Reply) -> bool
+    ensures locked { OnTrue result (reply ≡ Reply.Locked) }
+    ensures open { OnFalse result (reply ≢ Reply.Locked) }
+{
+    matches!(reply, Reply::Locked)
+}

@@ -1,0 +1,115 @@
+//! The session of one client: what it is told, line by line.
+//!
+//! A session hears what its client does and answers it. It reads the book's accounts and keeps what it needs of the login;
+//! it knows nothing of the store, of other sessions and of what a log holds. A code it hands on to be judged.
+ghost use Rattle.std.specs.Prelude.{◌≡◌, ◌≢◌, [], IfOk, IfErr, OnErr};
+ghost use Rattle.log_grammar.specs.Lines as grammar;
+ghost use Rattle.log_grammar.specs.Lines.{from_client};
+ghost use Rattle.log_grammar.specs.Demands.{Accounts};
+ghost use Rattle.log_grammar.specs.Places.{Place};
+ghost use Rattle.sasl_log.specs.Logins.{KeepsEntries};
+ghost use Rattle.sasl_log.specs.Shown.{client_shown};
+ghost use Rattle.sasl_log.specs.Texts.{CanBeLine};
+ghost use Rattle.sasl_desk.specs.Events.{event_shown};
+ghost use Rattle.sasl_desk.specs.Turns.{BearsMessage};
+ghost use Rattle.sasl_desk.specs.Sessions.{IsAt, IsLineOf, heard_lines, CanBeWritten, IsHeard, IsLineHeard, IsOfCode};
+
+mod answer;
+mod first;
+mod hear;
+mod line;
+mod turn;
+mod waiting;
+
+use account_book::Book;
+use hear::{departed, hear_code, hear_final, hear_first, hear_offered, spoiled};
+use line::client_line;
+use log_grammar::laws::is_one_line;
+use mac_core::Mechanism;
+use sasl_log::ClientLine;
+use scram_text::{NoncePart, PlainName};
+use std::alloc::{Allocator, Global};
+pub use turn::{Answer, Event, Heard, Recorded, Saying, Turn};
+pub use waiting::Waiting;
+
+/// Where a session stands: what its client may do next.
+#[derive(Drop)]
+pub enum Session {
+    /// The mechanisms were offered, and the client chooses one.
+    Offered,
+
+    /// The client asked for this mechanism, and its client-first message is due.
+    WaitsFirst(Mechanism),
+
+    /// The client was challenged, and its client-final message is due.
+    WaitsFinal(Waiting),
+
+    /// The login to this account was accepted, and the client may send codes.
+    WaitsCode(PlainName),
+}
+
+impl Session {
+    /// Hears what the client does: the turn is answered, or a code is to be judged. `own` is the server's part of the
+    /// nonce, for all of the session. The message of what is said is put into `message`, which is empty before. On an
+    /// error, which is that memory ran out, the session is handed back, `message` is empty, and nothing was heard: it comes
+    /// only at a line that bears a message.
+    pub fn hear<'a, A: Allocator>(
+        self,
+        alloc: Global,
+        event: Event<'a>,
+        book: &Book,
+        own: &NoncePart,
+        message: &mut Vec<u8, A>,
+    ) -> Result<Heard<'a>, Session>
+        requires { message.old.items ≡ [] }
+        // Where the session stands at a place, the event is recorded and answered as is due there.
+        ensures heard { (accounts : Accounts) (at : Place) → KeepsEntries accounts book.now → IsAt accounts at self
+            → IfOk result (λ heard. IsHeard accounts own.now (event_shown event.entry) at heard message.new.items) }
+        // All lines of it can be written.
+        ensures lines { IfOk result (λ heard. CanBeWritten (heard_lines heard message.new.items)) }
+        // A code is to be judged only where the session waits for one.
+        ensures asks { IfOk result (λ heard. IsOfCode heard self) }
+        ensures err { IfErr result (λ session. (session ≡ self) × (message.new.items ≡ [])) }
+        ensures sent { OnErr result (event.entry ≢ Event.Gone) }
+        ensures memory { (line : grammar.ClientLine) → IsLineOf (event_shown event.entry) line → OnErr result (BearsMessage line) }
+    {
+        is_one_line();
+        match event {
+            Event::Gone => Ok(Heard::Answered(departed())),
+            Event::Line(text) => match client_line(text) {
+                Some(line) => self.hear_line(alloc, line, book, own, message),
+                None => Ok(Heard::Answered(spoiled())),
+            },
+        }
+    }
+
+    // Hears a line of the client, by where the session stands.
+    fn hear_line<'a, A: Allocator>(
+        self,
+        alloc: Global,
+        line: ClientLine<'a>,
+        book: &Book,
+        own: &NoncePart,
+        message: &mut Vec<u8, A>,
+    ) -> Result<Heard<'a>, Session>
+        requires empty { message.old.items ≡ [] }
+        requires line { CanBeLine (from_client (client_shown line)) }
+        ensures heard { (accounts : Accounts) (at : Place) → KeepsEntries accounts book.now → IsAt accounts at self
+            → IfOk result (λ heard. IsLineHeard accounts own.now (client_shown line.entry) at heard message.new.items) }
+        ensures lines { IfOk result (λ heard. CanBeWritten (heard_lines heard message.new.items)) }
+        ensures asks { IfOk result (λ heard. IsOfCode heard self) }
+        ensures err { IfErr result (λ session. (session ≡ self) × (message.new.items ≡ [])) }
+        ensures memory { OnErr result (BearsMessage (client_shown line.entry)) }
+    {
+        match self {
+            Session::Offered => Ok(Heard::Answered(hear_offered(alloc, line, book, own, message)?)),
+            Session::WaitsFirst(mechanism) => Ok(Heard::Answered(hear_first(
+                alloc, mechanism, line, book, own, message,
+            )?)),
+            Session::WaitsFinal(waiting) => {
+                Ok(Heard::Answered(hear_final(alloc, waiting, line, message)?))
+            }
+            Session::WaitsCode(name) => Ok(hear_code(name, line)),
+        }
+    }
+}

@@ -1,0 +1,64 @@
+//! Answers that need neither a book nor memory.
+ghost use Rattle.std.specs.Prelude.{◌≡◌, ℕ, List, []};
+ghost use Rattle.log_grammar.specs.Demands.{Accounts};
+ghost use Rattle.log_grammar.specs.Places.{Place, asks_bare, over};
+ghost use Rattle.sasl_desk.specs.Sessions.{answer_lines, verdict_answer, CanBeWritten, IsTurnedAway, IsAnswer};
+
+use crate::session::Session;
+use crate::session::turn::{Answer, Saying};
+use mac_core::Mechanism;
+use scram_ends::Verdict;
+use scram_text::PlainName;
+
+/// A bare `S NO`, after which the session is over.
+pub(crate) fn refusal() -> Answer
+    ensures due { (accounts : Accounts) (own : List ℕ) (at : Place) → IsTurnedAway at → IsAnswer accounts own at result [] }
+    ensures lines { CanBeWritten (answer_lines result []) }
+{
+    Answer {
+        says: Saying::Refuses,
+        session: None,
+    }
+}
+
+/// Nothing is said to a client that has gone away, and the session is over.
+pub(crate) fn departure() -> Answer
+    ensures due { (accounts : Accounts) (own : List ℕ) → IsAnswer accounts own over result [] }
+    ensures lines { CanBeWritten (answer_lines result []) }
+{
+    Answer {
+        says: Saying::Nothing,
+        session: None,
+    }
+}
+
+/// The answer to a client that asks for the mechanism of this name, without a message: an empty challenge, or a bare
+/// `S NO` where it is not offered.
+pub(crate) fn invitation(name: &[u8]) -> Answer
+    ensures due { (accounts : Accounts) (own : List ℕ) → IsAnswer accounts own (asks_bare name.now) result [] }
+    ensures lines { CanBeWritten (answer_lines result []) }
+{
+    match Mechanism::of_name(name) {
+        Some(mechanism) => Answer {
+            says: Saying::Continues,
+            session: Some(Session::WaitsFirst(mechanism)),
+        },
+        None => refusal(),
+    }
+}
+
+/// The answer that bears a verdict on the login of this account.
+pub(crate) fn outcome(verdict: Verdict, name: PlainName) -> Answer
+    ensures { result ≡ verdict_answer verdict name }
+{
+    match verdict {
+        Verdict::Accepted => Answer {
+            says: Saying::Accepts,
+            session: Some(Session::WaitsCode(name)),
+        },
+        Verdict::Refused(_) => Answer {
+            says: Saying::Refuses,
+            session: None,
+        },
+    }
+}

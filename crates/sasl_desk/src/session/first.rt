@@ -1,0 +1,118 @@
+//! The answer to a client-first message: a challenge to the account that it names, or a bare `S NO`.
+ghost use Rattle.std.specs.Prelude.{◌≡◌, ℕ, List, [], IfOk, OnErr};
+ghost use Rattle.std.specs.declared.option.Option.{Option};
+ghost use Rattle.scram_text.specs.Messages.{ClientFirstParts, IsClientFirst};
+ghost use Rattle.scram_ends.specs.Opening.{IsTakenUp};
+ghost use Rattle.log_grammar.specs.Demands.{Accounts, NamesMechanism};
+ghost use Rattle.log_grammar.specs.Places.{got_first};
+ghost use Rattle.sasl_log.specs.Logins.{KeepsEntries};
+ghost use Rattle.sasl_desk.specs.Sessions.{answer_lines, CanBeWritten, IsAnswer};
+
+use crate::session::Session;
+use crate::session::answer::refusal;
+use crate::session::turn::{Answer, Saying};
+use crate::session::waiting::Waiting;
+use account_book::Book;
+use mac_core::Mechanism;
+use sasl_log::{NoMemory, Payload};
+use scram_ends::laws::refused_is_not_taken_up;
+use scram_ends::{FirstRefused, first_name, server_first};
+use scram_text::laws::{has_one_client_first, spells_one_name};
+use scram_text::{NoncePart, PlainName};
+use std::alloc::{Allocator, Global};
+
+/// The answer to the client-first message of a client that asks for the mechanism of this name: a challenge, whose message
+/// is put into `message`; or a bare `S NO`, where the mechanism is not offered, or no server takes the message up. Answers
+/// 99 NoMemory where memory ran out; `message` is then empty.
+pub(crate) fn opening<A: Allocator>(
+    alloc: Global,
+    name: &[u8],
+    client_first: &Payload<'_>,
+    book: &Book,
+    own: &NoncePart,
+    message: &mut Vec<u8, A>,
+) -> Result<Answer, NoMemory>
+    requires { message.old.items ≡ [] }
+    ensures due { (accounts : Accounts) → KeepsEntries accounts book.now
+        → IfOk result (λ answer. IsAnswer accounts own.now (got_first name.now client_first.now) answer message.new.items) }
+    ensures lines { IfOk result (λ answer. CanBeWritten (answer_lines answer message.new.items)) }
+    ensures err { OnErr result (message.new.items ≡ []) }
+{
+    match Mechanism::of_name(name) {
+        Some(mechanism) => first_answer(alloc, mechanism, client_first, book, own, message),
+        None => Ok(refusal()),
+    }
+}
+
+/// The answer to a client-first message by this mechanism, which is offered, as `opening` gives it.
+pub(crate) fn first_answer<A: Allocator>(
+    alloc: Global,
+    mechanism: Mechanism,
+    client_first: &Payload<'_>,
+    book: &Book,
+    own: &NoncePart,
+    message: &mut Vec<u8, A>,
+) -> Result<Answer, NoMemory>
+    requires { message.old.items ≡ [] }
+    ensures due { (accounts : Accounts) (name : List ℕ) → KeepsEntries accounts book.now → NamesMechanism name mechanism
+        → IfOk result (λ answer. IsAnswer accounts own.now (got_first name client_first.now) answer message.new.items) }
+    ensures lines { IfOk result (λ answer. CanBeWritten (answer_lines answer message.new.items)) }
+    ensures err { OnErr result (message.new.items ≡ []) }
+{
+    match client_first.bytes(alloc) {
+        Ok(text) => taken_up(mechanism, text.as_slice(), book, own, message),
+        Err(fault) => Err(fault),
+    }
+}
+
+// Looks up the name that the message gives.
+fn taken_up<A: Allocator>(
+    mechanism: Mechanism,
+    client_first: &[u8],
+    book: &Book,
+    own: &NoncePart,
+    message: &mut Vec<u8, A>,
+) -> Result<Answer, NoMemory>
+    requires { message.old.items ≡ [] }
+    ensures due { (accounts : Accounts) (name : List ℕ) → KeepsEntries accounts book.now → NamesMechanism name mechanism
+        → IfOk result (λ answer. IsAnswer accounts own.now (got_first name client_first.now) answer message.new.items) }
+    ensures lines { IfOk result (λ answer. CanBeWritten (answer_lines answer message.new.items)) }
+    ensures err { OnErr result (message.new.items ≡ []) }
+{
+    refused_is_not_taken_up();
+    match first_name(client_first) {
+        Ok(user) => challenge(mechanism, user, client_first, book, own, message),
+        Err(_) => Ok(refusal()),
+    }
+}
+
+// Challenges the login that the message opens for this user.
+fn challenge<A: Allocator>(
+    mechanism: Mechanism,
+    user: PlainName,
+    client_first: &[u8],
+    book: &Book,
+    own: &NoncePart,
+    message: &mut Vec<u8, A>,
+) -> Result<Answer, NoMemory>
+    requires empty { message.old.items ≡ [] }
+    requires taken { (first : ClientFirstParts) × (authzid : Option (List ℕ)) × IsClientFirst client_first.now first
+        × IsTakenUp first user authzid }
+    ensures due { (accounts : Accounts) (name : List ℕ) → KeepsEntries accounts book.now → NamesMechanism name mechanism
+        → IfOk result (λ answer. IsAnswer accounts own.now (got_first name client_first.now) answer message.new.items) }
+    ensures lines { IfOk result (λ answer. CanBeWritten (answer_lines answer message.new.items)) }
+    ensures err { OnErr result (message.new.items ≡ []) }
+{
+    has_one_client_first();
+    spells_one_name();
+    refused_is_not_taken_up();
+    let view = book.view(&user, mechanism);
+    match server_first(mechanism, &view, client_first, own, message) {
+        Ok(wait) => Ok(Answer {
+            says: Saying::Continues,
+            session: Some(Session::WaitsFinal(Waiting::new(wait, mechanism, user))),
+        }),
+        Err(FirstRefused::First(_)) => Ok(refusal()),
+        Err(FirstRefused::Write(_)) => Err(NoMemory),
+    }
+}
