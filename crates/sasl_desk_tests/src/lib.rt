@@ -1,0 +1,5 @@
+//! Tests of `sasl_desk`.
+#![tactic(auto)]
+
+#[cfg(test)]
+mod tests;

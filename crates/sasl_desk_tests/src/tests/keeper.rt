@@ -1,0 +1,192 @@
+//! Codes of RFC 4226, appendix D, and what the store holds after them.
+use super::BOOK;
+use super::memory::Memory;
+use account_book::Book;
+use sasl_desk::{DeskFault, Judged, Keeper, Moment, Reply, Sent};
+use scram_text::PlainName;
+use std::alloc::Global;
+use std::process::Abort;
+use std::test::Fail;
+
+// The book whose user has a token with the RFC's secret: three failures lock it; it looks three counters ahead, and eight
+// for two codes in a row.
+fn book_at(alloc: Global, failures: u64, next: u64) -> Result<String, Fail> {
+    Ok(format!(in alloc;
+        "{BOOK}
+[accounts.user.token]
+digits = 6
+failures = {failures}
+kind = \"hotp\"
+limit = 3
+look_ahead = 3
+next = {next}
+secret = \"3132333435363738393031323334353637383930\"
+sync_ahead = 8
+"
+    )?)
+}
+
+// A keeper of the book of this text, over this store.
+fn begun(alloc: Global, text: &str, store: Memory) -> Result<Keeper<Memory>, Fail> {
+    let book = Book::read(alloc, text.as_bytes())?;
+    match Keeper::begin(alloc, book, store) {
+        Ok(keeper) => Ok(keeper),
+        Err(_) => Err("no keeper".into()),
+    }
+}
+
+// Judges what the client of this account sent, at the moment 5.
+fn judge(
+    alloc: Global,
+    keeper: &mut Keeper<Memory>,
+    name: &[u8],
+    sent: Sent<'_>,
+) -> Result<Judged, Fail> {
+    let name = PlainName::new(name).ok_or("a name")?;
+    let moment = Moment::new(5).ok_or("a moment")?;
+    Ok(keeper.judge(alloc, &name, moment, sent)?)
+}
+
+// The keeper's store has taken up so many saves, and both it and the book have this text.
+fn check_kept(
+    rt: &(impl Abort + AllocGlobal),
+    keeper: Keeper<Memory>,
+    saves: u64,
+    text: &str,
+) -> Result<(), Fail> {
+    let (book, store) = keeper.close();
+    assert_eq!(rt; store.saves, saves);
+    assert_eq!(rt; store.saved.as_str(), text);
+    assert_eq!(rt; book.write(rt.alloc())?.as_str(), text);
+    Ok(())
+}
+
+#[test]
+fn a_keeper_begins_with_a_save(rt: HostRuntime) -> Result<(), Fail> {
+    let alloc = rt.alloc();
+    let text = book_at(alloc, 1, 7)?;
+    let keeper = begun(alloc, text.as_str(), Memory::new(alloc, 0, false))?;
+    assert_eq!(rt; keeper.book().write(alloc)?.as_str(), text.as_str());
+    check_kept(&rt, keeper, 1, text.as_str())
+}
+
+#[test]
+fn each_code_passes_once(rt: HostRuntime) -> Result<(), Fail> {
+    let alloc = rt.alloc();
+    let text = book_at(alloc, 0, 0)?;
+    let mut keeper = begun(alloc, text.as_str(), Memory::new(alloc, 0, false))?;
+    for (code, reply) in [
+        ("755224", Reply::Pass(0)),
+        ("755224", Reply::Fail),
+        ("287082", Reply::Pass(1)),
+        ("338314", Reply::Pass(4)),
+        ("359152", Reply::Fail),
+        ("969429", Reply::Fail),
+        ("254676", Reply::Pass(5)),
+        ("162583", Reply::Pass(7)),
+        ("399871", Reply::Pass(8)),
+        ("520489", Reply::Pass(9)),
+        ("520489", Reply::Fail),
+    ] {
+        let judged = judge(alloc, &mut keeper, b"user", Sent::One(code.as_bytes()))?;
+        assert_eq!(rt; judged, Judged::Replied(Some(reply)), "{code}");
+    }
+    check_kept(&rt, keeper, 12, book_at(alloc, 1, 10)?.as_str())
+}
+
+// Two codes in a row pass at the counter of the second, and neither passes again.
+#[test]
+fn two_codes_are_both_used(rt: HostRuntime) -> Result<(), Fail> {
+    let alloc = rt.alloc();
+    let text = book_at(alloc, 0, 0)?;
+    let mut keeper = begun(alloc, text.as_str(), Memory::new(alloc, 0, false))?;
+    for (sent, reply) in [
+        (Sent::Two(b"338314", b"969429"), Reply::Fail),
+        (Sent::Two(b"969429", b"338314"), Reply::Pass(4)),
+        (Sent::One(b"969429"), Reply::Fail),
+        (Sent::One(b"338314"), Reply::Fail),
+        (Sent::One(b"254676"), Reply::Pass(5)),
+        (Sent::Two(b"399871", b"520489"), Reply::Pass(9)),
+    ] {
+        let judged = judge(alloc, &mut keeper, b"user", sent)?;
+        assert_eq!(rt; judged, Judged::Replied(Some(reply)));
+    }
+    check_kept(&rt, keeper, 7, book_at(alloc, 0, 10)?.as_str())
+}
+
+// A locked token answers the right code, too, with LOCKED, and nothing is saved.
+#[test]
+fn failures_lock(rt: HostRuntime) -> Result<(), Fail> {
+    let alloc = rt.alloc();
+    let text = book_at(alloc, 0, 0)?;
+    let mut keeper = begun(alloc, text.as_str(), Memory::new(alloc, 0, false))?;
+    for (sent, reply) in [
+        (Sent::One(b"000000"), Reply::Fail),
+        (Sent::Two(b"287082", b"755224"), Reply::Fail),
+        (Sent::One(b"338314"), Reply::Fail),
+        (Sent::One(b"755224"), Reply::Locked),
+        (Sent::Two(b"755224", b"287082"), Reply::Locked),
+    ] {
+        let judged = judge(alloc, &mut keeper, b"user", sent)?;
+        assert_eq!(rt; judged, Judged::Replied(Some(reply)));
+    }
+    check_kept(&rt, keeper, 4, book_at(alloc, 3, 0)?.as_str())
+}
+
+#[test]
+fn no_account_and_no_token(rt: HostRuntime) -> Result<(), Fail> {
+    let alloc = rt.alloc();
+    let mut keeper = begun(alloc, BOOK, Memory::new(alloc, 0, false))?;
+    for name in [b"user".as_slice(), b"nobody"] {
+        for sent in [Sent::One(b"755224"), Sent::Two(b"755224", b"287082")] {
+            let judged = judge(alloc, &mut keeper, name, sent)?;
+            assert_eq!(rt; judged, Judged::Replied(None));
+        }
+    }
+    check_kept(&rt, keeper, 1, BOOK)
+}
+
+// After a save that failed no reply is told, and the book stays as it was, whichever text the store has.
+#[test]
+fn a_reply_is_lost_with_its_save(rt: HostRuntime) -> Result<(), Fail> {
+    let alloc = rt.alloc();
+    let before = book_at(alloc, 0, 0)?;
+    let after = book_at(alloc, 0, 1)?;
+    for (is_late, held) in [(false, before.as_str()), (true, after.as_str())] {
+        let mut keeper = begun(alloc, before.as_str(), Memory::new(alloc, 2, is_late))?;
+        for code in ["755224", "755224", "000000"] {
+            let judged = judge(alloc, &mut keeper, b"user", Sent::One(code.as_bytes()))?;
+            assert_eq!(rt; judged, Judged::Lost, "{code}");
+            let text = keeper.book().write(alloc)?;
+            assert_eq!(rt; text.as_str(), before.as_str(), "{code}");
+        }
+        let (_, store) = keeper.close();
+        assert_eq!(rt; store.saves, 2);
+        assert_eq!(rt; store.saved.as_str(), held);
+    }
+    Ok(())
+}
+
+// Where the first save fails there is no keeper, and with that store there will be none.
+#[test]
+fn no_keeper_over_a_failing_store(rt: HostRuntime) -> Result<(), Fail> {
+    let alloc = rt.alloc();
+    let text = book_at(alloc, 0, 0)?;
+    for (is_late, held) in [(false, ""), (true, text.as_str())] {
+        let mut book = Book::read(alloc, text.as_bytes())?;
+        let mut store = Memory::new(alloc, 1, is_late);
+        for _ in 0..2 {
+            let Err((same, failed, fault)) = Keeper::begin(alloc, book, store) else {
+                return Err("a keeper".into());
+            };
+            assert_eq!(rt; fault, DeskFault::Halted);
+            assert_eq!(rt; fault.number(), 72);
+            assert_eq!(rt; same.write(alloc)?.as_str(), text.as_str());
+            assert_eq!(rt; failed.saves, 1);
+            assert_eq!(rt; failed.saved.as_str(), held);
+            book = same;
+            store = failed;
+        }
+    }
+    Ok(())
+}

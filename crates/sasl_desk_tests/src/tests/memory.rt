@@ -1,0 +1,71 @@
+//! A store in memory, one of whose saves may fail.
+ghost use Rattle.std.specs.Prelude.{◌≡◌, ◌<◌, ◌+◌, ◌^◌, false, string_bytes, unwrap_or, option_map};
+
+use account_book::{BookStore, StoreFault};
+use std::alloc::Global;
+
+/// A store whose device is memory.
+#[derive(Drop)]
+pub struct Memory {
+    /// The text that it holds.
+    pub saved: String,
+
+    // None where it is the text that was saved
+    asked: Option<String>,
+
+    failed: bool,
+
+    /// How many saves it has taken up.
+    pub saves: u64,
+
+    failing: u64,
+    is_late: bool,
+    ghost room: { failed ≡ false → saves + 1 < 2 ^ 64 },
+}
+
+impl Memory {
+    /// A store that holds an empty text, whose save of this number fails, counted from 1, and with 0 none: before the new
+    /// text is in its place, or, where `is_late`, after it.
+    pub fn new(alloc: Global, failing: u64, is_late: bool) -> Memory {
+        Memory {
+            saved: String::new(alloc),
+            asked: None,
+            failed: false,
+            saves: 0,
+            failing,
+            is_late,
+        }
+    }
+}
+
+impl BookStore for Memory {
+    ghost use Rattle.account_book.specs.Store.{StoreFacts};
+
+    ghost facts = { λ s. record {
+      saved = string_bytes s.saved;
+      asked = unwrap_or (option_map string_bytes s.asked) (string_bytes s.saved);
+      failed = s.failed;
+      saves = s.saves;
+    } };
+
+    fn save(&mut self, text: String) -> Result<(), StoreFault> {
+        if self.failed {
+            return Err(StoreFault);
+        }
+        self.saves += 1;
+        if self.saves < u64::MAX && self.saves != self.failing {
+            self.saved = text;
+            self.asked = None;
+            return Ok(());
+        }
+        self.failed = true;
+        if self.is_late {
+            self.saved = text;
+            self.asked = None;
+            Err(StoreFault)
+        } else {
+            self.asked = Some(text);
+            Err(StoreFault)
+        }
+    }
+}
