@@ -7,7 +7,7 @@ use Rattle.log_grammar.specs.Laws.{IsOneLine}
 use Rattle.log_grammar.specs.Lines.{LogLine, heard, bad, ClientLine, asking, from_client, IsLine}
 use Rattle.log_grammar.specs.Demands.{Accounts}
 use Rattle.log_grammar.specs.Places.{Place, waits_final}
-use Rattle.sasl_desk.specs.Events.{ClientEvent, sends, leaves}
+use Rattle.sasl_desk.specs.Events.{ClientEvent, sends, goes_away}
 use Rattle.sasl_desk.specs.Keeper.{texts_of}
 use Rattle.sasl_desk.specs.Turns.{is_due, BearsMessage}
 use Rattle.sasl_desk.specs.Sessions.{IsLineOf, IsRecord, IsLineRecord, IsHeard, IsLineHeard}
@@ -21,7 +21,7 @@ line_inside one other same = cc
 -- the record of a line is that of an event which is this line and, since a text is one line, no other
 pub record_of_line : IsOneLine → (event : ClientEvent) (line : ClientLine) (at : Place) (recorded : LogLine) → IsLineOf event line → IsLineRecord line at recorded
     → IsRecord event at recorded
-record_of_line once leaves line at recorded is kept = absurd is
+record_of_line once goes_away line at recorded is kept = absurd is
 record_of_line once (sends text) line at (heard recorded) is kept = (
   subst (λ (l : ClientLine). IsLine text (from_client l)) (sym kept.0) is,
   subst (λ (l : ClientLine). is_due at l ≡ true) (sym kept.0) kept.1,
@@ -43,13 +43,13 @@ all_heard_of_line once accounts own event line at (Ok h) message is came = heard
 all_heard_of_line once accounts own event line at (Err back) message is came = tt
 
 -- a text that is no line of a client is recorded as `C BAD`
-pub no_line_record : (event : ClientEvent) (at : Place) → ((line : ClientLine) → IsLineOf event line → ⊥) → (event ≡ leaves → ⊥) → IsRecord event at bad
-no_line_record leaves at no_line sent = absurd (sent refl)
+pub no_line_record : (event : ClientEvent) (at : Place) → ((line : ClientLine) → IsLineOf event line → ⊥) → (event ≡ goes_away → ⊥) → IsRecord event at bad
+no_line_record goes_away at no_line sent = absurd (sent refl)
 no_line_record (sends text) at no_line sent = λ line is. absurd (no_line line is)
 
 -- where memory ran out at a line that bears a message, and the event is that line, it is no other
 pub memory_of_line : IsOneLine → (event : ClientEvent) (line other : ClientLine) (r : Result Heard Session) → IsLineOf event line → IsLineOf event other
     → OnErr r (BearsMessage line) → OnErr r (BearsMessage other)
-memory_of_line once leaves line other r is also bears = absurd is
+memory_of_line once goes_away line other r is also bears = absurd is
 memory_of_line once (sends text) line other r is also bears =
     subst (λ (l : ClientLine). OnErr r (BearsMessage l)) (line_inside line other (once text (from_client line) (from_client other) is also)) bears

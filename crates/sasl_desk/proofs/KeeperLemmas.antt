@@ -1,9 +1,10 @@
 -- What a keeper told, and a token that it puts back.
-use Rattle.std.proofs.Common.{◌≡◌, ◌≢◌, ℕ, List, [], ◌∷◌, refl, sym, ap, subst, ◌∙◌}
-use Rattle.std.specs.declared.option.Option.TheVariants.{Some}
+use Rattle.std.proofs.Common.{◌≡◌, ◌≢◌, ℕ, List, [], ◌∷◌, ◌++◌, reverse, refl, sym, ap, subst, ◌∙◌}
+use Rattle.std.specs.declared.option.Option.TheVariants.{None, Some}
 use Rattle.otp_core.specs.Attempt.{Attempt, CodeTexts, attempt_of}
 use Rattle.otp_core.specs.History.{IsAfter}
 use Rattle.otp_core.specs.Reply.{IsDueReply}
+use Rattle.otp_core.specs.Secret.{IsMoment}
 use Rattle.otp_core.specs.State.{advanced}
 use Rattle.otp_core.specs.declared.token.answer.Reply.{Reply}
 use Rattle.otp_core.specs.declared.token.answer.Reply.TheVariants.{Pass, Fail, Locked}
@@ -14,9 +15,11 @@ use Rattle.account_book.specs.Store.{StoreFacts}
 use Rattle.account_book.specs.Tokens.{token_at, with_token, IsAttempt, IsAnswered}
 use Rattle.account_book.proofs.MapLemmas.{is_changed}
 use Rattle.account_book.proofs.TokenLemmas.{tokens_go_back, tokens_stay}
-use Rattle.log_grammar.specs.Sessions.{told_of}
+use Rattle.log_grammar.specs.Demands.{Accounts, IsReplyDue}
+use Rattle.log_grammar.specs.Sessions.{Told, told_of}
 use Rattle.sasl_log.proofs.TokenLemmas.{reply_by, book_after}
-use Rattle.sasl_desk.specs.Keeper.{IsTold, IsKept, HoldsText}
+use Rattle.sasl_log.specs.Tokens.{IsBookAfter}
+use Rattle.sasl_desk.specs.Keeper.{IsTold, NeedsSave, IsKept, HoldsText}
 
 -- a token judged what was sent, and leads on from where it was
 pub record IsStep (token : Fields) (moment : ℕ) (sent : CodeTexts) (reply : Reply) (now : Fields) : Type 0 where
@@ -33,25 +36,41 @@ attempted old new name token now moment sent reply step put = record {
 }
 
 -- the reply to an attempt is told of the account
-pub told_by : (old new : BookFields) (name : List ℕ) (token now : Fields) (moment : ℕ) (sent : CodeTexts) (reply : Reply) → token_at old name ≡ Some token
-    → IsStep token moment sent reply now → IsChanged old name (with_token now) new → IsTold old (told_of name moment sent (Some reply)) new
-told_by old new name token now moment sent reply has step put =
-    let attempt = attempted old new name token now moment sent reply step put in
-    let answered : IsAnswered old name moment sent (Some reply) new = rw has (reply, refl, attempt) in
-    record {
-      due = λ accounts told h. reply_by accounts told old name moment sent (Some reply) new answered h;
-      after = λ accounts told h. book_after accounts told old name moment sent (Some reply) new (Some token) has (reply, refl, attempt) h;
-    }
+pub told_by : (old new : BookFields) (name : List ℕ) (token now : Fields) (moment : ℕ) (sent : CodeTexts) (reply : Reply) → IsMoment moment
+    → token_at old name ≡ Some token → IsStep token moment sent reply now → IsChanged old name (with_token now) new
+    → IsTold old (told_of name moment sent (Some reply)) new
+told_by old new name token now moment sent reply is has step put =
+    record { is_moment = is; answered = rw has (reply, refl, attempted old new name token now moment sent reply step put) }
+
+-- nothing is told of an account without a token
+pub told_none : (old : BookFields) (name : List ℕ) (moment : ℕ) (sent : CodeTexts) → IsMoment moment → token_at old name ≡ None
+    → IsTold old (told_of name moment sent None) old
+told_none old name moment sent is has = record { is_moment = is; answered = rw has (refl, refl) }
+
+-- what is told is the reply that is due, and leads on from what was told before
+pub told_due : (old new : BookFields) (t : Told) → IsTold old t new → (accounts : Accounts) (told : List Told) → IsBookAfter accounts told old
+    → IsReplyDue accounts (reverse told) t
+told_due old new t one accounts told h = reply_by accounts told old t.account t.moment t.sent t.reply new one.answered h
+
+pub told_after : (old new : BookFields) (t : Told) → IsTold old t new → (accounts : Accounts) (told : List Told) → IsBookAfter accounts told old
+    → IsBookAfter accounts (told ++ t ∷ []) new
+told_after old new t one accounts told h = book_after accounts told old t.account t.moment t.sent t.reply new (token_at old t.account) refl one.answered h
+
+-- a reply other than LOCKED needs a save
+pub needs_save : (reply : Reply) → reply ≢ Locked → NeedsSave (Some reply)
+needs_save (Pass counter) apart = tt
+needs_save Fail apart = tt
+needs_save Locked apart = absurd (apart refl)
 
 -- LOCKED is told of a book that stays as it was
-pub told_locked : (old : BookFields) (name : List ℕ) (token now : Fields) (moment : ℕ) (sent : CodeTexts) (reply : Reply) → token_at old name ≡ Some token
-    → IsStep token moment sent reply now → reply ≡ Locked → (was : StoreFacts)
+pub told_locked : (old : BookFields) (name : List ℕ) (token now : Fields) (moment : ℕ) (sent : CodeTexts) (reply : Reply) → IsMoment moment
+    → token_at old name ≡ Some token → IsStep token moment sent reply now → reply ≡ Locked → (was : StoreFacts)
     → IsTold old (told_of name moment sent (Some reply)) old × IsKept (Some reply) old was old was
-told_locked old name token now moment sent reply has step locked was =
+told_locked old name token now moment sent reply is has step locked was =
     let same : now ≡ token = step.state ∙ ap (advanced token moment) locked in
     let stays : old ≡ with_changed old name (with_token now) =
     sym (ap (λ (t : Fields). with_changed old name (with_token t)) same ∙ tokens_stay old name token has) in
-    (told_by old old name token now moment sent reply has step (is_changed old name (with_token now) old stays), rw locked (refl, refl))
+    (told_by old old name token now moment sent reply is has step (is_changed old name (with_token now) old stays), rw locked (refl, refl))
 
 -- a reply that is not LOCKED is kept by a store that holds the book's text
 pub kept_by : (old new : BookFields) (was now : StoreFacts) (reply : Reply) → reply ≢ Locked → HoldsText was new now → IsKept (Some reply) old was new now

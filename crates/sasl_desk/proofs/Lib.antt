@@ -8,3 +8,4 @@ pub mod PathLemmas
 pub mod RunLemmas
 pub mod StandLemmas
 pub mod RestartLemmas
+pub mod ServeLemmas

@@ -11,7 +11,7 @@ use Rattle.log_grammar.specs.Demands.{Accounts, Demands, demands, AreReplies}
 use Rattle.log_grammar.specs.Places.{Place, before_all, between, offered, asks_bare, waits_first, got_first, waits_final, got_final, waits_code, got_code, leaving, over, halted}
 use Rattle.log_grammar.specs.Steps.{Goes, told_at}
 use Rattle.log_grammar.specs.Clean.{Begins}
-use Rattle.sasl_desk.specs.Events.{ClientEvent, sends, leaves}
+use Rattle.sasl_desk.specs.Events.{ClientEvent, sends, goes_away}
 use Rattle.sasl_desk.specs.Turns.{is_client_turn, record_place, IsPath}
 use Rattle.sasl_desk.specs.Sessions.{IsAt, IsRecord, IsAnswer, IsTurn, recorded_shown, turn_lines, said_lines, end_lines, answer_lines}
 use Rattle.sasl_desk.specs.declared.session.Session.{Session}
@@ -33,7 +33,7 @@ pub record_goes : (d : Demands) (at : Place) (event : ClientEvent) (recorded : L
     → Goes d at recorded (record_place at recorded)
 record_goes d at (sends text) (heard line) turn is = due_goes d line at is.1
 record_goes d at (sends text) bad turn is = bad_goes d at turn
-record_goes d at leaves gone turn is = gone_goes d at turn
+record_goes d at goes_away gone turn is = gone_goes d at turn
 record_goes d at event recorded turn is = absurd is
 
 -- the lines of a turn are a path
@@ -54,7 +54,7 @@ IsNoReply line = Unit {0}
 pub record_no_reply : (event : ClientEvent) (at : Place) (recorded : LogLine) → IsRecord event at recorded → IsNoReply recorded
 record_no_reply (sends text) at (heard line) is = tt
 record_no_reply (sends text) at bad is = tt
-record_no_reply leaves at gone is = tt
+record_no_reply goes_away at gone is = tt
 record_no_reply event at recorded is = absurd is
 
 ends_no_reply : (going : Option Session) → AllByRecursion IsNoReply (end_lines going)

@@ -6,11 +6,12 @@ use Rattle.book_format.specs.Trees.{IsBookText}
 use Rattle.account_book.specs.Store.{StoreFacts}
 use Rattle.otp_core.specs.Laws.{BeginsWithItself}
 use Rattle.log_grammar.specs.Books.{accounts_in}
-use Rattle.log_grammar.specs.Laws.{HasOneReading}
-use Rattle.log_grammar.specs.Lines.{LogLine, log_text}
+use Rattle.log_grammar.specs.Laws.{HasOneReading, GoesOnByNoOther}
+use Rattle.log_grammar.specs.Lines.{LogLine, said, halt, log_text}
 use Rattle.log_grammar.specs.Sessions.{Told}
-use Rattle.log_grammar.specs.Demands.{demands}
-use Rattle.log_grammar.specs.Places.{Place, between, halted, MayEnd}
+use Rattle.log_grammar.specs.Demands.{Accounts, Demands, demands}
+use Rattle.log_grammar.specs.Places.{Place, between, got_code, halted, MayEnd}
+use Rattle.log_grammar.specs.Steps.{Goes}
 use Rattle.log_grammar.specs.Clean.{Begins, Spells, AreLines, IsFront, IsClean}
 use Rattle.log_grammar.proofs.HeadlineLemmas.{are_lines, each_lacks}
 use Rattle.sasl_desk.specs.Keeper.{IsTold}
@@ -25,6 +26,7 @@ use Rattle.sasl_desk.specs.declared.desk.state.State.TheVariants.{Closed, Open, 
 use Rattle.sasl_desk.specs.declared.desk.state.Phase.TheVariants as phase
 use Rattle.sasl_desk.specs.declared.session.Session.{Session}
 use Rattle.sasl_desk.specs.declared.session.Session.TheVariants.{Offered, WaitsFirst, WaitsFinal, WaitsCode}
+use Rattle.sasl_desk.proofs.KeeperLemmas.{told_due, told_after}
 use Rattle.sasl_desk.proofs.RunLemmas.{run_has_lines}
 use Rattle.sasl_desk.proofs.StandLemmas.{book_itself}
 
@@ -59,9 +61,15 @@ closed_ends start own place Closed at is = rw at tt
 closed_ends start own place (Open going part) at is = absurd (closed_open going is)
 closed_ends start own place Halted at is = absurd (cc is)
 
-lost_ends : (place : Place) (book : BookFields) (store : StoreFacts) → IsStoredAt place book store → store.failed ≡ true → MayEnd place
-lost_ends halted book store lost failed = tt
-lost_ends place book store held failed = absurd (cc (held.working, failed))
+lost_ends : (accounts : Accounts) (calls : List Call) (place : Place) (book : BookFields) (store : StoreFacts) → IsStoredAt accounts calls place book store
+    → store.failed ≡ true → MayEnd place
+lost_ends accounts calls halted book store lost failed = tt
+lost_ends accounts calls place book store held failed = absurd (cc (held.working, failed))
+
+-- `S HALT` leads to one place alone
+halt_leads : (d : Demands) (place next : Place) → Goes d place (said halt) next → MayEnd next
+halt_leads d (got_code account sent) next goes = rw goes tt
+halt_leads d place next goes = absurd goes
 
 pub log_is_clean : {S : Type 0} (facts : S → StoreFacts) (start : BookFields) (calls : List Call) (desk : Desk S) → Stands facts start calls desk
     → (phase_of desk.state ≡ phase.Closed) ⊎ ((facts desk.keeper.store).failed ≡ true) → IsClean (accounts_in start) (log_bytes (run_lines calls))
@@ -73,9 +81,22 @@ log_is_clean facts start calls desk s ends = (
   spelled start calls s.place s.told s.begins,
   elim ends [
     | inl closed ↦ closed_ends start _ s.place desk.state s.is_state closed
-    | inr failed ↦ lost_ends s.place desk.keeper.book (facts desk.keeper.store) s.is_stored failed
+    | inr failed ↦ lost_ends (accounts_in start) calls s.place desk.keeper.book (facts desk.keeper.store) s.is_stored failed
   ],
 )
+
+-- so is a log whose last line is `S HALT`
+pub halted_is_clean : GoesOnByNoOther → {S : Type 0} (facts : S → StoreFacts) (start : BookFields) (calls : List Call) (desk : Desk S) → Stands facts start calls desk
+    → (lines : List LogLine) → run_lines calls ≡ lines ++ said halt ∷ [] → IsClean (accounts_in start) (log_bytes (run_lines calls))
+halted_is_clean law facts start calls desk s lines last =
+    let before = law (accounts_in start) lines (said halt) s.place s.told (subst (λ (l : List LogLine). Begins (demands (accounts_in start)) l s.place s.told) last s.begins) in (
+      run_lines calls,
+      s.place,
+      s.told,
+      bytes_are_lines (run_lines calls) s.written,
+      spelled start calls s.place s.told s.begins,
+      halt_leads (demands (accounts_in start)) before.place s.place before.goes,
+    )
 
 -- what is spent is so without some of it
 fewer_different : (ps qs : List (List ℕ × ℕ)) → AreDifferent (ps ++ qs) → AreDifferent qs
@@ -98,11 +119,12 @@ spent_after_run itself stays once facts r ps run spent =
     let own = subst (λ (t : List Told). IsSpent (all_spent (reverse t) ++ ps) run.desk.keeper.book) same.1 (s.spent ps spent) in
     elim run.leaves [
       | inl left ↦ subst (λ (b : BookFields). IsSpent (all_spent (reverse r.told) ++ ps) b) (sym left) own
-      | inr (t, is, one) ↦
+      | inr (t, one) ↦
           let book = run.desk.keeper.book in
           let self = book_itself itself book in
           fewer_spent r.left (spent_by t) (all_spent (reverse r.told) ++ ps)
-          (stays book r.left t (all_spent (reverse r.told) ++ ps) is (one.due (accounts_in book) [] self) (one.after (accounts_in book) [] self) own)
+          (stays book r.left t (all_spent (reverse r.told) ++ ps) one.is_moment (told_due book r.left t one (accounts_in book) [] self)
+          (told_after book r.left t one (accounts_in book) [] self) own)
     ]
 
 pub spent_over_runs : BeginsWithItself → SpentStaysSpent → HasOneReading → {S : Type 0} (facts : S → StoreFacts) (first : BookFields) (runs : List Run)
@@ -114,20 +136,32 @@ spent_over_runs itself stays once facts first (r ∷ before) last ps (earlier, r
     (subst (λ (l : List (List ℕ × ℕ)). IsSpent l r.left) (sym (append_assoc (all_spent (reverse r.told)) (spent_in before) ps))
     (spent_after_run itself stays once facts r (spent_in before ++ ps) run until))
 
-held_or_lost : (place : Place) (book : BookFields) (store : StoreFacts) → IsStoredAt place book store → IsHeld book store ⊎ IsLostAfter book store
-held_or_lost halted book store lost = inr lost
-held_or_lost place book store held = inl held
+held_or_lost : (accounts : Accounts) (calls : List Call) (place : Place) (book : BookFields) (store : StoreFacts) → IsStoredAt accounts calls place book store
+    → IsHeld book store ⊎ IsLostAfter accounts calls book store
+held_or_lost accounts calls halted book store lost = inr lost
+held_or_lost accounts calls place book store held = inl held
 
 -- the store holds the text of a book that the desk leaves
 pub left_book : {S : Type 0} (facts : S → StoreFacts) (start : BookFields) (calls : List Call) (desk : Desk S) (s : Stands facts start calls desk)
     → (r : Run) × IsRunOf facts r × (r.start ≡ start) × (r.calls ≡ calls) × IsBookText (facts desk.keeper.store).saved r.left
 left_book facts start calls desk s =
     let run_to : BookFields → Run = λ left. record { start = start; calls = calls; place = s.place; told = s.told; left = left } in
-    elim (held_or_lost s.place desk.keeper.book (facts desk.keeper.store) s.is_stored) [
+    elim (held_or_lost (accounts_in start) calls s.place desk.keeper.book (facts desk.keeper.store) s.is_stored) [
       | inl held ↦ (run_to desk.keeper.book, record { desk = desk; stands = s; begins = s.begins; leaves = inl refl }, refl, refl, held.saved)
       | inr lost ↦ elim lost.saved [
         | inl before ↦ (run_to desk.keeper.book, record { desk = desk; stands = s; begins = s.begins; leaves = inl refl }, refl, refl, before)
         | inr after ↦
-            (run_to lost.next, record { desk = desk; stands = s; begins = s.begins; leaves = inr (lost.t, lost.is_moment, lost.is_told) }, refl, refl, after)
+            (run_to lost.next, record { desk = desk; stands = s; begins = s.begins; leaves = inr (lost.t, lost.is_told) }, refl, refl, after)
       ]
     ]
+
+-- a stop within a call leaves the book with the attempt that is judged
+pub stopped_run : {S : Type 0} (facts : S → StoreFacts) (start : BookFields) (calls : List Call) (desk : Desk S) (t : Told) (next : BookFields)
+    (s : Stands facts start calls desk) → IsTold desk.keeper.book t next → (r : Run) × IsRunOf facts r × (r.start ≡ start) × (r.calls ≡ calls) × (r.left ≡ next)
+stopped_run facts start calls desk t next s one = (
+  record { start = start; calls = calls; place = s.place; told = s.told; left = next },
+  record { desk = desk; stands = s; begins = s.begins; leaves = inr (t, one) },
+  refl,
+  refl,
+  refl,
+)

@@ -3,7 +3,8 @@ use Rattle.std.proofs.Common.{◌≡◌, inl, inr, ◌⊎◌, ◌+◌, true, fal
 use Rattle.std.specs.List.{AllByRecursion}
 use Rattle.std.specs.declared.option.Option.{Option}
 use Rattle.std.specs.declared.option.Option.TheVariants.{None, Some}
-use Rattle.std.proofs.lemmas.List.{reverse-append}
+use Rattle.std.proofs.lemmas.Grind.{reverse_onto}
+use Rattle.std.proofs.lemmas.List.{reverse-append, reverse-reverse}
 use Rattle.otp_core.specs.Attempt.{CodeTexts}
 use Rattle.otp_core.specs.Laws.{BeginsWithItself}
 use Rattle.otp_core.specs.Secret.{IsMoment}
@@ -32,11 +33,11 @@ use Rattle.sasl_log.specs.Texts.{CanBeLogLine}
 use Rattle.sasl_log.specs.Tokens.{LeadsTo, IsBookAfter}
 use Rattle.sasl_desk.specs.Events.{ClientEvent}
 use Rattle.sasl_desk.specs.Turns.{is_client_turn, IsPath}
-use Rattle.sasl_desk.specs.Keeper.{IsTold, HoldsText, LosesText, IsKept, IsJudged, IsJudgedInRange}
+use Rattle.sasl_desk.specs.Keeper.{IsTold, NeedsSave, HoldsText, LosesText, IsKept, IsJudged, IsJudgedInRange}
 use Rattle.sasl_desk.specs.Sessions.{IsAt, IsLeftAt, IsRecord, IsTurn, IsAsked, recorded_shown, said_lines, end_lines, answer_lines, turn_lines, CanBeWritten, IsOwnChallenge}
 use Rattle.sasl_desk.specs.Runs.{greets, hears, IsAtRest, Call, call_of, run_lines, own_part, log_bytes, wire_bytes, IsRun, IsTurnTaken}
 use Rattle.sasl_desk.specs.Spent.{IsSpent, spent_by, SpentStaysSpent}
-use Rattle.sasl_desk.specs.Desks.{IsStateAt, IsHeld, IsLostAfter, IsStoredAt, all_spent, Stands, Answers, IsCodeTurn, phase_of, session_phase, desk_of, state_with, judged_lines, judged_state, is_saving}
+use Rattle.sasl_desk.specs.Desks.{IsStateAt, IsHeld, IsAttemptOf, IsLatestAttempt, IsLostAfter, IsStoredAt, IsBookWith, all_spent, Stands, Answers, IsCodeTurn, phase_of, session_phase, desk_of, state_with, judged_lines, judged_state, is_saving}
 use Rattle.sasl_desk.specs.declared.keeper.Keeper.{Keeper}
 use Rattle.sasl_desk.specs.declared.keeper.Judged.{Judged}
 use Rattle.sasl_desk.specs.declared.keeper.Judged.TheVariants.{Replied, Lost}
@@ -51,8 +52,9 @@ use Rattle.sasl_desk.specs.declared.session.turn.Recorded.TheVariants as recorde
 use Rattle.sasl_desk.specs.declared.session.turn.Saying.{Saying}
 use Rattle.sasl_desk.specs.declared.session.turn.Saying.TheVariants.{Nothing, Continues, Accepts, Refuses}
 use Rattle.sasl_desk.specs.declared.session.turn.Turn.{Turn}
+use Rattle.sasl_desk.proofs.KeeperLemmas.{told_due, told_after}
 use Rattle.sasl_desk.proofs.PathLemmas.{client_turn, turn_path, turn_no_reply, goes_on_by_path}
-use Rattle.sasl_desk.proofs.RunLemmas.{all-append, left_rests, turn_rests, answer_bears, run_has_lines}
+use Rattle.sasl_desk.proofs.RunLemmas.{all-append, left_rests, turn_rests, answer_bears, answer_answers, run_has_lines}
 
 -- without an attempt a book is the one after what was told of it
 leads_itself : BeginsWithItself → (o : Option Fields) → LeadsTo o [] o
@@ -62,14 +64,29 @@ leads_itself begins (Some token) = begins token
 pub book_itself : BeginsWithItself → (book : BookFields) → IsBookAfter (accounts_in book) [] book
 book_itself begins book = record { entries = λ m name. refl; tokens = λ name. leads_itself begins (token_at book name) }
 
--- where it is the client's turn, the store has not failed
-held_in_turn : (at : Place) (book : BookFields) (store : StoreFacts) → is_client_turn at ≡ true → IsStoredAt at book store → IsHeld book store
-held_in_turn halted book store turn stored = absurd (cc turn)
-held_in_turn at book store turn stored = stored
+-- a book with what was told is the one after it
+with_after : BeginsWithItself → (start : BookFields) (before : List Told) (book : BookFields) → IsBookWith start before book
+    → IsBookAfter (accounts_in start) (reverse before) book
+with_after itself start [] book is = subst (λ (b : BookFields). IsBookAfter (accounts_in start) [] b) (sym is) (book_itself itself start)
+with_after itself start (t ∷ before) book (old, with_old, one) =
+    subst (λ (l : List Told). IsBookAfter (accounts_in start) l book) (sym (reverse_onto before t []))
+    (told_after old book t one (accounts_in start) (reverse before) (with_after itself start before old with_old))
 
-held_at_turn : (at : Place) (book : BookFields) (store : StoreFacts) → IsAtRest at → (at ≡ halted → ⊥) → IsHeld book store → IsStoredAt at book store
-held_at_turn halted book store rests going held = absurd (going refl)
-held_at_turn at book store rests going held = held
+book_after_told : BeginsWithItself → (start : BookFields) (told : List Told) (book : BookFields) → IsBookWith start (reverse told) book
+    → IsBookAfter (accounts_in start) told book
+book_after_told itself start told book is =
+    subst (λ (l : List Told). IsBookAfter (accounts_in start) l book) (reverse-reverse told) (with_after itself start (reverse told) book is)
+
+-- where it is the client's turn, the store has not failed
+held_in_turn : (accounts : Accounts) (calls : List Call) (at : Place) (book : BookFields) (store : StoreFacts) → is_client_turn at ≡ true
+    → IsStoredAt accounts calls at book store → IsHeld book store
+held_in_turn accounts calls halted book store turn stored = absurd (cc turn)
+held_in_turn accounts calls at book store turn stored = stored
+
+held_at_turn : (accounts : Accounts) (calls : List Call) (at : Place) (book : BookFields) (store : StoreFacts) → IsAtRest at → (at ≡ halted → ⊥) → IsHeld book store
+    → IsStoredAt accounts calls at book store
+held_at_turn accounts calls halted book store rests going held = absurd (going refl)
+held_at_turn accounts calls at book store rests going held = held
 
 -- the place at which a session is left is not that of a halt
 left_going : (accounts : Accounts) (at : Place) (going : Option Session) → IsLeftAt accounts at going → at ≡ halted → ⊥
@@ -96,7 +113,7 @@ stands_at_first itself law facts keeper was holds = record {
   begins = law (accounts_in keeper.book) [] before_all [] header between (inl (refl, refl, refl)) refl tt;
   written = (header_written, tt);
   is_state = refl;
-  is_book = book_itself itself keeper.book;
+  is_book = refl;
   is_stored = record { working = holds.saved.working; saved = subst (λ (t : List ℕ). IsBookText t keeper.book) (sym holds.saved.saved) holds.is_text };
   spent = λ ps spent. spent;
 }
@@ -118,7 +135,7 @@ stands_by_greeting law facts start calls keeper own s =
     let accounts = accounts_in start in
     let line = said (mechs offered_names) in
     let begins = subst (λ (p : Place). Begins (demands accounts) (run_lines calls) p s.told) s.is_state s.begins in
-    let stored = subst (λ (p : Place). IsStoredAt p keeper.book (facts keeper.store)) s.is_state s.is_stored in
+    let stored = subst (λ (p : Place). IsStoredAt accounts calls p keeper.book (facts keeper.store)) s.is_state s.is_stored in
     let on = law accounts (run_lines calls) between s.told line offered begins (refl, refl) tt in
     record {
       place = offered;
@@ -133,16 +150,17 @@ stands_by_greeting law facts start calls keeper own s =
     }
 
 -- a desk whose session answers a turn
-pub stands_by_turn : GoesOnByALine → {S : Type 0} (facts : S → StoreFacts) (start : BookFields) (calls : List Call) (keeper : Keeper S) (going : Session)
+stands_by_turn : BeginsWithItself → GoesOnByALine → {S : Type 0} (facts : S → StoreFacts) (start : BookFields) (calls : List Call) (keeper : Keeper S) (going : Session)
     (own : List ℕ) (event : ClientEvent) (moment : ℕ) (turn : Turn) (message : List ℕ) → Stands facts start calls (desk_of keeper (Open going own))
     → ((accounts : Accounts) (at : Place) → KeepsEntries accounts keeper.book → IsAt accounts at going → IsTurn accounts own event at turn message)
     → CanBeWritten (turn_lines turn message)
     → Stands facts start (call_of (hears event moment) (turn_lines turn message) ∷ calls) (desk_of keeper (state_with turn.answer.session own))
-stands_by_turn law facts start calls keeper going own event moment turn message s hears_it written =
+stands_by_turn itself law facts start calls keeper going own event moment turn message s hears_it written =
     let accounts = accounts_in start in
     let is = s.is_state.0 in
     let same = s.is_state.1 in
-    let t = hears_it accounts s.place s.is_book.entries is in
+    let after = book_after_told itself start s.told keeper.book s.is_book in
+    let t = hears_it accounts s.place after.entries is in
     let path = turn_path accounts own event s.place going turn message is t in
     let lines = turn_lines turn message in
     record {
@@ -156,6 +174,7 @@ stands_by_turn law facts start calls keeper going own event moment turn message 
           answered = answer_lines turn.answer message;
           lines_are = refl;
           is_record = t.is_record;
+          answers = answer_answers turn.answer.says turn.answer.session message;
           path = path;
           rests = left_rests accounts t.is_answer.next turn.answer.session t.is_answer.left;
           challenge = subst (λ (o : List ℕ). IsOwnChallenge accounts o t.is_answer.next) same t.is_answer.own_part;
@@ -168,9 +187,9 @@ stands_by_turn law facts start calls keeper going own event moment turn message 
       written = all-append CanBeLogLine (run_lines calls) lines s.written written;
       is_state = left_state accounts (own_part calls) own t.is_answer.next turn.answer.session same t.is_answer.left;
       is_book = s.is_book;
-      is_stored = held_at_turn t.is_answer.next keeper.book (facts keeper.store) (left_rests accounts t.is_answer.next turn.answer.session t.is_answer.left)
+      is_stored = held_at_turn accounts (call_of (hears event moment) lines ∷ calls) t.is_answer.next keeper.book (facts keeper.store) (left_rests accounts t.is_answer.next turn.answer.session t.is_answer.left)
           (left_going accounts t.is_answer.next turn.answer.session t.is_answer.left)
-          (held_in_turn s.place keeper.book (facts keeper.store) (client_turn accounts s.place going is) s.is_stored);
+          (held_in_turn accounts calls s.place keeper.book (facts keeper.store) (client_turn accounts s.place going is) s.is_stored);
       spent = s.spent;
     }
 
@@ -206,12 +225,14 @@ kept_held None old new was now (same, unasked) held =
     subst (λ (b : BookFields). IsHeld b now) (sym same) (subst (λ (f : StoreFacts). IsHeld old f) (sym unasked) held)
 
 -- what was spent after one more reply
-spent_after : BeginsWithItself → SpentStaysSpent → (start old new : BookFields) (told : List Told) (t : Told) → IsMoment t.moment → IsTold old t new
+spent_after : BeginsWithItself → SpentStaysSpent → (start old new : BookFields) (told : List Told) (t : Told) → IsTold old t new
     → ((ps : List (List ℕ × ℕ)) → IsSpent ps start → IsSpent (all_spent (reverse told) ++ ps) old)
     → (ps : List (List ℕ × ℕ)) → IsSpent ps start → IsSpent (all_spent (reverse (told ++ t ∷ [])) ++ ps) new
-spent_after itself stays start old new told t is one before ps spent =
+spent_after itself stays start old new told t one before ps spent =
     let own = book_itself itself old in
-    let on = stays old new t (all_spent (reverse told) ++ ps) is (one.due (accounts_in old) [] own) (one.after (accounts_in old) [] own) (before ps spent) in
+    let on =
+    stays old new t (all_spent (reverse told) ++ ps) one.is_moment (told_due old new t one (accounts_in old) [] own) (told_after old new t one (accounts_in old) [] own)
+    (before ps spent) in
     subst (λ (l : List Told). IsSpent (all_spent l ++ ps) new) (sym (reverse-append told (t ∷ [])))
     (subst (λ (l : List (List ℕ × ℕ)). IsSpent l new) (sym (append_assoc (spent_by t) (all_spent (reverse told)) ps)) on)
 
@@ -239,7 +260,9 @@ stands_by_reply itself stays law facts start calls old new name own event moment
     let at = s.is_state.0 in
     let run = subst (λ (p : Place). IsRun accounts calls p) at s.is_run in
     let begins = subst (λ (p : Place). Begins (demands accounts) (run_lines calls) p s.told) at s.begins in
-    let held = held_in_turn s.place old.book (facts old.store) (client_turn accounts s.place (WaitsCode name) at) s.is_stored in
+    let held = held_in_turn accounts calls s.place old.book (facts old.store) (client_turn accounts s.place (WaitsCode name) at) s.is_stored in
+    let t = told_of name moment sent reply in
+    let after = book_after_told itself start s.told old.book s.is_book in
     record {
       place = waits_code name;
       told = s.told ++ told_of name moment sent reply ∷ [];
@@ -251,6 +274,7 @@ stands_by_reply itself stays law facts start calls old new name own event moment
           answered = said (replies moment reply) ∷ [];
           lines_are = refl;
           is_record = is_record;
+          answers = (tt, tt);
           path = (got_code name sent, code_goes name sent, (waits_code name, refl, refl));
           rests = refl;
           challenge = tt;
@@ -258,12 +282,12 @@ stands_by_reply itself stays law facts start calls old new name own event moment
           moments = (refl, tt);
         },
       );
-      begins = begins_by_reply law accounts (run_lines calls) name s.told moment sent reply begins (one.due accounts s.told s.is_book);
+      begins = begins_by_reply law accounts (run_lines calls) name s.told moment sent reply begins (told_due old.book new.book t one accounts s.told after);
       written = all-append CanBeLogLine (run_lines calls) (judged_lines moment sent (Replied reply)) s.written (written, (reply_line moment reply is range, tt));
       is_state = (refl, s.is_state.1);
-      is_book = one.after accounts s.told s.is_book;
+      is_book = subst (λ (l : List Told). IsBookWith start l new.book) (sym (reverse-append s.told (t ∷ []))) (old.book, s.is_book, one);
       is_stored = kept_held reply old.book new.book (facts old.store) (facts new.store) kept held;
-      spent = spent_after itself stays start old.book new.book s.told (told_of name moment sent reply) is one s.spent;
+      spent = spent_after itself stays start old.book new.book s.told t one s.spent;
     }
 
 halt_written : CanBeLogLine (said halt)
@@ -280,12 +304,12 @@ pub stands_by_halt : GoesOnByALine → {S : Type 0} (facts : S → StoreFacts) (
     → Stands facts start calls (desk_of old (Open (WaitsCode name) own)) → IsRecord event (waits_code name) (heard (asking sent))
     → CanBeLogLine (heard (asking sent)) → IsMoment moment → IsJudged old.book (facts old.store) name moment sent Lost new.book (facts new.store)
     → Stands facts start (call_of (hears event moment) (judged_lines moment sent Lost) ∷ calls) (desk_of new (judged_state name own Lost))
-stands_by_halt law facts start calls old new name own event moment sent s is_record written is (same, (reply, next, one, loses)) =
+stands_by_halt law facts start calls old new name own event moment sent s is_record written is (same, (reply, next, needs, one, loses)) =
     let accounts = accounts_in start in
     let at = s.is_state.0 in
     let run = subst (λ (p : Place). IsRun accounts calls p) at s.is_run in
     let begins = subst (λ (p : Place). Begins (demands accounts) (run_lines calls) p s.told) at s.begins in
-    let held = held_in_turn s.place old.book (facts old.store) (client_turn accounts s.place (WaitsCode name) at) s.is_stored in
+    let held = held_in_turn accounts calls s.place old.book (facts old.store) (client_turn accounts s.place (WaitsCode name) at) s.is_stored in
     let lost = lost_now (facts old.store) (facts new.store) loses.text held.working loses.lost in
     let lines = judged_lines moment sent Lost in
     let path : IsPath (demands accounts) (waits_code name) lines halted = (got_code name sent, code_goes name sent, (halted, refl, refl)) in
@@ -304,6 +328,7 @@ stands_by_halt law facts start calls old new name own event moment sent s is_rec
           answered = said halt ∷ [];
           lines_are = refl;
           is_record = is_record;
+          answers = (tt, tt);
           path = path;
           rests = tt;
           challenge = tt;
@@ -314,12 +339,16 @@ stands_by_halt law facts start calls old new name own event moment sent s is_rec
       begins = goes_on_by_path law accounts (run_lines calls) (waits_code name) s.told lines halted begins path (tt, (tt, tt));
       written = all-append CanBeLogLine (run_lines calls) lines s.written (written, (halt_written, tt));
       is_state = tt;
-      is_book = subst (λ (b : BookFields). IsBookAfter accounts s.told b) (sym same) s.is_book;
+      is_book = subst (λ (b : BookFields). IsBookWith start (reverse s.told) b) (sym same) s.is_book;
       is_stored = record {
         failed = lost.failed;
         t = told_of name moment sent reply;
         next = next;
-        is_moment = is;
+        is_latest = (
+          waits_code name,
+          run,
+          record { event = event; answer = said halt; is_asked = refl; place = refl; lines_are = refl; needs_save = needs },
+        );
         is_told = subst (λ (b : BookFields). IsTold b (told_of name moment sent reply) next) (sym same) one;
         saved = subst (λ (b : BookFields). IsBookText (facts new.store).saved b ⊎ IsBookText (facts new.store).saved next) (sym same) of_old;
       };
@@ -345,25 +374,45 @@ saves_by_code moment sent name (Replied (Some (Pass c))) old new was now held (o
 saves_by_code moment sent name (Replied (Some Fail)) old new was now held (one, kept) = kept.saved.taken_up.counted
 saves_by_code moment sent name (Replied (Some Locked)) old new was now held (one, kept) = let same = ap (λ (f : StoreFacts). f.saves) kept.1 in omega (arith, same)
 saves_by_code moment sent name (Replied None) old new was now held (one, kept) = let same = ap (λ (f : StoreFacts). f.saves) kept.1 in omega (arith, same)
-saves_by_code moment sent name Lost old new was now held (same, (reply, next, one, loses)) =
+saves_by_code moment sent name Lost old new was now held (same, (reply, next, needs, one, loses)) =
     (lost_now was now loses.text held.working loses.lost).taken_up.counted
 
 -- what the store was given for it
-asked_by_code : (moment : ℕ) (sent : CodeTexts) (name : List ℕ) (judged : Judged) (old new : BookFields) (was now : StoreFacts) → IsHeld old was
-    → IsJudged old was name moment sent judged new now → (filter is_saving (judged_lines moment sent judged) ≡ [] → ⊥)
-    → (t : Told) × (next : BookFields) × IsTold old t next × IsBookText now.asked next
-asked_by_code moment sent name (Replied (Some (Pass c))) old new was now held (one, kept) some =
-    (told_of name moment sent (Some (Pass c)), new, one, subst (λ (t : List ℕ). IsBookText t new) (sym kept.saved.taken_up.asked) kept.is_text)
-asked_by_code moment sent name (Replied (Some Fail)) old new was now held (one, kept) some =
-    (told_of name moment sent (Some Fail), new, one, subst (λ (t : List ℕ). IsBookText t new) (sym kept.saved.taken_up.asked) kept.is_text)
-asked_by_code moment sent name (Replied (Some Locked)) old new was now held judged some = absurd (some refl)
-asked_by_code moment sent name (Replied None) old new was now held judged some = absurd (some refl)
-asked_by_code moment sent name Lost old new was now held (same, (reply, next, one, loses)) some = (
+asked_by_code : (event : ClientEvent) (moment : ℕ) (sent : CodeTexts) (name : List ℕ) (at : Place) (judged : Judged) (old new : BookFields) (was now : StoreFacts)
+    → at ≡ waits_code name → IsHeld old was → IsJudged old was name moment sent judged new now → (filter is_saving (judged_lines moment sent judged) ≡ [] → ⊥)
+    → (t : Told) × (next : BookFields) × IsAttemptOf (hears event moment) at (judged_lines moment sent judged) t × IsTold old t next × IsBookText now.asked next
+asked_by_code event moment sent name at (Replied (Some (Pass c))) old new was now here held (one, kept) some = (
+  told_of name moment sent (Some (Pass c)),
+  new,
+  record { event = event; answer = said (replies moment (Some (Pass c))); is_asked = refl; place = here; lines_are = refl; needs_save = tt },
+  one,
+  subst (λ (t : List ℕ). IsBookText t new) (sym kept.saved.taken_up.asked) kept.is_text,
+)
+asked_by_code event moment sent name at (Replied (Some Fail)) old new was now here held (one, kept) some = (
+  told_of name moment sent (Some Fail),
+  new,
+  record { event = event; answer = said (replies moment (Some Fail)); is_asked = refl; place = here; lines_are = refl; needs_save = tt },
+  one,
+  subst (λ (t : List ℕ). IsBookText t new) (sym kept.saved.taken_up.asked) kept.is_text,
+)
+asked_by_code event moment sent name at (Replied (Some Locked)) old new was now here held judged some = absurd (some refl)
+asked_by_code event moment sent name at (Replied None) old new was now here held judged some = absurd (some refl)
+asked_by_code event moment sent name at Lost old new was now here held (same, (reply, next, needs, one, loses)) some = (
   told_of name moment sent reply,
   next,
+  record { event = event; answer = said halt; is_asked = refl; place = here; lines_are = refl; needs_save = needs },
   one,
   subst (λ (t : List ℕ). IsBookText t next) (sym (lost_now was now loses.text held.working loses.lost).taken_up.asked) loses.is_text,
 )
+
+-- where nothing is saved, nothing changes
+quiet_by_code : (moment : ℕ) (sent : CodeTexts) (name : List ℕ) (judged : Judged) (old new : BookFields) (was now : StoreFacts)
+    → IsJudged old was name moment sent judged new now → filter is_saving (judged_lines moment sent judged) ≡ [] → (new ≡ old) × (now ≡ was)
+quiet_by_code moment sent name (Replied (Some (Pass c))) old new was now judged none = absurd (cc none)
+quiet_by_code moment sent name (Replied (Some Fail)) old new was now judged none = absurd (cc none)
+quiet_by_code moment sent name (Replied (Some Locked)) old new was now (one, kept) none = kept
+quiet_by_code moment sent name (Replied None) old new was now (one, kept) none = kept
+quiet_by_code moment sent name Lost old new was now judged none = absurd (cc none)
 
 -- the desk has halted only where the save was lost
 failed_by : (was now : StoreFacts) (text : List ℕ) → ((was.failed ≡ true) × (now ≡ was)) ⊎ IsLost was text now → now.failed ≡ true
@@ -371,9 +420,9 @@ failed_by was now text (inl (failed, same)) = rw same failed
 failed_by was now text (inr lost) = lost.failed
 
 halts_by_code : (moment : ℕ) (sent : CodeTexts) (name own : List ℕ) (judged : Judged) (old new : BookFields) (was now : StoreFacts)
-    → IsJudged old was name moment sent judged new now → phase_of (judged_state name own judged) ≡ phase.Halted → now.failed ≡ true
+    → IsJudged old was name moment sent judged new now → phase_of (judged_state name own judged) ≡ phase.Halted → (now.failed ≡ true) × (new ≡ old)
 halts_by_code moment sent name own (Replied reply) old new was now judged is = absurd (cc is)
-halts_by_code moment sent name own Lost old new was now (same, (reply, next, one, loses)) is = failed_by was now loses.text loses.lost
+halts_by_code moment sent name own Lost old new was now (same, (reply, next, needs, one, loses)) is = (failed_by was now loses.text loses.lost, same)
 
 -- an open session, or none, is no halt
 open_goes_on : (going : Session) → session_phase going ≡ phase.Halted → ⊥
@@ -399,38 +448,42 @@ answers_by_code itself stays law {S} facts old going name own event moment sent 
   stands = λ start calls s.
       let here = subst (λ (g : Session). Stands facts start calls (desk_of old (Open g own))) waits s in
       let at = here.is_state.0 in
-      let is_asked = asked (accounts_in start) s.place s.is_book.entries s.is_state.0 in
+      let after = book_after_told itself start s.told old.book s.is_book in
+      let is_asked = asked (accounts_in start) s.place after.entries s.is_state.0 in
       let is_record = subst (λ (p : Place). IsRecord event p (heard (asking sent))) is_asked.place is_asked.is_record in
       subst (λ (st : State). Stands facts start (call_of (hears event moment) (judged_lines moment sent t.judged) ∷ calls) (desk_of new.keeper st)) (sym t.is_state)
       (stands_by_code itself stays law facts start calls old new.keeper name own event moment sent t.judged here is_record written t.is_moment t.is_judged t.in_range);
   saves = λ start calls s.
       saves_by_code moment sent name t.judged old.book new.keeper.book (facts old.store) (facts new.keeper.store)
-      (held_in_turn s.place old.book (facts old.store) (client_turn (accounts_in start) s.place going s.is_state.0) s.is_stored) t.is_judged;
+      (held_in_turn (accounts_in start) calls s.place old.book (facts old.store) (client_turn (accounts_in start) s.place going s.is_state.0) s.is_stored) t.is_judged;
   asks = λ start calls s some.
-      asked_by_code moment sent name t.judged old.book new.keeper.book (facts old.store) (facts new.keeper.store)
-      (held_in_turn s.place old.book (facts old.store) (client_turn (accounts_in start) s.place going s.is_state.0) s.is_stored) t.is_judged some;
+      let here = subst (λ (g : Session). IsAt (accounts_in start) s.place g) waits s.is_state.0 in
+      asked_by_code event moment sent name s.place t.judged old.book new.keeper.book (facts old.store) (facts new.keeper.store) here
+      (held_in_turn (accounts_in start) calls s.place old.book (facts old.store) (client_turn (accounts_in start) s.place going s.is_state.0) s.is_stored) t.is_judged some;
+  quiet = λ none. quiet_by_code moment sent name t.judged old.book new.keeper.book (facts old.store) (facts new.keeper.store) t.is_judged none;
   halts = λ is.
       halts_by_code moment sent name own t.judged old.book new.keeper.book (facts old.store) (facts new.keeper.store) t.is_judged (rw t.is_state at is);
 }
 
 -- the session answered a turn
-pub answers_by_turn : GoesOnByALine → {S : Type 0} (facts : S → StoreFacts) (keeper : Keeper S) (going : Session) (own : List ℕ) (event : ClientEvent)
+pub answers_by_turn : BeginsWithItself → GoesOnByALine → {S : Type 0} (facts : S → StoreFacts) (keeper : Keeper S) (going : Session) (own : List ℕ) (event : ClientEvent)
     (moment : ℕ) (turn : Turn) (message wire wire' log log' : List ℕ) (new : Desk S)
     → ((accounts : Accounts) (at : Place) → KeepsEntries accounts keeper.book → IsAt accounts at going → IsTurn accounts own event at turn message)
     → CanBeWritten (turn_lines turn message) → new.keeper ≡ keeper → new.state ≡ state_with turn.answer.session own
     → log' ≡ log ++ log_bytes (turn_lines turn message) → wire' ≡ wire ++ wire_bytes (turn_lines turn message)
     → Answers facts (desk_of keeper (Open going own)) (hears event moment) wire wire' log log' new
-answers_by_turn law facts keeper going own event moment turn message wire wire' log log' new hears_it written same is_state logged sent = record {
+answers_by_turn itself law facts keeper going own event moment turn message wire wire' log log' new hears_it written same is_state logged sent = record {
   lines = turn_lines turn message;
   logged = logged;
   sent = sent;
   stands = λ start calls s.
-      rw (same, is_state) (stands_by_turn law facts start calls keeper going own event moment turn message s hears_it written);
+      rw (same, is_state) (stands_by_turn itself law facts start calls keeper going own event moment turn message s hears_it written);
   saves = λ start calls s.
       let none = ap (λ (l : List LogLine). length l) (turn_saves turn message) in
       let unasked = ap (λ (k : Keeper _). (facts k.store).saves) same in
       omega (arith, none, unasked);
   asks = λ start calls s some. absurd (some (turn_saves turn message));
+  quiet = λ none. (ap (λ (k : Keeper _). k.book) same, ap (λ (k : Keeper _). facts k.store) same);
   halts = λ is. absurd (left_goes_on turn.answer.session own (rw is_state at is));
 }
 
@@ -446,5 +499,21 @@ answers_by_greeting law facts keeper state own wire wire' log log' closed logged
       stands_by_greeting law facts start calls keeper own (subst (λ (st : State). Stands facts start calls (desk_of keeper st)) closed s);
   saves = λ start calls s. omega arith;
   asks = λ start calls s some. absurd (some refl);
+  quiet = λ none. (refl, refl);
   halts = λ is. absurd (cc is);
+}
+
+-- a desk that halts stands for what it stood for
+pub stands_halted : {S : Type 0} (facts : S → StoreFacts) (start : BookFields) (calls : List Call) (desk : Desk S) → Stands facts start calls desk
+    → Stands facts start calls (desk_of desk.keeper Halted)
+stands_halted facts start calls desk s = record {
+  place = s.place;
+  told = s.told;
+  is_run = s.is_run;
+  begins = s.begins;
+  written = s.written;
+  is_state = tt;
+  is_book = s.is_book;
+  is_stored = s.is_stored;
+  spent = s.spent;
 }

@@ -12,11 +12,11 @@ use Rattle.log_grammar.specs.Books.{accounts_in}
 use Rattle.log_grammar.specs.Lines.{LogLine, said, heard, replies, halt, asking}
 use Rattle.log_grammar.specs.Sessions.{Told}
 use Rattle.log_grammar.specs.Demands.{Accounts, demands}
-use Rattle.log_grammar.specs.Places.{Place, between, halted}
+use Rattle.log_grammar.specs.Places.{Place, between, waits_code, halted}
 use Rattle.log_grammar.specs.Clean.{Begins}
-use Rattle.sasl_log.specs.Tokens.{IsBookAfter}
-use Rattle.sasl_desk.specs.Keeper.{IsTold, IsJudged, IsJudgedInRange}
-use Rattle.sasl_desk.specs.Runs.{Asked, Call, call_of, run_lines, own_part, log_bytes, wire_bytes, IsRun}
+use Rattle.sasl_desk.specs.Events.{ClientEvent}
+use Rattle.sasl_desk.specs.Keeper.{IsTold, NeedsSave, IsJudged, IsJudgedInRange}
+use Rattle.sasl_desk.specs.Runs.{Asked, hears, Call, call_of, run_lines, own_part, log_bytes, wire_bytes, IsRun}
 use Rattle.sasl_desk.specs.Sessions.{IsAt, CanBeWritten}
 use Rattle.sasl_desk.specs.Spent.{IsSpent, spent_by}
 use Rattle.sasl_desk.specs.declared.session.Session.{Session}
@@ -43,7 +43,7 @@ phase_of Closed = phase.Closed
 phase_of (Open going own) = session_phase going
 phase_of Halted = phase.Halted
 
--- the state of a desk whose log stands at this place. It may have halted at every place.
+-- the state of a desk whose log stands at this place. A desk that has halted may stand at any.
 abbrev pub IsStateAt : Accounts → (own : List ℕ) → Place → State → Type 0
 IsStateAt accounts own at Closed = at ≡ between
 IsStateAt accounts own at (Open going part) = IsAt accounts at going × (part ≡ own)
@@ -54,20 +54,41 @@ pub record IsHeld (book : BookFields) (store : StoreFacts) : Type 0 where
   pub working : store.failed ≡ false
   pub saved : IsBookText store.saved book
 
--- the store has failed as it saved the book with one more reply, which was due: it holds the text of the book from before
+-- the attempt of a call: of the account whose client waits for a code at this place, at the moment that was handed in, with
+-- what the client sent
+pub record IsAttemptOf (asked : Asked) (at : Place) (lines : List LogLine) (t : Told) : Type 0 where
+  pub event : ClientEvent
+  pub answer : LogLine
+  pub is_asked : asked ≡ hears event t.moment
+  pub place : at ≡ waits_code t.account
+  pub lines_are : lines ≡ heard (asking t.sent) ∷ answer ∷ []
+  pub needs_save : NeedsSave t.reply
+
+-- the latest call judged this attempt
+abbrev pub IsLatestAttempt : Accounts → List Call → Told → Type 0
+IsLatestAttempt accounts [] t = ⊥
+IsLatestAttempt accounts (c ∷ before) t = (at : Place) × IsRun accounts before at × IsAttemptOf c.asked at c.lines t
+
+-- the store has failed as it saved the book with the attempt of the latest call: it holds the text of the book from before
 -- it, or that of the book with it
-pub record IsLostAfter (book : BookFields) (store : StoreFacts) : Type 0 where
+pub record IsLostAfter (accounts : Accounts) (calls : List Call) (book : BookFields) (store : StoreFacts) : Type 0 where
   pub failed : store.failed ≡ true
   pub t : Told
   pub next : BookFields
-  pub is_moment : IsMoment t.moment
+  pub is_latest : IsLatestAttempt accounts calls t
   pub is_told : IsTold book t next
   pub saved : IsBookText store.saved book ⊎ IsBookText store.saved next
 
--- what the store holds where the log stands at this place: after `S HALT` a save was lost, and nowhere else
-abbrev pub IsStoredAt : Place → BookFields → StoreFacts → Type 0
-IsStoredAt halted book store = IsLostAfter book store
-IsStoredAt at book store = IsHeld book store
+-- what the store holds where the log stands at this place: after `S HALT` the last save has failed; at every other place the
+-- store holds the book
+abbrev pub IsStoredAt : Accounts → List Call → Place → BookFields → StoreFacts → Type 0
+IsStoredAt accounts calls halted book store = IsLostAfter accounts calls book store
+IsStoredAt accounts calls at book store = IsHeld book store
+
+-- the book after what was told, the latest first: each attempt was judged by the book before it
+abbrev pub IsBookWith : BookFields → List Told → BookFields → Type 0
+IsBookWith start [] book = book ≡ start
+IsBookWith start (t ∷ before) book = (old : BookFields) × IsBookWith start before old × IsTold old t book
 
 -- the counters that replies use, with their accounts, the latest first
 abbrev pub all_spent : List Told → List (List ℕ × ℕ)
@@ -84,11 +105,11 @@ pub record Stands {S : Type 0} (facts : S → StoreFacts) (start : BookFields) (
   -- a clean log may begin with the log's lines, and they can be written
   pub begins : Begins (demands (accounts_in start)) (run_lines calls) place told
   pub written : CanBeWritten (run_lines calls)
-  -- the session waits for what is due there
+  -- the session waits for what is due there, or the desk has halted
   pub is_state : IsStateAt (accounts_in start) (own_part calls) place desk.state
-  -- the book has each reply in it, and the store holds its text, except after a save in which the store failed
-  pub is_book : IsBookAfter (accounts_in start) told desk.keeper.book
-  pub is_stored : IsStoredAt place desk.keeper.book (facts desk.keeper.store)
+  -- the book has each attempt in it, and the store holds its text, except after a save in which the store failed
+  pub is_book : IsBookWith start (reverse told) desk.keeper.book
+  pub is_stored : IsStoredAt (accounts_in start) calls place desk.keeper.book (facts desk.keeper.store)
   -- what was spent before is spent, and each counter that a reply used
   pub spent : (ps : List (List ℕ × ℕ)) → IsSpent ps start → IsSpent (all_spent (reverse told) ++ ps) desk.keeper.book
 
@@ -143,8 +164,11 @@ pub record Answers {S : Type 0} (facts : S → StoreFacts) (old : Desk S) (asked
   pub stands : (start : BookFields) (calls : List Call) → Stands facts start calls old → Stands facts start (call_of asked lines ∷ calls) new
   pub saves : (start : BookFields) (calls : List Call) → Stands facts start calls old
       → (facts new.keeper.store).saves ≡ (facts old.keeper.store).saves + length (filter is_saving lines)
-  -- what the store was given to save is the text of the book with one more reply, which was due
-  pub asks : (start : BookFields) (calls : List Call) → Stands facts start calls old → (filter is_saving lines ≡ [] → ⊥)
-      → (t : Told) × (next : BookFields) × IsTold old.keeper.book t next × IsBookText (facts new.keeper.store).asked next
-  -- a call halts the desk only by a save in which the store failed
-  pub halts : phase_of new.state ≡ phase.Halted → (facts new.keeper.store).failed ≡ true
+  -- what the store was given to save is the text of the book with the attempt of this call
+  pub asks : (start : BookFields) (calls : List Call) (s : Stands facts start calls old) → (filter is_saving lines ≡ [] → ⊥)
+      → (t : Told) × (next : BookFields) × IsAttemptOf asked s.place lines t × IsTold old.keeper.book t next
+      × IsBookText (facts new.keeper.store).asked next
+  -- a call without such a line leaves the book and the store as they are
+  pub quiet : filter is_saving lines ≡ [] → (new.keeper.book ≡ old.keeper.book) × (facts new.keeper.store ≡ facts old.keeper.store)
+  -- a call halts the desk only by a save in which the store failed, and the book is then as before
+  pub halts : phase_of new.state ≡ phase.Halted → ((facts new.keeper.store).failed ≡ true) × (new.keeper.book ≡ old.keeper.book)

@@ -6,9 +6,9 @@ use Rattle.sasl_desk.specs.declared.session.turn.Event.TheVariants.{Line, Gone}
 -- a client sends a line, whose bytes these are, or goes away
 pub data ClientEvent : Type 0 where
   sends : (text : List ℕ) → ClientEvent
-  leaves : ClientEvent
+  goes_away : ClientEvent
 
 -- the event that is handed in
 abbrev pub event_shown : Event → ClientEvent
 event_shown (Line text) = sends text.now
-event_shown Gone = leaves
+event_shown Gone = goes_away

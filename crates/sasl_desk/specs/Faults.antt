@@ -2,9 +2,25 @@
 use Rattle.std.specs.Prelude.{ℕ}
 use Rattle.sasl_desk.specs.declared.fault.DeskFault.{DeskFault}
 use Rattle.sasl_desk.specs.declared.fault.DeskFault.TheVariants.{Halted, Unwritable, NoMemory}
+use Rattle.sasl_desk.specs.declared.fault.ServeFault.{ServeFault}
+use Rattle.sasl_desk.specs.declared.fault.ServeFault.TheVariants as serve
 
 -- the number of each fault of a desk
 abbrev pub desk_number : DeskFault → ℕ
 desk_number Halted = 72
 desk_number Unwritable = 73
 desk_number NoMemory = 99
+
+-- the number of a fault in serving
+abbrev pub serve_number : ServeFault → ℕ
+serve_number serve.Halted = 72
+serve_number serve.Unwritable = 73
+serve_number serve.NoMemory = 99
+serve_number serve.WriteFault = 74
+serve_number serve.LogFault = 75
+
+-- a desk's fault, as one in serving
+abbrev pub fault_of : DeskFault → ServeFault
+fault_of Halted = serve.Halted
+fault_of Unwritable = serve.Unwritable
+fault_of NoMemory = serve.NoMemory

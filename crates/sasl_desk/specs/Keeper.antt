@@ -1,17 +1,17 @@
 -- What a keeper of a book does with a code: the reply that is due, and a save before it is told.
-use Rattle.std.specs.Prelude.{ℕ, ◌≡◌, ◌⊎◌, true, List, [], ◌∷◌, ◌++◌, reverse}
+use Rattle.std.specs.Prelude.{ℕ, ◌≡◌, ◌⊎◌, true, List}
 use Rattle.std.specs.declared.option.Option.{Option}
 use Rattle.std.specs.declared.option.Option.TheVariants.{None, Some}
 use Rattle.otp_core.specs.Attempt.{CodeTexts, OneText, TwoTexts}
+use Rattle.otp_core.specs.Secret.{IsMoment}
 use Rattle.otp_core.specs.declared.token.answer.Reply.{Reply}
 use Rattle.otp_core.specs.declared.token.answer.Reply.TheVariants.{Pass, Fail, Locked}
 use Rattle.book_format.specs.Book.{BookFields}
 use Rattle.book_format.specs.Trees.{IsBookText}
 use Rattle.account_book.specs.Store.{StoreFacts, IsSaved, IsLost}
+use Rattle.account_book.specs.Tokens.{IsAnswered}
 use Rattle.log_grammar.specs.Lines.{IsReplyInRange}
 use Rattle.log_grammar.specs.Sessions.{Told, told_of}
-use Rattle.log_grammar.specs.Demands.{Accounts, IsReplyDue}
-use Rattle.sasl_log.specs.Tokens.{IsBookAfter}
 use Rattle.sasl_desk.specs.declared.sent.Sent.{Sent}
 use Rattle.sasl_desk.specs.declared.sent.Sent.TheVariants.{One, Two}
 use Rattle.sasl_desk.specs.declared.fault.DeskFault.{DeskFault}
@@ -24,11 +24,18 @@ abbrev pub texts_of : Sent → CodeTexts
 texts_of (One text) = OneText text.now
 texts_of (Two first second) = TwoTexts first.now second.now
 
--- a reply is told of the account: it is the one that is due after what was told before, and the book is then that after
--- both
+-- an attempt was judged: the reply is the one that is due, and the book is the old one in which the account's token has moved
+-- by it, and nothing else
 pub record IsTold (old : BookFields) (t : Told) (new : BookFields) : Type 0 where
-  pub due : (accounts : Accounts) (told : List Told) → IsBookAfter accounts told old → IsReplyDue accounts (reverse told) t
-  pub after : (accounts : Accounts) (told : List Told) → IsBookAfter accounts told old → IsBookAfter accounts (told ++ t ∷ []) new
+  pub is_moment : IsMoment t.moment
+  pub answered : IsAnswered old t.account t.moment t.sent t.reply new
+
+-- a reply that changes the token, so that the book is saved before it is told
+abbrev pub NeedsSave : Option Reply → Type 0
+NeedsSave (Some (Pass counter)) = Unit {0}
+NeedsSave (Some Fail) = Unit {0}
+NeedsSave (Some Locked) = ⊥
+NeedsSave None = ⊥
 
 -- the store takes one save, of the text of this book, and holds it
 pub record HoldsText (was : StoreFacts) (book : BookFields) (now : StoreFacts) : Type 0 where
@@ -55,11 +62,12 @@ IsKept (Some Fail) old was new now = HoldsText was new now
 IsKept (Some Locked) old was new now = (new ≡ old) × (now ≡ was)
 IsKept None old was new now = (new ≡ old) × (now ≡ was)
 
--- what came of a code: a reply that is due and kept; or a save that was lost, of the book with a reply that was due
+-- what came of a code: a reply that is due and kept; or the store failed in saving the book with the reply that was due
 abbrev pub IsJudged : BookFields → StoreFacts → List ℕ → ℕ → CodeTexts → Judged → BookFields → StoreFacts → Type 0
 IsJudged old was name moment sent (Replied reply) new now = IsTold old (told_of name moment sent reply) new × IsKept reply old was new now
 IsJudged old was name moment sent Lost new now =
-    (new ≡ old) × ((reply : Option Reply) × (next : BookFields) × IsTold old (told_of name moment sent reply) next × LosesText was next now)
+    (new ≡ old)
+    × ((reply : Option Reply) × (next : BookFields) × NeedsSave reply × IsTold old (told_of name moment sent reply) next × LosesText was next now)
 
 -- the counter of a reply is one that can pass
 abbrev pub IsJudgedInRange : Judged → Type 0

@@ -8,3 +8,6 @@ pub mod Sessions
 pub mod Runs
 pub mod Desks
 pub mod Restarts
+pub mod Inputs
+pub mod Outputs
+pub mod Serves

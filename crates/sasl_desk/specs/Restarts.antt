@@ -1,6 +1,5 @@
 -- Runs of desks one after another: each begins with a book whose text the store held when the one before stopped.
 use Rattle.std.specs.Prelude.{ℕ, ◌≡◌, ◌⊎◌, List, [], ◌∷◌, ◌++◌, reverse}
-use Rattle.otp_core.specs.Secret.{IsMoment}
 use Rattle.book_format.specs.Book.{BookFields}
 use Rattle.book_format.specs.Trees.{IsBookText}
 use Rattle.account_book.specs.Store.{StoreFacts}
@@ -24,12 +23,12 @@ pub record Run : Type 0 where
 
 -- a desk that began with the book has answered the calls, and its log tells this. Where it stops, between two calls or in
 -- the midst of one, the store holds the text of a book that it left: its own, or, as a save was under way or failed, that
--- with one more reply, which was due.
+-- with one more attempt. A stop within `begin` leaves the text from before, or that of the same book, and is no run.
 pub record IsRunOf {S : Type 0} (facts : S → StoreFacts) (r : Run) : Type 0 where
   pub desk : Desk S
   pub stands : Stands facts r.start r.calls desk
   pub begins : Begins (demands (accounts_in r.start)) (run_lines r.calls) r.place r.told
-  pub leaves : (r.left ≡ desk.keeper.book) ⊎ ((t : Told) × IsMoment t.moment × IsTold desk.keeper.book t r.left)
+  pub leaves : (r.left ≡ desk.keeper.book) ⊎ ((t : Told) × IsTold desk.keeper.book t r.left)
 
 -- runs, the latest first, each begun with the book that the one before left; the first began with this book, and the last
 -- left that one

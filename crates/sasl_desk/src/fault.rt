@@ -1,17 +1,17 @@
-//! Why a desk does not do what it was asked.
+//! Why a desk does not do what it was asked, and why a client is not served.
 ghost use Rattle.std.specs.Prelude.{◌≡◌};
-ghost use Rattle.sasl_desk.specs.Faults.{desk_number};
+ghost use Rattle.sasl_desk.specs.Faults.{desk_number, serve_number, fault_of};
 
 use thiserror::Error;
 
-/// Why a call of a desk did nothing.
+/// Why a desk refuses a call.
 #[derive(Clone, Copy, Debug, PartialEq, Eq, Error)]
 pub enum DeskFault {
     /// 72: the desk has halted, or the first save failed.
     #[error("the desk has halted")]
     Halted,
 
-    /// 73: the message that is due cannot be written.
+    /// 73: the message that is due cannot be written. No call of a desk answers it.
     #[error("a message that is due cannot be written")]
     Unwritable,
 
@@ -29,6 +29,56 @@ impl DeskFault {
             DeskFault::Halted => 72,
             DeskFault::Unwritable => 73,
             DeskFault::NoMemory => 99,
+        }
+    }
+}
+
+/// Why a client is not served.
+#[derive(Clone, Copy, Debug, PartialEq, Eq, Error)]
+pub enum ServeFault {
+    /// 72: the desk had halted before.
+    #[error("the desk has halted")]
+    Halted,
+
+    /// 73: the message that is due cannot be written.
+    #[error("a message that is due cannot be written")]
+    Unwritable,
+
+    /// 99: memory ran out.
+    #[error("out of memory")]
+    NoMemory,
+
+    /// 74: what the client is told could not be written to it. It stands in the log.
+    #[error("cannot write to the client")]
+    WriteFault,
+
+    /// 75: the log could not be written. The desk has halted, and the client was told nothing.
+    #[error("cannot write the log, so the desk has halted")]
+    LogFault,
+}
+
+impl ServeFault {
+    /// The number of the fault: 72, 73, 99, 74 or 75.
+    pub fn number(&self) -> u16
+        ensures { result ≡ serve_number self.now }
+    {
+        match self {
+            ServeFault::Halted => 72,
+            ServeFault::Unwritable => 73,
+            ServeFault::NoMemory => 99,
+            ServeFault::WriteFault => 74,
+            ServeFault::LogFault => 75,
+        }
+    }
+
+    /// A fault of the desk.
+    pub(crate) fn of_desk(fault: DeskFault) -> ServeFault
+        ensures { result ≡ fault_of fault }
+    {
+        match fault {
+            DeskFault::Halted => ServeFault::Halted,
+            DeskFault::Unwritable => ServeFault::Unwritable,
+            DeskFault::NoMemory => ServeFault::NoMemory,
         }
     }
 }

@@ -4,6 +4,7 @@ ghost use Rattle.std.specs.Bool.{OnTrue, OnFalse};
 ghost use Rattle.otp_core.specs.Attempt.{Attempt, attempt_of};
 ghost use Rattle.otp_core.specs.History.{IsAfter};
 ghost use Rattle.otp_core.specs.Reply.{IsDueReply};
+ghost use Rattle.otp_core.specs.Secret.{IsMoment};
 ghost use Rattle.otp_core.specs.State.{advanced};
 ghost use Rattle.otp_core.specs.declared.token.kinds.Fields.{Fields};
 ghost use Rattle.log_grammar.specs.Lines.{IsReplyInRange};
@@ -83,6 +84,7 @@ impl<S: BookStore> Keeper<S> {
         ensures counter { IfOk result IsJudgedInRange }
         ensures err { OnErr result ((self.new.book ≡ self.old.book) × (self.new.store ≡ self.old.store)) }
     {
+        moment_is_in_range(moment);
         let Some(mut token) = self.book.token(name) else {
             return Ok(Judged::Replied(None));
         };
@@ -107,6 +109,13 @@ impl<S: BookStore> Keeper<S> {
             }
         }
     }
+}
+
+/// Each moment is in its range.
+pub(crate) fn moment_is_in_range(moment: Moment)
+    ensures { IsMoment moment }
+{
+    moment.seconds();
 }
 
 // Judges what was sent by a token.

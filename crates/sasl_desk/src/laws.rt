@@ -1,19 +1,23 @@
 //! Laws of sessions, of a keeper of books and of desks, each the promise of a function that does nothing.
-ghost use Rattle.std.specs.Prelude.{◌≡◌, ◌⊎◌, true, ℕ, List, ◌++◌};
+ghost use Rattle.std.specs.Prelude.{◌≡◌, ◌⊎◌, true, ℕ, List, [], ◌∷◌, ◌++◌};
 ghost use Rattle.book_format.specs.Book.{BookFields};
 ghost use Rattle.book_format.specs.Trees.{IsBookText};
 ghost use Rattle.log_grammar.specs.Books.{accounts_in};
 ghost use Rattle.log_grammar.specs.Clean.{IsFront, IsClean};
+ghost use Rattle.log_grammar.specs.Lines.{LogLine, said, halt};
+ghost use Rattle.log_grammar.specs.Sessions.{Told};
 ghost use Rattle.sasl_desk.specs.Desks.{Stands, phase_of};
+ghost use Rattle.sasl_desk.specs.Keeper.{IsTold};
 ghost use Rattle.sasl_desk.specs.Restarts.{Run, IsRunOf, AreRuns, spent_in};
-ghost use Rattle.sasl_desk.specs.Runs.{Call, run_lines, log_bytes};
+ghost use Rattle.sasl_desk.specs.Runs.{Call, run_lines, log_bytes, wire_bytes};
+ghost use Rattle.sasl_desk.specs.Serves.{LongTextsAreBad};
 ghost use Rattle.sasl_desk.specs.Spent.{SpentStaysSpent, IsSpent};
 ghost use Rattle.sasl_desk.specs.declared.desk.Desk.{Desk};
 ghost use Rattle.sasl_desk.specs.declared.desk.state.Phase.TheVariants as phase;
 ghost use Rattle.sasl_desk.specs.Turns.{DueLinesStand, BadLinesStand, GoneClientsStand};
 
 use account_book::BookStore;
-use log_grammar::laws::has_one_reading;
+use log_grammar::laws::{goes_on_by_no_other, has_one_reading};
 use otp_core::laws::{begins_with_itself, candidates_are_new, legal_histories_join};
 
 /// What was spent stays spent over every reply, and the counters that a reply uses are others, and are spent then.
@@ -38,18 +42,36 @@ pub fn log_is_a_front<S: BookStore>()
         → IsFront (accounts_in start) (log_bytes (run_lines calls)) }
 {}
 
-/// Where no session is open, and after a save in which the store failed, a desk's log is clean.
+/// Where no session is open, and after `S HALT`, a desk's log is clean. It ends so where the store has failed.
 pub fn log_is_clean<S: BookStore>()
-    ensures { (start : BookFields) (calls : List Call) (desk : Desk S) → Stands S.facts start calls desk
+    ensures closed { (start : BookFields) (calls : List Call) (desk : Desk S) → Stands S.facts start calls desk
         → (phase_of desk.state ≡ phase.Closed) ⊎ ((S.facts desk.keeper.store).failed ≡ true)
         → IsClean (accounts_in start) (log_bytes (run_lines calls)) }
+    ensures halted { (start : BookFields) (calls : List Call) (desk : Desk S) → Stands S.facts start calls desk
+        → (lines : List LogLine) → run_lines calls ≡ lines ++ said halt ∷ [] → IsClean (accounts_in start) (log_bytes (run_lines calls)) }
+{
+    goes_on_by_no_other();
+}
+
+/// The bytes of a run are those of its calls, one after another: in its log after the first line, and to its clients.
+pub fn bytes_are_those_of_calls()
+    ensures log { (c : Call) (before : List Call) → log_bytes (run_lines (c ∷ before)) ≡ log_bytes (run_lines before) ++ log_bytes c.lines }
+    ensures wire { (c : Call) (before : List Call) → wire_bytes (run_lines (c ∷ before)) ≡ wire_bytes (run_lines before) ++ wire_bytes c.lines }
+    ensures begun { wire_bytes (run_lines []) ≡ [] }
 {}
 
-/// At every moment the store holds the text of a book that the desk leaves: its own, or, where a save failed, that with one
-/// more reply.
+/// Whenever a call has ended, the store holds the text of a book that the run leaves: the desk's own, or, where a save failed,
+/// perhaps that with one more attempt.
 pub fn store_holds_a_book<S: BookStore>()
     ensures { (start : BookFields) (calls : List Call) (desk : Desk S) → Stands S.facts start calls desk
         → (r : Run) × IsRunOf S.facts r × (r.start ≡ start) × (r.calls ≡ calls) × IsBookText (S.facts desk.keeper.store).saved r.left }
+{}
+
+/// A stop within a call, as the store puts the new text in the place of the old, leaves what a run leaves: the desk's book with
+/// the attempt that is judged.
+pub fn stops_leave_runs<S: BookStore>()
+    ensures { (start : BookFields) (calls : List Call) (desk : Desk S) (t : Told) (next : BookFields) → Stands S.facts start calls desk
+        → IsTold desk.keeper.book t next → (r : Run) × IsRunOf S.facts r × (r.start ≡ start) × (r.calls ≡ calls) × (r.left ≡ next) }
 {}
 
 /// No counter of an account passes twice over all runs, wherever each of them stopped: the counters that the replies of all
@@ -62,3 +84,8 @@ pub fn no_counter_passes_twice<S: BookStore>()
     spent_stays_spent();
     has_one_reading();
 }
+
+/// A text of more than 6200 bytes, as a client's line of that length is handed in, is recorded as `C BAD`.
+pub fn long_texts_are_bad()
+    ensures { LongTextsAreBad }
+{}

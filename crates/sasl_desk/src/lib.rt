@@ -1,20 +1,25 @@
 //! A desk that lets users in: it speaks the protocol to one client after another, keeps the book and writes the log.
 //!
 //! `Session` says what one client is told, line by line, and hands its codes on to be judged. `Keeper` holds the book and the
-//! store of its text: it judges codes, and saves each change before it is told.
+//! store of its text: it judges codes, and saves each change before it is told. `Desk` is both, with the log. `serve` reads the
+//! lines of one client, hands them to a desk, and writes its answers.
 #![tactic(auto)]
 
+mod clock;
 mod desk;
 mod fault;
 mod keeper;
 pub mod laws;
 mod sent;
+mod serving;
 mod session;
 
 pub use account_book::{Book, BookStore};
+pub use clock::Clock;
 pub use desk::{Desk, Phase};
-pub use fault::DeskFault;
+pub use fault::{DeskFault, ServeFault};
 pub use keeper::{Judged, Keeper};
 pub use otp_core::{Moment, Reply};
 pub use sent::Sent;
+pub use serving::{serve, serve_turn};
 pub use session::{Answer, Event, Heard, Recorded, Saying, Session, Turn, Waiting};

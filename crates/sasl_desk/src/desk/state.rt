@@ -20,7 +20,7 @@ pub enum Phase {
     /// The login was accepted: the client may send codes.
     WaitCode,
 
-    /// The desk has halted: every call answers 72.
+    /// The desk has halted: every `greet` and `client` answers 72.
     Halted,
 }
 

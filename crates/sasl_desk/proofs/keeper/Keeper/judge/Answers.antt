@@ -1,11 +1,11 @@
 use Rattle.std.proofs.Common.{refl, sym, ◌∙◌}
 use Rattle.std.specs.declared.option.Option.TheVariants.{Some}
-use Rattle.sasl_desk.proofs.KeeperLemmas.{told_by, told_locked, kept_by, put_back}
+use Rattle.sasl_desk.proofs.KeeperLemmas.{told_by, told_none, told_locked, needs_save, kept_by, put_back}
 use Rattle.sasl_desk.proofs.keeper.Keeper.judge.Goals as goal
 
 pub returns-then-is_locked-clause-ok : goal.returns-then-is_locked-clause-ok
 returns-then-is_locked-clause-ok g c =
-    told_locked _ c.args.name.now c.in-Some.token c.reply_to-reply.new.token c.args.moment _ c.reply_to-reply.result (sym c.token.ensures ∙ c.in-Some.is)
+    told_locked _ c.args.name.now c.in-Some.token c.reply_to-reply.new.token c.args.moment _ c.reply_to-reply.result c.moment_is_in_range.ensures (sym c.token.ensures ∙ c.in-Some.is)
     (record { due = c.reply_to-reply.ensures.due; after = c.reply_to-reply.ensures.after; state = c.reply_to-reply.ensures.state })
     c.if-is_locked.ensures.locked _
 
@@ -18,7 +18,7 @@ returns-in-Err-clause-err g c = (
 
 pub returns-in-Ok-saved-clause-ok : goal.returns-in-Ok-saved-clause-ok
 returns-in-Ok-saved-clause-ok g c = (
-  told_by _ _ c.args.name.now c.in-Some.token c.reply_to-reply.new.token c.args.moment _ c.reply_to-reply.result (sym c.token.ensures ∙ c.in-Some.is)
+  told_by _ _ c.args.name.now c.in-Some.token c.reply_to-reply.new.token c.args.moment _ c.reply_to-reply.result c.moment_is_in_range.ensures (sym c.token.ensures ∙ c.in-Some.is)
       (record { due = c.reply_to-reply.ensures.due; after = c.reply_to-reply.ensures.after; state = c.reply_to-reply.ensures.state })
       c.put_token.ensures.put,
   kept_by _ _ _ _ c.reply_to-reply.result c.if-is_locked.ensures.open (record { text = _; is_text = c.in-Ok.ensures.stands; saved = c.in-Ok-saved.ensures }),
@@ -31,9 +31,13 @@ returns-in-Err-saved-clause-ok g c = (
   (
     Some c.reply_to-reply.result,
     c.put_token.new.self,
-    told_by _ _ c.args.name.now c.in-Some.token c.reply_to-reply.new.token c.args.moment _ c.reply_to-reply.result (sym c.token.ensures ∙ c.in-Some.is)
+    needs_save c.reply_to-reply.result c.if-is_locked.ensures.open,
+    told_by _ _ c.args.name.now c.in-Some.token c.reply_to-reply.new.token c.args.moment _ c.reply_to-reply.result c.moment_is_in_range.ensures (sym c.token.ensures ∙ c.in-Some.is)
         (record { due = c.reply_to-reply.ensures.due; after = c.reply_to-reply.ensures.after; state = c.reply_to-reply.ensures.state })
         c.put_token.ensures.put,
     record { text = _; is_text = c.in-Ok.ensures.stands; lost = c.in-Err-saved.ensures },
   ),
 )
+
+pub returns-in_default-clause-ok : goal.returns-in_default-clause-ok
+returns-in_default-clause-ok g c = (told_none _ c.args.name.now c.args.moment _ c.moment_is_in_range.ensures (sym c.token.ensures ∙ c.in_default.is), (refl, refl))

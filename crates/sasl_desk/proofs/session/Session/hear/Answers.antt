@@ -1,11 +1,11 @@
 use Rattle.std.proofs.Common.{◌≡◌}
 use Rattle.sasl_log.specs.Shown.{client_shown}
-use Rattle.sasl_desk.specs.Events.{sends, leaves}
+use Rattle.sasl_desk.specs.Events.{sends, goes_away}
 use Rattle.sasl_desk.proofs.HeardLemmas.{all_heard_of_line, no_line_record, memory_of_line}
 use Rattle.sasl_desk.proofs.session.Session.hear.Goals as goal
 
 pub returns-in-Gone-clause-heard : goal.returns-in-Gone-clause-heard
-returns-in-Gone-clause-heard g c = λ accounts at keeps is. rw (c.in-Gone.is, c.requires) (c.departed.ensures.turn accounts c.args.own.now at leaves tt)
+returns-in-Gone-clause-heard g c = λ accounts at keeps is. rw (c.in-Gone.is, c.requires) (c.departed.ensures.turn accounts c.args.own.now at goes_away tt)
 
 pub returns-in-Some-clause-heard : goal.returns-in-Some-clause-heard
 returns-in-Some-clause-heard g c = λ accounts at keeps is.

@@ -1,0 +1,39 @@
+-- What is read of a client in a turn.
+use Rattle.std.specs.Prelude.{ℕ, ◌≡◌, ◌⊎◌, true, false, List, [], ◌∷◌, ◌++◌, length}
+use Rattle.std.specs.Io.KnownBytes.{IsAtEnd}
+use Rattle.sasl_log.specs.Source.{SourceFacts}
+use Rattle.sasl_log.specs.TextRead.{IsTaken}
+use Rattle.sasl_desk.specs.Events.{ClientEvent, sends, goes_away}
+use Rattle.sasl_desk.specs.declared.serving.line.LineEnd.{LineEnd}
+use Rattle.sasl_desk.specs.declared.serving.line.LineEnd.TheVariants.{ByLf, TooLong, Over}
+
+-- a line, without its LF; more bytes than a line may have, with no LF among them; or what was left before the input ended
+-- or a read failed
+pub data LineRead : Type 0 where
+  line : (text : List ℕ) → LineRead
+  too_long : (text : List ℕ) → LineRead
+  over : (rest : List ℕ) → LineRead
+
+-- what was read, by its bytes and how they end
+abbrev pub line_read : List ℕ → LineEnd → LineRead
+line_read text ByLf = line text
+line_read text TooLong = too_long text
+line_read text Over = over text
+
+-- this was read of a source, and nothing after it: a line of at most 6200 bytes and its LF; 6201 bytes without an LF; or at
+-- most 6200 bytes without an LF, after which the input ended or a read failed
+abbrev pub ReadsLine : SourceFacts → LineRead → SourceFacts → Type 0
+ReadsLine old (line text) new = IsTaken old text (text ++ 10 ∷ []) 6200 new × (new.failed ≡ false)
+ReadsLine old (too_long text) new = IsTaken old text text 6201 new × (new.failed ≡ false) × (length text ≡ 6201)
+ReadsLine old (over rest) new = IsTaken old rest rest 6200 new × (IsAtEnd new.left ⊎ (new.failed ≡ true))
+
+-- what the client did: it sent the bytes, also where they are too many, or it has gone away
+abbrev pub event_read : LineRead → ClientEvent
+event_read (line text) = sends text
+event_read (too_long text) = sends text
+event_read (over rest) = goes_away
+
+-- what was read, one after the other, the latest of which comes first
+abbrev pub ReadsLines : SourceFacts → List LineRead → SourceFacts → Type 0
+ReadsLines old [] new = new ≡ old
+ReadsLines old (read ∷ before) new = (middle : SourceFacts) × ReadsLines old before middle × ReadsLine middle read new

@@ -1,0 +1,55 @@
+//! The next line of a client, byte by byte.
+ghost use Rattle.std.specs.Prelude.{◌≡◌};
+ghost use Rattle.sasl_desk.specs.Events.{event_shown};
+ghost use Rattle.sasl_desk.specs.Inputs.{ReadsLine, line_read, event_read};
+
+use crate::session::Event;
+use arrayvec::ArrayVec;
+use sasl_log::{Got, Source};
+
+/// The bytes of a line, with room for one more than a line may have.
+pub(crate) type Text = ArrayVec<u8, 6201>;
+
+/// How the bytes of a line end.
+#[derive(Clone, Copy)]
+pub(crate) enum LineEnd {
+    /// With an LF, which is not among them.
+    ByLf,
+
+    /// Not yet: 6201 were read, more than a line may have.
+    TooLong,
+
+    /// With the input, or with a read that failed.
+    Over,
+}
+
+/// Replaces `text` by the bytes up to the next LF, which is taken too, or by the next 6201 where none comes sooner. Takes
+/// nothing after them.
+pub(crate) fn read_text<R: Source>(reader: &mut R, text: &mut Text) -> LineEnd
+    ensures { ReadsLine (R.facts reader.old) (line_read text.new.items result) (R.facts reader.new) }
+{
+    text.clear();
+    for _ in 0..6201usize {
+        match reader.next() {
+            Got::Byte(b'\n') => return LineEnd::ByLf,
+            Got::Byte(byte) => {
+                let Ok(()) = text.try_push(byte) else {
+                    unreachable!()
+                };
+            }
+            Got::End | Got::Failed => return LineEnd::Over,
+        }
+    }
+    LineEnd::TooLong
+}
+
+/// What a client does, by the bytes that were read of it: it sends them, also where they are too many for a line, or it
+/// has gone away.
+pub(crate) fn event_of(text: &[u8], end: LineEnd) -> Event<'_>
+    ensures { event_shown result ≡ event_read (line_read text.now end) }
+{
+    match end {
+        LineEnd::ByLf | LineEnd::TooLong => Event::Line(text),
+        LineEnd::Over => Event::Gone,
+    }
+}
