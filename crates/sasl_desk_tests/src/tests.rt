@@ -1,11 +1,17 @@
 //! What no contract shows: that each call can succeed, and that what is due is what others have published: the login of
 //! RFC 5802, section 5, the codes of RFC 4226, appendix D, and decoys' salts by Python's hmac.
+mod client;
 mod desk;
 mod faults;
 mod keeper;
+mod lines;
 mod memory;
 mod places;
+mod refused;
 mod service;
+mod serving;
+mod torn;
+mod turns;
 
 // The account of RFC 5802's user, whose keys are those of the password `pencil`, in the form in which a book is written.
 const BOOK: &str = "decoy_count = 4096

@@ -8,20 +8,20 @@ use sasl_log::Clean;
 use std::process::Abort;
 use std::test::Fail;
 
-// What the client of RFC 5802, section 5, sends.
-const LOGIN: [&str; 2] = [
+/// What the client of RFC 5802, section 5, sends.
+pub(super) const LOGIN: [&str; 2] = [
     "AUTH SCRAM-SHA-1 :n,,n=user,r=fyko+d2lbbFgONRv9qkxdawL",
     "RESP :c=biws,r=fyko+d2lbbFgONRv9qkxdawL3rfcNHYJY1ZVvWVs7j,p=v0X8v3Bz2T0CJGbJQyF0X+HI4Ts=",
 ];
 
-// What the server sends in it.
-const ANSWERS: &str = "MECHS SCRAM-SHA-256 SCRAM-SHA-1
+/// What the server sends in it.
+pub(super) const ANSWERS: &str = "MECHS SCRAM-SHA-256 SCRAM-SHA-1
 CONT :r=fyko+d2lbbFgONRv9qkxdawL3rfcNHYJY1ZVvWVs7j,s=QSXCR+Q6sek8bf92,i=4096
 OK :v=rmF9pqV8S7suAoZWja4dJRkFsKQ=
 ";
 
-// The log of it.
-const LOGGED: &str = "SCRAMLOG 1
+/// The log of it.
+pub(super) const LOGGED: &str = "SCRAMLOG 1
 S MECHS SCRAM-SHA-256 SCRAM-SHA-1
 C AUTH SCRAM-SHA-1 :n,,n=user,r=fyko+d2lbbFgONRv9qkxdawL
 S CONT :r=fyko+d2lbbFgONRv9qkxdawL3rfcNHYJY1ZVvWVs7j,s=QSXCR+Q6sek8bf92,i=4096

@@ -1,5 +1,5 @@
 //! Faults: their numbers and texts.
-use sasl_desk::DeskFault;
+use sasl_desk::{DeskFault, ServeFault};
 use std::test::Fail;
 
 #[test]
@@ -12,6 +12,30 @@ fn numbers_and_texts(rt: HostRuntime) -> Result<(), Fail> {
             "a message that is due cannot be written",
         ),
         (DeskFault::NoMemory, 99, "out of memory"),
+    ] {
+        assert_eq!(rt; fault.number(), number);
+        assert_eq!(rt; format!(in rt.alloc(); "{fault}")?.as_str(), text);
+    }
+    Ok(())
+}
+
+// Those of a client that is not served. The first three are a desk's.
+#[test]
+fn numbers_and_texts_of_serving(rt: HostRuntime) -> Result<(), Fail> {
+    for (fault, number, text) in [
+        (ServeFault::Halted, 72, "the desk has halted"),
+        (
+            ServeFault::Unwritable,
+            73,
+            "a message that is due cannot be written",
+        ),
+        (ServeFault::NoMemory, 99, "out of memory"),
+        (ServeFault::WriteFault, 74, "cannot write to the client"),
+        (
+            ServeFault::LogFault,
+            75,
+            "cannot write the log, so the desk has halted",
+        ),
     ] {
         assert_eq!(rt; fault.number(), number);
         assert_eq!(rt; format!(in rt.alloc(); "{fault}")?.as_str(), text);

@@ -1,0 +1,66 @@
+//! Calls that are refused memory: they change nothing, and the same call then succeeds.
+use super::BOOK;
+use super::memory::Memory;
+use super::service::{Service, begun, greet, hear};
+use account_book::Book;
+use linked_list_allocator::LocalHeap;
+use sasl_desk::{Desk, DeskFault, Event, Moment, Phase};
+use scram_text::NoncePart;
+use std::process::Abort;
+use std::test::Fail;
+
+#[test]
+fn a_desk_begins_with_room_for_its_log(rt: HostRuntime) -> Result<(), Fail> {
+    let alloc = rt.alloc();
+    let heap = LocalHeap::new(alloc, 16)?;
+    let mut log = Vec::new(&heap);
+    let book = Book::read(alloc, BOOK.as_bytes())?;
+    match Desk::begin(alloc, book, Memory::new(alloc, 0, false), &mut log) {
+        Ok(_) => return Err("memory was there".into()),
+        Err((book, store, fault)) => {
+            assert_eq!(rt; fault, DeskFault::NoMemory);
+            assert_eq!(rt; store.saves, 0);
+            assert_eq!(rt; book.write(alloc)?.as_str(), BOOK);
+        }
+    }
+    assert!(rt; log.is_empty());
+    Ok(())
+}
+
+#[test]
+fn a_greeting_needs_room(rt: HostRuntime) -> Result<(), Fail> {
+    let heap = LocalHeap::new(rt.alloc(), 16)?;
+    let mut none = Vec::new(&heap);
+    let mut service = begun(rt.alloc(), Memory::new(rt.alloc(), 0, false))?;
+    let own = NoncePart::new(b"3rfcNHYJY1ZVvWVs7j").ok_or("a part of a nonce")?;
+    let Service { desk, wire, log } = &mut service;
+    if desk.phase() != Phase::Closed {
+        return Err("a session is open".into());
+    }
+    assert_eq!(rt; desk.greet(own, wire, &mut none), Err(DeskFault::NoMemory));
+    assert!(rt; wire.is_empty());
+    assert!(rt; none.is_empty());
+    assert_eq!(rt; log.as_slice(), b"SCRAMLOG 1\n".as_slice());
+    assert_eq!(rt; greet(&mut service)?, Ok(Phase::WaitAuth));
+    Ok(())
+}
+
+#[test]
+fn a_turn_needs_room(rt: HostRuntime) -> Result<(), Fail> {
+    let heap = LocalHeap::new(rt.alloc(), 16)?;
+    let mut none = Vec::new(&heap);
+    let mut service = begun(rt.alloc(), Memory::new(rt.alloc(), 0, false))?;
+    assert_eq!(rt; greet(&mut service)?, Ok(Phase::WaitAuth));
+    let moment = Moment::new(3).ok_or("a moment")?;
+    let asks = Event::Line(b"AUTH SCRAM-SHA-1");
+    let Service { desk, log, .. } = &mut service;
+    if desk.phase() == Phase::Closed {
+        return Err("no session is open".into());
+    }
+    let refused = desk.client(rt.alloc(), asks, moment, &mut none, log);
+    assert_eq!(rt; refused, Err(DeskFault::NoMemory));
+    assert!(rt; none.is_empty());
+    assert_eq!(rt; desk.phase(), Phase::WaitAuth);
+    assert_eq!(rt; hear(rt.alloc(), &mut service, asks)?, Ok(Phase::WaitFirst));
+    Ok(())
+}
