@@ -6,6 +6,10 @@ use std::cell::{Cell, RefCell};
 use std::fs::{File, Files, Metadata, OpenFile, OpenOptions, Permissions};
 use std::io;
 use std::io::{ErrorKind, Read, Seek, SeekFrom, Write};
+use std::net::{Net, SocketAddr};
+use std::os::fd::{BorrowedFd, OwnedFd};
+use std::os::unix::net as unix;
+use std::os::unix::net::UnixStream;
 use std::path::PathBuf;
 use std::time::{Clock, Duration};
 
@@ -216,6 +220,45 @@ impl<'a> Files for Faulty<'a> {
     fn hard_link(&self, original: &str, link: &str) -> io::Result<()> {
         self.calls.make("hard_link", original)?;
         self.rt.hard_link(original, link)
+    }
+
+    fn bind_unix(&self, socket: BorrowedFd<'_>, at: &unix::SocketAddr) -> io::Result<()> {
+        self.calls.make("bind_unix", path_of(at))?;
+        self.rt.bind_unix(socket, at)
+    }
+}
+
+// The path of a socket's file.
+fn path_of(at: &unix::SocketAddr) -> &str {
+    match at.as_pathname() {
+        Some(path) => path.as_str(),
+        None => "",
+    }
+}
+
+impl Net for Faulty<'_> {
+    type Stream = <HostRuntime as Net>::Stream;
+
+    type Listener = <HostRuntime as Net>::Listener;
+
+    fn bind(&self, at: SocketAddr) -> io::Result<<HostRuntime as Net>::Listener> {
+        self.calls.make("bind", "")?;
+        Net::bind(self.rt, at)
+    }
+
+    fn connect(&self, at: SocketAddr) -> io::Result<<HostRuntime as Net>::Stream> {
+        self.calls.make("connect", "")?;
+        Net::connect(self.rt, at)
+    }
+
+    fn connect_unix(&self, at: &unix::SocketAddr) -> io::Result<UnixStream> {
+        self.calls.make("connect_unix", path_of(at))?;
+        self.rt.connect_unix(at)
+    }
+
+    fn unix_socket(&self) -> io::Result<OwnedFd> {
+        self.calls.make("unix_socket", "")?;
+        self.rt.unix_socket()
     }
 }
 

@@ -119,7 +119,8 @@ where
     /// old text or the new one. The owner and the group stay, and of the mode the owner's bits; a new book's mode
     /// is 0600. NotFound where the file at the path is not the one that this run has read or put there last, or has
     /// changed since; AlreadyExists where there was none and there now is one; ResourceBusy where the next file
-    /// can't be made; else the error of the call to the file system that failed.
+    /// can't be made; FileTooLarge where the text has more bytes than `read` takes; else the error of the call to the
+    /// file system that failed.
     pub fn replace(&mut self, text: &str) -> io::Result<()> {
         let replaced = self.write_next(text).and_then(|()| self.put_in_place());
         if let Some(next) = self.next.take() {
@@ -130,6 +131,9 @@ where
 
     // Writes the text to a file of its own, and asks the system to write that to its device.
     fn write_next(&mut self, text: &str) -> io::Result<()> {
+        if text.len() > MOST_BOOK {
+            return Err(io::Error::from(ErrorKind::FileTooLarge));
+        }
         self.check_unchanged()?;
         if self.next.is_none() {
             let state = self.book.as_ref().map(|book| &book.state);

@@ -1,14 +1,18 @@
 -- The names of the options whose values the program judges, or takes as paths.
 use Rattle.std.specs.Prelude.{ℕ, List, codes}
 use Rattle.command_line.specs.declared.value.OptionName.{OptionName}
-use Rattle.command_line.specs.declared.value.OptionName.TheVariants.{Book, Log, Name, Random, Mechanism, Salt, Count, Secret, Digits, Counter, Moment, Hash, T0, Step}
+use Rattle.command_line.specs.declared.value.OptionName.TheVariants.{Book, Log, Name, As, Socket, Random, ClientNonce, ServerNonce, Mechanism, Salt, Count, Secret, Digits, Counter, Moment, Hash, T0, Step}
 
 -- an option's name, as on the command line without its hyphens and in the fault about its value
 abbrev pub option_name : OptionName → List ℕ
 option_name Book = codes "book"
 option_name Log = codes "log"
 option_name Name = codes "name"
+option_name As = codes "as"
+option_name Socket = codes "socket"
 option_name Random = codes "random"
+option_name ClientNonce = codes "client-nonce"
+option_name ServerNonce = codes "server-nonce"
 option_name Mechanism = codes "mechanism"
 option_name Salt = codes "salt"
 option_name Count = codes "count"

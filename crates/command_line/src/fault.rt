@@ -53,6 +53,10 @@ pub enum Fault {
     #[error("cannot write {0}")]
     CannotWrite(String),
 
+    /// The socket can't be made, or fails.
+    #[error("socket fault")]
+    Socket,
+
     /// Standard input failed, or has more bytes than a command reads.
     #[error("cannot read input")]
     CannotReadInput,
@@ -80,7 +84,7 @@ impl Fault {
         }
     }
 
-    /// The exit status: 1 for a refusal, 2 where the user can give other words, 3 for files, streams and memory.
+    /// The exit status: 1 for a refusal, 2 where the user can give other words, 3 for files, sockets, streams and memory.
     pub fn status(&self) -> u8
         ensures { result ≡ status_of self.now }
     {
@@ -91,7 +95,7 @@ impl Fault {
             | Fault::NoToken
             | Fault::BadBook(_) => 1,
             Fault::BadValue(_) | Fault::BadPassword | Fault::NoCounterOrMoment => 2,
-            Fault::CannotRead(_) | Fault::CannotWrite(_) => 3,
+            Fault::CannotRead(_) | Fault::CannotWrite(_) | Fault::Socket => 3,
             Fault::CannotReadInput | Fault::CannotWriteOutput | Fault::NoMemory => 3,
         }
     }

@@ -3,7 +3,7 @@ ghost use Rattle.std.specs.Prelude.{◌≡◌, ◌≢◌, ◌≤◌, ◌<◌, �
 ghost use Rattle.std.specs.Fmt.{decimal};
 ghost use Rattle.hex.specs.Hex.{decode_of};
 ghost use Rattle.mac_core.specs.Mechanism.{name_of};
-ghost use Rattle.scram_text.specs.Class.{IsPlainName, IsSalt};
+ghost use Rattle.scram_text.specs.Class.{IsNoncePart, IsPlainName, IsSalt};
 ghost use Rattle.otp_core.specs.Secret.{IsSecretLength, IsMoment};
 ghost use Rattle.command_line.specs.Number.{IsPlainNumber};
 ghost use Rattle.book_format.specs.Keys.{hash_name};
@@ -12,7 +12,7 @@ ghost use Rattle.command_line.specs.Options.{option_name};
 use crate::fault::Fault;
 use mac_core::Mechanism;
 use otp_core::{Digits, Moment, OtpHash, Secret};
-use scram_text::{PlainName, Salt};
+use scram_text::{NoncePart, PlainName, Salt};
 use std::alloc::Global;
 use std::fmt;
 
@@ -31,8 +31,20 @@ pub enum OptionName {
     /// `--name`
     Name,
 
+    /// `--as`
+    As,
+
+    /// `--socket`
+    Socket,
+
     /// `--random`
     Random,
+
+    /// `--client-nonce`
+    ClientNonce,
+
+    /// `--server-nonce`
+    ServerNonce,
 
     /// `--mechanism`
     Mechanism,
@@ -74,7 +86,11 @@ impl OptionName {
             OptionName::Book => "book",
             OptionName::Log => "log",
             OptionName::Name => "name",
+            OptionName::As => "as",
+            OptionName::Socket => "socket",
             OptionName::Random => "random",
+            OptionName::ClientNonce => "client-nonce",
+            OptionName::ServerNonce => "server-nonce",
             OptionName::Mechanism => "mechanism",
             OptionName::Salt => "salt",
             OptionName::Count => "count",
@@ -189,9 +205,39 @@ pub fn name(text: &str) -> Result<PlainName, Fault>
     ensures err { IfErr result (λ fault. (fault ≡ Fault.BadValue OptionName.Name)
         × (IsPlainName text.now → ⊥)) }
 {
+    plain_name(OptionName::Name, text)
+}
+
+/// The name to act as, of this text: 1 to 255 bytes from space to tilde. Answers BadValue for any other text.
+pub fn name_to_act_as(text: &str) -> Result<PlainName, Fault>
+    ensures ok { IfOk result (λ name. name ≡ text.now) }
+    ensures err { IfErr result (λ fault. (fault ≡ Fault.BadValue OptionName.As)
+        × (IsPlainName text.now → ⊥)) }
+{
+    plain_name(OptionName::As, text)
+}
+
+fn plain_name(option: OptionName, text: &str) -> Result<PlainName, Fault>
+    ensures ok { IfOk result (λ name. name ≡ text.now) }
+    ensures err { IfErr result (λ fault. (fault ≡ Fault.BadValue option)
+        × (IsPlainName text.now → ⊥)) }
+{
     match PlainName::new(text.as_bytes()) {
         Some(name) => Ok(name),
-        None => Err(Fault::BadValue(OptionName::Name)),
+        None => Err(Fault::BadValue(option)),
+    }
+}
+
+/// What one end adds to the nonce, of this text: 1 to 256 bytes from `!` to tilde, without a comma. Answers BadValue of
+/// the option for any other text.
+pub fn nonce(option: OptionName, text: &str) -> Result<NoncePart, Fault>
+    ensures ok { IfOk result (λ nonce. nonce ≡ text.now) }
+    ensures err { IfErr result (λ fault. (fault ≡ Fault.BadValue option)
+        × (IsNoncePart text.now → ⊥)) }
+{
+    match NoncePart::new(text.as_bytes()) {
+        Some(nonce) => Ok(nonce),
+        None => Err(Fault::BadValue(option)),
     }
 }
 
