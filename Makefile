@@ -6,7 +6,7 @@ CPU ?= x86-64-v2
 JOBS ?= $(shell nproc)
 PROGRAM = crates/scramotp/out/scramotp
 # What the program stands on, lowest first. rt builds a library that is not named here before the one that needs it.
-LIBRARIES = mac_core otp_core scram_text scram_ends book_format account_book book_file command_line log_grammar sasl_log commands
+LIBRARIES = mac_core otp_core scram_text scram_ends book_format account_book book_file command_line log_grammar sasl_log sasl_desk commands
 SOURCES = crates.txt HANDLES $(shell find crates \( -name out -prune \) -o \( -name '*.rt' -o -name '*.antt' \) -print)
 # Succeeds where the program is built and newer than its sources.
 IS_FRESH = test -x $(PROGRAM) && test -z "$$(find $(SOURCES) -newer $(PROGRAM))"
@@ -70,6 +70,7 @@ bench: build
 	python3 bench/messages.py crates/bench/out/bench
 	python3 bench/verdicts.py crates/bench/out/bench
 	python3 bench/books.py $(PROGRAM) crates/bench/out/bench
+	python3 bench/serve.py $(PROGRAM) crates/bench/out/bench
 	python3 bench/audit.py $(PROGRAM)
 
 clean:

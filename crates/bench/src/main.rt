@@ -5,16 +5,21 @@
 //! `bench sync COUNT SECRET` looks COUNT times for two codes in a row, and prints how often it failed;
 //! `bench verdict COUNT TEXT` judges TEXT COUNT times as the client-final message of RFC 7677's example,
 //! and prints how often it was accepted; `bench book COUNT FILE` reads the bytes of FILE once and the
-//! account book of them COUNT times, and prints how often they were one, as `book 20 of 20`.
+//! account book of them COUNT times, and prints how often they were one, as `book 20 of 20`;
+//! `bench logins COUNT FILE` serves COUNT logins over the book of FILE, and `bench codes COUNT FILE` one login
+//! with COUNT codes: both print how many were served, and how many bytes were logged and sent.
 #![tactic(auto)]
 
 mod book;
 mod login;
+mod memory;
 mod pair;
+mod service;
 
 use crate::book::print_readings;
 use crate::login::print_verdicts;
 use crate::pair::print_failures;
+use crate::service::{print_codes_served, print_logins};
 use mac_core::{HSha1, Prepared};
 use otp_core::{Digits, Secret, hotp_with};
 use scram_text::{read_client_final, read_client_first, read_server_final, read_server_first};
@@ -69,6 +74,8 @@ fn main(rt: HostRuntime) -> io::Result<ExitCode> {
         "hotp" => print_codes(&rt, text.as_bytes(), count)?,
         "sync" => print_failures(&rt, text.as_bytes(), count)?,
         "verdict" => print_verdicts(&rt, text.as_bytes(), count)?,
+        "logins" => print_logins(&rt, text.as_str(), count)?,
+        "codes" => print_codes_served(&rt, text.as_str(), count)?,
         "book" => print_readings(&rt, text.as_str(), count)?,
         kind => println!(rt; "{kind} {}", readings(kind, text.as_bytes(), count))?,
     }

@@ -1,2 +1,4 @@
 pub mod Lines
+pub mod LoginLemmas
+pub mod NonceLemmas
 pub mod Spellings

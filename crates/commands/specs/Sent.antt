@@ -1,4 +1,4 @@
--- What an input line of `verify` says.
+-- What an input line of `verify` and of `login` says.
 use Rattle.std.specs.Prelude.{ℕ, ◌≡◌, List}
 use Rattle.otp_core.specs.Attempt.{CodeTexts}
 use Rattle.otp_core.specs.Attempt.CodeTexts.{OneText, TwoTexts}

@@ -211,6 +211,15 @@ impl<'a, S: BookStore> HeldBook<'a, S> {
         HeldBook { book, store, path }
     }
 
+    /// The book, its store, and the path of its file as it was given.
+    pub fn into_parts(self) -> (Book, S, &'a str)
+        ensures book { result.0 ≡ self.entry.book }
+        ensures store { result.1 ≡ self.entry.store }
+        ensures path { result.2.now ≡ self.entry.path.now }
+    {
+        (self.book, self.store, self.path)
+    }
+
     /// Adds an account with the keys of a password for both mechanisms, and saves the book. Faults: NameTaken,
     /// CannotWrite and NoMemory.
     pub fn enrol(

@@ -1,4 +1,4 @@
-//! The commands of `scramotp`: the keys of SCRAM logins (RFC 5802, RFC 7677), one-time codes (RFC 4226, RFC 6238), a
+//! The commands of `scramotp`: SCRAM logins and their keys (RFC 5802, RFC 7677), one-time codes (RFC 4226, RFC 6238), a
 //! book of accounts that have them, and the audit of a recorded log.
 //!
 //! `run` does all the work of a run of the program, over words, streams and a runtime that are handed to it. So tests
@@ -12,6 +12,7 @@ mod enrol;
 mod held_book;
 mod input;
 mod keys;
+mod login;
 mod program;
 mod progress;
 mod prompt;

@@ -5,7 +5,7 @@ ghost use Rattle.command_line.specs.Fault.{status_of};
 use crate::progress::Watched;
 use crate::prompt::Typed;
 use crate::shown::Shown;
-use crate::{audit, code, enrol, keys, unlock, verify, words};
+use crate::{audit, code, enrol, keys, login, unlock, verify, words};
 use book_file::Lockable;
 use clap::ArgMatches;
 use clap::error::ErrorKind;
@@ -14,6 +14,7 @@ use std::alloc::{AllocError, Global};
 use std::convert::AsStr;
 use std::fs::Files;
 use std::io::Write;
+use std::net::Net;
 use std::time::Clock;
 
 /// The status of a run that did its work, and whose answer is a refusal.
@@ -23,11 +24,11 @@ const REFUSED: u8 = 1;
 pub const USAGE: u8 = 2;
 
 /// Runs the command that `words` name, the program's own name first, and returns the exit status: 0 done, 1 refused
-/// or faulty, 2 usage, 3 files, input, output or memory. The answer, help and version go to `output`, everything
+/// or faulty, 2 usage, 3 files, sockets, input, output or memory. The answer, help and version go to `output`, everything
 /// else to `faults`; both are flushed.
 pub fn run<R, S, I, O, E>(rt: &R, words: &[S], input: &mut I, output: &mut O, faults: &mut E) -> u8
 where
-    R: Files + Clock + AllocGlobal,
+    R: Files + Net + Clock + AllocGlobal,
     R::File: Lockable,
     S: AsStr,
     I: Typed,
@@ -65,8 +66,8 @@ where
     }
 }
 
-// Runs the command of the matches, and flushes what it printed. Returns the status: 0, or another where a code was
-// refused or a log is not clean.
+// Runs the command of the matches, and flushes what it printed. Returns the status: 0, or another where a code or a login
+// was refused, or a log is not clean.
 fn dispatch<R, I, O, E>(
     rt: &R,
     matches: &ArgMatches<'_>,
@@ -75,7 +76,7 @@ fn dispatch<R, I, O, E>(
     faults: &mut E,
 ) -> Result<u8, Fault>
 where
-    R: Files + Clock + AllocGlobal,
+    R: Files + Net + Clock + AllocGlobal,
     R::File: Lockable,
     I: Typed,
     O: Write,
@@ -93,6 +94,11 @@ where
             }
         }
         Some(("unlock", words)) => unlock::unlock(rt, words, output, faults)?,
+        Some(("login", words)) => {
+            if !login::login(rt, words, input, output, faults)? {
+                status = REFUSED;
+            }
+        }
         Some(("audit", words)) => status = audit::audit(rt, words, output, faults)?,
         _ => {}
     }

@@ -12,6 +12,10 @@ pub const PASSWORD: &str = "Type the password and press Enter; it is shown as yo
 /// What `verify` waits for.
 pub const CODES: &str = "Type one code a line; it is shown as you type. Ctrl-D ends.\n";
 
+/// What `login` waits for.
+pub const LOGIN: &str =
+    "Type the password and press Enter, then one code a line; all is shown as you type. Ctrl-D ends.\n";
+
 /// Where input is read, which may be a terminal.
 pub trait Typed: BufRead {
     /// Whether it is a terminal, where someone types.

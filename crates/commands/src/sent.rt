@@ -1,4 +1,4 @@
-//! What an input line of `verify` says: one code, or two in a row.
+//! What an input line of `verify` and of `login` says: one code, or two in a row.
 ghost use Rattle.commands.specs.Sent.{Says, said_by};
 
 use sasl_log::{ClientLine, Line, read_line};

@@ -4,7 +4,7 @@ use command_line::value::OptionName;
 use std::alloc::{AllocError, Global};
 
 const STATUSES: &str =
-    "Exit status: 0 done, 1 refused or faulty, 2 usage, 3 files, input, output or memory.";
+    "Exit status: 0 done, 1 refused or faulty, 2 usage, 3 files, sockets, input, output or memory.";
 
 const KEYS_EXAMPLE: &str =
     "The password is the first line of standard input, 1 to 1024 bytes from space to tilde. Typed at a
@@ -79,6 +79,29 @@ that a read of it failed.
 Example, after that of `scramotp enrol --help`: a log whose client leaves at once
   printf '%s\\n' 'SCRAMLOG 1' 'S MECHS SCRAM-SHA-256 SCRAM-SHA-1' 'C GONE' E >log.txt
   scramotp audit --book book.toml --log log.txt";
+
+const LOGIN_EXAMPLE: &str =
+    "The first line of standard input is the password, and each line after it a code, sent once the
+client is logged in. A line as `SYNC 399871 520489` is two codes in a row. Typed at a terminal, all
+is shown.
+
+Both ends run here: a service over the book, and a client. They talk through a socket, whose file is
+made for this run and removed at its end. Put it into a folder that nobody else can enter; a file
+that is there already is a socket fault, also one that a killed run left. The client is given what
+it would hear of any service, and ends the login where the service has not the account's keys.
+
+Prints the service's log, each line before the client is told of it. Codes are saved before they are
+told; the book is locked from its reading to the end of the input, and other runs wait for it, up to
+30 seconds. Exit status 0 means that the login was accepted and every code passed.
+
+Nonces are made of 18 random bytes each, unless they are given: give them only to repeat a recorded
+login. Nobody else may be able to write the book's folder, nor the folders above it.
+
+Example, after that of `scramotp unlock --help`: a login and a code, and the audit of its log
+  cp book.toml before.toml
+  printf '%s\\n' pencil 287082 |
+      scramotp login --book book.toml --name user --socket login.sock >login.txt
+  scramotp audit --book before.toml --log login.txt";
 
 // An option that takes one value.
 fn option<'a>(alloc: Global, name: &'a str, value: &'a str, help: &'a str) -> Arg<'a> {
@@ -205,13 +228,41 @@ fn audit<'a>(alloc: Global) -> Result<Command<'a>, AllocError> {
         .arg(required(alloc, "log", "FILE", "The log"))
 }
 
+fn login<'a>(alloc: Global) -> Result<Command<'a>, AllocError> {
+    let mechanism = "SCRAM-SHA-1 or SCRAM-SHA-256 [default: the best that is offered]";
+    let random = option(alloc, "random", "FILE", "Where random bytes are read");
+    let moment = "The moment of the codes, in seconds since 1970 [default: the clock's]";
+    Command::new(alloc, "login")
+        .about("Logs a user in to a service over a book, and prints the service's log")
+        .after_help(LOGIN_EXAMPLE)
+        .arg(book(alloc))?
+        .arg(name(alloc))?
+        .arg(option(alloc, "mechanism", "NAME", mechanism))?
+        .arg(option(alloc, "as", "NAME", "The name to act as"))?
+        .arg(required(
+            alloc,
+            "socket",
+            "FILE",
+            "The socket to make, a path of at most 107 bytes",
+        ))?
+        .arg(random.default_value("/dev/urandom"))?
+        .arg(option(alloc, "client-nonce", "TEXT", "The client's nonce"))?
+        .arg(option(
+            alloc,
+            "server-nonce",
+            "TEXT",
+            "The service's part of the nonce",
+        ))?
+        .arg(option(alloc, "moment", "SECONDS", moment))
+}
+
 /// The program's commands and their options.
 pub fn scramotp<'a>(alloc: Global) -> Result<Command<'a>, AllocError> {
     Command::new(alloc, "scramotp")
         .bin_name("scramotp")?
         .version("0.1.0")
         .about(
-            "SCRAM keys, one-time codes, a book of accounts that have them, and the audit of a log",
+            "SCRAM keys and logins, one-time codes, a book of accounts that have them, and the audit of a log",
         )
         .after_help(STATUSES)
         .subcommand_required(true)
@@ -221,6 +272,7 @@ pub fn scramotp<'a>(alloc: Global) -> Result<Command<'a>, AllocError> {
         .subcommand(code(alloc)?)?
         .subcommand(verify(alloc)?)?
         .subcommand(unlock(alloc)?)?
+        .subcommand(login(alloc)?)?
         .subcommand(audit(alloc)?)
 }
 

@@ -9,6 +9,7 @@ use commands::run;
 use std::fs::Files;
 use std::io;
 use std::io::{BufReader, ErrorKind, IsTerminal, Read, Write};
+use std::net::Net;
 use std::process::Abort;
 use std::test::Fail;
 use std::time::Clock;
@@ -92,7 +93,7 @@ impl Write for Stuck {
 // Runs the words with the input, and compares status, output and faults.
 fn check<R>(rt: &R, words: &[&str], input: &str, want: (u8, &str, &str))
 where
-    R: Abort + Files + Clock + AllocGlobal,
+    R: Abort + Files + Net + Clock + AllocGlobal,
     R::File: Lockable,
 {
     let mut output = Vec::new(rt.alloc());

@@ -6,6 +6,7 @@ use book_file::Lockable;
 use commands::run;
 use std::fs;
 use std::fs::Files;
+use std::net::Net;
 use std::process::Abort;
 use std::test::Fail;
 use std::time::Clock;
@@ -17,7 +18,7 @@ const CODES: &str = "Type one code a line; it is shown as you type. Ctrl-D ends.
 // Runs the words with the input, where the input and the faults are terminals or not, and compares output and faults.
 fn check<R>(rt: &R, words: &[&str], input: &str, are: (bool, bool), want: (&str, &str))
 where
-    R: Abort + Files + Clock + AllocGlobal,
+    R: Abort + Files + Net + Clock + AllocGlobal,
     R::File: Lockable,
 {
     let mut output = Vec::new(rt.alloc());

@@ -1,0 +1,97 @@
+//! What a service stands on, in memory: a store of its book, a clock that stands still, and sinks that keep nothing.
+ghost use Rattle.std.specs.Prelude.{◌≡◌, ◌<◌, ◌+◌, ◌^◌, false, string_bytes};
+ghost use Rattle.std.specs.declared.option.Option.TheVariants.{None};
+
+use account_book::{BookStore, StoreFault};
+use otp_core::Moment;
+use sasl_desk::Clock;
+use sasl_log::{Sink, SinkFault};
+use std::alloc::Global;
+
+/// A store whose device is memory.
+#[derive(Drop)]
+pub(crate) struct Memory {
+    text: String,
+    failed: bool,
+    saves: u64,
+    ghost room: { failed ≡ false → saves + 1 < 2 ^ 64 },
+}
+
+impl Memory {
+    /// A store that holds an empty text.
+    pub(crate) fn new(alloc: Global) -> Memory {
+        Memory {
+            text: String::new(alloc),
+            failed: false,
+            saves: 0,
+        }
+    }
+}
+
+impl BookStore for Memory {
+    ghost use Rattle.account_book.specs.Store.{StoreFacts};
+
+    ghost facts = { λ s. record {
+      saved = string_bytes s.text;
+      asked = string_bytes s.text;
+      failed = s.failed;
+      saves = s.saves;
+    } };
+
+    fn save(&mut self, text: String) -> Result<(), StoreFault> {
+        if self.failed {
+            return Err(StoreFault);
+        }
+        self.text = text;
+        self.saves += 1;
+        if self.saves < u64::MAX {
+            return Ok(());
+        }
+        self.failed = true;
+        Err(StoreFault)
+    }
+}
+
+/// A clock that stands still.
+#[derive(Drop)]
+pub(crate) struct Still {
+    at: Moment,
+}
+
+impl Still {
+    /// A clock that always gives this moment.
+    pub(crate) fn new(at: Moment) -> Still {
+        Still { at }
+    }
+}
+
+impl Clock for Still {
+    ghost last = { λ c. c.at };
+
+    fn now(&mut self) -> Moment {
+        self.at
+    }
+}
+
+/// A sink that counts bytes and keeps none.
+#[derive(Drop)]
+pub(crate) struct Counted {
+    /// How many it was given, up to the greatest number that fits.
+    pub bytes: u64,
+}
+
+impl Counted {
+    /// A sink that was given nothing.
+    pub(crate) fn new() -> Counted {
+        Counted { bytes: 0 }
+    }
+}
+
+impl Sink for Counted {
+    ghost facts = { λ s. record { given = None; failed = false } };
+
+    fn put(&mut self, bytes: &[u8]) -> Result<(), SinkFault> {
+        self.bytes = self.bytes.saturating_add(bytes.len() as u64);
+        Ok(())
+    }
+}

@@ -1,0 +1,108 @@
+//! Clients that are served over memory: logins of RFC 7677's example, section 3, and codes after one of them.
+use crate::memory::{Counted, Memory, Still};
+use account_book::Book;
+use mac_core::{HSha1, Prepared};
+use otp_core::{Digits, Moment, Secret, hotp_with};
+use sasl_desk::{Desk, Phase, ServeFault, serve};
+use sasl_log::OverRead;
+use scram_text::NoncePart;
+use std::alloc::Global;
+use std::fs::Files;
+use std::io::ErrorKind;
+use std::{fs, io};
+
+// What the client sends, line by line.
+const LOGIN: &str = "AUTH SCRAM-SHA-256 :n,,n=user,r=rOprNGfwEbeRWgbNEkqO
+RESP :c=biws,r=rOprNGfwEbeRWgbNEkqO%25hvYDpWUa2RaTCAfuxFIlj)hNlF$k0,p=dHzbZapWIk4jUhN+Ute9ytag9zjfMHgsqmmiz7AndVQ=
+";
+
+// The server's part of the nonce.
+const OWN: &[u8] = b"%hvYDpWUa2RaTCAfuxFIlj)hNlF$k0";
+
+// The service of a book, and how many bytes it has logged and sent.
+#[derive(Drop)]
+struct Service {
+    desk: Desk<Memory>,
+    wire: Counted,
+    log: Counted,
+    clock: Still,
+}
+
+// A service of the book in the file at this path.
+fn begun<R: Files + AllocGlobal>(rt: &R, path: &str) -> io::Result<Service> {
+    let refused = || io::Error::from(ErrorKind::InvalidInput);
+    let bytes = fs::read(rt, path)?;
+    let (Ok(book), Some(now)) = (Book::read(rt.alloc(), bytes.as_slice()), Moment::new(5)) else {
+        return Err(refused());
+    };
+    let mut first_line = Vec::new(rt.alloc());
+    let Ok(desk) = Desk::begin(rt.alloc(), book, Memory::new(rt.alloc()), &mut first_line) else {
+        return Err(refused());
+    };
+    Ok(Service {
+        desk,
+        wire: Counted::new(),
+        log: Counted::new(),
+        clock: Still::new(now),
+    })
+}
+
+// Serves one client, who sends this text and goes away. Returns whether its session has ended, and the desk has not halted.
+fn is_served(alloc: Global, service: &mut Service, text: &str) -> bool {
+    let Service {
+        desk,
+        wire,
+        log,
+        clock,
+    } = service;
+    let Some(own) = NoncePart::new(OWN) else {
+        return false;
+    };
+    if desk.phase() != Phase::Closed {
+        return false;
+    }
+    let mut client = OverRead::new(text.as_bytes());
+    let end = serve(alloc, &mut client, wire, log, desk, own, clock);
+    matches!(end, Ok(Phase::Closed))
+}
+
+/// Serves `count` clients over the book in the file at `path`, who log in and leave, and prints how many sessions ended, and
+/// how many bytes were logged and sent.
+pub(crate) fn print_logins<R>(rt: &R, path: &str, count: u32) -> io::Result<()>
+where
+    R: Print + Files + AllocGlobal,
+{
+    let mut service = begun(rt, path)?;
+    let mut served = 0u32;
+    for _ in 0..count {
+        if is_served(rt.alloc(), &mut service, LOGIN) {
+            served = served.saturating_add(1);
+        }
+    }
+    let (logged, sent) = (service.log.bytes, service.wire.bytes);
+    println!(rt; "served {served} logged {logged} sent {sent}")
+}
+
+/// Serves one client over the book in the file at `path`, who logs in and sends the HOTP codes of RFC 4226's secret from
+/// counter 0 on, `count` of them, and prints what `print_logins` prints.
+pub(crate) fn print_codes_served<R>(rt: &R, path: &str, count: u32) -> io::Result<()>
+where
+    R: Print + Files + AllocGlobal,
+{
+    let mut service = begun(rt, path)?;
+    let (Ok(secret), Ok(digits)) = (Secret::new(b"12345678901234567890"), Digits::new(6)) else {
+        return Err(io::Error::from(ErrorKind::InvalidInput));
+    };
+    let key = Prepared::<HSha1>::new(secret.bytes());
+    let mut text = String::new(rt.alloc());
+    text.push_str(LOGIN)?;
+    for counter in 0..count {
+        let code = hotp_with(&key, u64::from(counter), digits);
+        text.push_str("CODE ")?;
+        text.push_str(code.text())?;
+        text.push_str("\n")?;
+    }
+    let served = is_served(rt.alloc(), &mut service, text.as_str());
+    let (logged, sent) = (service.log.bytes, service.wire.bytes);
+    println!(rt; "served {served} logged {logged} sent {sent}")
+}

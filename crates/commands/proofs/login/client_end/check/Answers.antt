@@ -1,0 +1,8 @@
+use Rattle.std.proofs.Common.{◌≡◌, subst, rules, ℕ, List}
+use Rattle.scram_ends.specs.Login.{IsAuthentic}
+use Rattle.commands.proofs.login.client_end.check.Goals as goal
+
+pub returns-in-Ok-last-clause-is_in : goal.returns-in-Ok-last-clause-is_in
+returns-in-Ok-last-clause-is_in c =
+    let message : c.as_slice.result.now ≡ c.args.message = search rules in
+    λ is l x. subst (λ (text : List ℕ). IsAuthentic text x.signature) message (c.in-Ok-last.ensures.ok l x)

@@ -1,0 +1,184 @@
+//! The command `login`: logs a user in to a service over a book, and prints the service's log.
+ghost use Rattle.std.specs.Prelude.{◌≡◌, OnOk, OnErr};
+ghost use Rattle.sasl_desk.specs.Desks.{phase_of};
+ghost use Rattle.sasl_desk.specs.declared.desk.state.Phase.TheVariants as Phase;
+ghost use Rattle.commands.specs.Login.{StaysItsLog, IsLogAfterFault};
+
+mod client_end;
+mod code_line;
+mod moments;
+mod nonces;
+mod printed_log;
+mod socket;
+mod talk;
+
+use crate::held_book;
+use crate::input::Lines;
+use crate::progress::Watched;
+use crate::prompt::{LOGIN, Typed, ask};
+use crate::words::{given, optional};
+use account_book::BookStore;
+use book_file::Lockable;
+use clap::ArgMatches;
+use client_end::{ClientEnd, User};
+use command_line::value::OptionName;
+use command_line::{Fault, value};
+use moments::Moments;
+use otp_core::Moment;
+use printed_log::PrintedLog;
+use sasl_log::{Sink, Source};
+use scram_text::{NoncePart, Password};
+use socket::Ends;
+use std::alloc::Global;
+use std::fs::Files;
+use std::io::{BufRead, Write};
+use std::net::Net;
+use std::time::Clock;
+use talk::Talk;
+
+// What the words say of a login.
+#[derive(Drop)]
+struct Asked {
+    who: User,
+    client_nonce: Option<NoncePart>,
+    service_nonce: Option<NoncePart>,
+    moment: Option<Moment>,
+}
+
+/// Judges the options in their order, reads the password, the book and the random bytes, makes the socket, and lets the
+/// client log in and send a code for each further input line. Prints the service's log, each line before the client is told
+/// of it; a fault ends it where it stands. Returns whether the client was logged in and each code passed. At a terminal it
+/// asks for the input. Faults: BadValue, CannotReadInput, BadPassword, CannotRead or CannotWrite where the book can't be
+/// held, BadBook, CannotRead of the random file, Socket, and CannotWrite where the book can't be saved, in this order,
+/// then for each line CannotReadInput, CannotWrite, CannotWriteOutput and Socket, and NoMemory.
+pub fn login<R, I, O, E>(
+    rt: &R,
+    words: &ArgMatches<'_>,
+    input: &mut I,
+    output: &mut O,
+    faults: &mut E,
+) -> Result<bool, Fault>
+where
+    R: Files + Net + Clock + AllocGlobal,
+    R::File: Lockable,
+    I: Typed,
+    O: Write,
+    E: Watched,
+{
+    let alloc = rt.alloc();
+    let asked = judge(words)?;
+    ask(input, faults, LOGIN);
+    let mut lines = Lines::new(input);
+    let password = read_password(alloc, &mut lines)?;
+    let held = held_book::open(rt, given(words, OptionName::Book), faults)?;
+    let random = given(words, OptionName::Random);
+    let (nonce, own) = nonces::both(rt, random, asked.client_nonce, asked.service_nonce)?;
+    let client = ClientEnd::new(asked.who, password, nonce);
+    let (ends, _file) = socket::open(rt, given(words, OptionName::Socket))?;
+    let log = PrintedLog::new(output);
+    let clock = Moments::new(rt, asked.moment);
+    let mut talk = Talk::begin(alloc, held, ends.wires(), log, clock)?;
+    converse(alloc, &mut talk, &ends, own, client, &mut lines)
+}
+
+// Lets the client log in, send its codes and go away. Returns whether it was logged in and each code passed; no session is
+// open then. Faults: CannotReadInput, CannotWrite, CannotWriteOutput, Socket and NoMemory.
+fn converse<S, R, W, L, C, I>(
+    alloc: Global,
+    talk: &mut Talk<'_, S, R, W, L, C>,
+    ends: &Ends,
+    own: NoncePart,
+    client: ClientEnd,
+    lines: &mut Lines<'_, I>,
+) -> Result<bool, Fault>
+where
+    S: BookStore + Drop,
+    R: Source + Drop,
+    W: Sink + Drop,
+    L: Sink + Drop,
+    C: sasl_desk::Clock + Drop,
+    I: BufRead,
+    requires { phase_of talk.old.desk.state ≡ Phase.Closed }
+    ensures log { OnOk result (StaysItsLog S.facts talk.old.desk (L.facts talk.old.log) talk.new.desk (L.facts talk.new.log)) }
+    ensures closed { OnOk result (phase_of talk.new.desk.state ≡ Phase.Closed) }
+    ensures after_fault { OnErr result (IsLogAfterFault S.facts talk.old.desk (L.facts talk.old.log) talk.new.desk (L.facts talk.new.log)) }
+{
+    talk.greet(alloc, own)?;
+    let passed = talk.log_in_and_send(alloc, client, lines)?;
+    hang_up(alloc, talk, ends)?;
+    Ok(passed)
+}
+
+// Lets the client go away, where its session is still open. Faults: those of a turn.
+fn hang_up<S, R, W, L, C>(
+    alloc: Global,
+    talk: &mut Talk<'_, S, R, W, L, C>,
+    ends: &Ends,
+) -> Result<(), Fault>
+where
+    S: BookStore + Drop,
+    R: Source + Drop,
+    W: Sink + Drop,
+    L: Sink + Drop,
+    C: sasl_desk::Clock + Drop,
+    ensures log { OnOk result (StaysItsLog S.facts talk.old.desk (L.facts talk.old.log) talk.new.desk (L.facts talk.new.log)) }
+    ensures closed { OnOk result (phase_of talk.new.desk.state ≡ Phase.Closed) }
+    ensures after_fault { OnErr result (IsLogAfterFault S.facts talk.old.desk (L.facts talk.old.log) talk.new.desk (L.facts talk.new.log)) }
+{
+    if !talk.is_open() {
+        return Ok(());
+    }
+    ends.hang_up()?;
+    talk.turn(alloc)?;
+    if talk.is_open() {
+        return Err(Fault::Socket);
+    }
+    Ok(())
+}
+
+// Judges the options that are not taken as they are, in their order.
+fn judge(words: &ArgMatches<'_>) -> Result<Asked, Fault> {
+    let name = value::name(given(words, OptionName::Name))?;
+    let mechanism = match optional(words, OptionName::Mechanism) {
+        Some(text) => Some(value::mechanism(text)?),
+        None => None,
+    };
+    let act_as = match optional(words, OptionName::As) {
+        Some(text) => Some(value::name_to_act_as(text)?),
+        None => None,
+    };
+    let client_nonce = optional_nonce(words, OptionName::ClientNonce)?;
+    let service_nonce = optional_nonce(words, OptionName::ServerNonce)?;
+    let moment = match optional(words, OptionName::Moment) {
+        Some(text) => Some(value::moment(OptionName::Moment, text)?),
+        None => None,
+    };
+    Ok(Asked {
+        who: User {
+            mechanism,
+            name,
+            act_as,
+        },
+        client_nonce,
+        service_nonce,
+        moment,
+    })
+}
+
+fn optional_nonce(words: &ArgMatches<'_>, option: OptionName) -> Result<Option<NoncePart>, Fault> {
+    match optional(words, option) {
+        Some(text) => Ok(Some(value::nonce(option, text)?)),
+        None => Ok(None),
+    }
+}
+
+// Reads the first line, which is the password. BadPassword also where there is no line.
+fn read_password<I: BufRead>(alloc: Global, lines: &mut Lines<'_, I>) -> Result<Password, Fault> {
+    let Some(line) = lines.next(alloc)? else {
+        return Err(Fault::BadPassword);
+    };
+    match Password::new(line.as_slice()) {
+        Some(password) => Ok(password),
+        None => Err(Fault::BadPassword),
+    }
+}

@@ -1,0 +1,158 @@
+//! The client's end of a login: what it says next, by what it was told.
+ghost use Rattle.std.specs.Prelude.{◌≡◌, ◌≢◌, IfOk, IfErr};
+ghost use Rattle.scram_ends.specs.Client.{IsExpecting};
+ghost use Rattle.scram_ends.specs.Login.{IsAuthentic};
+ghost use Rattle.scram_ends.specs.Stages.{Answered};
+ghost use Rattle.commands.specs.ClientEnd.{ShowsKeys};
+
+use command_line::Fault;
+use mac_core::Mechanism;
+use sasl_log::{Line, Payload, ServerLine, escape, read_line};
+use scram_ends::{Client, ClientOne, ClientTwo, Limits, OneRefused};
+use scram_text::{NoncePart, Password, PlainName};
+use std::alloc::Global;
+use std::mem;
+
+/// Who logs in, and how.
+#[derive(Drop)]
+pub struct User {
+    /// The mechanism, or None for the best of those that are offered.
+    pub mechanism: Option<Mechanism>,
+
+    /// The name.
+    pub name: PlainName,
+
+    /// The name to act as, where it is another.
+    pub act_as: Option<PlainName>,
+}
+
+/// What a client does next.
+#[derive(Drop)]
+pub enum Next {
+    /// It says this line, which has its LF.
+    Says(Vec<u8>),
+
+    /// It is logged in: the service has shown that it has the account's keys.
+    IsIn,
+
+    /// It ends the login.
+    Leaves,
+}
+
+// How far a login has come.
+#[derive(Drop)]
+enum Stage {
+    // The client has said nothing yet.
+    Silent,
+
+    // It has sent its first message, and waits for the challenge.
+    Asked(ClientOne),
+
+    // It has sent its proof, and waits for the service's signature.
+    Proved(ClientTwo),
+
+    // It has logged in, or ended the login.
+    Over,
+}
+
+/// A client that logs a user in.
+#[derive(Drop)]
+pub struct ClientEnd {
+    user: User,
+    password: Password,
+    nonce: NoncePart,
+    stage: Stage,
+}
+
+impl ClientEnd {
+    /// A client of this user that has said nothing yet. The nonce is to be a fresh random one.
+    pub fn new(user: User, password: Password, nonce: NoncePart) -> ClientEnd {
+        ClientEnd {
+            user,
+            password,
+            nonce,
+            stage: Stage::Silent,
+        }
+    }
+
+    /// What the client does next, where it was told this line, without its LF. It leaves at a line that is not due, and
+    /// where its own end of the login finds a fault (RFC 5802, section 5). The only fault is NoMemory.
+    pub fn hear(&mut self, alloc: Global, line: &[u8]) -> Result<Next, Fault>
+        ensures is_in { IfOk result (λ next. next ≡ Next.IsIn → ShowsKeys self.old.stage line.now) }
+        ensures err { IfErr result (λ fault. fault ≡ Fault.NoMemory) }
+    {
+        let Ok(Line::FromServer(told)) = read_line(line) else {
+            return Ok(Next::Leaves);
+        };
+        match (mem::replace(&mut self.stage, Stage::Over), told) {
+            (Stage::Silent, ServerLine::Mechs(names)) => self.ask(alloc, names),
+            (Stage::Asked(client), ServerLine::Cont(message)) => {
+                let challenge = message.bytes(alloc).map_err(|_| Fault::NoMemory)?;
+                self.prove(alloc, client, challenge.as_slice())
+            }
+            (Stage::Proved(client), ServerLine::Accepts(message)) => check(alloc, client, message),
+            _ => Ok(Next::Leaves),
+        }
+    }
+
+    // Says which of the mechanisms of these names the client takes, with its first message.
+    fn ask(&mut self, alloc: Global, names: &[u8]) -> Result<Next, Fault>
+        ensures not_in { IfOk result (λ next. next ≢ Next.IsIn) }
+        ensures err { IfErr result (λ fault. fault ≡ Fault.NoMemory) }
+    {
+        let user = &self.user;
+        let Some(mechanism) = user.mechanism.or(Mechanism::choose(names)) else {
+            return Ok(Next::Leaves);
+        };
+        let (name, act_as, nonce) = (&user.name, user.act_as.as_ref(), &self.nonce);
+        let mut message = Vec::new(alloc);
+        let limits = Limits::usual();
+        let Ok(client) = Client::start(mechanism, name, act_as, nonce, limits, &mut message) else {
+            return Err(Fault::NoMemory);
+        };
+        self.stage = Stage::Asked(client);
+        let word = format!(in alloc; "AUTH {} :", mechanism.name())?;
+        Ok(Next::Says(line_of(alloc, word.as_bytes(), message.as_slice())?))
+    }
+
+    // Answers a challenge with the proof.
+    fn prove(&mut self, alloc: Global, client: ClientOne, challenge: &[u8]) -> Result<Next, Fault>
+        ensures not_in { IfOk result (λ next. next ≢ Next.IsIn) }
+        ensures err { IfErr result (λ fault. fault ≡ Fault.NoMemory) }
+    {
+        let mut message = Vec::new(alloc);
+        match client.first(&self.password, challenge, &mut message) {
+            Ok(client) => {
+                self.stage = Stage::Proved(client);
+                Ok(Next::Says(line_of(alloc, b"RESP :", message.as_slice())?))
+            }
+            Err(OneRefused::Spent(_)) => Ok(Next::Leaves),
+            Err(OneRefused::Back(_, _)) => Err(Fault::NoMemory),
+        }
+    }
+}
+
+// Whether the client is in, by the message with which the service accepts it.
+fn check(alloc: Global, client: ClientTwo, message: Payload<'_>) -> Result<Next, Fault>
+    ensures is_in { IfOk result (λ next. next ≡ Next.IsIn → (l : Answered) (x : IsExpecting client l) → IsAuthentic message.entry x.signature) }
+    ensures err { IfErr result (λ fault. fault ≡ Fault.NoMemory) }
+{
+    let Ok(last) = message.bytes(alloc) else {
+        return Err(Fault::NoMemory);
+    };
+    match client.last(last.as_slice()) {
+        Ok(_) => Ok(Next::IsIn),
+        Err(_) => Ok(Next::Leaves),
+    }
+}
+
+// The line of this front and this message, with its LF. The only fault is NoMemory.
+fn line_of(alloc: Global, front: &[u8], message: &[u8]) -> Result<Vec<u8>, Fault>
+    ensures err { IfErr result (λ fault. fault ≡ Fault.NoMemory) }
+{
+    let mut line = Vec::new(alloc);
+    line.extend_from_slice(front)?;
+    escape(message, &mut line).map_err(|_| Fault::NoMemory)?;
+    line.extend_from_slice(b"\n")?;
+    Ok(line)
+}

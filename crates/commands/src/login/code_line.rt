@@ -1,0 +1,44 @@
+//! The line that a client sends for an input line: one code, or two in a row.
+ghost use Rattle.std.specs.Prelude.{◌≡◌, [], ◌∷◌, ◌++◌, IfOk, IfErr, take};
+ghost use Rattle.otp_core.specs.Attempt.{CodeTexts};
+ghost use Rattle.commands.specs.Login.{sent_for};
+ghost use Rattle.commands.specs.Sent.{Says};
+
+use crate::sent::{Sent, sent_by};
+use command_line::Fault;
+use std::alloc::Global;
+
+/// The line for this input line, with its LF: itself where it is a SYNC line of the protocol, else as the text of a CODE
+/// line, whether it can be one or not. The only fault is NoMemory.
+pub fn code_line(alloc: Global, line: &[u8]) -> Result<Vec<u8>, Fault>
+    ensures ok { IfOk result (λ said. (texts : CodeTexts) × Says line.now texts × (said.items ≡ sent_for line.now texts)) }
+    ensures err { IfErr result (λ fault. fault ≡ Fault.NoMemory) }
+{
+    match sent_by(line) {
+        Sent::One(_) => line_of(alloc, b"CODE ", line),
+        Sent::Two(_, _) => line_of(alloc, b"", line),
+    }
+}
+
+// The line of this front and the first 6201 bytes of this text, with its LF. A line of the protocol has at most 6200, so
+// nothing more is ever read.
+fn line_of(alloc: Global, front: &[u8], text: &[u8]) -> Result<Vec<u8>, Fault>
+    ensures ok { IfOk result (λ line. line.items ≡ front.now ++ (take 6201 text.now ++ 10 ∷ [])) }
+    ensures err { IfErr result (λ fault. fault ≡ Fault.NoMemory) }
+{
+    let mut line = Vec::new(alloc);
+    line.extend_from_slice(front)?;
+    line.extend_from_slice(first_bytes(text))?;
+    line.extend_from_slice(b"\n")?;
+    Ok(line)
+}
+
+// The first 6201 bytes of a text, or all of them where it has no more.
+fn first_bytes(text: &[u8]) -> &[u8]
+    ensures { result.now ≡ take 6201 text.now }
+{
+    match text.get(..6201) {
+        Some(front) => front,
+        None => text,
+    }
+}

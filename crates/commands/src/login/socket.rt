@@ -1,0 +1,104 @@
+//! The socket of a login: both its ends, held by one run.
+//!
+//! No read and no write on it waits. What one end says is written before the other end reads, so a read that would have
+//! to wait means that the other end is a stranger, who came to the socket in between.
+use command_line::Fault;
+use sasl_log::{OverRead, OverWrite};
+use std::fs::Files;
+use std::net::{Net, Shutdown};
+use std::os::unix::net::{UnixListener, UnixStream};
+use std::{fs, io};
+
+/// The file of a socket that this run has made. It is removed with this value.
+pub struct SocketFile<'a, R: Files> {
+    rt: &'a R,
+    path: &'a str,
+}
+
+impl<'a, R: Files> Drop for SocketFile<'a, R> {
+    fn drop(self) {
+        let _ = fs::remove_file(self.rt, self.path);
+        let SocketFile { rt: _, path: _ } = self;
+    }
+}
+
+/// Both ends of a connection.
+#[derive(Drop)]
+pub struct Ends {
+    // The client's end.
+    near: UnixStream,
+
+    // The service's.
+    far: UnixStream,
+}
+
+/// One end of a connection: where it reads, and where it writes.
+#[derive(Drop)]
+pub struct Wire<R, W> {
+    /// Where what the other end says comes from.
+    pub reader: R,
+
+    /// Where what is said goes.
+    pub writer: W,
+}
+
+/// Both ends of a connection, to read and to write.
+#[derive(Drop)]
+pub struct Wires<R, W> {
+    /// The client's end.
+    pub of_client: Wire<R, W>,
+
+    /// The service's.
+    pub of_service: Wire<R, W>,
+}
+
+impl Ends {
+    /// Both ends, to read and to write.
+    pub fn wires(&self) -> Wires<OverRead<&UnixStream>, OverWrite<&UnixStream>> {
+        Wires {
+            of_client: wire_of(&self.near),
+            of_service: wire_of(&self.far),
+        }
+    }
+
+    /// Ends what the client says, so that the service reads to the end of it. The only fault is Socket.
+    pub fn hang_up(&self) -> Result<(), Fault> {
+        match self.near.shutdown(Shutdown::Write) {
+            Ok(()) => Ok(()),
+            Err(_) => Err(Fault::Socket),
+        }
+    }
+}
+
+fn wire_of(stream: &UnixStream) -> Wire<OverRead<&UnixStream>, OverWrite<&UnixStream>> {
+    Wire {
+        reader: OverRead::new(stream),
+        writer: OverWrite::new(stream),
+    }
+}
+
+/// Makes a socket at `path`, which is at most 107 bytes long and where nothing may be yet, and connects to it. The only
+/// fault is Socket; where the socket was made, its file is then removed.
+pub fn open<'a, R: Files + Net>(
+    rt: &'a R,
+    path: &'a str,
+) -> Result<(Ends, SocketFile<'a, R>), Fault> {
+    let Ok(listener) = UnixListener::bind(rt, path) else {
+        return Err(Fault::Socket);
+    };
+    let file = SocketFile { rt, path };
+    match connect(rt, path, &listener) {
+        Ok(ends) => Ok((ends, file)),
+        Err(_) => Err(Fault::Socket),
+    }
+}
+
+// Connects to the socket at `path`, and accepts the connection.
+fn connect<R: Net>(rt: &R, path: &str, listener: &UnixListener) -> io::Result<Ends> {
+    listener.set_nonblocking(true)?;
+    let near = UnixStream::connect(rt, path)?;
+    let (far, _) = listener.accept()?;
+    near.set_nonblocking(true)?;
+    far.set_nonblocking(true)?;
+    Ok(Ends { near, far })
+}
