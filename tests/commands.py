@@ -42,7 +42,7 @@ failures = 0
 """
 
 # What the example of each command prints, in an order in which they can be run: RFC 5802, section 5; RFC 4226, appendix D, and
-# RFC 6238, appendix B; the first code of RFC 4226 once more; a log in which no login was accepted.
+# RFC 6238, appendix B; the first code of RFC 4226 once more; a log in which no login was accepted; one of a login and a code.
 EXAMPLES = [
     ("keys", KEYS_OF_PENCIL),
     ("code", "755224\n94287082\n"),
@@ -50,6 +50,7 @@ EXAMPLES = [
     ("verify", "PASS {} 0\n"),
     ("unlock", "unlocked user\n"),
     ("audit", "clean sessions=1 accepted=0 codes=0\n"),
+    ("login", "clean sessions=1 accepted=1 codes=1\n"),
 ]
 
 
@@ -188,6 +189,10 @@ def usage(folder):
             "error: the following required arguments were not provided:\n  --mechanism <NAME>",
         ),
         ("audit --book book", "error: the following required arguments were not provided:\n  --log <FILE>"),
+        (
+            "login --book book --name user",
+            "error: the following required arguments were not provided:\n  --socket <FILE>",
+        ),
         ("audit --log log", "error: the following required arguments were not provided:\n  --book <FILE>"),
         ("keys --salt 00 --salt 01", "error: the argument '--salt <HEX>' cannot be used multiple times"),
         ("keys --rounds 1", "error: unexpected argument '--rounds' found"),
@@ -208,6 +213,7 @@ def help_and_version(folder):
                 "  code    Prints ",
                 "  verify  Judges ",
                 "  unlock  Lets ",
+                "  login   Logs ",
                 "  audit   Judges ",
                 "Exit status:",
             ],
@@ -220,6 +226,7 @@ def help_and_version(folder):
         (["verify", "--help"], ["The book is locked until the input ends", "else may be able to write the book's folder"]),
         (["unlock", "--help"], ["else may be able to write the book's folder", "Standard input is not read."]),
         (["audit", "--help"], ["nothing is written", "Standard input is read only where the log\nis /dev/stdin."]),
+        (["login", "--help"], ["a socket fault", "Codes are saved before they are\ntold", "--as <NAME> ", "every code passed"]),
         (["code", "--help"], ["Standard\ninput is not read."]),
     ]:
         text = help_of(words[:-1])

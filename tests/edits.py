@@ -115,7 +115,7 @@ def functions_of(crate: Path) -> list[Function]:
         module = () if file in ("lib.rt", "main.rt") else tuple(file.removesuffix(".rt").split("/"))
         lines = path.read_text(encoding="utf-8").split("\n")
         for at, line in enumerate(lines):
-            if line[:1].isalpha():
+            if line[:1].isalpha() and line != "where":
                 of = it[1] if (it := IMPL.match(line)) else ""
             if it := FUNCTION.match(line):
                 found.append(Function(module, of, it[2], file, first_line(lines, at, it[1]), last_line(lines, at, it[1])))

@@ -18,6 +18,8 @@ FOLDER = Path(__file__).resolve().parent
 TESTS = [
     "books.py",
     "recipes.py",
+    "login_kill.py",
+    "login.py",
     "book_commands.py",
     "audits.py",
     "book_faults.py",

@@ -4,7 +4,7 @@
 Usage: terminal.py PROGRAM
 
 Standard input and standard error are both a terminal, or one of them is, and standard output is a pipe. Codes are those of
-RFC 4226, appendix D, and keys those of RFC 5802, section 5.
+RFC 4226, appendix D, and the keys and the login those of RFC 5802, section 5.
 """
 import os
 import select
@@ -18,9 +18,14 @@ from suite import USER, hotp
 
 PROGRAM = os.path.abspath(sys.argv[1])
 PASSWORD = "Type the password and press Enter; it is shown as you type.\r\n"
+BOTH = "Type the password and press Enter, then one code a line; all is shown as you type. Ctrl-D ends.\r\n"
 CODES = "Type one code a line; it is shown as you type. Ctrl-D ends.\r\n"
 KEYS = ["keys", "--mechanism", "SCRAM-SHA-1", "--salt", "4125c247e43ab1e93c6dff76", "--count", "4096"]
 KEYS_OF_PENCIL = "stored=e9d94660c39d65c38fbad91c358f14da0eef2bd6\nserver=0fe09258b3ac852ba502cc62ba903eaacdbf7d31\n"
+AUDITS = Path(__file__).parent / "data" / "audits"
+NONCES = ["--client-nonce", "fyko+d2lbbFgONRv9qkxdawL", "--server-nonce", "3rfcNHYJY1ZVvWVs7j"]
+# The log of RFC 5802's login, up to its acceptance, and of a code.
+LOGIN_AND_CODE = "".join((AUDITS / "sha1.log").read_text().splitlines(True)[:6]) + "C CODE 755224\nS PASS 5 0\nC GONE\nE\n"
 # What ends the input that is typed at a terminal.
 END = "\x04"
 
@@ -29,12 +34,17 @@ def on(folder, command, *more):
     return [command, "--book", os.path.join(folder, "book"), "--name", "user", *more]
 
 
+def login(folder):
+    return on(folder, "login", "--socket", os.path.join(folder, "socket"), "--mechanism", "SCRAM-SHA-1", *NONCES, "--moment", "5")
+
+
 def commands(folder):
     """For each command that waits for input: its words, what is typed, what it prints, and what it says at a terminal."""
     return [
         (KEYS, "pencil\n", KEYS_OF_PENCIL, PASSWORD),
         (on(folder, "enrol"), "pencil\n", "enrolled user\n", PASSWORD),
         (on(folder, "verify", "--moment", "5"), "755224\n287082\n", "PASS 5 0\nPASS 5 1\n", CODES),
+        (login(folder), "pencil\n755224\n", LOGIN_AND_CODE, BOTH),
     ]
 
 
@@ -44,7 +54,8 @@ def prepare(folder, words):
     if words[0] == "enrol":
         book.unlink(missing_ok=True)
     else:
-        book.write_text(USER + hotp(look_ahead=3, limit=3))
+        keys = (AUDITS / "keys.toml").read_text() if words[0] == "login" else USER
+        book.write_text(keys + hotp(look_ahead=3, limit=3))
 
 
 class Terminal:
@@ -125,6 +136,7 @@ def nothing_to_wait_for(folder):
         ([*KEYS[:-1], "0"], 2, "", "scramotp: bad value for --count\r\n"),
         (on(folder, "enrol", "--count", "0"), 2, "", "scramotp: bad value for --count\r\n"),
         (on(folder, "verify", "--moment", "5"), 1, "", "scramotp: no token\r\n"),
+        ([*login(folder), "--as", ""], 2, "", "scramotp: bad value for --as\r\n"),
         (["audit", "--book", str(book), "--log", str(log)], 0, "clean sessions=0 accepted=0 codes=0\n", ""),
         (["--version"], 0, "scramotp 0.1.0\n", ""),
     ]:

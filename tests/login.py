@@ -1,0 +1,421 @@
+#!/usr/bin/env python3
+"""What the built program prints for logins over a socket, with which status it ends, and what it leaves: each log is audited
+by the program itself, under the book that the login began with.
+
+Usage: login.py PROGRAM
+"""
+import base64
+import hmac
+import os
+import pathlib
+import re
+import socket
+import subprocess
+import sys
+import time
+import tomllib
+
+import suite
+from suite import hotp
+
+PROGRAM = os.path.abspath(sys.argv[1])
+FILES = pathlib.Path(__file__).parent / "data" / "audits"
+# RFC 5802's and RFC 7677's own logins
+SHA1 = ["--mechanism", "SCRAM-SHA-1", "--client-nonce", "fyko+d2lbbFgONRv9qkxdawL", "--server-nonce", "3rfcNHYJY1ZVvWVs7j"]
+SHA256 = ["--client-nonce", "rOprNGfwEbeRWgbNEkqO", "--server-nonce", "%hvYDpWUa2RaTCAfuxFIlj)hNlF$k0"]
+KEYS = (FILES / "keys.toml").read_text()
+ACCEPTED = "".join((FILES / "sha1.log").read_text().splitlines(True)[:6])
+GONE = "C GONE\nE\n"
+REFUSED = ACCEPTED.replace("OK :v=rmF9pqV8S7suAoZWja4dJRkFsKQ=", "NO :e={}") + "E\n"
+DECOY_KEY = bytes(range(32))
+
+
+class Login:
+    """A folder with a book and a place for the socket, and logins there."""
+
+    def __init__(self, folder, text=KEYS):
+        self.folder = pathlib.Path(folder)
+        self.book, self.socket, self.before = (self.folder / name for name in ["book", "socket", "before"])
+        self.put(text)
+
+    def put(self, text):
+        """Makes this the book."""
+        self.book.write_text(text)
+        self.before.write_text(text)
+
+    def words(self, *more, name="user", path=None):
+        return [PROGRAM, "login", "--book", self.book, "--name", name, "--socket", path or self.socket, *more]
+
+    def run(self, words, text):
+        data = text if isinstance(text, bytes) else text.encode()
+        return subprocess.run(words, input=data, capture_output=True, timeout=60)
+
+    def prints(self, words, text, status, log, fault=""):
+        """Runs a login, compares its status, log and fault, and looks that the socket's file is gone."""
+        done = self.run(words, text)
+        faults = f"scramotp: {fault}\n" if fault else ""
+        got = (done.returncode, done.stdout.decode(), done.stderr.decode())
+        assert got == (status, log, faults), (words, text[:100], got)
+        assert not os.path.lexists(self.socket), words
+
+    def refuses(self, words, text, status, fault):
+        """As `prints` where nothing is printed; and the book is not written."""
+        seen = self.seen()
+        self.prints(words, text, status, "", fault)
+        assert self.seen() == seen, words
+
+    def seen(self):
+        """What differs once the book's name was given to another file, or its file was written."""
+        if not self.book.exists():
+            return None
+        found = self.book.lstat()
+        return found.st_ino, found.st_mtime_ns, found.st_ctime_ns, self.book.read_bytes(), sorted(os.listdir(self.folder))
+
+    def audited(self, log, answer):
+        """Compares what the audit says of a log under the book that it began with."""
+        words = [PROGRAM, "audit", "--book", self.before, "--log", "/dev/stdin"]
+        done = subprocess.run(words, input=log, capture_output=True, text=True)
+        assert (done.stdout, done.stderr) == (answer + "\n", ""), (log, done)
+
+    def account(self):
+        return tomllib.loads(self.book.read_text())["accounts"]["user"]
+
+
+def clean(accepted, codes, sessions=1):
+    return f"clean sessions={sessions} accepted={accepted} codes={codes}"
+
+
+def with_codes(look_ahead=3, limit=3, sync_ahead=None):
+    """The book of RFC 5802's user, with RFC 4226's token."""
+    return KEYS + hotp(look_ahead, limit, sync_ahead)
+
+
+def published_logins(folder):
+    """RFC 5802's login and RFC 7677's, each exactly as it is recorded."""
+    here = Login(folder)
+    here.prints(here.words(*SHA1), "pencil", 0, ACCEPTED + GONE)
+    assert tomllib.loads(here.book.read_text()) == tomllib.loads(KEYS)
+    here.prints(here.words(*SHA1), "pencil\n", 0, ACCEPTED + GONE)
+    here.put((FILES / "sha256.toml").read_text())
+    for more in [[], ["--mechanism", "SCRAM-SHA-256"]]:
+        here.prints(here.words(*SHA256, *more), "pencil\n", 0, (FILES / "sha256.log").read_text())
+
+
+def refused_logins(folder):
+    """Another password, and a user without keys for the mechanism: no code is sent, and no fault is told."""
+    here = Login(folder, with_codes())
+    done = here.run(here.words(*SHA1), "pencils\n755224\n")
+    log = done.stdout.decode()
+    assert (done.returncode, done.stderr) == (1, b""), done
+    assert log.endswith("\nS NO :e=invalid-proof\nE\n") and log.count("\n") == 7, log
+    here.audited(log, clean(0, 0))
+    done = here.run(here.words(), "pencil\n755224\n")
+    assert (done.returncode, done.stderr) == (1, b""), done
+    assert done.stdout.decode().splitlines()[2].startswith("C AUTH SCRAM-SHA-256 :n,,n=user,r="), done
+    assert done.stdout.endswith(b"\nS NO :e=invalid-proof\nE\n"), done
+    here.audited(done.stdout.decode(), clean(0, 0))
+    assert here.account()["token"]["next"] == 0
+
+
+def decoys(folder):
+    """A name without an account has one salt, of 16 bytes (HMAC-SHA-256 of the decoy key), and no proof is right."""
+    here = Login(folder)
+    salt = hmac.digest(DECOY_KEY, b"SCRAM-SHA-1\0nobody", "sha256")[:16]
+    for password in ["pencil", "other"]:
+        done = here.run(here.words("--mechanism", "SCRAM-SHA-1", name="nobody"), password)
+        lines = done.stdout.decode().splitlines()
+        assert (done.returncode, done.stderr, len(lines)) == (1, b"", 7), done
+        assert lines[3].endswith(f",s={base64.b64encode(salt).decode()},i=4096"), lines
+        assert lines[5:] == ["S NO :e=invalid-proof", "E"], lines
+        here.audited(done.stdout.decode(), clean(0, 0))
+
+
+def names_to_act_as(folder):
+    """Another name is refused after a right proof, unless the account may act as it."""
+    here = Login(folder)
+    words = here.words(*SHA1, "--as", "root")
+    done = here.run(words, "pencil\n")
+    lines = done.stdout.decode().splitlines()
+    assert (done.returncode, done.stderr) == (1, b""), done
+    assert lines[2] == "C AUTH SCRAM-SHA-1 :n,a=root,n=user,r=fyko+d2lbbFgONRv9qkxdawL", lines
+    assert lines[4].startswith("C RESP :c=bixhPXJvb3Qs,r=fyko+d2lbbFgONRv9qkxdawL3rfcNHYJY1ZVvWVs7j,p="), lines
+    assert lines[5:] == ["S NO :e=other-error", "E"], lines
+    here.audited(done.stdout.decode(), clean(0, 0))
+    here.put(KEYS.replace("act_as = []", 'act_as = ["root"]'))
+    done = here.run(words, "pencil\n")
+    assert (done.returncode, done.stderr) == (0, b""), done
+    assert done.stdout.decode().splitlines()[5].startswith("S OK :v="), done
+    here.audited(done.stdout.decode(), clean(1, 0))
+    here.put(KEYS)
+    here.prints(here.words(*SHA1), "pencil\n", 0, ACCEPTED + GONE)
+    done = here.run(here.words(*SHA1, "--as", "user"), "pencil\n")
+    assert done.returncode == 0 and b"\nC AUTH SCRAM-SHA-1 :n,a=user,n=user,r=" in done.stdout, done
+
+
+def client_faults(folder):
+    """The client ends a login whose count is outside its limits, or whose service has other keys; no code is sent."""
+    here = Login(folder)
+    for count in [4095, 1000001]:
+        here.put(with_codes().replace("count = 4096\nstored", f"count = {count}\nstored"))
+        log = "".join(ACCEPTED.splitlines(True)[:4]).replace("i=4096", f"i={count}") + GONE
+        here.prints(here.words(*SHA1), "pencil\n755224\n", 1, log)
+        here.audited(log, clean(0, 0))
+        assert here.account()["token"]["next"] == 0
+    here.put(with_codes().replace('server = "0f', 'server = "0e'))
+    done = here.run(here.words(*SHA1), "pencil\n755224\n")
+    log = done.stdout.decode()
+    assert (done.returncode, done.stderr, len(log.splitlines())) == (1, b"", 8), done
+    assert log.splitlines()[5].startswith("S OK :v=") and "rmF9pqV8S7suAoZWja4dJRkFsKQ=" not in log, log
+    assert log.endswith(GONE), log
+    here.audited(log, clean(1, 0))
+
+
+def codes(folder):
+    """Codes of RFC 4226, appendix D, with their replies; status 0 only where each passed."""
+    here = Login(folder)
+    far = "SYNC 399871 520489"
+    for book, lines, status, told, passed in [
+        (with_codes(), ["755224"], 0, ["CODE 755224", "PASS 5 0"], 1),
+        (with_codes(), ["755224", "755224"], 1, ["CODE 755224", "PASS 5 0", "CODE 755224", "FAIL 5"], 1),
+        (with_codes(), ["338314"], 1, ["CODE 338314", "FAIL 5"], 0),
+        (with_codes(limit=1), ["0", "755224"], 1, ["CODE 0", "FAIL 5", "CODE 755224", "LOCKED 5"], 0),
+        (KEYS, ["755224"], 1, ["CODE 755224", "NOCODE 5"], 0),
+        (with_codes(sync_ahead=8), [far], 0, [far, "PASS 5 9"], 1),
+        (with_codes(sync_ahead=7), [far], 1, [far, "FAIL 5"], 0),
+        (with_codes(), ["!" * 16, "~"], 1, ["CODE " + "!" * 16, "FAIL 5", "CODE ~", "FAIL 5"], 0),
+    ]:
+        here.put(book)
+        log = ACCEPTED + "".join(f"{'CS'[n % 2]} {line}\n" for n, line in enumerate(told)) + GONE
+        here.prints(here.words(*SHA1, "--moment", "5"), "\n".join(["pencil", *lines, ""]), status, log)
+        here.audited(log, clean(1, passed))
+
+
+def lines_that_are_no_code(folder):
+    """A line that can't be sent as a code ends the session, and what comes after it is not sent."""
+    here = Login(folder, with_codes(sync_ahead=8))
+    words = here.words(*SHA1, "--moment", "5")
+    long_lines = ["1" * size for size in [17, 6195, 6196, 6201, 6202, 500_000]]
+    for line in ["", " ", "755 224", "755224\r", "755224 ", "C\xe9", "SYNC 755224", "SYNC 755224  287082",
+                 "SYNC 755224 287082 359152", "SYNC 755224 287082\r", *long_lines]:
+        here.put(with_codes(sync_ahead=8))
+        log = ACCEPTED + "C BAD\nS NO :\nE\n"
+        here.prints(words, f"pencil\n{line}\n755224\n", 1, log)
+        here.audited(log, clean(1, 0))
+        assert here.account()["token"]["next"] == 0
+    here.put(with_codes())
+    here.prints(words, b"pencil\n\xff\0\n755224\n", 1, ACCEPTED + "C BAD\nS NO :\nE\n")
+    for text in ["CODE 755224", "ABORT"]:
+        log = ACCEPTED + ("C BAD\nS NO :\nE\n" if " " in text else f"C CODE {text}\nS FAIL 5\n{GONE}")
+        here.prints(words, f"pencil\n{text}\n", 1, log)
+
+
+def replies_at_once(folder):
+    """Each line stands in the log while the input is still open, and the socket's file is there until it ends."""
+    here = Login(folder, with_codes())
+    running = start(here, here.words(*SHA1, "--moment", "5"), "pencil\n")
+    assert read(running, 6) == ACCEPTED
+    assert here.socket.is_socket()
+    for code, lines in [("755224", "C CODE 755224\nS PASS 5 0\n"), ("000000", "C CODE 000000\nS FAIL 5\n")]:
+        running.stdin.write(code + "\n")
+        running.stdin.flush()
+        assert read(running, 2) == lines
+    assert (here.account()["token"]["next"], here.account()["token"]["failures"]) == (1, 1)
+    output, faults = running.communicate()
+    assert (running.returncode, output, faults) == (1, GONE, ""), (running.returncode, output, faults)
+    assert not os.path.lexists(here.socket)
+
+
+def start(here, words, text):
+    """A run that waits for more input than this."""
+    running = subprocess.Popen(words, stdin=subprocess.PIPE, stdout=subprocess.PIPE, stderr=subprocess.PIPE, text=True)
+    running.stdin.write(text)
+    running.stdin.flush()
+    return running
+
+
+def read(running, lines):
+    """The next lines that a run prints."""
+    return "".join(running.stdout.readline() for _ in range(lines))
+
+
+def failed_saves(folder):
+    """A save that fails halts the desk: the log says so, the book is as before, and its clean front is clean."""
+    here = Login(folder, with_codes(sync_ahead=8))
+    for line, sent in [("755224", "C CODE 755224\n"), ("000000", "C CODE 000000\n"), ("SYNC 755224 287082",) * 2]:
+        sent = sent if sent.startswith("C ") else f"C {sent}\n"
+        here.put(with_codes(sync_ahead=8))
+        running = start(here, here.words(*SHA1, "--moment", "5"), "pencil\n")
+        assert read(running, 6) == ACCEPTED
+        book = here.book.read_bytes()
+        os.mkdir(f"{here.book}.new")
+        output, faults = running.communicate(line + "\n755224\n")
+        assert (running.returncode, output) == (3, sent + "S HALT\n"), (running.returncode, output)
+        assert faults == f"scramotp: cannot write {here.book}\n", faults
+        assert here.book.read_bytes() == book and not os.path.lexists(here.socket)
+        os.rmdir(f"{here.book}.new")
+        here.audited(ACCEPTED + output, clean(1, 0))
+    here.put(with_codes())
+    os.mkdir(f"{here.book}.new")
+    here.refuses(here.words(*SHA1), "pencil\n755224\n", 3, f"cannot write {here.book}")
+
+
+def random_nonces(folder):
+    """The client's nonce and then the service's are each the base64 text of the next 18 bytes of the random file."""
+    here, file = Login(folder), pathlib.Path(folder, "random")
+    for name, password in [("one", "pencil"), ("two users", "a,b=c"), ("~" * 255, " " * 1024)]:
+        here.book.unlink()
+        enrol = [PROGRAM, "enrol", "--book", here.book, "--name", name]
+        subprocess.run(enrol, input=password, check=True, capture_output=True, text=True)
+        here.put(here.book.read_text())
+        data = os.urandom(36)
+        file.write_bytes(data)
+        done = here.run(here.words("--random", file, name=name), password)
+        assert (done.returncode, done.stderr) == (0, b""), done
+        client, service = (base64.b64encode(part).decode() for part in [data[:18], data[18:]])
+        lines = done.stdout.decode().splitlines()
+        assert lines[2].endswith(f",r={client}") and f":r={client}{service},s=" in lines[3], lines
+        here.audited(done.stdout.decode(), clean(1, 0))
+    here.put(KEYS)
+    file.write_bytes(data[:18])
+    given = ["--mechanism", "SCRAM-SHA-1", "--random", file]
+    for more, nonce in [(["--client-nonce", "me"], f"me{client}"), (["--server-nonce", "you"], f"{client}you")]:
+        done = here.run(here.words(*given, *more), "pencil")
+        assert done.returncode == 0 and f"S CONT :r={nonce},s=".encode() in done.stdout, done
+    fresh = {here.run(here.words("--mechanism", "SCRAM-SHA-1"), "pencil").stdout for _ in range(3)}
+    assert len(fresh) == 3, fresh
+
+
+def moments(folder):
+    """A code's moment is that of the machine's clock, unless one is given."""
+    here = Login(folder, with_codes())
+    began = int(time.time())
+    done = here.run(here.words(*SHA1), "pencil\n755224\n")
+    [moment] = re.findall(rb"\nS PASS (\d+) 0\n", done.stdout)
+    assert began <= int(moment) <= time.time(), (began, moment)
+    for moment in ["0", "253402300799"]:
+        here.put(with_codes())
+        done = here.run(here.words(*SHA1, "--moment", moment), "pencil\n755224\n")
+        assert f"\nS PASS {moment} 0\n".encode() in done.stdout, done
+
+
+def order_of_faults(folder):
+    """First the options in their order, then the password, the book, the random file and the socket."""
+    here = Login(folder)
+    taken = here.folder / "taken"
+    taken.write_text("")
+    bad = {"--mechanism": "PLAIN", "--as": "", "--client-nonce": "a,b", "--server-nonce": "", "--moment": "-1"}
+    options = list(bad)
+    here.refuses(here.words(name="", *[f"{key}={bad[key]}" for key in options]), "", 2, "bad value for --name")
+    for at, option in enumerate(options):
+        words = here.words(*[f"{key}={bad[key]}" for key in options[at:]], path=taken)
+        here.refuses(words, "", 2, f"bad value for {option}")
+    for option, values in [
+        ("--as", ["\x7f", "a" * 256, "é"]),
+        ("--client-nonce", ["a b", "\x7f", "a" * 257, "é"]),
+        ("--server-nonce", [",", "a" * 257]),
+        ("--moment", ["05", "253402300800", "now"]),
+        ("--mechanism", ["", "scram-sha-1", "SCRAM-SHA-1-PLUS"]),
+    ]:
+        for value in values:
+            here.refuses(here.words(f"{option}={value}"), "pencil", 2, f"bad value for {option}")
+    missing = here.folder / "missing"
+    more = ["--random", missing]
+    here.book.unlink()
+    for text in ["", "\n", "\npencil", "pen\x7fcil", "a" * 1025]:
+        here.refuses(here.words(*more, path=taken), text, 2, "bad password")
+    here.refuses(here.words(*more, path=taken), "pencil", 3, f"cannot read {here.book}")
+    here.put("format = 2\n")
+    here.refuses(here.words(*more, path=taken), "pencil", 1, "bad book: 61")
+    here.put(KEYS)
+    here.refuses(here.words(*more, path=taken), "pencil", 3, f"cannot read {missing}")
+    here.refuses(here.words(path=taken), "pencil", 3, "socket fault")
+    assert taken.read_text() == ""
+    here.prints(here.words(*SHA1, *more), "pencil", 0, ACCEPTED + GONE)
+
+
+def short_random_files(folder):
+    """Each nonce that is not given takes 18 bytes; a file that ends before them is a fault before anything is printed."""
+    here, file = Login(folder), pathlib.Path(folder, "random")
+    for size, more in [(0, []), (17, []), (35, []), (17, ["--client-nonce", "a"]), (17, ["--server-nonce", "a"])]:
+        file.write_bytes(b"a" * size)
+        here.refuses(here.words("--random", file, *more), "pencil\n", 3, f"cannot read {file}")
+    here.refuses(here.words("--random", here.folder), "pencil\n", 3, f"cannot read {here.folder}")
+
+
+def sockets_in_the_way(folder):
+    """A socket fault leaves what is at the path as it is, and the book too; a path may have 107 bytes."""
+    here = Login(folder)
+    with socket.socket(socket.AF_UNIX) as other:
+        other.bind(str(here.folder / "used"))
+        other.listen()
+        here.refuses(here.words(path=here.folder / "used"), "pencil\n", 3, "socket fault")
+        with socket.socket(socket.AF_UNIX) as client:
+            client.connect(str(here.folder / "used"))
+    here.refuses(here.words(path=here.folder / "used"), "pencil\n", 3, "socket fault")
+    assert (here.folder / "used").is_socket()
+    for path in [here.folder, here.book, here.folder / "nothing" / "socket", here.book / "socket"]:
+        here.refuses(here.words(path=path), "pencil\n", 3, "socket fault")
+    here.refuses([*here.words()[:-1], ""], "pencil\n", 3, "socket fault")
+    for size, is_short in [(107, True), (108, False), (4000, False)]:
+        path = os.path.join(folder, "x" * (size - len(folder) - 1))
+        assert len(path) == size
+        if is_short:
+            here.prints(here.words(*SHA1, path=path), "pencil\n", 0, ACCEPTED + GONE)
+        else:
+            here.refuses(here.words(*SHA1, path=path), "pencil\n", 3, "socket fault")
+        assert not os.path.lexists(path)
+
+
+def long_inputs(folder):
+    """More than 16777216 bytes of input are a fault; the log stands as far as it had come."""
+    here = Login(folder, with_codes(limit=100))
+    words = here.words(*SHA1, "--moment", "5")
+    here.refuses(words, b"a" * 16777217, 3, "cannot read input")
+    text = b"pencil\n755224\n"
+    log = ACCEPTED + "C CODE 755224\nS PASS 5 0\n"
+    here.prints(words, text + b"a" * (16777217 - len(text)), 3, log, "cannot read input")
+    here.audited(log, "line 9: cut")
+    here.put(with_codes(limit=100))
+    log = ACCEPTED + "C CODE 755224\nS PASS 5 0\nC BAD\nS NO :\nE\n"
+    here.prints(words, text + b"a" * (16777216 - len(text)), 1, log)
+
+
+def full_devices(folder):
+    """Where the log can't be printed, the login ends there: no code is judged that the log does not have."""
+    here = Login(folder, with_codes())
+    with open("/dev/full", "wb") as full:
+        done = subprocess.run(here.words(*SHA1), input=b"pencil\n755224\n", stdout=full, stderr=subprocess.PIPE)
+    assert (done.returncode, done.stderr) == (3, b"scramotp: cannot write output\n"), done
+    assert here.account()["token"]["next"] == 0 and not os.path.lexists(here.socket)
+
+
+def faulty_inputs(folder):
+    """Input that can't be read."""
+    here = Login(folder)
+    at = os.open(folder, os.O_RDONLY)
+    done = subprocess.run(here.words(*SHA1), stdin=at, capture_output=True)
+    os.close(at)
+    assert (done.returncode, done.stdout, done.stderr) == (3, b"", b"scramotp: cannot read input\n"), done
+
+
+TESTS = [
+    published_logins,
+    refused_logins,
+    decoys,
+    names_to_act_as,
+    client_faults,
+    codes,
+    lines_that_are_no_code,
+    replies_at_once,
+    failed_saves,
+    random_nonces,
+    moments,
+    order_of_faults,
+    short_random_files,
+    sockets_in_the_way,
+    long_inputs,
+    full_devices,
+    faulty_inputs,
+]
+
+suite.run_all(TESTS)

@@ -1,0 +1,146 @@
+#!/usr/bin/env python3
+"""Logins over one book that are killed at any moment, or run at the same time: no counter passes twice in all their logs, the
+book can always be read, and each log that was written is the front of a clean one.
+
+Usage: login_kill.py PROGRAM
+"""
+import hmac
+import os
+import pathlib
+import random
+import re
+import subprocess
+import sys
+import time
+import tomllib
+
+import suite
+from suite import SECRET, hotp
+
+PROGRAM = os.path.abspath(sys.argv[1])
+KEYS = (pathlib.Path(__file__).parent / "data" / "audits" / "keys.toml").read_text()
+BOOK = KEYS + hotp(look_ahead=3, limit=100, sync_ahead=10)
+RUNS = 2000
+
+
+def code(counter):
+    """The code of a counter (RFC 4226, section 5.3)."""
+    tag = hmac.digest(bytes.fromhex(SECRET), counter.to_bytes(8, "big"), "sha1")
+    at = tag[19] & 15
+    return f"{(int.from_bytes(tag[at:at + 4], 'big') & 0x7FFFFFFF) % 10**6:06}"
+
+
+def token(book):
+    return tomllib.loads(book.read_text())["accounts"]["user"]["token"]
+
+
+def start(book, path, lines, output):
+    """A login that sends these lines, over a socket at this path."""
+    words = [PROGRAM, "login", "--book", book, "--name", "user", "--mechanism", "SCRAM-SHA-1", "--socket", path]
+    run = subprocess.Popen(words, stdin=subprocess.PIPE, stdout=output, stderr=subprocess.PIPE, text=True)
+    run.stdin.write("\n".join(["pencil", *lines, ""]))
+    run.stdin.close()
+    run.stdin = None
+    return run
+
+
+def whole_lines(log):
+    """The lines that end with an LF."""
+    return log.split("\n")[:-1]
+
+
+def used(log):
+    """The counters that the replies of a log use: both of a pair."""
+    lines, found = whole_lines(log), []
+    for sent, reply in zip(lines, lines[1:]):
+        if passed := re.fullmatch(r"S PASS \d+ (\d+)", reply):
+            counter = int(passed.group(1))
+            found += [counter - 1, counter] if sent.startswith("C SYNC ") else [counter]
+    return found
+
+
+def begins_clean(book, log):
+    """A log that was cut is at fault in no line that it has, under the book that its login began with."""
+    words = [PROGRAM, "audit", "--book", book, "--log", "/dev/stdin"]
+    done = subprocess.run(words, input=log, capture_output=True, text=True)
+    assert done.stderr == "", done
+    cut = f"line {log.count(chr(10)) + 1}: cut\n"
+    assert done.stdout == cut or done.stdout.startswith("clean "), (log, done.stdout)
+
+
+def lines_from(at):
+    """Codes around a counter, and pairs of codes further on."""
+    singles = [code(counter) for counter in range(max(at - 1, 0), at + 6)]
+    pairs = [f"SYNC {code(counter)} {code(counter + 1)}" for counter in (at + 5, at + 10, at + 14)]
+    return [*singles, *pairs, code(at + 16), code(at + 17)]
+
+
+def killed_at_any_moment(folder):
+    """Runs that are killed leave a book that can be read, with each counter spent that was told to have passed. The first
+    run is not killed: it shows how long one takes."""
+    book, before, log = (pathlib.Path(folder, name) for name in ["book", "before", "log"])
+    book.write_text(BOOK)
+    passed, killed, whole, duration = [], 0, 0, 0.0
+    for number in range(RUNS):
+        before.write_bytes(book.read_bytes())
+        at = token(book)["next"]
+        with open(log, "w") as output:
+            began = time.monotonic()
+            run = start(book, f"{folder}/socket{number}", lines_from(at), output)
+            if number > 0:
+                time.sleep(random.uniform(0, duration))
+                run.kill()
+            status = run.wait()
+        duration = duration or time.monotonic() - began
+        text = log.read_text()
+        killed += status < 0
+        whole += text.endswith("\nE\n")
+        begins_clean(before, text)
+        found = used(text)
+        assert not set(found) & set(passed) and len(found) == len(set(found)), (found, passed)
+        passed += found
+        assert token(book)["next"] > max(passed, default=-1), (token(book), passed[-5:])
+    assert passed and killed > RUNS // 10, (len(passed), killed, whole)
+    run = start(book, f"{folder}/last", [code(token(book)["next"])], subprocess.PIPE)
+    output, faults = run.communicate()
+    assert (run.returncode, faults) == (0, "") and "\nS PASS " in output, (output, faults)
+    assert not os.path.lexists(f"{folder}/last") and not os.path.lexists(f"{book}.new")
+
+
+def left_sockets(folder):
+    """A run that is killed may leave its socket; the next run has a fault until the file is removed."""
+    book, path = pathlib.Path(folder, "book"), f"{folder}/socket"
+    book.write_text(BOOK)
+    words = [PROGRAM, "login", "--book", book, "--name", "user", "--mechanism", "SCRAM-SHA-1", "--socket", path]
+    run = subprocess.Popen(words, stdin=subprocess.PIPE, stdout=subprocess.PIPE, stderr=subprocess.PIPE, text=True)
+    run.stdin.write("pencil\n")
+    run.stdin.flush()
+    assert run.stdout.readline() == "SCRAMLOG 1\n"
+    run.kill()
+    run.communicate()
+    for removed, want in [(False, (3, "scramotp: socket fault\n")), (True, (0, ""))]:
+        if removed:
+            os.remove(path)
+        run = start(book, path, [], subprocess.PIPE)
+        _, faults = run.communicate()
+        assert (run.returncode, faults) == want, (run.returncode, faults)
+        assert os.path.lexists(path) != removed
+
+
+def twenty_at_once(folder):
+    """A code passes once, whichever run comes first; the others fail, each in a log that has its own login."""
+    book = pathlib.Path(folder, "book")
+    for _ in range(5):
+        book.write_text(BOOK)
+        runs = [start(book, f"{folder}/socket{number}", [code(0)], subprocess.PIPE) for number in range(20)]
+        logs = [run.communicate() for run in runs]
+        assert all(faults == "" for _, faults in logs), logs
+        replies = sorted(re.findall(r"^S (PASS|FAIL) ", log, re.M) for log, _ in logs)
+        assert replies == [["FAIL"]] * 19 + [["PASS"]], replies
+        assert sorted(run.returncode for run in runs) == [0] + [1] * 19
+        assert all(re.search(r"^S OK :v=", log, re.M) and log.endswith("\nC GONE\nE\n") for log, _ in logs), logs
+        assert (token(book)["next"], token(book)["failures"]) == (1, 19), token(book)
+        assert os.listdir(folder) == ["book"]
+
+
+suite.run_all([killed_at_any_moment, left_sockets, twenty_at_once])
