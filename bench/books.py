@@ -102,4 +102,5 @@ def main():
         print(f"{what}: {taken * 1000:.1f} ms, ratio {taken / python:.2f}")
 
 
-main()
+if __name__ == "__main__":
+    main()
