@@ -8,7 +8,7 @@ use Rattle.otp_core.specs.declared.token.answer.Reply.{Reply}
 use Rattle.otp_core.specs.declared.token.answer.Reply.TheVariants.{Pass, Fail, Locked}
 use Rattle.log_grammar.specs.Payload.{IsMessage}
 use Rattle.log_grammar.specs.Words.{is_mech_char, is_code_char, is_space, IsMechName}
-use Rattle.log_grammar.specs.Lines.{ServerLine, mechs, cont, accepts, refuses, replies, halt, ClientLine, auth, auth_with, resp, abort, code, sync, Line, from_server, from_client, LogLine, header, said, heard, bad, gone, ended, line_text, log_text, IsReplyInRange, IsServerInRange, IsClientInRange, IsLineInRange, IsLogInRange, IsLine, IsLogLine, IsNoLogLine}
+use Rattle.log_grammar.specs.Lines.{ServerLine, mechs, cont, accepts, refuses, replies, halt, busy, ClientLine, auth, auth_with, resp, abort, code, sync, Line, from_server, from_client, LogLine, header, second_header, said, heard, bad, gone, ended, line_text, log_text, IsReplyInRange, IsServerInRange, IsClientInRange, IsLineInRange, IsLogInRange, IsLine, IsLogLine, IsNoLogLine}
 use Rattle.log_grammar.proofs.LineLemmas.{line_in, line_back, log_line_in, log_line_back}
 
 decided_each : {X : Type 0} (P : X → Type 0) → ((x : X) → Decided (P x)) → (xs : List X) → Decided (AllByRecursion P xs)
@@ -34,6 +34,7 @@ server_decided (accepts message) = message_decided message
 server_decided (refuses message) = message_decided message
 server_decided (replies moment reply) = decided_both _ _ (decided_le moment 253402300799) (reply_decided reply)
 server_decided halt = inl tt
+server_decided busy = inl tt
 
 client_decided : (line : ClientLine) → Decided (IsClientInRange line)
 client_decided (auth mechanism) = name_decided mechanism
@@ -49,6 +50,7 @@ ranges_decided (from_client line) = client_decided line
 
 log_ranges_decided : (line : LogLine) → Decided (IsLogInRange line)
 log_ranges_decided header = inl tt
+log_ranges_decided second_header = inl tt
 log_ranges_decided (said line) = server_decided line
 log_ranges_decided (heard line) = client_decided line
 log_ranges_decided bad = inl tt
