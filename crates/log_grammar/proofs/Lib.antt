@@ -42,3 +42,10 @@ pub mod Mended
 pub mod LoginFaults
 pub mod DueRanges
 pub mod DueLines
+pub mod Owns
+pub mod Stays
+pub mod NumberedMarks
+pub mod NumberedLogSteps
+pub mod NumberedCuts
+pub mod NumberedReadings
+pub mod OwnPlaces

@@ -11,6 +11,9 @@ pub mod Histories
 pub mod Clean
 pub mod Why
 pub mod Counts
+pub mod Numbered
+pub mod NumberedSteps
+pub mod NumberedLaws
 pub mod Logins
 pub mod Replies
 pub mod Outcomes

@@ -1,0 +1,103 @@
+-- What a line of a number tells, and the marks of what was told: each has the number of its reply.
+use Rattle.std.proofs.Common.{◌≡◌, ◌⊎◌, inl, inr, ℕ, true, false, List, [], ◌∷◌, ◌++◌, refl, sym, ◌∙◌, ap, subst, append-nil}
+use Rattle.std.specs.Prelude.{map}
+use Rattle.std.proofs.lemmas.Bool.{eq-eqb}
+use Rattle.std.proofs.lemmas.List.{map-append}
+use Rattle.log_grammar.specs.Lines.{LogLine, said, replies}
+use Rattle.log_grammar.specs.Sessions.{Told, told_of}
+use Rattle.log_grammar.specs.Demands.{Demands}
+use Rattle.log_grammar.specs.Places.{Place, got_code}
+use Rattle.log_grammar.specs.Steps.{Goes, told_at}
+use Rattle.log_grammar.specs.Numbered.{Numbered, numbered, own, is_reply, reply_numbers}
+use Rattle.log_grammar.specs.NumberedSteps.{GoesIn}
+use Rattle.log_grammar.proofs.Owns.{own_append, same_numbered}
+use Rattle.log_grammar.proofs.Snoc.{some_last, last_same, with_last}
+
+-- a line tells of a code exactly where it is a reply
+abbrev pub Tells : Place → LogLine → Type 0
+Tells place line = ((told_at place line ≡ []) × (is_reply line ≡ false)) ⊎ ((t : Told) × (told_at place line ≡ t ∷ []) × (is_reply line ≡ true))
+
+telling : (d : Demands) (place : Place) (line : LogLine) (next : Place) → Goes d place line next → Tells place line
+telling d (got_code account sent) (said (replies moment reply)) next h = inr (told_of account moment sent reply, refl, refl)
+telling d place (said (replies moment reply)) next h = absurd h
+telling d place line next h = inl (refl, refl)
+
+pub telling_in : (d : Demands) (place : Place) (line : LogLine) (next : Place) → GoesIn d place line next → Tells place line
+telling_in d place line next (inl h) = telling d place line next h
+telling_in d place line next (inr b) = inl (ap (λ (p : Place). told_at p line) b.0, ap is_reply b.1)
+
+-- what was told, each with this number
+abbrev pub marks_of : ℕ → List Told → List (Numbered Told)
+marks_of n told = map (numbered n) told
+
+abbrev pub numbers_of : List (Numbered Told) → List ℕ
+numbers_of marks = map (λ t. t.number) marks
+
+abbrev pub values_of : List (Numbered Told) → List Told
+values_of marks = map (λ t. t.value) marks
+
+pub values_of_marks : (n : ℕ) (told : List Told) → values_of (marks_of n told) ≡ told
+values_of_marks n [] = refl
+values_of_marks n (t ∷ told) = ap (λ l. t ∷ l) (values_of_marks n told)
+
+-- the marks of what a line tells have the number of the line where it is a reply
+pub numbers_told : (n : ℕ) (place : Place) (line : LogLine) → Tells place line
+    → numbers_of (marks_of n (told_at place line)) ≡ reply_numbers (numbered n line ∷ [])
+numbers_told n place line (inl none) = rw (none.0, none.1) refl
+numbers_told n place line (inr one) = rw (one.1, one.2) refl
+
+pub no_marks : (marks : List (Numbered Told)) → numbers_of marks ≡ [] → marks ≡ []
+no_marks [] e = refl
+no_marks (m ∷ marks) e = absurd (cc e)
+
+-- marks without those of the last line
+pub record Unmarked (n : ℕ) (marks : List (Numbered Told)) (numbers : List ℕ) (before more : List Told) : Type 0 where
+  pub earlier : List (Numbered Told)
+  pub same : marks ≡ earlier ++ marks_of n more
+  pub order : numbers_of earlier ≡ numbers
+  pub mine : own n earlier ≡ before
+
+unmark_none : (n : ℕ) (marks : List (Numbered Told)) (numbers : List ℕ) (before : List Told) → numbers_of marks ≡ numbers ++ []
+    → own n marks ≡ before ++ [] → Unmarked n marks numbers before []
+unmark_none n marks numbers before order mine =
+    record { earlier = marks; same = sym (append-nil marks); order = order ∙ append-nil numbers; mine = mine ∙ append-nil before }
+
+own_last : (n : ℕ) (m : Numbered Told) → m.number ≡ n → own n (m ∷ []) ≡ m.value ∷ []
+own_last n m same = rw (eq-eqb n m.number (sym same)) refl
+
+unmark_last : (n : ℕ) (t : Told) (front : List (Numbered Told)) (last : Numbered Told) (numbers : List ℕ) (before : List Told)
+    → numbers_of (front ++ last ∷ []) ≡ numbers ++ n ∷ [] → own n (front ++ last ∷ []) ≡ before ++ t ∷ []
+    → Unmarked n (front ++ last ∷ []) numbers before (t ∷ [])
+unmark_last n t front last numbers before order mine =
+    let ends = last_same (numbers_of front) numbers last.number n (sym (map-append (λ (m : Numbered Told). m.number) front (last ∷ [])) ∙ order) in
+    let told = sym (own_append n front (last ∷ []) ∙ ap (λ (l : List Told). own n front ++ l) (own_last n last ends.1)) ∙ mine in
+    let also = last_same (own n front) before last.value t told in
+    record {
+      earlier = front;
+      same = ap (λ (m : Numbered Told). front ++ m ∷ []) (same_numbered last.number n last.value t ends.1 also.1);
+      order = ends.0;
+      mine = also.0;
+    }
+
+unmark_one : (n : ℕ) (t : Told) (marks : List (Numbered Told)) (numbers : List ℕ) (before : List Told) → numbers_of marks ≡ numbers ++ n ∷ []
+    → own n marks ≡ before ++ t ∷ [] → Unmarked n marks numbers before (t ∷ [])
+unmark_one n t [] numbers before order mine = absurd (some_last numbers n (sym order))
+unmark_one n t (m ∷ marks) numbers before order mine =
+    let last = with_last m marks in
+    let found = unmark_last n t last.0 last.1 numbers before
+    (subst (λ (l : List (Numbered Told)). numbers_of l ≡ numbers ++ n ∷ []) last.2 order)
+    (subst (λ (l : List (Numbered Told)). own n l ≡ before ++ t ∷ []) last.2 mine) in
+    subst (λ (l : List (Numbered Told)). Unmarked n l numbers before (t ∷ [])) (sym last.2) found
+
+-- the marks before a line, and those of what the line tells
+pub unmark : (n : ℕ) (place : Place) (line : LogLine) (marks : List (Numbered Told)) (numbers : List ℕ) (before : List Told) → Tells place line
+    → numbers_of marks ≡ numbers ++ reply_numbers (numbered n line ∷ []) → own n marks ≡ before ++ told_at place line
+    → Unmarked n marks numbers before (told_at place line)
+unmark n place line marks numbers before (inl none) order mine =
+    let numbers_are = rw none.1 at order in
+    let told = rw none.0 at mine in
+    subst (λ (t : List Told). Unmarked n marks numbers before t) (sym none.0) (unmark_none n marks numbers before numbers_are told)
+unmark n place line marks numbers before (inr one) order mine =
+    let numbers_are = rw one.2 at order in
+    let told = rw one.1 at mine in
+    subst (λ (t : List Told). Unmarked n marks numbers before t) (sym one.1) (unmark_one n one.0 marks numbers before numbers_are told)

@@ -1,0 +1,70 @@
+use Rattle.std.proofs.Common.{◌≡◌, ℕ, List, ◌++◌, [], ◌∷◌, reverse, sym, ◌∙◌, ap, subst}
+use Rattle.log_grammar.specs.Lines.{LogLine}
+use Rattle.log_grammar.specs.Sessions.{Told}
+use Rattle.log_grammar.specs.Demands.{Accounts, Demands, demands, AreReplies}
+use Rattle.log_grammar.specs.Places.{Place}
+use Rattle.log_grammar.specs.Steps.{told_at}
+use Rattle.log_grammar.specs.Numbered.{Numbered, numbered, SpellsNumbered}
+use Rattle.log_grammar.specs.NumberedSteps.{GoesIn, put, GoesNumbered, StoodNumbered}
+use Rattle.log_grammar.specs.NumberedLaws.{GoesOnByANumberedLine}
+use Rattle.log_grammar.proofs.Owns.{at_each, put_here, put_other}
+use Rattle.log_grammar.proofs.numbered.numbered_logs_go_on_exactly_so.Goals as goal
+
+abbrev Stands : ℕ → Demands → List (Numbered LogLine) → (ℕ → Place) → List Told → ℕ → LogLine → (ℕ → Place) → List Told → Type 0
+Stands limit d log places told n line next all =
+    GoesNumbered limit d log places told n line (next n) × ((m : ℕ) → (m ≡ n → ⊥) → next m ≡ places m) × (all ≡ told ++ told_at (places n) line)
+
+moved : (limit : ℕ) (d : Demands) (log : List (Numbered LogLine)) (places other : ℕ → Place) (told also : List Told) (n : ℕ) (line : LogLine) (to : Place)
+    → GoesNumbered limit d log places told n line to → places n ≡ other n → told ≡ also → GoesNumbered limit d log other also n line to
+moved limit d log places other told also n line to g at same = record {
+  room = g.room;
+  next = g.next;
+  goes = subst (λ (p : Place). GoesIn d p line to) at g.goes;
+  due = subst (λ (t : List Told). AreReplies d (reverse t) (told_at (other n) line)) same
+      (subst (λ (p : Place). AreReplies d (reverse told) (told_at p line)) at g.due);
+}
+
+there : (limit : ℕ) (d : Demands) (log : List (Numbered LogLine)) (places : ℕ → Place) (told : List Told) (n : ℕ) (line : LogLine) (next : ℕ → Place) (all : List Told)
+    → (s : StoodNumbered limit d log n line next all) → ((m : ℕ) → s.before m ≡ places m) → s.told ≡ told → Stands limit d log places told n line next all
+there limit d log places told n line next all s same also = (
+  moved limit d log s.before places s.told told n line (next n) s.goes (same n) also,
+  λ m other. s.others m (λ e. other (sym e)) ∙ same m,
+  s.tells ∙ ap (λ (t : List Told). t ++ told_at (s.before n) line) also ∙ ap (λ (p : Place). told ++ told_at p line) (same n),
+)
+
+-- the places of a log are said point by point
+placed : (limit : ℕ) (d : Demands) (log : List (Numbered LogLine)) (places other : ℕ → Place) (told : List Told) → SpellsNumbered limit d log places told
+    → ((n : ℕ) → places n ≡ other n) → SpellsNumbered limit d log other told
+placed limit d log places other told s same = record {
+  stay = s.stay;
+  lines = s.lines;
+  good = s.good;
+  room = s.room;
+  next = s.next;
+  marks = s.marks;
+  marked = s.marked;
+  order = s.order;
+  tells = s.tells;
+  replies = s.replies;
+  after = λ n. sym (same n) ∙ s.after n;
+}
+
+back : GoesOnByANumberedLine → (limit : ℕ) (accounts : Accounts) (log : List (Numbered LogLine)) (places : ℕ → Place) (told : List Told) (n : ℕ) (line : LogLine)
+    (next : ℕ → Place) (all : List Told) → SpellsNumbered limit (demands accounts) log places told → Stands limit (demands accounts) log places told n line next all
+    → SpellsNumbered limit (demands accounts) (log ++ numbered n line ∷ []) next all
+back on limit accounts log places told n line next all s stands =
+    let more = log ++ numbered n line ∷ [] in
+    let longer = on limit accounts log places told n line (next n) s stands.0 in
+    let same = at_each (λ (m : ℕ). put n (next n) places m ≡ next m) n (put_here n (next n) places)
+    (λ m other. put_other n (next n) places m other ∙ sym (stands.1 m (λ e. other (sym e)))) in
+    subst (λ (t : List Told). SpellsNumbered limit (demands accounts) more next t) (sym stands.2)
+    (placed limit (demands accounts) more (put n (next n) places) next (told ++ told_at (places n) line) longer same)
+
+pub returns : goal.returns
+returns c = λ limit accounts log places told n line next all s. (
+  λ longer.
+      let stood = c.goes_on_by_no_other_numbered_line.ensures limit accounts log n line next all longer in
+      let same = c.has_one_numbered_reading.ensures limit accounts log stood.before places stood.told told stood.spells s in
+      there limit (demands accounts) log places told n line next all stood same.0 same.1,
+  λ stands. back c.goes_on_by_a_numbered_line.ensures limit accounts log places told n line next all s stands,
+)

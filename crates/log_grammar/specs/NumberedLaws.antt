@@ -1,0 +1,51 @@
+-- The laws of logs of version 2: by which lines such a log goes on, that it is read in one way, that its first lines are
+-- such a log, and that the place of a session follows from its own lines alone.
+use Rattle.std.specs.Prelude.{ℕ, ◌≡◌, ◌≢◌, ◌↔◌, List, [], ◌∷◌, ◌++◌}
+use Rattle.log_grammar.specs.Lines.{LogLine}
+use Rattle.log_grammar.specs.Sessions.{Told}
+use Rattle.log_grammar.specs.Demands.{Accounts, demands}
+use Rattle.log_grammar.specs.Places.{Place}
+use Rattle.log_grammar.specs.Steps.{told_at}
+use Rattle.log_grammar.specs.Numbered.{Numbered, numbered, own, SpellsNumbered}
+use Rattle.log_grammar.specs.NumberedSteps.{put, GoesNumbered, StoodNumbered}
+
+-- where a number may have a line, the log goes on with it, and no other number's place changes
+abbrev pub GoesOnByANumberedLine : Type 0
+GoesOnByANumberedLine = (limit : ℕ) (accounts : Accounts) (log : List (Numbered LogLine)) (places : ℕ → Place) (told : List Told)
+    (n : ℕ) (line : LogLine) (to : Place) → SpellsNumbered limit (demands accounts) log places told
+    → GoesNumbered limit (demands accounts) log places told n line to
+    → SpellsNumbered limit (demands accounts) (log ++ numbered n line ∷ []) (put n to places) (told ++ told_at (places n) line)
+
+-- a log goes on in no other way: before its last line it is one after which this number may have the line
+abbrev pub GoesOnByNoOtherNumberedLine : Type 0
+GoesOnByNoOtherNumberedLine = (limit : ℕ) (accounts : Accounts) (log : List (Numbered LogLine)) (n : ℕ) (line : LogLine)
+    (places : ℕ → Place) (all : List Told) → SpellsNumbered limit (demands accounts) (log ++ numbered n line ∷ []) places all
+    → StoodNumbered limit (demands accounts) log n line places all
+
+-- the place of each number, and what was told in all, follow from the lines
+abbrev pub HasOneNumberedReading : Type 0
+HasOneNumberedReading = (limit : ℕ) (accounts : Accounts) (log : List (Numbered LogLine)) (places others : ℕ → Place) (told also : List Told)
+    → SpellsNumbered limit (demands accounts) log places told → SpellsNumbered limit (demands accounts) log others also
+    → ((n : ℕ) → places n ≡ others n) × (told ≡ also)
+
+-- a log with a line more is a log exactly where this number may have the line; then this number is where the line leads,
+-- each other is where it was, and what was told in all goes on by what the line tells
+abbrev pub NumberedLogsGoOnExactlySo : Type 0
+NumberedLogsGoOnExactlySo = (limit : ℕ) (accounts : Accounts) (log : List (Numbered LogLine)) (places : ℕ → Place) (told : List Told)
+    (n : ℕ) (line : LogLine) (next : ℕ → Place) (all : List Told) → SpellsNumbered limit (demands accounts) log places told
+    → SpellsNumbered limit (demands accounts) (log ++ numbered n line ∷ []) next all
+    ↔ (GoesNumbered limit (demands accounts) log places told n line (next n) × ((m : ℕ) → m ≢ n → next m ≡ places m)
+    × (all ≡ told ++ told_at (places n) line))
+
+-- the first lines of such a log are such a log
+abbrev pub FirstNumberedLinesAreLogs : Type 0
+FirstNumberedLinesAreLogs = (limit : ℕ) (accounts : Accounts) (log more : List (Numbered LogLine)) (places : ℕ → Place) (told : List Told)
+    → SpellsNumbered limit (demands accounts) (log ++ more) places told
+    → (before : ℕ → Place) × (earlier : List Told) × SpellsNumbered limit (demands accounts) log before earlier
+
+-- the place of a session follows from its own lines alone, whatever other sessions there are, in whichever log and under
+-- whichever number
+abbrev pub SessionsStandAlone : Type 0
+SessionsStandAlone = (limit : ℕ) (accounts : Accounts) (log other : List (Numbered LogLine)) (places others : ℕ → Place) (told also : List Told)
+    → SpellsNumbered limit (demands accounts) log places told → SpellsNumbered limit (demands accounts) other others also
+    → (n m : ℕ) → own n log ≡ own m other → places n ≡ others m

@@ -1,0 +1,48 @@
+//! Laws of logs of version 2, whose lines have the numbers of their sessions: each is the promise of a function that
+//! does nothing. They hold for every limit of open sessions.
+ghost use Rattle.log_grammar.specs.NumberedLaws.{GoesOnByANumberedLine, GoesOnByNoOtherNumberedLine, HasOneNumberedReading, NumberedLogsGoOnExactlySo, FirstNumberedLinesAreLogs, SessionsStandAlone};
+
+use scram_text::laws::{has_one_client_first, spells_one_name};
+
+/// Where a number may have a line, with the reply that is due where it is one, a log goes on with it, and no other
+/// number's place changes.
+pub fn goes_on_by_a_numbered_line()
+    ensures { GoesOnByANumberedLine }
+{}
+
+/// A log goes on in no other way: before its last line it is a log after which that line's number may have it.
+pub fn goes_on_by_no_other_numbered_line()
+    ensures { GoesOnByNoOtherNumberedLine }
+{}
+
+/// The place of each number after a log's lines, and what was told in them, follow from the lines.
+pub fn has_one_numbered_reading()
+    ensures { HasOneNumberedReading }
+{
+    has_one_client_first();
+    spells_one_name();
+}
+
+/// A log goes on by a line of a number exactly where this number may have it: what a reader and a writer of a log have to
+/// decide at each line, its ranges aside.
+pub fn numbered_logs_go_on_exactly_so()
+    ensures { NumberedLogsGoOnExactlySo }
+{
+    goes_on_by_a_numbered_line();
+    goes_on_by_no_other_numbered_line();
+    has_one_numbered_reading();
+}
+
+/// The first lines of a log are a log.
+pub fn first_numbered_lines_are_logs()
+    ensures { FirstNumberedLinesAreLogs }
+{}
+
+/// The place of a session, and so what may follow its lines, follows from its own lines alone: no line of another session
+/// enters.
+pub fn sessions_stand_alone()
+    ensures { SessionsStandAlone }
+{
+    has_one_client_first();
+    spells_one_name();
+}
