@@ -49,3 +49,4 @@ pub mod NumberedLogSteps
 pub mod NumberedCuts
 pub mod NumberedReadings
 pub mod OwnPlaces
+pub mod NumberedExampleLemmas

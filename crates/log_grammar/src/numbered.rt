@@ -1,5 +1,10 @@
 //! Laws of logs of version 2, whose lines have the numbers of their sessions: each is the promise of a function that
 //! does nothing. They hold for every limit of open sessions.
+ghost use Rattle.std.specs.Prelude.{[], ◌∷◌};
+ghost use Rattle.log_grammar.specs.Lines.{gone};
+ghost use Rattle.log_grammar.specs.Demands.{Accounts};
+ghost use Rattle.log_grammar.specs.Numbered.{numbered};
+ghost use Rattle.log_grammar.specs.NumberedExamples.{offer, turns_away, two_at_once, IsWholeForTwo, BeginsNoneForTwo};
 ghost use Rattle.log_grammar.specs.NumberedLaws.{GoesOnByANumberedLine, GoesOnByNoOtherNumberedLine, HasOneNumberedReading, NumberedLogsGoOnExactlySo, FirstNumberedLinesAreLogs, SessionsStandAlone};
 
 use scram_text::laws::{has_one_client_first, spells_one_name};
@@ -46,3 +51,15 @@ pub fn sessions_stand_alone()
     has_one_client_first();
     spells_one_name();
 }
+
+/// Where two sessions may be open at once: a log of two, each line among those of the other, and of a third that is turned
+/// away, is whole; and no log begins with a third session while two are open, with a number that is left out, with a
+/// session that is turned away while one is open, or with another line than its `E` after BUSY.
+pub fn two_sessions_at_once()
+    ensures whole { (accounts : Accounts) → IsWholeForTwo accounts two_at_once }
+    ensures third { (accounts : Accounts) → BeginsNoneForTwo accounts (offer 1 ∷ offer 2 ∷ offer 3 ∷ []) }
+    ensures gap { (accounts : Accounts) → BeginsNoneForTwo accounts (offer 1 ∷ offer 3 ∷ []) }
+    ensures early { (accounts : Accounts) → BeginsNoneForTwo accounts (offer 1 ∷ turns_away 2 ∷ []) }
+    ensures unended { (accounts : Accounts)
+        → BeginsNoneForTwo accounts (offer 1 ∷ offer 2 ∷ turns_away 3 ∷ numbered 1 gone ∷ []) }
+{}
