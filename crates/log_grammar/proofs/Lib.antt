@@ -50,3 +50,5 @@ pub mod NumberedCuts
 pub mod NumberedReadings
 pub mod OwnPlaces
 pub mod NumberedExampleLemmas
+pub mod StepKinds
+pub mod OpenCounts

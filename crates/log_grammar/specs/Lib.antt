@@ -13,6 +13,7 @@ pub mod Why
 pub mod Counts
 pub mod Numbered
 pub mod NumberedSteps
+pub mod NumberedCounts
 pub mod NumberedLaws
 pub mod NumberedExamples
 pub mod Logins

@@ -1,12 +1,13 @@
 -- The laws of logs of version 2: by which lines such a log goes on, that it is read in one way, that its first lines are
--- such a log, and that the place of a session follows from its own lines alone.
-use Rattle.std.specs.Prelude.{ℕ, ◌≡◌, ◌≢◌, ◌↔◌, List, [], ◌∷◌, ◌++◌}
-use Rattle.log_grammar.specs.Lines.{LogLine}
+-- such a log, that the place of a session follows from its own lines alone, and how many sessions are open.
+use Rattle.std.specs.Prelude.{ℕ, ◌≡◌, ◌≢◌, ◌≤◌, ◌+◌, ◌↔◌, ◌⊎◌, false, List, [], ◌∷◌, ◌++◌}
+use Rattle.log_grammar.specs.Lines.{LogLine, said, busy}
 use Rattle.log_grammar.specs.Sessions.{Told}
 use Rattle.log_grammar.specs.Demands.{Accounts, demands}
 use Rattle.log_grammar.specs.Places.{Place}
 use Rattle.log_grammar.specs.Steps.{told_at}
-use Rattle.log_grammar.specs.Numbered.{Numbered, numbered, own, SpellsNumbered}
+use Rattle.log_grammar.specs.Numbered.{Numbered, numbered, own, begun, closed_in, SpellsNumbered}
+use Rattle.log_grammar.specs.NumberedCounts.{is_closed, open_up_to}
 use Rattle.log_grammar.specs.NumberedSteps.{put, GoesNumbered, StoodNumbered}
 
 -- where a number may have a line, the log goes on with it, and no other number's place changes
@@ -49,3 +50,18 @@ abbrev pub SessionsStandAlone : Type 0
 SessionsStandAlone = (limit : ℕ) (accounts : Accounts) (log other : List (Numbered LogLine)) (places others : ℕ → Place) (told also : List Told)
     → SpellsNumbered limit (demands accounts) log places told → SpellsNumbered limit (demands accounts) other others also
     → (n m : ℕ) → own n log ≡ own m other → places n ≡ others m
+
+-- the sessions that are open and those that are closed are all that began, which have the numbers from 1
+abbrev pub OpenSessionsAreCounted : Type 0
+OpenSessionsAreCounted = (limit : ℕ) (accounts : Accounts) (log : List (Numbered LogLine)) (places : ℕ → Place) (told : List Told)
+    → SpellsNumbered limit (demands accounts) log places told
+    → (open_up_to (begun log) places + closed_in log ≡ begun log)
+    × ((n : ℕ) → is_closed (places n) ≡ false → (1 ≤ n) × (n ≤ begun log))
+
+-- at most `limit` are open, or one more where BUSY is the last line: the one that it turns away
+abbrev pub FewSessionsAreOpen : Type 0
+FewSessionsAreOpen = (limit : ℕ) (accounts : Accounts) (log : List (Numbered LogLine)) (places : ℕ → Place) (told : List Told)
+    → SpellsNumbered limit (demands accounts) log places told
+    → (open_up_to (begun log) places ≤ limit)
+    ⊎ ((before : List (Numbered LogLine)) × (n : ℕ) × (log ≡ before ++ numbered n (said busy) ∷ [])
+    × (open_up_to (begun log) places ≡ limit + 1))

@@ -5,7 +5,7 @@ ghost use Rattle.log_grammar.specs.Lines.{gone};
 ghost use Rattle.log_grammar.specs.Demands.{Accounts};
 ghost use Rattle.log_grammar.specs.Numbered.{numbered};
 ghost use Rattle.log_grammar.specs.NumberedExamples.{offer, turns_away, two_at_once, IsWholeForTwo, BeginsNoneForTwo};
-ghost use Rattle.log_grammar.specs.NumberedLaws.{GoesOnByANumberedLine, GoesOnByNoOtherNumberedLine, HasOneNumberedReading, NumberedLogsGoOnExactlySo, FirstNumberedLinesAreLogs, SessionsStandAlone};
+ghost use Rattle.log_grammar.specs.NumberedLaws.{GoesOnByANumberedLine, GoesOnByNoOtherNumberedLine, HasOneNumberedReading, NumberedLogsGoOnExactlySo, FirstNumberedLinesAreLogs, SessionsStandAlone, OpenSessionsAreCounted, FewSessionsAreOpen};
 
 use scram_text::laws::{has_one_client_first, spells_one_name};
 
@@ -50,6 +50,19 @@ pub fn sessions_stand_alone()
 {
     has_one_client_first();
     spells_one_name();
+}
+
+/// The sessions that are open and those that are closed are all that began, which have the numbers from 1.
+pub fn open_sessions_are_counted()
+    ensures { OpenSessionsAreCounted }
+{}
+
+/// At most as many sessions are open as the limit says, or one more where BUSY is the last line: the one that it turns
+/// away.
+pub fn few_sessions_are_open()
+    ensures { FewSessionsAreOpen }
+{
+    open_sessions_are_counted();
 }
 
 /// Where two sessions may be open at once: a log of two, each line among those of the other, and of a third that is turned

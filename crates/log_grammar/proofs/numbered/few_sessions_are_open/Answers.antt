@@ -1,0 +1,16 @@
+use Rattle.std.proofs.Common.{◌≡◌, ◌⊎◌, inl, inr, ℕ, ◌+◌, ◌≤◌, List, ◌∷◌, ◌++◌, [], length, arith}
+use Rattle.log_grammar.specs.Lines.{LogLine, said, busy}
+use Rattle.log_grammar.specs.Demands.{demands}
+use Rattle.log_grammar.specs.Numbered.{Numbered, numbered, begun, closed_in}
+use Rattle.log_grammar.proofs.OpenCounts.{Few, few_are_open}
+use Rattle.log_grammar.proofs.numbered.few_sessions_are_open.Goals as goal
+
+counted : (limit opens : ℕ) (log : List (Numbered LogLine)) → opens + closed_in log ≡ begun log → Few limit log
+    → (opens ≤ limit) ⊎ ((before : List (Numbered LogLine)) × (n : ℕ) × (log ≡ before ++ numbered n (said busy) ∷ []) × (opens ≡ limit + 1))
+counted limit opens log all (inl few) = inl (omega (arith, all, few))
+counted limit opens log all (inr (before, n, last, many)) = inr (before, n, last, omega (arith, all, many))
+
+pub returns : goal.returns
+returns c = λ limit accounts log places told s.
+    counted limit _ log (c.open_sessions_are_counted.ensures limit accounts log places told s).0
+    (few_are_open limit (demands accounts) (length log) log places told (omega arith) s)
