@@ -25,28 +25,28 @@ bare_place over = over
 bare_place halted = halted
 
 -- a session with no account named
-abbrev bare_answer : Answer → Answer
+abbrev pub bare_answer : Answer → Answer
 bare_answer no_answer = no_answer
 bare_answer (refused text closed) = refused text closed
 bare_answer (challenged account text p) = challenged [] text p
 
-abbrev bare_first : First → First
+abbrev pub bare_first : First → First
 bare_first no_first = no_first
 bare_first (quits_first q) = quits_first q
 bare_first (begins first a) = begins first (bare_answer a)
 
-abbrev bare_invitation : Invitation → Invitation
+abbrev pub bare_invitation : Invitation → Invitation
 bare_invitation no_word = no_word
 bare_invitation (turned_away text closed) = turned_away text closed
 bare_invitation (invited text f) = invited text (bare_first f)
 
-abbrev bare_login : Login → Login
+abbrev pub bare_login : Login → Login
 bare_login no_login = no_login
 bare_login (quits_login q) = quits_login q
 bare_login (with_first m first a) = with_first m first (bare_answer a)
 bare_login (without_first m i) = without_first m (bare_invitation i)
 
-abbrev bare : Session → Session
+abbrev pub bare : Session → Session
 bare (session names l) = session names (bare_login l)
 
 -- a session has the same lines with no account named
@@ -71,11 +71,11 @@ login_same (quits_login q) = refl
 login_same (with_first m first a) = ap (λ (l : List LogLine). heard (auth_with m first) ∷ l) (answer_same a)
 login_same (without_first m i) = ap (λ (l : List LogLine). heard (auth m) ∷ l) (invitation_same i)
 
-session_same : (s : Session) → session_lines (bare s) ≡ session_lines s
+pub session_same : (s : Session) → session_lines (bare s) ≡ session_lines s
 session_same (session names l) = ap (λ (t : List LogLine). said (mechs names) ∷ t) (login_same l)
 
 -- a session with no account named has the same place, with no account named in it
-closing_bare : (closed : Bool) → closing_place closed ≡ bare_place (closing_place closed)
+pub closing_bare : (closed : Bool) → closing_place closed ≡ bare_place (closing_place closed)
 closing_bare true = refl
 closing_bare false = refl
 
@@ -128,7 +128,7 @@ login_bare (quits_login q) = quit_bare q
 login_bare (with_first m first a) = answer_bare m first a
 login_bare (without_first m i) = invitation_bare m i
 
-session_bare : (s : Session) → session_place (bare s) ≡ bare_place (session_place s)
+pub session_bare : (s : Session) → session_place (bare s) ≡ bare_place (session_place s)
 session_bare (session names l) = login_bare l
 
 -- a session with no account named meets `no_demands`
@@ -179,7 +179,7 @@ login_aside (quits_login q) = quit_aside q
 login_aside (with_first m first a) = answer_aside m first a
 login_aside (without_first m i) = invitation_aside m i
 
-session_aside : (s : Session) → SessionMeets no_demands (bare s)
+pub session_aside : (s : Session) → SessionMeets no_demands (bare s)
 session_aside (session names l) = (tt, login_aside l)
 
 -- sessions with no account named

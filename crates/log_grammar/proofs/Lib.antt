@@ -52,3 +52,5 @@ pub mod OwnPlaces
 pub mod NumberedExampleLemmas
 pub mod StepKinds
 pub mod OpenCounts
+pub mod NumberedAside
+pub mod NumberedClassLemmas

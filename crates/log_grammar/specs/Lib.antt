@@ -14,6 +14,7 @@ pub mod Counts
 pub mod Numbered
 pub mod NumberedSteps
 pub mod NumberedCounts
+pub mod NumberedClasses
 pub mod NumberedLaws
 pub mod NumberedExamples
 pub mod Logins

@@ -1,12 +1,15 @@
 -- The laws of logs of version 2: by which lines such a log goes on, that it is read in one way, that its first lines are
--- such a log, that the place of a session follows from its own lines alone, and how many sessions are open.
+-- such a log, that the place of a session follows from its own lines alone, and how many sessions are
+-- open, and which classes of lines are due at each number.
 use Rattle.std.specs.Prelude.{ℕ, ◌≡◌, ◌≢◌, ◌≤◌, ◌+◌, ◌↔◌, ◌⊎◌, false, List, [], ◌∷◌, ◌++◌}
 use Rattle.log_grammar.specs.Lines.{LogLine, said, busy}
 use Rattle.log_grammar.specs.Sessions.{Told}
 use Rattle.log_grammar.specs.Demands.{Accounts, demands}
 use Rattle.log_grammar.specs.Places.{Place}
 use Rattle.log_grammar.specs.Steps.{told_at}
+use Rattle.log_grammar.specs.Why.{LineClass}
 use Rattle.log_grammar.specs.Numbered.{Numbered, numbered, own, begun, closed_in, SpellsNumbered}
+use Rattle.log_grammar.specs.NumberedClasses.{IsNumberClassDue, IsNumberDueAt}
 use Rattle.log_grammar.specs.NumberedCounts.{is_closed, open_up_to}
 use Rattle.log_grammar.specs.NumberedSteps.{put, GoesNumbered, StoodNumbered}
 
@@ -65,3 +68,10 @@ FewSessionsAreOpen = (limit : ℕ) (accounts : Accounts) (log : List (Numbered L
     → (open_up_to (begun log) places ≤ limit)
     ⊎ ((before : List (Numbered LogLine)) × (n : ℕ) × (log ≡ before ++ numbered n (said busy) ∷ [])
     × (open_up_to (begun log) places ≡ limit + 1))
+
+-- the classes due at a number after a log's lines are those of its place, where there is room for them and they may follow
+-- the last line
+abbrev pub NumberClassesFollowThePlace : Type 0
+NumberClassesFollowThePlace = (limit : ℕ) (accounts : Accounts) (log : List (Numbered LogLine)) (places : ℕ → Place) (told : List Told)
+    (n : ℕ) (class : LineClass) → SpellsNumbered limit (demands accounts) log places told
+    → IsNumberClassDue limit log n class ↔ IsNumberDueAt limit log (places n) n class

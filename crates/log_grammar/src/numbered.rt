@@ -5,7 +5,7 @@ ghost use Rattle.log_grammar.specs.Lines.{gone};
 ghost use Rattle.log_grammar.specs.Demands.{Accounts};
 ghost use Rattle.log_grammar.specs.Numbered.{numbered};
 ghost use Rattle.log_grammar.specs.NumberedExamples.{offer, turns_away, two_at_once, IsWholeForTwo, BeginsNoneForTwo};
-ghost use Rattle.log_grammar.specs.NumberedLaws.{GoesOnByANumberedLine, GoesOnByNoOtherNumberedLine, HasOneNumberedReading, NumberedLogsGoOnExactlySo, FirstNumberedLinesAreLogs, SessionsStandAlone, OpenSessionsAreCounted, FewSessionsAreOpen};
+ghost use Rattle.log_grammar.specs.NumberedLaws.{GoesOnByANumberedLine, GoesOnByNoOtherNumberedLine, HasOneNumberedReading, NumberedLogsGoOnExactlySo, FirstNumberedLinesAreLogs, SessionsStandAlone, OpenSessionsAreCounted, FewSessionsAreOpen, NumberClassesFollowThePlace};
 
 use scram_text::laws::{has_one_client_first, spells_one_name};
 
@@ -64,6 +64,12 @@ pub fn few_sessions_are_open()
 {
     open_sessions_are_counted();
 }
+
+/// The classes of lines that are due at a number after a log's lines, demands aside, are those of its place: MECHS and
+/// BUSY by how many sessions are open, nothing after a halt, and after BUSY its `E`.
+pub fn number_classes_follow_the_place()
+    ensures { NumberClassesFollowThePlace }
+{}
 
 /// Where two sessions may be open at once: a log of two, each line among those of the other, and of a third that is turned
 /// away, is whole; and no log begins with a third session while two are open, with a number that is left out, with a

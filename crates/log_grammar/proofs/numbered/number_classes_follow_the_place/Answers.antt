@@ -1,0 +1,5 @@
+use Rattle.log_grammar.proofs.NumberedClassLemmas.{number_classes_due}
+use Rattle.log_grammar.proofs.numbered.number_classes_follow_the_place.Goals as goal
+
+pub returns : goal.returns
+returns c = number_classes_due
