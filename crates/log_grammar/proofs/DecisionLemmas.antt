@@ -70,7 +70,7 @@ this_decided text line =
     (λ h. record { spelled = h.0; ranges = h.1.0; short = h.1.1 }) (λ r. (r.spelled, (r.ranges, r.short)))
     (decided_both _ _ (decided_same text (line_text line)) (decided_both _ _ (ranges_decided line) (decided_le (length text) 6200)))
 
-this_of_log_decided : (text : List ℕ) (line : LogLine) → Decided (IsLogLine text line)
+pub this_of_log_decided : (text : List ℕ) (line : LogLine) → Decided (IsLogLine text line)
 this_of_log_decided text line =
     decided_by ((text ≡ log_text line) × (IsLogInRange line × (length text ≤ 6202))) (IsLogLine text line)
     (λ h. record { spelled = h.0; ranges = h.1.0; short = h.1.1 }) (λ r. (r.spelled, (r.ranges, r.short)))

@@ -54,3 +54,4 @@ pub mod StepKinds
 pub mod OpenCounts
 pub mod NumberedAside
 pub mod NumberedClassLemmas
+pub mod NumberedLineLemmas

@@ -13,6 +13,8 @@ pub mod Why
 pub mod Counts
 pub mod Numbered
 pub mod NumberedSteps
+pub mod NumberedLines
+pub mod NumberedLineLaws
 pub mod NumberedCounts
 pub mod NumberedClasses
 pub mod NumberedLaws

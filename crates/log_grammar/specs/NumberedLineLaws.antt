@@ -1,0 +1,23 @@
+-- The laws of numbered lines: that a text is one or none, that a line without a number is none, and that a line is read
+-- from its text.
+use Rattle.std.specs.Prelude.{ℕ, ◌≡◌, ◌≤◌, ◌⊎◌, List, length}
+use Rattle.log_grammar.specs.Bytes.{LacksLf}
+use Rattle.log_grammar.specs.Lines.{LogLine, log_text, IsLogLine}
+use Rattle.log_grammar.specs.Numbered.{Numbered}
+use Rattle.log_grammar.specs.NumberedLines.{IsSessionNumber, HasNumber, numbered_text, IsNumberedLine, IsNoNumberedLine}
+
+-- each text is one numbered line or none
+abbrev pub IsOneNumberedLineOrNone : Type 0
+IsOneNumberedLineOrNone = (text : List ℕ)
+    → ((x : Numbered LogLine) × IsNumberedLine text x × ((other : Numbered LogLine) → IsNumberedLine text other → other ≡ x)) ⊎ IsNoNumberedLine text
+
+-- a line of a log without a number is no numbered line
+abbrev pub UnnumberedLinesAreNone : Type 0
+UnnumberedLinesAreNone = (text : List ℕ) (line : LogLine) → IsLogLine text line → IsNoNumberedLine text
+
+-- the text of a number in its range and of a line that may have one and can be written is read as this numbered line and
+-- as no other, has no LF, and has at most 6222 bytes
+abbrev pub WrittenNumberedLinesAreRead : Type 0
+WrittenNumberedLinesAreRead = (x : Numbered LogLine) → IsSessionNumber x.number → HasNumber x.value → IsLogLine (log_text x.value) x.value
+    → IsNumberedLine (numbered_text x) x × ((other : Numbered LogLine) → IsNumberedLine (numbered_text x) other → other ≡ x)
+    × LacksLf (numbered_text x) × (length (numbered_text x) ≤ 6222)

@@ -1,0 +1,18 @@
+//! Laws of the lines of a log of version 2: each is the promise of a function that does nothing.
+ghost use Rattle.log_grammar.specs.NumberedLineLaws.{IsOneNumberedLineOrNone, UnnumberedLinesAreNone, WrittenNumberedLinesAreRead};
+
+/// Each text is one numbered line or none.
+pub fn is_one_numbered_line_or_none()
+    ensures { IsOneNumberedLineOrNone }
+{}
+
+/// A line of a log without a number, as the first line of a log, is no numbered line.
+pub fn unnumbered_lines_are_none()
+    ensures { UnnumberedLinesAreNone }
+{}
+
+/// A written line is read as the same line: the text of a number in its range and of a line that can be written is read as
+/// them and as no other, has no LF, and has at most 6222 bytes.
+pub fn written_numbered_lines_are_read()
+    ensures { WrittenNumberedLinesAreRead }
+{}
