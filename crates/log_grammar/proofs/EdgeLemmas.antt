@@ -11,9 +11,8 @@ use Rattle.log_grammar.specs.Clean.{Spells, Begins, IsClean}
 use Rattle.log_grammar.specs.Why.{Why, is_cut, no_line, out_of_order, class_of, LineClass, IsClassDue, IsUnfit, IsWrongNext, IsWhy}
 use Rattle.log_grammar.specs.Laws.{ClassesFollowThePlace}
 use Rattle.log_grammar.specs.Examples.{AreWhole}
-use Rattle.log_grammar.proofs.CutLemmas.{cut_one_way}
-use Rattle.log_grammar.proofs.Completions.{each-append}
-use Rattle.log_grammar.proofs.FaultLemmas.{start, whole, clean_at, not_after_lf, end_why, text_why, front_ends, last_why}
+use Rattle.log_grammar.proofs.CutLemmas.{cut_one_way, each-append, whole}
+use Rattle.log_grammar.proofs.FaultLemmas.{start, clean_at, not_after_lf, end_why, text_why, front_ends, last_why}
 
 -- two lists, each with its last element, are related element by element: so are the lists before,
 -- and the last elements

@@ -18,7 +18,8 @@ use Rattle.log_grammar.specs.Why.{is_cut, no_line, out_of_order, other_mechs, ot
 use Rattle.log_grammar.specs.Examples.{first_text, offer_text, first_alone, one_session, bare_no, AreWhole}
 use Rattle.log_grammar.proofs.ClassLemmas.{classes_due}
 use Rattle.log_grammar.proofs.EdgeLemmas.{part_is_cut, long_part_is_no_line, long_line_is_no_line}
-use Rattle.log_grammar.proofs.FaultLemmas.{Lead, start, lead_on, clean_at, whole, not_at_end, end_why, text_why, front_starts, last_why}
+use Rattle.log_grammar.proofs.FaultLemmas.{Lead, start, lead_on, clean_at, not_at_end, end_why, text_why, front_starts, last_why}
+use Rattle.log_grammar.proofs.CutLemmas.{whole}
 
 -- the texts of lines
 names : List ℕ

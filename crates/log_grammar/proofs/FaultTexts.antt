@@ -10,10 +10,10 @@ use Rattle.log_grammar.specs.Places.{Place}
 use Rattle.log_grammar.specs.Clean.{IsFront}
 use Rattle.log_grammar.specs.Why.{Why, IsWrongText, IsWrongNext, IsWhy}
 use Rattle.log_grammar.specs.Reasons.{FaultsHoldWhateverFollows}
-use Rattle.log_grammar.proofs.CutLemmas.{cut_one_way}
+use Rattle.log_grammar.proofs.CutLemmas.{cut_one_way, first_lack, whole}
 use Rattle.log_grammar.proofs.WhyLemmas.{lines_once}
-use Rattle.log_grammar.proofs.FaultLemmas.{Lead, whole, with_next, text_why}
-use Rattle.log_grammar.proofs.FirstFaults.{parted, first_lack}
+use Rattle.log_grammar.proofs.FaultLemmas.{Lead, text_why}
+use Rattle.log_grammar.proofs.Snoc.{with_next, parted}
 
 -- the lines before the text were read, it is at fault after them, and with it they are no front
 pub record FaultText (accounts : Accounts) (before : List (List ℕ)) (text : List ℕ) (why : Why) : Type 0 where

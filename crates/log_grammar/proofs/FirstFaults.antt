@@ -4,29 +4,15 @@ use Rattle.std.specs.List.{AllByRecursion}
 use Rattle.std.proofs.Math.Seq.{take-length, take-append_seam}
 use Rattle.std.proofs.lemmas.List.{take-append-le}
 use Rattle.std.proofs.lemmas.Bool.{cases_lt}
-use Rattle.std.proofs.lemmas.Grind.{flat_map-append}
 use Rattle.log_grammar.specs.Bytes.{LacksLf, ended_by_lf, IsCut}
 use Rattle.log_grammar.specs.Demands.{Accounts, AreFit}
 use Rattle.log_grammar.specs.Places.{before_all}
 use Rattle.log_grammar.specs.Clean.{IsFront, IsClean, IsFaultLine}
 use Rattle.log_grammar.specs.Headline.{BeginsClean, FrontsAreWhatBeginsCleanLogs, IsFirstToBeginNoClean, FaultLinesBeginNoCleanLog}
 use Rattle.log_grammar.specs.Laws.{FrontsBeginClean}
-use Rattle.log_grammar.proofs.CutLemmas.{cut_somehow, cut_one_way}
-use Rattle.log_grammar.proofs.Completions.{each-append}
+use Rattle.log_grammar.proofs.Snoc.{with_next, parted}
+use Rattle.log_grammar.proofs.CutLemmas.{cut_on, first_lack, cut_one_way, whole}
 use Rattle.log_grammar.proofs.FrontLemmas.{fronts_front, clean_front}
-use Rattle.log_grammar.proofs.FaultLemmas.{whole, with_next}
-
--- whole lines, and bytes after them, are cut together
-cut_on : (bytes : List ℕ) (texts : List (List ℕ)) (more : List ℕ) → IsCut bytes texts []
-    → (others : List (List ℕ)) × (rest : List ℕ) × IsCut (bytes ++ more) (texts ++ others) rest
-cut_on bytes texts more cut =
-    let (others, rest, then) = cut_somehow more in
-    let front : bytes ≡ ended_by_lf texts = cut.bytes_are ∙ append-nil (ended_by_lf texts) in
-    let bytes_are : bytes ++ more ≡ ended_by_lf (texts ++ others) ++ rest =
-    ap (λ (b : List ℕ). b ++ more) front ∙ ap (λ (b : List ℕ). ended_by_lf texts ++ b) then.bytes_are
-    ∙ sym (append_assoc (ended_by_lf texts) (ended_by_lf others) rest)
-    ∙ ap (λ (b : List ℕ). b ++ rest) (sym (flat_map-append (λ text. text ++ 10 ∷ []) texts others)) in
-    (others, rest, record { bytes_are = bytes_are; lines = each-append texts others cut.lines then.lines; after = then.after })
 
 -- the first lines of what begins a clean log are a front
 pub front_where_clean : (accounts : Accounts) (bytes : List ℕ) (texts : List (List ℕ)) (j : ℕ) → IsCut bytes texts [] → BeginsClean accounts bytes
@@ -51,18 +37,6 @@ fronts_are_what_begins completes accounts fit bytes texts cut = (
   λ front. completes accounts fit bytes front,
   λ begins. all_lines accounts bytes texts cut (front_where_clean accounts bytes texts (length texts) cut begins (omega arith)),
 )
-
--- some lines, one of them, and those after it
-pub parted : {A : Type 0} (xs : List A) (n : ℕ) → n < length xs → (before : List A) × (x : A) × (more : List A) × (xs ≡ before ++ x ∷ more) × (n ≡ length before)
-parted [] n less = absurd (omega (arith, less))
-parted (a ∷ xs) zero less = ([], a, xs, refl, refl)
-parted (a ∷ xs) (suc n) less =
-    let (before, x, more, same, at) = parted xs n (omega (arith, less)) in
-    (a ∷ before, x, more, ap (λ l. a ∷ l) same, ap suc at)
-
-pub first_lack : (texts more : List (List ℕ)) → AllByRecursion LacksLf (texts ++ more) → AllByRecursion LacksLf texts
-first_lack [] more all = tt
-first_lack (t ∷ texts) more all = (all.0, first_lack texts more all.1)
 
 -- the lines before a fault line begin a clean log, and with it they do not
 at_line : FrontsBeginClean → (accounts : Accounts) → AreFit accounts → (bytes : List ℕ) (texts : List (List ℕ)) (rest : List ℕ) (k : ℕ)

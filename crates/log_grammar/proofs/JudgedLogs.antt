@@ -10,7 +10,7 @@ use Rattle.log_grammar.specs.Places.{Place, before_all, between, halted, MayEnd}
 use Rattle.log_grammar.specs.Steps.{told_at}
 use Rattle.log_grammar.specs.Clean.{Begins, IsClean}
 use Rattle.log_grammar.specs.Why.{Why, is_cut, no_line, out_of_order, class_of, IsDueAt, IsWhy}
-use Rattle.log_grammar.proofs.CutLemmas.{cut_somehow}
+use Rattle.log_grammar.proofs.CutLemmas.{cut_somehow, among}
 use Rattle.log_grammar.proofs.DecisionLemmas.{log_line_decided}
 use Rattle.log_grammar.proofs.LogSteps.{goes_on}
 use Rattle.log_grammar.proofs.Aside.{bare_place, aside}
@@ -18,7 +18,7 @@ use Rattle.log_grammar.proofs.ClassLemmas.{classes_due}
 use Rattle.log_grammar.proofs.Opened.{opened_at}
 use Rattle.log_grammar.proofs.Demanded.{Settled}
 use Rattle.log_grammar.proofs.Standings.{Follows, Standing, standing_at}
-use Rattle.log_grammar.proofs.FaultLemmas.{Lead, start, lead_on, clean_at, not_at_end, not_after_lf, end_why, text_why, among, front_ends, front_starts, line_why}
+use Rattle.log_grammar.proofs.FaultLemmas.{Lead, start, lead_on, clean_at, not_at_end, not_after_lf, end_why, text_why, front_ends, front_starts, line_why}
 
 -- bytes are clean, or at fault
 abbrev IsCleanOrAtFault : Accounts → List ℕ → Type 0

@@ -8,6 +8,8 @@ pub mod Growth
 pub mod Shortening
 pub mod LogSteps
 pub mod Snoc
+pub mod KindLemmas
+pub mod KindFaults
 pub mod Readings
 pub mod AccountLemmas
 pub mod FrontLemmas

@@ -10,6 +10,7 @@ pub mod Steps
 pub mod Histories
 pub mod Clean
 pub mod Why
+pub mod Kinds
 pub mod Counts
 pub mod Logins
 pub mod Replies
