@@ -23,6 +23,7 @@ pub mod Completions
 pub mod Demanded
 pub mod Standings
 pub mod FaultLemmas
+pub mod KindOne
 pub mod JudgedLogs
 pub mod ExampleLemmas
 pub mod BookLemmas

@@ -11,6 +11,7 @@ pub mod Histories
 pub mod Clean
 pub mod Why
 pub mod Kinds
+pub mod KindOne
 pub mod Counts
 pub mod Logins
 pub mod Replies
