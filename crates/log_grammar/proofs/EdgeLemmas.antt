@@ -1,5 +1,5 @@
 -- Logs that end with a halt, bytes without an LF, and lines that are too long.
-use Rattle.std.proofs.Common.{◌≤◌, ◌+◌, inl, inr, ℕ, List, [], ◌∷◌, ◌++◌, length, refl, ap, subst, arith}
+use Rattle.std.proofs.Common.{◌≤◌, ◌+◌, inl, inr, ℕ, List, [], ◌∷◌, ◌++◌, length, refl, sym, ap, subst, arith}
 use Rattle.std.specs.List.{AllByRecursion, AllZip}
 use Rattle.scram_text.specs.Laws.{SpellsOneName, HasOneClientFirst}
 use Rattle.log_grammar.specs.Lines.{LogLine, IsLogLine}
@@ -7,23 +7,17 @@ use Rattle.log_grammar.specs.Bytes.{LacksLf, ended_by_lf, IsCut}
 use Rattle.log_grammar.specs.Sessions.{Told}
 use Rattle.log_grammar.specs.Demands.{Accounts, demands}
 use Rattle.log_grammar.specs.Places.{Place, before_all, halted}
-use Rattle.log_grammar.specs.Clean.{Spells, Begins, IsClean}
-use Rattle.log_grammar.specs.Why.{Why, is_cut, no_line, out_of_order, class_of, LineClass, IsClassDue, IsUnfit, IsWrongNext, IsWhy}
+use Rattle.log_grammar.specs.Clean.{Begins}
+use Rattle.log_grammar.specs.Why.{Why, is_cut, no_line, out_of_order, class_of, LineClass, IsClassDue, IsUnfit}
 use Rattle.log_grammar.specs.Laws.{ClassesFollowThePlace}
 use Rattle.log_grammar.specs.Examples.{AreWhole}
 use Rattle.log_grammar.proofs.CutLemmas.{cut_one_way, each-append, whole}
-use Rattle.log_grammar.proofs.FaultLemmas.{start, clean_at, not_after_lf, end_why, text_why, front_ends, last_why}
-
--- two lists, each with its last element, are related element by element: so are the lists before,
--- and the last elements
-zip_last : {A B : Type 0} (P : A → B → Type 0) (xs : List A) (x : A) (ys : List B) (y : B) → AllZip P (xs ++ x ∷ []) (ys ++ y ∷ [])
-    → AllZip P xs ys × P x y
-zip_last P [] x [] y h = (tt, h.0)
-zip_last P [] x (b ∷ []) y h = absurd h.1
-zip_last P [] x (b ∷ c ∷ ys) y h = absurd h.1
-zip_last P (a ∷ []) x [] y h = absurd h.1
-zip_last P (a ∷ c ∷ xs) x [] y h = absurd h.1
-zip_last P (a ∷ xs) x (b ∷ ys) y h = let more = zip_last P xs x ys y h.1 in ((h.0, more.0), more.1)
+use Rattle.log_grammar.proofs.FaultLemmas.{start, clean_at, end_why, text_why, front_ends, last_why}
+use Rattle.log_grammar.specs.KindOne.{EndsOne}
+use Rattle.log_grammar.specs.Versions.{both, IsClean, IsWrongNext, IsWhy}
+use Rattle.log_grammar.proofs.Snoc.{last_same, split_last}
+use Rattle.log_grammar.proofs.KindLemmas.{not_after_lf}
+use Rattle.log_grammar.proofs.KindOne.{none_end}
 
 each : {A : Type 0} (P : A → Type 0) (xs : List A) (x : A) → AllByRecursion P (xs ++ x ∷ []) → AllByRecursion P xs × P x
 each P [] x h = (tt, h.0)
@@ -47,23 +41,22 @@ pub more_after_halt : HasOneClientFirst → SpellsOneName → ClassesFollowThePl
     → IsWhy accounts (ended_by_lf (texts ++ text ∷ [])) (length texts + 1) out_of_order
 more_after_halt once names classes accounts texts [] told text line whole begins = absurd (no_halt accounts told begins)
 more_after_halt once names classes accounts texts (first ∷ log) told text line whole begins =
-    let read = zip_last IsLogLine texts text (first ∷ log) line whole.0 in
+    let (front, last, same, those, this) = split_last IsLogLine texts text ((first ∷ log) ++ line ∷ []) whole.0 in
+    let own = last_same (first ∷ log) front line last same in
+    let are = subst (λ (ls : List LogLine). AllZip IsLogLine texts ls) (sym own.0) those in
+    let is = subst (λ (l : LogLine). IsLogLine text l) (sym own.1) this in
     let lacks = each LacksLf texts text whole.1 in
-    last_why once names accounts texts first log halted told text line out_of_order (record { are = read.0; lack = lacks.0; begins = begins })
-    read.1 lacks.1 (λ f. f.goes) (inl (none_after_halt classes accounts (first ∷ log) told (class_of line) begins, refl))
+    last_why once names accounts texts first log halted told text line out_of_order (record { are = are; lack = lacks.0; begins = begins })
+    is lacks.1 (λ f. f.goes) (inl (none_after_halt classes accounts (first ∷ log) told (class_of line) begins, refl))
 
 -- bytes without an LF have no whole line
 alone : (rest : List ℕ) → LacksLf rest → IsCut rest [] rest
 alone rest lacks = record { bytes_are = refl; lines = tt; after = lacks }
 
-no_lines : (accounts : Accounts) (lines : List LogLine) (place : Place) (told : List Told) → AllZip IsLogLine [] lines → Spells (demands accounts) lines place told → ⊥
-no_lines accounts [] place told are s = cc s.lines
-no_lines accounts (line ∷ lines) place told are s = are
-
 unclean : (accounts : Accounts) (rest : List ℕ) → LacksLf rest → IsClean accounts rest → ⊥
-unclean accounts rest lacks (lines, place, told, (texts, cut, are), spells, ends) =
-    let same = (cut_one_way rest texts [] [] rest cut (alone rest lacks)).0 in
-    no_lines accounts lines place told (subst (λ (ts : List (List ℕ)). AllZip IsLogLine ts lines) same are) spells
+unclean accounts rest lacks clean =
+    let (texts, cut, ends) = clean in
+    none_end accounts (subst (EndsOne accounts) (cut_one_way rest texts [] [] rest cut (alone rest lacks)).0 ends)
 
 at_once : (accounts : Accounts) (rest : List ℕ) (why : Why) → LacksLf rest → IsWrongNext accounts [] [] rest why → IsWhy accounts rest 1 why
 at_once accounts rest why lacks wrong = end_why accounts rest [] rest [] before_all [] why (alone rest lacks) (start accounts) (unclean accounts rest lacks) wrong
@@ -76,14 +69,14 @@ long_is_no_line accounts rest lacks long = at_once accounts rest no_line lacks (
 
 -- a part of a line after whole lines
 after_lines : (accounts : Accounts) (texts : List (List ℕ)) (log : List LogLine) (place : Place) (told : List Told) (rest : List ℕ) (why : Why)
-    → AreWhole texts log → Begins (demands accounts) log place told → LacksLf rest → 1 ≤ length rest → IsWrongNext accounts log [] rest why
+    → AreWhole texts log → Begins (demands accounts) log place told → LacksLf rest → 1 ≤ length rest → IsWrongNext accounts texts [] rest why
     → IsWhy accounts (ended_by_lf texts ++ rest) (length texts + 1) why
 after_lines accounts texts log place told [] why are begins lacks some wrong = absurd (omega (arith, some))
 after_lines accounts texts log place told (c ∷ rest) why are begins lacks some wrong =
     let bytes = ended_by_lf texts ++ c ∷ rest in
     let cut : IsCut bytes texts (c ∷ rest) = record { bytes_are = refl; lines = are.1; after = lacks } in
     end_why accounts bytes texts (c ∷ rest) log place told why cut (record { are = are.0; lack = are.1; begins = begins })
-    (not_after_lf accounts bytes texts c rest cut) wrong
+    (not_after_lf (both accounts) bytes texts c rest cut) wrong
 
 pub part_is_cut : (accounts : Accounts) (texts : List (List ℕ)) (log : List LogLine) (place : Place) (told : List Told) (rest : List ℕ)
     → AreWhole texts log → Begins (demands accounts) log place told → LacksLf rest → 1 ≤ length rest → length rest ≤ 6202

@@ -13,8 +13,9 @@ use Rattle.log_grammar.specs.Sessions.{Told}
 use Rattle.log_grammar.specs.Demands.{Accounts, demands, NamesMechanism, AreReplies}
 use Rattle.log_grammar.specs.Places.{Place, before_all, between, offered, asks_bare, waits_first, got_first, leaving, over, MayEnd}
 use Rattle.log_grammar.specs.Steps.{Goes, told_at}
-use Rattle.log_grammar.specs.Clean.{Begins, IsClean}
-use Rattle.log_grammar.specs.Why.{is_cut, no_line, out_of_order, other_mechs, other_challenge, other_outcome, refused_with, LineClass, IsClassDue, IsDueAt, IsWhy}
+use Rattle.log_grammar.specs.Clean.{Begins}
+use Rattle.log_grammar.specs.Versions.{IsClean, IsWhy}
+use Rattle.log_grammar.specs.Why.{is_cut, no_line, out_of_order, other_mechs, other_challenge, other_outcome, refused_with, LineClass, IsClassDue, IsDueAt}
 use Rattle.log_grammar.specs.Examples.{first_text, offer_text, first_alone, one_session, bare_no, AreWhole}
 use Rattle.log_grammar.proofs.ClassLemmas.{classes_due}
 use Rattle.log_grammar.proofs.EdgeLemmas.{part_is_cut, long_part_is_no_line, long_line_is_no_line}

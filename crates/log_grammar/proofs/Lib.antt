@@ -10,6 +10,7 @@ pub mod LogSteps
 pub mod Snoc
 pub mod KindLemmas
 pub mod KindFaults
+pub mod EitherLemmas
 pub mod Readings
 pub mod AccountLemmas
 pub mod FrontLemmas
@@ -22,9 +23,9 @@ pub mod Opened
 pub mod Completions
 pub mod Demanded
 pub mod Standings
-pub mod FaultLemmas
 pub mod KindOne
-pub mod JudgedLogs
+pub mod VersionLemmas
+pub mod FaultLemmas
 pub mod ExampleLemmas
 pub mod BookLemmas
 pub mod EdgeLemmas
@@ -39,8 +40,6 @@ pub mod OutcomeLemmas
 pub mod LineBytes
 pub mod HeadlineLemmas
 pub mod LoginCodes
-pub mod FirstFaults
-pub mod FaultTexts
 pub mod Mended
 pub mod LoginFaults
 pub mod DueRanges
