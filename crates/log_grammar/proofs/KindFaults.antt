@@ -7,7 +7,7 @@ use Rattle.std.proofs.lemmas.Bool.{cases_lt}
 use Rattle.log_grammar.specs.Bytes.{LacksLf, ended_by_lf, IsCut}
 use Rattle.log_grammar.specs.Why.{Why}
 use Rattle.log_grammar.specs.Kinds.{Kind, IsFrontOf, IsCleanOf, IsFaultLineOf, IsWrongNextOf, IsWhyOf, BeginsCleanOf, IsFirstToBeginNoCleanOf}
-use Rattle.log_grammar.proofs.CutLemmas.{cut_one_way, cut_on, first_lack, whole}
+use Rattle.log_grammar.proofs.CutLemmas.{cut_one_way, cut_on, first_lack, up_to, whole}
 use Rattle.log_grammar.proofs.Snoc.{with_next, parted}
 use Rattle.log_grammar.proofs.KindLemmas.{IsShortened, EndsStand, first_stand, front_stands, front_at, fronts_front, text_at_fault}
 
@@ -57,8 +57,7 @@ at_line kind shorter stand completes bytes texts rest k cut f before text more s
     let long : length texts ≡ length before + suc (length more) = ap length same ∙ length-append before (text ∷ more) in
     let those : take (length before) texts ≡ before = ap (take (length before)) same ∙ take-append_seam before (text ∷ more) in
     let these : take k texts ≡ with = ap (λ (n : ℕ). take n texts) at ∙ ap (take (length before + 1)) same ∙ with_next before text more in
-    let moved : texts ≡ with ++ more = same ∙ sym (append_assoc before (text ∷ []) more) in
-    let all = whole with (first_lack with more (subst (AllByRecursion LacksLf) moved cut.lines)) in
+    let all = whole with (up_to before text more (subst (AllByRecursion LacksLf) same cut.lines)) in
     inl (
       before,
       text,
@@ -151,7 +150,7 @@ at_text kind bytes before text more rest why cut w =
     let with = before ++ text ∷ [] in
     let long : length texts ≡ length before + suc (length more) = length-append before (text ∷ more) in
     let lack = first_lack before (text ∷ more) cut.lines in
-    let lacks = first_lack with more (subst (AllByRecursion LacksLf) (sym (append_assoc before (text ∷ []) more)) cut.lines) in
+    let lacks = up_to before text more cut.lines in
     let f = among_these kind bytes texts rest (length before + 1) cut w.fault in
     let front = subst (λ (ts : List (List ℕ)). IsFrontOf kind (ended_by_lf ts)) (take-append_seam before (text ∷ more))
     (f.below (length before) (omega arith) (omega (arith, long))) in
