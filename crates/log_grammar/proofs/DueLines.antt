@@ -13,8 +13,7 @@ use Rattle.log_grammar.specs.Why.{Why, is_cut, no_line, out_of_order, other_mech
 use Rattle.log_grammar.specs.Laws.{FrontsBeginClean}
 use Rattle.log_grammar.specs.Headline.{IsWritable, BeginsClean}
 use Rattle.log_grammar.specs.Reasons.{SaysWhatIsDue, NamesWhatIsDue, EachLineThatIsDueMayStand}
-use Rattle.log_grammar.proofs.FaultLemmas.{Lead}
-use Rattle.log_grammar.proofs.FaultTexts.{at_text}
+use Rattle.log_grammar.proofs.FaultLemmas.{Lead, fault_after}
 use Rattle.log_grammar.proofs.Mended.{by_text, begins_with}
 
 -- the reason is neither a challenge nor an acceptance, so that one line says what is due
@@ -122,5 +121,5 @@ by_why completes accounts fit before text lines place told (other_reply moment d
 
 pub each_line : FrontsBeginClean → EachLineThatIsDueMayStand
 each_line completes accounts fit bytes before text after rest why line cut w other says writable =
-    let f = at_text accounts bytes before text after rest why cut w in
+    let f = fault_after accounts bytes before text after rest why cut w in
     by_why completes accounts fit before text f.lines f.place f.told why line f.lead f.wrong other says writable

@@ -1,5 +1,5 @@
 -- Logs that end with a halt, bytes without an LF, and lines that are too long.
-use Rattle.std.proofs.Common.{◌≤◌, ◌+◌, inl, inr, ℕ, List, [], ◌∷◌, ◌++◌, length, refl, ap, subst, arith}
+use Rattle.std.proofs.Common.{◌≤◌, ◌+◌, inl, inr, ℕ, List, [], ◌∷◌, ◌++◌, length, refl, sym, subst}
 use Rattle.std.specs.List.{AllByRecursion, AllZip}
 use Rattle.scram_text.specs.Laws.{SpellsOneName, HasOneClientFirst}
 use Rattle.log_grammar.specs.Lines.{LogLine, IsLogLine}
@@ -7,28 +7,15 @@ use Rattle.log_grammar.specs.Bytes.{LacksLf, ended_by_lf, IsCut}
 use Rattle.log_grammar.specs.Sessions.{Told}
 use Rattle.log_grammar.specs.Demands.{Accounts, demands}
 use Rattle.log_grammar.specs.Places.{Place, before_all, halted}
-use Rattle.log_grammar.specs.Clean.{Spells, Begins, IsClean}
-use Rattle.log_grammar.specs.Why.{Why, is_cut, no_line, out_of_order, class_of, LineClass, IsClassDue, IsUnfit, IsWrongNext, IsWhy}
+use Rattle.log_grammar.specs.Clean.{Begins}
+use Rattle.log_grammar.specs.Why.{is_cut, no_line, out_of_order, class_of, LineClass, IsClassDue}
 use Rattle.log_grammar.specs.Laws.{ClassesFollowThePlace}
 use Rattle.log_grammar.specs.Examples.{AreWhole}
-use Rattle.log_grammar.proofs.CutLemmas.{cut_one_way}
-use Rattle.log_grammar.proofs.Completions.{each-append}
-use Rattle.log_grammar.proofs.FaultLemmas.{start, whole, clean_at, not_after_lf, end_why, text_why, front_ends, last_why}
-
--- two lists, each with its last element, are related element by element: so are the lists before,
--- and the last elements
-zip_last : {A B : Type 0} (P : A → B → Type 0) (xs : List A) (x : A) (ys : List B) (y : B) → AllZip P (xs ++ x ∷ []) (ys ++ y ∷ [])
-    → AllZip P xs ys × P x y
-zip_last P [] x [] y h = (tt, h.0)
-zip_last P [] x (b ∷ []) y h = absurd h.1
-zip_last P [] x (b ∷ c ∷ ys) y h = absurd h.1
-zip_last P (a ∷ []) x [] y h = absurd h.1
-zip_last P (a ∷ c ∷ xs) x [] y h = absurd h.1
-zip_last P (a ∷ xs) x (b ∷ ys) y h = let more = zip_last P xs x ys y h.1 in ((h.0, more.0), more.1)
-
-each : {A : Type 0} (P : A → Type 0) (xs : List A) (x : A) → AllByRecursion P (xs ++ x ∷ []) → AllByRecursion P xs × P x
-each P [] x h = (tt, h.0)
-each P (a ∷ xs) x h = let more = each P xs x h.1 in ((h.0, more.0), more.1)
+use Rattle.log_grammar.proofs.CutLemmas.{cut_one_way, each-append, first_lack, among, whole}
+use Rattle.log_grammar.proofs.FaultLemmas.{Lead, start, clean_at, end_is_cut, rest_is_cut, rest_is_long, long_text_why, last_why}
+use Rattle.log_grammar.specs.Versions.{both, IsClean, IsWhy}
+use Rattle.log_grammar.proofs.Snoc.{last_same, split_last}
+use Rattle.log_grammar.proofs.VersionLemmas.{none_end_both}
 
 pub halted_is_clean : (accounts : Accounts) (texts : List (List ℕ)) (log : List LogLine) (told : List Told) → AreWhole texts log
     → Begins (demands accounts) log halted told → IsClean accounts (ended_by_lf texts)
@@ -48,66 +35,54 @@ pub more_after_halt : HasOneClientFirst → SpellsOneName → ClassesFollowThePl
     → IsWhy accounts (ended_by_lf (texts ++ text ∷ [])) (length texts + 1) out_of_order
 more_after_halt once names classes accounts texts [] told text line whole begins = absurd (no_halt accounts told begins)
 more_after_halt once names classes accounts texts (first ∷ log) told text line whole begins =
-    let read = zip_last IsLogLine texts text (first ∷ log) line whole.0 in
-    let lacks = each LacksLf texts text whole.1 in
-    last_why once names accounts texts first log halted told text line out_of_order (record { are = read.0; lack = lacks.0; begins = begins })
-    read.1 lacks.1 (λ f. f.goes) (inl (none_after_halt classes accounts (first ∷ log) told (class_of line) begins, refl))
+    let (front, last, same, those, this) = split_last IsLogLine texts text ((first ∷ log) ++ line ∷ []) whole.0 in
+    let own = last_same (first ∷ log) front line last same in
+    let are = subst (λ (ls : List LogLine). AllZip IsLogLine texts ls) (sym own.0) those in
+    let is = subst (λ (l : LogLine). IsLogLine text l) (sym own.1) this in
+    last_why once names accounts texts first log halted told text line out_of_order (record { are = are; lack = first_lack texts (text ∷ []) whole.1; begins = begins })
+    is (among texts text [] whole.1) (λ f. f.goes) (inl (none_after_halt classes accounts (first ∷ log) told (class_of line) begins, refl))
 
 -- bytes without an LF have no whole line
 alone : (rest : List ℕ) → LacksLf rest → IsCut rest [] rest
 alone rest lacks = record { bytes_are = refl; lines = tt; after = lacks }
 
-no_lines : (accounts : Accounts) (lines : List LogLine) (place : Place) (told : List Told) → AllZip IsLogLine [] lines → Spells (demands accounts) lines place told → ⊥
-no_lines accounts [] place told are s = cc s.lines
-no_lines accounts (line ∷ lines) place told are s = are
-
-unclean : (accounts : Accounts) (rest : List ℕ) → LacksLf rest → IsClean accounts rest → ⊥
-unclean accounts rest lacks (lines, place, told, (texts, cut, are), spells, ends) =
-    let same = (cut_one_way rest texts [] [] rest cut (alone rest lacks)).0 in
-    no_lines accounts lines place told (subst (λ (ts : List (List ℕ)). AllZip IsLogLine ts lines) same are) spells
-
-at_once : (accounts : Accounts) (rest : List ℕ) (why : Why) → LacksLf rest → IsWrongNext accounts [] [] rest why → IsWhy accounts rest 1 why
-at_once accounts rest why lacks wrong = end_why accounts rest [] rest [] before_all [] why (alone rest lacks) (start accounts) (unclean accounts rest lacks) wrong
-
 pub short_is_cut : (accounts : Accounts) (rest : List ℕ) → LacksLf rest → length rest ≤ 6202 → IsWhy accounts rest 1 is_cut
-short_is_cut accounts rest lacks short = at_once accounts rest is_cut lacks (inl (short, refl))
+short_is_cut accounts rest lacks short =
+    let cut = alone rest lacks in
+    end_is_cut accounts rest [] rest [] before_all [] cut (start accounts)
+    (λ clean. let (texts, also, ends) = clean in
+    none_end_both accounts (subst (both accounts).Ends (cut_one_way rest texts [] [] rest also cut).0 ends)) short
 
 pub long_is_no_line : (accounts : Accounts) (rest : List ℕ) → LacksLf rest → 6203 ≤ length rest → IsWhy accounts rest 1 no_line
-long_is_no_line accounts rest lacks long = at_once accounts rest no_line lacks (inr (long, refl))
+long_is_no_line accounts rest lacks long = rest_is_long accounts rest [] rest [] before_all [] (alone rest lacks) (start accounts) long
 
 -- a part of a line after whole lines
-after_lines : (accounts : Accounts) (texts : List (List ℕ)) (log : List LogLine) (place : Place) (told : List Told) (rest : List ℕ) (why : Why)
-    → AreWhole texts log → Begins (demands accounts) log place told → LacksLf rest → 1 ≤ length rest → IsWrongNext accounts log [] rest why
-    → IsWhy accounts (ended_by_lf texts ++ rest) (length texts + 1) why
-after_lines accounts texts log place told [] why are begins lacks some wrong = absurd (omega (arith, some))
-after_lines accounts texts log place told (c ∷ rest) why are begins lacks some wrong =
-    let bytes = ended_by_lf texts ++ c ∷ rest in
-    let cut : IsCut bytes texts (c ∷ rest) = record { bytes_are = refl; lines = are.1; after = lacks } in
-    end_why accounts bytes texts (c ∷ rest) log place told why cut (record { are = are.0; lack = are.1; begins = begins })
-    (not_after_lf accounts bytes texts c rest cut) wrong
+after_lines : (texts : List (List ℕ)) (rest : List ℕ) → AllByRecursion LacksLf texts → LacksLf rest → IsCut (ended_by_lf texts ++ rest) texts rest
+after_lines texts rest lack lacks = record { bytes_are = refl; lines = lack; after = lacks }
+
+read : (accounts : Accounts) (texts : List (List ℕ)) (log : List LogLine) (place : Place) (told : List Told) → AreWhole texts log
+    → Begins (demands accounts) log place told → Lead accounts texts log place told
+read accounts texts log place told are begins = record { are = are.0; lack = are.1; begins = begins }
 
 pub part_is_cut : (accounts : Accounts) (texts : List (List ℕ)) (log : List LogLine) (place : Place) (told : List Told) (rest : List ℕ)
     → AreWhole texts log → Begins (demands accounts) log place told → LacksLf rest → 1 ≤ length rest → length rest ≤ 6202
     → IsWhy accounts (ended_by_lf texts ++ rest) (length texts + 1) is_cut
 part_is_cut accounts texts log place told rest are begins lacks some short =
-    after_lines accounts texts log place told rest is_cut are begins lacks some (inl (short, refl))
+    rest_is_cut accounts (ended_by_lf texts ++ rest) texts rest log place told (after_lines texts rest are.1 lacks)
+    (read accounts texts log place told are begins) some short
 
 pub long_part_is_no_line : (accounts : Accounts) (texts : List (List ℕ)) (log : List LogLine) (place : Place) (told : List Told) (rest : List ℕ)
     → AreWhole texts log → Begins (demands accounts) log place told → LacksLf rest → 6203 ≤ length rest
     → IsWhy accounts (ended_by_lf texts ++ rest) (length texts + 1) no_line
 long_part_is_no_line accounts texts log place told rest are begins lacks long =
-    after_lines accounts texts log place told rest no_line are begins lacks (omega (arith, long)) (inr (long, refl))
+    rest_is_long accounts (ended_by_lf texts ++ rest) texts rest log place told (after_lines texts rest are.1 lacks)
+    (read accounts texts log place told are begins) long
 
 -- a text that is too long is no line
-too_long : (log : List LogLine) (text : List ℕ) → 6203 ≤ length text → IsUnfit log text
-too_long [] text long = λ same. omega (arith, long, ap length same)
-too_long (line ∷ log) text long = λ other is. omega (arith, long, is.short)
-
 pub long_line_is_no_line : (accounts : Accounts) (texts : List (List ℕ)) (log : List LogLine) (place : Place) (told : List Told) (text : List ℕ)
     → AreWhole texts log → Begins (demands accounts) log place told → LacksLf text → 6203 ≤ length text
     → IsWhy accounts (ended_by_lf (texts ++ text ∷ [])) (length texts + 1) no_line
 long_line_is_no_line accounts texts log place told text are begins lacks long =
     let all = texts ++ text ∷ [] in
-    text_why accounts (ended_by_lf all) texts text [] [] log place told no_line (whole all (each-append texts (text ∷ []) are.1 (lacks, tt)))
-    (record { are = are.0; lack = are.1; begins = begins })
-    (λ is. let ends = front_ends accounts texts text are.1 lacks is in omega (arith, long, ends.1.short)) (inl (too_long log text long, refl))
+    long_text_why accounts (ended_by_lf all) texts text [] [] log place told (whole all (each-append texts (text ∷ []) are.1 (lacks, tt)))
+    (read accounts texts log place told are begins) long

@@ -13,12 +13,14 @@ use Rattle.log_grammar.specs.Sessions.{Told}
 use Rattle.log_grammar.specs.Demands.{Accounts, demands, NamesMechanism, AreReplies}
 use Rattle.log_grammar.specs.Places.{Place, before_all, between, offered, asks_bare, waits_first, got_first, leaving, over, MayEnd}
 use Rattle.log_grammar.specs.Steps.{Goes, told_at}
-use Rattle.log_grammar.specs.Clean.{Begins, IsClean}
-use Rattle.log_grammar.specs.Why.{is_cut, no_line, out_of_order, other_mechs, other_challenge, other_outcome, refused_with, LineClass, IsClassDue, IsDueAt, IsWhy}
+use Rattle.log_grammar.specs.Clean.{Begins}
+use Rattle.log_grammar.specs.Versions.{IsClean, IsWhy}
+use Rattle.log_grammar.specs.Why.{is_cut, no_line, out_of_order, other_mechs, other_challenge, other_outcome, refused_with, LineClass, IsClassDue, IsDueAt}
 use Rattle.log_grammar.specs.Examples.{first_text, offer_text, first_alone, one_session, bare_no, AreWhole}
 use Rattle.log_grammar.proofs.ClassLemmas.{classes_due}
 use Rattle.log_grammar.proofs.EdgeLemmas.{part_is_cut, long_part_is_no_line, long_line_is_no_line}
-use Rattle.log_grammar.proofs.FaultLemmas.{Lead, start, lead_on, clean_at, whole, not_at_end, end_why, text_why, front_starts, last_why}
+use Rattle.log_grammar.proofs.FaultLemmas.{Lead, start, lead_on, clean_at, unended_is_cut, first_text_why, last_why}
+use Rattle.log_grammar.proofs.CutLemmas.{whole}
 
 -- the texts of lines
 names : List ℕ
@@ -164,9 +166,7 @@ invited_is_clean accounts =
 cut_why : HasOneClientFirst → SpellsOneName → (accounts : Accounts) (texts : List (List ℕ)) (lines : List LogLine) (place : Place) (told : List Told)
     → Lead accounts texts lines place told → (MayEnd place → ⊥) → IsWhy accounts (ended_by_lf texts) (length texts + 1) is_cut
 cut_why one_first once accounts texts lines place told l unended =
-    let cut = whole texts l.lack in
-    let unclean = not_at_end one_first once accounts (ended_by_lf texts) texts lines place told cut l unended in
-    end_why accounts (ended_by_lf texts) texts [] lines place told is_cut cut l unclean (inl (omega arith, refl))
+    unended_is_cut one_first once accounts (ended_by_lf texts) texts lines place told (whole texts l.lack) l unended
 
 -- small logs at fault
 pub empty_is_cut : HasOneClientFirst → SpellsOneName → (accounts : Accounts) → IsWhy accounts [] 1 is_cut
@@ -303,8 +303,7 @@ text_differs e = let wrong : 69 ≡ 83 = ap (λ (l : List ℕ). get_or l 0 0) e 
 
 pub end_is_no_line : (accounts : Accounts) → IsWhy accounts (ended_by_lf (codes "E" ∷ [])) 1 no_line
 end_is_no_line accounts =
-    text_why accounts (ended_by_lf (codes "E" ∷ [])) [] (codes "E") [] [] [] before_all [] no_line (whole (codes "E" ∷ []) (refl, tt)) (start accounts)
-    (λ front. text_differs (front_starts accounts (codes "E") refl front)) (inl (text_differs, refl))
+    first_text_why accounts (ended_by_lf (codes "E" ∷ [])) (codes "E") [] [] (whole (codes "E" ∷ []) (refl, tt)) text_differs
 
 -- two sessions, one after the other
 pub two_are_clean : (accounts : Accounts) → IsClean accounts (one_session (codes "C GONE" ∷ codes "E" ∷ offer_text ∷ codes "C ABORT" ∷ bare_no))

@@ -8,6 +8,9 @@ pub mod Growth
 pub mod Shortening
 pub mod LogSteps
 pub mod Snoc
+pub mod KindLemmas
+pub mod KindFaults
+pub mod EitherLemmas
 pub mod Readings
 pub mod AccountLemmas
 pub mod FrontLemmas
@@ -20,8 +23,9 @@ pub mod Opened
 pub mod Completions
 pub mod Demanded
 pub mod Standings
+pub mod KindOne
+pub mod VersionLemmas
 pub mod FaultLemmas
-pub mod JudgedLogs
 pub mod ExampleLemmas
 pub mod BookLemmas
 pub mod EdgeLemmas
@@ -36,8 +40,6 @@ pub mod OutcomeLemmas
 pub mod LineBytes
 pub mod HeadlineLemmas
 pub mod LoginCodes
-pub mod FirstFaults
-pub mod FaultTexts
 pub mod Mended
 pub mod LoginFaults
 pub mod DueRanges

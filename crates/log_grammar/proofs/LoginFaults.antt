@@ -12,7 +12,8 @@ use Rattle.otp_core.specs.declared.token.answer.Reply.{Reply}
 use Rattle.log_grammar.specs.Lines.{header, said, heard, refuses, replies, asking, log_text, IsReplyInRange, IsClientInRange, IsLogLine}
 use Rattle.log_grammar.specs.Demands.{Accounts, IsReplyBy}
 use Rattle.log_grammar.specs.Places.{got_final, got_code}
-use Rattle.log_grammar.specs.Why.{other_outcome, other_reply, accepted, of_words, of_replies, IsWhy}
+use Rattle.log_grammar.specs.Why.{other_outcome, other_reply, accepted, of_words, of_replies}
+use Rattle.log_grammar.specs.Versions.{IsWhy}
 use Rattle.log_grammar.specs.Logins.{IsLoginTo, login_log, tried_log, log_bytes, RefusedLoginsAreAtFault, OtherRepliesAreAtFault}
 use Rattle.log_grammar.proofs.ClassLemmas.{classes_due}
 use Rattle.log_grammar.proofs.WhyLemmas.{Known, verdict_once, reply_once}

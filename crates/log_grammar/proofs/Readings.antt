@@ -1,6 +1,6 @@
 -- A log is read in one way: its place and what was told in it follow from its lines. Its first lines are
 -- again lines that a log may begin with.
-use Rattle.std.proofs.Common.{◌≡◌, inl, inr, ℕ, zero, suc, ◌≤◌, List, [], ◌∷◌, ◌++◌, length, sym, ◌∙◌, ap, subst, arith, append_assoc, append-nil}
+use Rattle.std.proofs.Common.{◌≡◌, inl, inr, ℕ, zero, suc, ◌≤◌, List, [], ◌∷◌, ◌++◌, length, sym, ◌∙◌, ap, subst, arith}
 use Rattle.log_grammar.specs.Lines.{LogLine, header, said, heard, bad, gone, ended, mechs, cont, accepts, refuses, replies, halt, auth, auth_with, resp, abort, code, sync}
 use Rattle.log_grammar.specs.Sessions.{Told}
 use Rattle.log_grammar.specs.Demands.{Demands}
@@ -8,7 +8,7 @@ use Rattle.log_grammar.specs.Places.{Place, before_all, between, offered, asks_b
 use Rattle.log_grammar.specs.Steps.{Quits, FromOffered, FromInvitation, FromWaitsFirst, FromFirst, FromWaitsFinal, FromFinal, FromWaitsCode, FromCode, FromLeaving, FromBetween, FromOver, FromStart, Goes, told_at}
 use Rattle.log_grammar.specs.Clean.{Begins}
 use Rattle.log_grammar.proofs.LogSteps.{before_last}
-use Rattle.log_grammar.proofs.Snoc.{some_last, last_same, with_last, length-last}
+use Rattle.log_grammar.proofs.Snoc.{some_last, last_same, length-last}
 
 -- a challenge is that of one account
 abbrev pub OneAccount : Demands → Type 0
@@ -132,22 +132,10 @@ read_once d one (suc n) log p q told other short (inr s) (inr r) =
     (goes_once d one a.at a.line p q a.goes moved, a.all ∙ told_same a.tells b.tells a.at b.at a.line b.line earlier.1 earlier.0 same.1 ∙ sym b.all)
 
 -- without its last line a log still begins as a log may
-shorter_front : (d : Demands) (log : List LogLine) (line : LogLine) (p : Place) (told : List Told) → Begins d (log ++ line ∷ []) p told
+pub shorter_front : (d : Demands) (log : List LogLine) (line : LogLine) (p : Place) (told : List Told) → Begins d (log ++ line ∷ []) p told
     → (q : Place) × (other : List Told) × Begins d log q other
 shorter_front d log line p told (inl none) = absurd (some_last log line none.0)
 shorter_front d log line p told (inr s) =
     let b = before_last d (log ++ line ∷ []) p told s in
     let same = last_same log b.lines line b.line b.same in
     (b.at, b.tells, subst (λ (l : List LogLine). Begins d l b.at b.tells) (sym same.0) b.begins)
-
--- the first lines of what a log may begin with are such lines
-pub front_of : (d : Demands) (n : ℕ) (log more : List LogLine) (p : Place) (told : List Told) → length more ≤ n → Begins d (log ++ more) p told
-    → (q : Place) × (other : List Told) × Begins d log q other
-front_of d n log [] p told short begins = (p, told, subst (λ (l : List LogLine). Begins d l p told) (append-nil log) begins)
-front_of d zero log (x ∷ more) p told short begins = absurd (omega (arith, short))
-front_of d (suc n) log (x ∷ more) p told short begins =
-    let last = with_last x more in
-    let shorter : length last.0 ≤ n = omega (arith, short, ap length last.2, length-last last.0 last.1) in
-    let moved = ap (λ (l : List LogLine). log ++ l) last.2 ∙ sym (append_assoc log last.0 (last.1 ∷ [])) in
-    let less = shorter_front d (log ++ last.0) last.1 p told (subst (λ (l : List LogLine). Begins d l p told) moved begins) in
-    front_of d n log last.0 less.0 less.1 shorter less.2

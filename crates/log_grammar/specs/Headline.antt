@@ -1,15 +1,17 @@
 -- Clean logs by the sessions that they are made of, the line at fault by the clean logs that lines begin, and the
 -- account of each code by the login of its session.
-use Rattle.std.specs.Prelude.{ℕ, ◌≡◌, ◌+◌, ◌⊎◌, ◌↔◌, List, [], ◌∷◌, ◌++◌, length, flat_map}
+use Rattle.std.specs.Prelude.{ℕ, ◌≡◌, ◌⊎◌, ◌↔◌, List, [], ◌∷◌, ◌++◌, flat_map}
 use Rattle.std.specs.List.{AllByRecursion}
 use Rattle.otp_core.specs.Attempt.{CodeTexts}
 use Rattle.log_grammar.specs.Lines.{LogLine, header, said, ended, halt, mechs, log_text, IsLogLine}
-use Rattle.log_grammar.specs.Bytes.{ended_by_lf, IsCut}
+use Rattle.log_grammar.specs.Bytes.{IsCut}
 use Rattle.log_grammar.specs.Sessions.{Session, session_lines, Told, session_told}
 use Rattle.log_grammar.specs.Demands.{Accounts, AreFit, IsFirstOf, demands, SessionMeets}
 use Rattle.log_grammar.specs.Histories.{IsHistory}
 use Rattle.log_grammar.specs.Places.{got_code}
-use Rattle.log_grammar.specs.Clean.{Begins, IsFront, IsClean, IsFaultLine}
+use Rattle.log_grammar.specs.Clean.{Begins}
+use Rattle.log_grammar.specs.Kinds.{BeginsCleanOf, IsFirstToBeginNoCleanOf}
+use Rattle.log_grammar.specs.Versions.{both, IsFront, IsClean, IsFaultLine}
 use Rattle.log_grammar.specs.Logins.{log_bytes}
 use Rattle.log_grammar.specs.Outcomes.{EndsWith, IsSentBy}
 
@@ -47,20 +49,16 @@ CleanLogsAreThoseOfSessions = (accounts : Accounts) (bytes : List ℕ)
 
 -- the bytes begin a clean log: with some bytes after them they are one
 abbrev pub BeginsClean : Accounts → List ℕ → Type 0
-BeginsClean accounts bytes = (more : List ℕ) × IsClean accounts (bytes ++ more)
+BeginsClean accounts bytes = BeginsCleanOf (both accounts) bytes
 
 -- whole lines are a front exactly where they begin a clean log
 abbrev pub FrontsAreWhatBeginsCleanLogs : Type 0
 FrontsAreWhatBeginsCleanLogs = (accounts : Accounts) → AreFit accounts → (bytes : List ℕ) (texts : List (List ℕ)) → IsCut bytes texts []
     → IsFront accounts bytes ↔ BeginsClean accounts bytes
 
--- of these lines and what follows them, this is the first line that begins no clean log: those before it begin one,
--- and with it they do not; or all begin one, it is the line after the last, and the bytes are not clean
+-- of these lines and what follows them, this is the first line that begins no clean log
 abbrev pub IsFirstToBeginNoClean : Accounts → (bytes : List ℕ) (texts : List (List ℕ)) (k : ℕ) → Type 0
-IsFirstToBeginNoClean accounts bytes texts k =
-    ((before : List (List ℕ)) × (text : List ℕ) × (more : List (List ℕ)) × (texts ≡ before ++ text ∷ more) × (k ≡ length before + 1)
-    × BeginsClean accounts (ended_by_lf before) × (BeginsClean accounts (ended_by_lf (before ++ text ∷ [])) → ⊥))
-    ⊎ ((k ≡ length texts + 1) × BeginsClean accounts (ended_by_lf texts) × (IsClean accounts bytes → ⊥))
+IsFirstToBeginNoClean accounts bytes texts k = IsFirstToBeginNoCleanOf (both accounts) bytes texts k
 
 -- a line is the fault line exactly where it is the first that begins no clean log
 abbrev pub FaultLinesBeginNoCleanLog : Type 0

@@ -10,6 +10,9 @@ pub mod Steps
 pub mod Histories
 pub mod Clean
 pub mod Why
+pub mod Kinds
+pub mod KindOne
+pub mod Versions
 pub mod Counts
 pub mod Numbered
 pub mod NumberedSteps

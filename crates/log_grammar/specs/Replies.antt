@@ -15,7 +15,8 @@ use Rattle.log_grammar.specs.Lines.{LogLine, said, heard, gone, ended, replies, 
 use Rattle.log_grammar.specs.Sessions.{Told}
 use Rattle.log_grammar.specs.Demands.{Accounts, attempts_of, demands}
 use Rattle.log_grammar.specs.Places.{Place, got_code, waits_code}
-use Rattle.log_grammar.specs.Clean.{Begins, IsClean}
+use Rattle.log_grammar.specs.Clean.{Begins}
+use Rattle.log_grammar.specs.Versions.{IsClean}
 use Rattle.log_grammar.specs.Logins.{IsLoginTo, login_log, log_bytes}
 
 -- the line that lets a code, or two in a row, pass

@@ -8,8 +8,9 @@ ghost use Rattle.log_grammar.specs.Demands.{Accounts, demands, AreReplies};
 ghost use Rattle.log_grammar.specs.Histories.{IsHistory};
 ghost use Rattle.log_grammar.specs.Places.{Place};
 ghost use Rattle.log_grammar.specs.Steps.{Goes, told_at};
-ghost use Rattle.log_grammar.specs.Clean.{Spells, Begins, AreLines, IsFront, IsClean, IsFaultLine};
-ghost use Rattle.log_grammar.specs.Why.{Why, IsWhy};
+ghost use Rattle.log_grammar.specs.Clean.{Spells, Begins, AreLines};
+ghost use Rattle.log_grammar.specs.Versions.{IsFront, IsClean, IsFaultLine, IsWhy};
+ghost use Rattle.log_grammar.specs.Why.{Why};
 
 use crate::laws::{
     are_cut, are_cut_one_way, clean_logs_are_fronts, each_account_has_its_history,

@@ -12,7 +12,9 @@ use Rattle.log_grammar.specs.Sessions.{Told}
 use Rattle.log_grammar.specs.Demands.{Accounts, Demands, demands}
 use Rattle.log_grammar.specs.Places.{Place, between, got_code, halted, MayEnd}
 use Rattle.log_grammar.specs.Steps.{Goes}
-use Rattle.log_grammar.specs.Clean.{Begins, Spells, AreLines, IsFront, IsClean}
+use Rattle.log_grammar.specs.Clean.{Begins, AreLines}
+use Rattle.log_grammar.specs.Versions.{IsFront, IsClean}
+use Rattle.log_grammar.proofs.FaultLemmas.{lines_front, lines_clean}
 use Rattle.log_grammar.proofs.HeadlineLemmas.{are_lines, each_lacks}
 use Rattle.sasl_desk.specs.Keeper.{IsTold}
 use Rattle.sasl_desk.specs.Sessions.{CanBeWritten}
@@ -27,7 +29,6 @@ use Rattle.sasl_desk.specs.declared.desk.state.Phase.TheVariants as phase
 use Rattle.sasl_desk.specs.declared.session.Session.{Session}
 use Rattle.sasl_desk.specs.declared.session.Session.TheVariants.{Offered, WaitsFirst, WaitsFinal, WaitsCode}
 use Rattle.sasl_desk.proofs.KeeperLemmas.{told_due, told_after}
-use Rattle.sasl_desk.proofs.RunLemmas.{run_has_lines}
 use Rattle.sasl_desk.proofs.StandLemmas.{book_itself}
 
 -- the bytes of lines that can be written are these lines
@@ -40,13 +41,8 @@ bytes_are_lines lines written = (
 
 pub log_is_front : {S : Type 0} (facts : S → StoreFacts) (start : BookFields) (calls : List Call) (desk : Desk S) → Stands facts start calls desk
     → IsFront (accounts_in start) (log_bytes (run_lines calls))
-log_is_front facts start calls desk s = (run_lines calls, s.place, s.told, bytes_are_lines (run_lines calls) s.written, s.begins)
-
--- a log with lines is spelled by sessions
-spelled : (start : BookFields) (calls : List Call) (place : Place) (told : List Told) → Begins (demands (accounts_in start)) (run_lines calls) place told
-    → Spells (demands (accounts_in start)) (run_lines calls) place told
-spelled start calls place told (inl none) = absurd (run_has_lines calls none.0)
-spelled start calls place told (inr spells) = spells
+log_is_front facts start calls desk s =
+    lines_front (accounts_in start) (log_bytes (run_lines calls)) (run_lines calls) s.place s.told (bytes_are_lines (run_lines calls) s.written) s.begins
 
 -- where no session is open, or the store has failed, a log may end
 closed_open : (going : Session) → session_phase going ≡ phase.Closed → ⊥
@@ -73,30 +69,20 @@ halt_leads d place next goes = absurd goes
 
 pub log_is_clean : {S : Type 0} (facts : S → StoreFacts) (start : BookFields) (calls : List Call) (desk : Desk S) → Stands facts start calls desk
     → (phase_of desk.state ≡ phase.Closed) ⊎ ((facts desk.keeper.store).failed ≡ true) → IsClean (accounts_in start) (log_bytes (run_lines calls))
-log_is_clean facts start calls desk s ends = (
-  run_lines calls,
-  s.place,
-  s.told,
-  bytes_are_lines (run_lines calls) s.written,
-  spelled start calls s.place s.told s.begins,
-  elim ends [
-    | inl closed ↦ closed_ends start _ s.place desk.state s.is_state closed
-    | inr failed ↦ lost_ends (accounts_in start) calls s.place desk.keeper.book (facts desk.keeper.store) s.is_stored failed
-  ],
-)
+log_is_clean facts start calls desk s ends =
+    lines_clean (accounts_in start) (log_bytes (run_lines calls)) (run_lines calls) s.place s.told (bytes_are_lines (run_lines calls) s.written) s.begins
+    (elim ends [
+      | inl closed ↦ closed_ends start _ s.place desk.state s.is_state closed
+      | inr failed ↦ lost_ends (accounts_in start) calls s.place desk.keeper.book (facts desk.keeper.store) s.is_stored failed
+    ])
 
 -- so is a log whose last line is `S HALT`
 pub halted_is_clean : GoesOnByNoOther → {S : Type 0} (facts : S → StoreFacts) (start : BookFields) (calls : List Call) (desk : Desk S) → Stands facts start calls desk
     → (lines : List LogLine) → run_lines calls ≡ lines ++ said halt ∷ [] → IsClean (accounts_in start) (log_bytes (run_lines calls))
 halted_is_clean law facts start calls desk s lines last =
-    let before = law (accounts_in start) lines (said halt) s.place s.told (subst (λ (l : List LogLine). Begins (demands (accounts_in start)) l s.place s.told) last s.begins) in (
-      run_lines calls,
-      s.place,
-      s.told,
-      bytes_are_lines (run_lines calls) s.written,
-      spelled start calls s.place s.told s.begins,
-      halt_leads (demands (accounts_in start)) before.place s.place before.goes,
-    )
+    let before = law (accounts_in start) lines (said halt) s.place s.told (subst (λ (l : List LogLine). Begins (demands (accounts_in start)) l s.place s.told) last s.begins) in
+    lines_clean (accounts_in start) (log_bytes (run_lines calls)) (run_lines calls) s.place s.told (bytes_are_lines (run_lines calls) s.written) s.begins
+    (halt_leads (demands (accounts_in start)) before.place s.place before.goes)
 
 -- what is spent is so without some of it
 fewer_different : (ps qs : List (List ℕ × ℕ)) → AreDifferent (ps ++ qs) → AreDifferent qs

@@ -23,7 +23,8 @@ use Rattle.log_grammar.specs.Sessions.{Told, told_of}
 use Rattle.log_grammar.specs.Demands.{Accounts, Demands, demands, IsReplyDue, AreReplies}
 use Rattle.log_grammar.specs.Places.{Place, before_all, between, offered, waits_code, got_code, halted, MayEnd}
 use Rattle.log_grammar.specs.Steps.{Goes}
-use Rattle.log_grammar.specs.Clean.{Begins, Spells, AreLines, IsFront, IsClean}
+use Rattle.log_grammar.specs.Clean.{Begins, Spells, AreLines}
+use Rattle.log_grammar.specs.Versions.{IsFront, IsClean}
 use Rattle.log_grammar.proofs.ExampleLemmas.{is_sha_256, is_sha_1}
 use Rattle.log_grammar.proofs.HeadlineLemmas.{are_lines, each_lacks}
 use Rattle.log_grammar.proofs.LineBytes.{reply_line}
@@ -54,7 +55,7 @@ use Rattle.sasl_desk.specs.declared.session.turn.Saying.TheVariants.{Nothing, Co
 use Rattle.sasl_desk.specs.declared.session.turn.Turn.{Turn}
 use Rattle.sasl_desk.proofs.KeeperLemmas.{told_due, told_after}
 use Rattle.sasl_desk.proofs.PathLemmas.{client_turn, turn_path, turn_no_reply, goes_on_by_path}
-use Rattle.sasl_desk.proofs.RunLemmas.{all-append, left_rests, turn_rests, answer_bears, answer_answers, run_has_lines}
+use Rattle.sasl_desk.proofs.RunLemmas.{all-append, left_rests, turn_rests, answer_bears, answer_answers}
 
 -- without an attempt a book is the one after what was told of it
 leads_itself : BeginsWithItself → (o : Option Fields) → LeadsTo o [] o

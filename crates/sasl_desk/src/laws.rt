@@ -3,7 +3,7 @@ ghost use Rattle.std.specs.Prelude.{◌≡◌, ◌⊎◌, true, ℕ, List, [], �
 ghost use Rattle.book_format.specs.Book.{BookFields};
 ghost use Rattle.book_format.specs.Trees.{IsBookText};
 ghost use Rattle.log_grammar.specs.Books.{accounts_in};
-ghost use Rattle.log_grammar.specs.Clean.{IsFront, IsClean};
+ghost use Rattle.log_grammar.specs.Versions.{IsFront, IsClean};
 ghost use Rattle.log_grammar.specs.Lines.{LogLine, said, halt};
 ghost use Rattle.log_grammar.specs.Sessions.{Told};
 ghost use Rattle.sasl_desk.specs.Desks.{Stands, phase_of};

@@ -5,8 +5,8 @@ use Rattle.log_grammar.proofs.consequences.clean_logs_have_no_fault.Goals as goa
 
 pub returns : goal.returns
 returns c = λ accounts bytes k clean fault.
-    let (lines, place, told, are, spells, ends) = clean in
-    let same = c.are_cut_one_way.ensures bytes are.0 fault.texts [] fault.rest are.1 fault.cut in
+    let (texts, all, ends) = clean in
+    let same = c.are_cut_one_way.ensures bytes texts fault.texts [] fault.rest all fault.cut in
     let cut = subst (λ (rest : List ℕ). IsCut bytes fault.texts rest) (sym same.1) fault.cut in
     elim (cases_lt (length fault.texts) k) [
       | inl after ↦ fault.unclean (omega (arith, after, fault.past)) clean

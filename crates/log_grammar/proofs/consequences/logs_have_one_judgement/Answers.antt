@@ -1,5 +1,5 @@
 use Rattle.std.proofs.Common.{ℕ, sym, subst}
-use Rattle.log_grammar.specs.Why.{IsWhy}
+use Rattle.log_grammar.specs.Versions.{IsWhy}
 use Rattle.log_grammar.proofs.consequences.logs_have_one_judgement.Goals as goal
 
 pub returns : goal.returns

@@ -1,8 +1,10 @@
-use Rattle.log_grammar.proofs.JudgedLogs.{each_judged}
+use Rattle.log_grammar.specs.Versions.{both}
+use Rattle.log_grammar.proofs.KindLemmas.{each_judged}
+use Rattle.log_grammar.proofs.VersionLemmas.{sound_both}
 use Rattle.log_grammar.proofs.laws.each_log_is_judged.Goals as goal
 
 pub returns : goal.returns
-returns c = each_judged (record {
+returns c = λ accounts. each_judged (both accounts) (sound_both (record {
   known = record {
     one_first = c.has_one_client_first.ensures;
     names = c.spells_one_name.ensures;
@@ -20,4 +22,4 @@ returns c = each_judged (record {
   final = c.has_one_server_final.ensures;
   finals = c.server_final_is_decided.ensures;
   replies = c.some_reply_is_due.ensures;
-})
+}) accounts)

@@ -1,10 +1,12 @@
-use Rattle.log_grammar.proofs.WhyLemmas.{why_once}
+use Rattle.log_grammar.specs.Versions.{both}
+use Rattle.log_grammar.proofs.KindLemmas.{why_once}
+use Rattle.log_grammar.proofs.VersionLemmas.{wrong_once_both}
 use Rattle.log_grammar.proofs.laws.has_one_why.Goals as goal
 
 pub returns : goal.returns
-returns c = why_once (record {
+returns c = λ accounts. why_once (both accounts) (wrong_once_both (record {
   one_first = c.has_one_client_first.ensures;
   names = c.spells_one_name.ensures;
   verdicts = c.at_most_one_verdict_is_due.ensures;
   answers = c.only_one_reply_is_due.ensures;
-})
+}) accounts)

@@ -1,0 +1,30 @@
+-- Logs of version 1 as a kind of log.
+use Rattle.std.specs.Prelude.{ℕ, List}
+use Rattle.std.specs.List.{AllZip}
+use Rattle.log_grammar.specs.Lines.{LogLine, IsLogLine}
+use Rattle.log_grammar.specs.Sessions.{Told}
+use Rattle.log_grammar.specs.Demands.{Accounts, demands}
+use Rattle.log_grammar.specs.Places.{Place, MayEnd}
+use Rattle.log_grammar.specs.Clean.{Spells, Begins}
+use Rattle.log_grammar.specs.Why.{Why, IsWrongText}
+use Rattle.log_grammar.specs.Kinds.{Kind}
+
+-- the texts are lines that a log of version 1 may begin with
+abbrev pub StandsOne : Accounts → List (List ℕ) → Type 0
+StandsOne accounts texts =
+    (lines : List LogLine) × (place : Place) × (told : List Told)
+    × AllZip IsLogLine texts lines × Begins (demands accounts) lines place told
+
+-- the texts are the lines of a log of version 1, which leads to a place where it may end
+abbrev pub EndsOne : Accounts → List (List ℕ) → Type 0
+EndsOne accounts texts =
+    (lines : List LogLine) × (place : Place) × (told : List Told)
+    × AllZip IsLogLine texts lines × Spells (demands accounts) lines place told × MayEnd place
+
+-- why the text of a whole line is at fault after these lines of a log of version 1
+abbrev pub WrongOne : Accounts → List (List ℕ) → List ℕ → Why → Type 0
+WrongOne accounts before text why = (lines : List LogLine) × AllZip IsLogLine before lines × IsWrongText accounts lines text why
+
+-- logs of version 1. A line has at most 6202 bytes.
+abbrev pub one : Accounts → Kind
+one accounts = record { Stands = StandsOne accounts; Ends = EndsOne accounts; Wrong = WrongOne accounts; limit = λ before. 6202 }
