@@ -24,6 +24,7 @@ pub mod Completions
 pub mod Demanded
 pub mod Standings
 pub mod KindOne
+pub mod KindTwo
 pub mod VersionLemmas
 pub mod FaultLemmas
 pub mod ExampleLemmas
@@ -57,3 +58,4 @@ pub mod OpenCounts
 pub mod NumberedAside
 pub mod NumberedClassLemmas
 pub mod NumberedLineLemmas
+pub mod NumberedStandings

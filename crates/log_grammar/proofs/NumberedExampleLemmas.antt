@@ -14,7 +14,7 @@ use Rattle.log_grammar.proofs.NumberedLogSteps.{numbered_on}
 use Rattle.log_grammar.proofs.Owns.{put_other}
 use Rattle.log_grammar.proofs.Snoc.{last_same}
 
-no_element : {A : Type 0} (before : List A) (x : A) (rest : List A) → [] ≡ before ++ x ∷ rest → ⊥
+pub no_element : {A : Type 0} (before : List A) (x : A) (rest : List A) → [] ≡ before ++ x ∷ rest → ⊥
 no_element [] x rest e = cc e
 no_element (y ∷ before) x rest e = cc e
 

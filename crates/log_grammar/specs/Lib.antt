@@ -12,6 +12,7 @@ pub mod Clean
 pub mod Why
 pub mod Kinds
 pub mod KindOne
+pub mod KindTwo
 pub mod Versions
 pub mod Counts
 pub mod Numbered
