@@ -59,3 +59,4 @@ pub mod NumberedAside
 pub mod NumberedClassLemmas
 pub mod NumberedLineLemmas
 pub mod NumberedStandings
+pub mod NumberedEnds

@@ -1,7 +1,6 @@
 -- The small logs of version 2, line by line.
 use Rattle.std.proofs.Common.{◌≡◌, ◌∙◌, ◌≤◌, inl, inr, ℕ, suc, zero, List, [], ◌∷◌, ◌++◌, refl, sym, subst, arith}
 use Rattle.std.specs.List.{AllByRecursion}
-use Rattle.std.specs.declared.option.Option.TheVariants.{None}
 use Rattle.log_grammar.specs.Lines.{LogLine, said, heard, gone, ended, refuses, abort}
 use Rattle.log_grammar.specs.Sessions.{Told}
 use Rattle.log_grammar.specs.Demands.{Accounts, Demands, demands, AreReplies}
@@ -10,29 +9,9 @@ use Rattle.log_grammar.specs.Steps.{told_at}
 use Rattle.log_grammar.specs.Numbered.{Numbered, numbered, HasRoom, MayFollow, SpellsNumbered}
 use Rattle.log_grammar.specs.NumberedSteps.{GoesIn, put, GoesNumbered}
 use Rattle.log_grammar.specs.NumberedExamples.{offer, turns_away, two_at_once, IsWholeForTwo, BeginsNoneForTwo}
-use Rattle.log_grammar.proofs.NumberedLogSteps.{numbered_on}
-use Rattle.log_grammar.proofs.Owns.{put_other}
+use Rattle.log_grammar.proofs.NumberedLogSteps.{numbered_on, no_line_yet}
+use Rattle.log_grammar.proofs.Owns.{put_other, no_element}
 use Rattle.log_grammar.proofs.Snoc.{last_same}
-
-pub no_element : {A : Type 0} (before : List A) (x : A) (rest : List A) → [] ≡ before ++ x ∷ rest → ⊥
-no_element [] x rest e = cc e
-no_element (y ∷ before) x rest e = cc e
-
--- no line yet
-pub no_line_yet : (limit : ℕ) (d : Demands) → SpellsNumbered limit d [] (λ n. between) []
-no_line_yet limit d = record {
-  stay = λ n. None;
-  lines = λ n. refl;
-  good = λ n. tt;
-  room = λ before x rest e. absurd (no_element before x rest e);
-  next = λ before x y rest e. absurd (no_element before x (y ∷ rest) e);
-  marks = [];
-  marked = λ n. refl;
-  order = refl;
-  tells = refl;
-  replies = tt;
-  after = λ n. refl;
-}
 
 -- what may follow the last line
 follows : (log : List (Numbered LogLine)) (y : Numbered LogLine) (n : ℕ) (line : LogLine) → MayFollow y.number y.value n line

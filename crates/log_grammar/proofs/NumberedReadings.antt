@@ -1,13 +1,13 @@
 -- A log of version 2 is read in one way, and its first lines are again such a log. The place of a number follows from
 -- the lines of this number alone.
-use Rattle.std.proofs.Common.{◌≡◌, inl, inr, ℕ, zero, suc, ◌≤◌, List, [], ◌∷◌, ◌++◌, length, sym, ◌∙◌, ap, subst, arith, append_assoc, append-nil}
+use Rattle.std.proofs.Common.{◌≡◌, inl, inr, ℕ, zero, suc, ◌≤◌, List, [], ◌∷◌, ◌++◌, length, reverse, sym, ◌∙◌, ap, subst, arith, append_assoc, append-nil}
 use Rattle.log_grammar.specs.Lines.{LogLine, said, busy}
 use Rattle.log_grammar.specs.Sessions.{Told}
-use Rattle.log_grammar.specs.Demands.{Demands}
+use Rattle.log_grammar.specs.Demands.{Demands, AreReplies}
 use Rattle.log_grammar.specs.Places.{Place, between}
 use Rattle.log_grammar.specs.Steps.{Goes, told_at}
 use Rattle.log_grammar.specs.Numbered.{Numbered, SpellsNumbered}
-use Rattle.log_grammar.specs.NumberedSteps.{GoesIn}
+use Rattle.log_grammar.specs.NumberedSteps.{GoesIn, GoesNumbered}
 use Rattle.log_grammar.proofs.NumberedCuts.{numbered_before}
 use Rattle.log_grammar.proofs.NumberedMarks.{values_of, no_marks}
 use Rattle.log_grammar.proofs.Opened.{Opened, opened_by}
@@ -90,3 +90,14 @@ opened_numbered limit d (suc k) (x ∷ log) p told short s =
     let earlier = opened_numbered limit d k last.0 b.before b.told shorter b.spells in
     at_each (λ (m : ℕ). Opened d (p m)) n (opened_in d (b.before n) last.1.value (p n) (earlier n) b.goes.goes)
     (λ m differ. subst (Opened d) (sym (b.others m differ)) (earlier m))
+
+-- what a number may have is said by its own place alone
+pub goes_moved : (limit : ℕ) (d : Demands) (log : List (Numbered LogLine)) (places other : ℕ → Place) (told also : List Told) (n : ℕ) (line : LogLine) (to : Place)
+    → GoesNumbered limit d log places told n line to → places n ≡ other n → told ≡ also → GoesNumbered limit d log other also n line to
+goes_moved limit d log places other told also n line to g at same = record {
+  room = g.room;
+  next = g.next;
+  goes = subst (λ (p : Place). GoesIn d p line to) at g.goes;
+  due = subst (λ (t : List Told). AreReplies d (reverse t) (told_at (other n) line)) same
+      (subst (λ (p : Place). AreReplies d (reverse told) (told_at p line)) at g.due);
+}

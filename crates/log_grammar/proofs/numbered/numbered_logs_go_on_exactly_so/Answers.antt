@@ -1,12 +1,13 @@
-use Rattle.std.proofs.Common.{◌≡◌, ℕ, List, ◌++◌, [], ◌∷◌, reverse, sym, ◌∙◌, ap, subst}
+use Rattle.std.proofs.Common.{◌≡◌, ℕ, List, ◌++◌, [], ◌∷◌, sym, ◌∙◌, ap, subst}
 use Rattle.log_grammar.specs.Lines.{LogLine}
 use Rattle.log_grammar.specs.Sessions.{Told}
-use Rattle.log_grammar.specs.Demands.{Accounts, Demands, demands, AreReplies}
+use Rattle.log_grammar.specs.Demands.{Accounts, Demands, demands}
 use Rattle.log_grammar.specs.Places.{Place}
 use Rattle.log_grammar.specs.Steps.{told_at}
 use Rattle.log_grammar.specs.Numbered.{Numbered, numbered, SpellsNumbered}
-use Rattle.log_grammar.specs.NumberedSteps.{GoesIn, put, GoesNumbered, StoodNumbered}
+use Rattle.log_grammar.specs.NumberedSteps.{put, GoesNumbered, StoodNumbered}
 use Rattle.log_grammar.specs.NumberedLaws.{GoesOnByANumberedLine}
+use Rattle.log_grammar.proofs.NumberedReadings.{goes_moved}
 use Rattle.log_grammar.proofs.Owns.{at_each, put_here, put_other}
 use Rattle.log_grammar.proofs.numbered.numbered_logs_go_on_exactly_so.Goals as goal
 
@@ -14,20 +15,10 @@ abbrev Stands : ℕ → Demands → List (Numbered LogLine) → (ℕ → Place) 
 Stands limit d log places told n line next all =
     GoesNumbered limit d log places told n line (next n) × ((m : ℕ) → (m ≡ n → ⊥) → next m ≡ places m) × (all ≡ told ++ told_at (places n) line)
 
-moved : (limit : ℕ) (d : Demands) (log : List (Numbered LogLine)) (places other : ℕ → Place) (told also : List Told) (n : ℕ) (line : LogLine) (to : Place)
-    → GoesNumbered limit d log places told n line to → places n ≡ other n → told ≡ also → GoesNumbered limit d log other also n line to
-moved limit d log places other told also n line to g at same = record {
-  room = g.room;
-  next = g.next;
-  goes = subst (λ (p : Place). GoesIn d p line to) at g.goes;
-  due = subst (λ (t : List Told). AreReplies d (reverse t) (told_at (other n) line)) same
-      (subst (λ (p : Place). AreReplies d (reverse told) (told_at p line)) at g.due);
-}
-
 there : (limit : ℕ) (d : Demands) (log : List (Numbered LogLine)) (places : ℕ → Place) (told : List Told) (n : ℕ) (line : LogLine) (next : ℕ → Place) (all : List Told)
     → (s : StoodNumbered limit d log n line next all) → ((m : ℕ) → s.before m ≡ places m) → s.told ≡ told → Stands limit d log places told n line next all
 there limit d log places told n line next all s same also = (
-  moved limit d log s.before places s.told told n line (next n) s.goes (same n) also,
+  goes_moved limit d log s.before places s.told told n line (next n) s.goes (same n) also,
   λ m other. s.others m (λ e. other (sym e)) ∙ same m,
   s.tells ∙ ap (λ (t : List Told). t ++ told_at (s.before n) line) also ∙ ap (λ (p : Place). told ++ told_at p line) (same n),
 )
