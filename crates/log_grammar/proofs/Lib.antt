@@ -60,3 +60,5 @@ pub mod NumberedClassLemmas
 pub mod NumberedLineLemmas
 pub mod NumberedStandings
 pub mod NumberedEnds
+pub mod Closings
+pub mod NumberedCompletions
