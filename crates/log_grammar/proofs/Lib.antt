@@ -62,3 +62,4 @@ pub mod NumberedStandings
 pub mod NumberedEnds
 pub mod Closings
 pub mod NumberedCompletions
+pub mod NumberedFronts
