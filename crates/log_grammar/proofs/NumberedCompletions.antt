@@ -1,29 +1,27 @@
 -- Each front of version 2 begins a clean log: the sessions that are open are closed one by one, or a halt ends all.
-use Rattle.std.proofs.Common.{◌≡◌, ◌⊎◌, inl, inr, ℕ, zero, suc, ◌+◌, ◌≤◌, ◌<◌, true, false, List, [], ◌∷◌, ◌++◌, length, reverse, refl, sym, ◌∙◌, ap, subst, arith, append_assoc, append-nil}
+use Rattle.std.proofs.Common.{◌≡◌, inl, inr, ℕ, zero, suc, ◌≤◌, true, false, List, [], ◌∷◌, ◌++◌, length, reverse, refl, sym, ◌∙◌, ap, subst, arith, append_assoc, append-nil}
 use Rattle.std.specs.List.{AllByRecursion, AllZip}
 use Rattle.std.proofs.lemmas.Bool.{cases_Bool}
 use Rattle.std.proofs.lemmas.Bool.Decides.{eqb_tells}
-use Rattle.log_grammar.specs.Lines.{LogLine, said, ended, halt, busy, heard, abort, log_text, IsLogLine}
+use Rattle.log_grammar.specs.Lines.{LogLine, said, halt, IsLogLine}
 use Rattle.log_grammar.specs.Bytes.{LacksLf}
 use Rattle.log_grammar.specs.Sessions.{Told}
 use Rattle.log_grammar.specs.Demands.{Accounts, AreFit, Demands, demands, AreReplies}
-use Rattle.log_grammar.specs.Places.{Place, before_all, between, got_code, over, halted}
+use Rattle.log_grammar.specs.Places.{Place, before_all, between, halted}
 use Rattle.log_grammar.specs.Steps.{Goes, told_at}
-use Rattle.log_grammar.specs.Numbered.{Numbered, numbered, place_at, begun, MayFollow, SpellsNumbered, MayEndNumbered}
+use Rattle.log_grammar.specs.Numbered.{Numbered, numbered, MayFollow, SpellsNumbered, MayEndNumbered}
 use Rattle.log_grammar.specs.NumberedCounts.{is_closed}
 use Rattle.log_grammar.specs.NumberedLines.{IsSessionNumber, HasNumber, numbered_text, IsNumberedLine}
 use Rattle.log_grammar.specs.NumberedSteps.{GoesIn, put}
-use Rattle.log_grammar.proofs.Closings.{IsPlain, Closes, exit_of, plain_end}
+use Rattle.log_grammar.proofs.Closings.{Closes, exit_of}
 use Rattle.log_grammar.proofs.Completions.{Ground, Spelt, spelt_halt}
 use Rattle.log_grammar.proofs.NumberedCuts.{numbered_before}
-use Rattle.log_grammar.proofs.NumberedEnds.{not_begun}
 use Rattle.log_grammar.proofs.NumberedLineLemmas.{numbered_lacks, numbered_written}
-use Rattle.log_grammar.proofs.NumberedLogSteps.{given_first, numbered_on, between_begins}
+use Rattle.log_grammar.proofs.NumberedLogSteps.{numbered_on, between_begins}
 use Rattle.log_grammar.proofs.NumberedReadings.{nothing_begun, opened_numbered}
-use Rattle.log_grammar.proofs.OpenCounts.{given_or_not}
-use Rattle.log_grammar.proofs.Owns.{at_each, put_here, put_other, own_stands, no_element}
+use Rattle.log_grammar.proofs.Owns.{at_each, put_here, put_other}
 use Rattle.log_grammar.proofs.Snoc.{last_same, with_last, length-last}
-use Rattle.log_grammar.proofs.StepKinds.{StepKind, kind_of_step}
+use Rattle.log_grammar.proofs.StepKinds.{kind_of_step}
 
 -- lines that make a log clean
 pub record CompletesTwo (limit : ℕ) (accounts : Accounts) (log : List (Numbered LogLine)) : Type 0 where
@@ -147,15 +145,15 @@ pub close_all : Ground → (limit : ℕ) (accounts : Accounts) → AreFit accoun
 close_all ground limit accounts fit zero log places told s free ranged closed = finished limit accounts log places told s (inl (λ n. closed n (omega arith)))
 close_all ground limit accounts fit (suc k) log places told s free ranged closed =
     let below : (p : ℕ → Place) → p k ≡ between → ((m : ℕ) → (k ≡ m → ⊥) → p m ≡ places m) → (n : ℕ) → k ≤ n → p n ≡ between =
-        λ p at others n most. elim (eqb_tells k n) [
-          | inl same ↦ subst (λ (m : ℕ). p m ≡ between) same.1 at
-          | inr other ↦ others n other.1 ∙ closed n (omega (arith, most, other.1))
-        ]
+    λ p at others n most. elim (eqb_tells k n) [
+      | inl same ↦ subst (λ (m : ℕ). p m ≡ between) same.1 at
+      | inr other ↦ others n other.1 ∙ closed n (omega (arith, most, other.1))
+    ]
     in
     let ranged_on : (p : ℕ → Place) → p k ≡ between → ((m : ℕ) → (k ≡ m → ⊥) → p m ≡ places m) → Ranged p =
-        λ p at others. at_each (λ (m : ℕ). is_closed (p m) ≡ false → IsSessionNumber m) k
-        (λ is. let wrong = sym (ap is_closed at) ∙ is in cc wrong)
-        (λ m other is. ranged m (sym (ap is_closed (others m other)) ∙ is))
+    λ p at others. at_each (λ (m : ℕ). is_closed (p m) ≡ false → IsSessionNumber m) k
+    (λ is. let wrong = sym (ap is_closed at) ∙ is in cc wrong)
+    (λ m other is. ranged m (sym (ap is_closed (others m other)) ∙ is))
     in
     elim (cases_Bool (is_closed (places k))) [
       | inl is ↦

@@ -1,21 +1,20 @@
 -- Each front of version 2 begins a clean log, whatever its last line is.
-use Rattle.std.proofs.Common.{◌≡◌, ◌⊎◌, inl, inr, ℕ, ◌+◌, ◌≤◌, true, false, List, [], ◌∷◌, ◌++◌, length, reverse, refl, sym, ◌∙◌, ap, subst, arith, append-nil}
+use Rattle.std.proofs.Common.{◌≡◌, ◌⊎◌, inl, inr, ℕ, ◌+◌, false, List, [], ◌∷◌, ◌++◌, reverse, refl, sym, ◌∙◌, ap, subst, arith, append-nil}
 use Rattle.std.specs.Prelude.{codes}
 use Rattle.std.specs.List.{AllByRecursion, AllZip}
-use Rattle.std.specs.declared.option.Option.TheVariants.{None, Some}
 use Rattle.std.proofs.lemmas.Grind.{flat_map-append}
-use Rattle.log_grammar.specs.Lines.{LogLine, said, ended, halt, busy, heard, abort, second_header, log_text}
+use Rattle.log_grammar.specs.Lines.{LogLine, said, ended, halt, busy}
 use Rattle.log_grammar.specs.Bytes.{LacksLf, ended_by_lf, IsCut}
 use Rattle.log_grammar.specs.Sessions.{Told}
 use Rattle.log_grammar.specs.Demands.{Accounts, AreFit, Demands, demands, AreReplies}
 use Rattle.log_grammar.specs.Places.{Place, before_all, between, got_code, over, halted}
 use Rattle.log_grammar.specs.Steps.{Goes, told_at}
-use Rattle.log_grammar.specs.Numbered.{Numbered, numbered, place_at, lines_at, begun, MayFollow, SpellsNumbered, MayEndNumbered}
+use Rattle.log_grammar.specs.Numbered.{Numbered, numbered, place_at, lines_at, begun, MayFollow, SpellsNumbered}
 use Rattle.log_grammar.specs.NumberedCounts.{is_closed}
 use Rattle.log_grammar.specs.NumberedLines.{IsSessionNumber, IsNumberedLine}
 use Rattle.log_grammar.specs.NumberedSteps.{GoesIn, put}
-use Rattle.log_grammar.specs.KindTwo.{StandsTwo, EndsTwo, two}
-use Rattle.log_grammar.proofs.Closings.{plain_end}
+use Rattle.log_grammar.specs.Kinds.{BeginsCleanOf}
+use Rattle.log_grammar.specs.KindTwo.{two}
 use Rattle.log_grammar.proofs.Completions.{Ground, spelt_end}
 use Rattle.log_grammar.proofs.CutLemmas.{each-append}
 use Rattle.log_grammar.proofs.KindFaults.{FrontsBeginCleanOf}
@@ -26,7 +25,7 @@ use Rattle.log_grammar.proofs.NumberedLogSteps.{given_first, numbered_on, no_lin
 use Rattle.log_grammar.proofs.NumberedStandings.{after_last}
 use Rattle.log_grammar.proofs.OpenCounts.{given_or_not}
 use Rattle.log_grammar.proofs.Owns.{at_each, put_here, put_other, own_stands, no_element}
-use Rattle.log_grammar.proofs.Snoc.{with_last, last_same}
+use Rattle.log_grammar.proofs.Snoc.{with_last}
 
 -- where HALT and BUSY lead
 halt_leads : (d : Demands) (place next : Place) → Goes d place (said halt) next → next ≡ halted
@@ -72,8 +71,8 @@ complete_busy ground limit accounts fit front last places told s ranged is at =
       due = subst (λ (p : Place). AreReplies (demands accounts) (reverse told) (told_at p ended)) (sym at) tt;
     }) in
     let ranged_on : Ranged (put n between places) = at_each (λ (m : ℕ). is_closed (put n between places m) ≡ false → IsSessionNumber m) n
-        (λ open_is. let wrong = sym (ap is_closed (put_here n between places)) ∙ open_is in cc wrong)
-        (λ m other open_is. ranged m (sym (ap is_closed (put_other n between places m other)) ∙ open_is)) in
+    (λ open_is. let wrong = sym (ap is_closed (put_here n between places)) ∙ open_is in cc wrong)
+    (λ m other open_is. ranged m (sym (ap is_closed (put_other n between places m other)) ∙ open_is)) in
     then limit accounts log n ended (ranged n (ap is_closed at)) tt spelt_end
     (complete_free ground limit accounts fit (log ++ numbered n ended ∷ []) (put n between places) (told ++ told_at (places n) ended) s'
     (free_after log n ended (λ m next. tt)) ranged_on)
@@ -122,3 +121,38 @@ ranged_of limit accounts texts log places told are s n is = elim (given_or_not (
       let text = read_at texts found.0 (numbered n first.0) found.1 (subst (λ (l : List (Numbered LogLine)). AllZip IsNumberedLine texts l) found.2 are) in
       text.1.number
 ]
+
+-- bytes that are whole lines, and more lines after them
+cut_with : (bytes : List ℕ) (texts more : List (List ℕ)) → IsCut bytes texts [] → AllByRecursion LacksLf more → IsCut (bytes ++ ended_by_lf more) (texts ++ more) []
+cut_with bytes texts more cut lack = record {
+  bytes_are = ap (λ (b : List ℕ). b ++ ended_by_lf more) (cut.bytes_are ∙ append-nil (ended_by_lf texts))
+      ∙ sym (flat_map-append (λ text. text ++ 10 ∷ []) texts more) ∙ sym (append-nil (ended_by_lf (texts ++ more)));
+  lines = each-append texts more cut.lines lack;
+  after = refl;
+}
+
+pairs_on : (texts more : List (List ℕ)) (lines others : List (Numbered LogLine)) → AllZip IsNumberedLine texts lines → AllZip IsNumberedLine more others
+    → AllZip IsNumberedLine (texts ++ more) (lines ++ others)
+pairs_on [] more [] others are also = also
+pairs_on [] more (l ∷ lines) others are also = absurd are
+pairs_on (t ∷ texts) more [] others are also = absurd are
+pairs_on (t ∷ texts) more (l ∷ lines) others are also = (are.0, pairs_on texts more lines others are.1 also)
+
+-- no line yet: the first line makes a clean log
+first_completes : (limit : ℕ) (accounts : Accounts) (bytes : List ℕ) → IsCut bytes [] [] → BeginsCleanOf (two limit accounts) bytes
+first_completes limit accounts bytes cut =
+    let first = codes "SCRAMLOG 2" ∷ [] in
+    (ended_by_lf first, (first, cut_with bytes [] first cut (refl, tt), (refl, [], λ n. between, [], tt, no_line_yet limit (demands accounts), inl (λ n. refl))))
+
+-- each front of version 2 begins a clean log
+pub fronts_complete_two : Ground → (limit : ℕ) (accounts : Accounts) → AreFit accounts → FrontsBeginCleanOf (two limit accounts)
+fronts_complete_two ground limit accounts fit bytes ([], cut, stands) = first_completes limit accounts bytes cut
+fronts_complete_two ground limit accounts fit bytes (first ∷ texts, cut, (is, lines, places, told, are, s)) =
+    let c = complete_two ground limit accounts fit lines places told s (ranged_of limit accounts texts lines places told are s) in (
+      ended_by_lf c.texts,
+      (
+        first ∷ texts ++ c.texts,
+        cut_with bytes (first ∷ texts) c.texts cut c.lack,
+        (is, lines ++ c.more, c.places, c.told, pairs_on texts c.texts lines c.more are c.are, c.spells, c.ends),
+      ),
+    )
