@@ -13,6 +13,7 @@ pub mod Why
 pub mod Kinds
 pub mod KindOne
 pub mod KindTwo
+pub mod NumberedLogLaws
 pub mod Versions
 pub mod Counts
 pub mod Numbered

@@ -1,0 +1,18 @@
+use Rattle.std.proofs.Common.{sym, subst}
+use Rattle.log_grammar.specs.Kinds.{IsWhyOf}
+use Rattle.log_grammar.specs.KindTwo.{two}
+use Rattle.log_grammar.proofs.KindLemmas.{fault_once, why_once}
+use Rattle.log_grammar.proofs.KindTwo.{wrong_once_two}
+use Rattle.log_grammar.proofs.numbered_logs.numbered_logs_have_one_why.Goals as goal
+
+pub returns : goal.returns
+returns c = λ limit accounts bytes k j why other w v.
+    let kind = two limit accounts in
+    let once = wrong_once_two (record {
+      one_first = c.has_one_client_first.ensures;
+      names = c.spells_one_name.ensures;
+      verdicts = c.at_most_one_verdict_is_due.ensures;
+      answers = c.only_one_reply_is_due.ensures;
+    }) limit accounts in
+    let same = fault_once kind bytes k j w.fault v.fault in
+    (same, why_once kind once bytes k why other w (subst (λ i. IsWhyOf kind bytes i other) (sym same) v))

@@ -1,0 +1,54 @@
+//! Laws of whole logs of version 2, as bytes, for every limit of open sessions: each is the promise of a function that
+//! does nothing.
+ghost use Rattle.log_grammar.specs.NumberedLogLaws.{EachNumberedLogIsJudged, NumberedLogsHaveOneWhy, NumberedFrontsBeginWithFronts, NumberedFrontsBeginClean};
+
+use otp_core::laws::{only_one_reply_is_due, some_reply_is_due};
+use scram_ends::laws::{at_most_one_verdict_is_due, some_verdict_is_due};
+use scram_text::laws::{
+    client_first_is_decided, has_one_client_first, has_one_server_final, has_one_server_first,
+    name_is_decided, server_final_is_decided, server_first_is_decided, spells_one_name,
+};
+
+/// Each list of bytes is a clean log of version 2, or has a line at fault and a reason for it.
+pub fn each_numbered_log_is_judged()
+    ensures { EachNumberedLogIsJudged }
+{
+    has_one_client_first();
+    client_first_is_decided();
+    spells_one_name();
+    name_is_decided();
+    has_one_server_first();
+    server_first_is_decided();
+    has_one_server_final();
+    server_final_is_decided();
+    at_most_one_verdict_is_due();
+    some_verdict_is_due();
+    only_one_reply_is_due();
+    some_reply_is_due();
+}
+
+/// At most one line of a log is at fault, for at most one reason.
+pub fn numbered_logs_have_one_why()
+    ensures { NumberedLogsHaveOneWhy }
+{
+    has_one_client_first();
+    spells_one_name();
+    at_most_one_verdict_is_due();
+    only_one_reply_is_due();
+}
+
+/// The first lines of a front are a front.
+pub fn numbered_fronts_begin_with_fronts()
+    ensures { NumberedFrontsBeginWithFronts }
+{}
+
+/// Each front begins a clean log, where a challenge can be written for each account and decoy: the sessions that are open
+/// are closed one by one, or a halt ends all.
+pub fn numbered_fronts_begin_clean()
+    ensures { NumberedFrontsBeginClean }
+{
+    has_one_client_first();
+    client_first_is_decided();
+    name_is_decided();
+    some_verdict_is_due();
+}
