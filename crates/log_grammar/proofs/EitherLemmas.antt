@@ -1,10 +1,10 @@
 -- Logs of two kinds that begin with different lines are one sound kind.
-use Rattle.std.proofs.Common.{◌≡◌, inl, inr, ℕ, List, [], ◌∷◌, ◌++◌, refl, sym, ◌∙◌, subst}
+use Rattle.std.proofs.Common.{◌≡◌, ◌⊎◌, inl, inr, ℕ, List, [], ◌∷◌, ◌++◌, refl, sym, ◌∙◌, subst}
 use Rattle.scram_text.proofs.DecisionLemmas.{Decided, decided_same}
-use Rattle.log_grammar.specs.Why.{no_line}
+use Rattle.log_grammar.specs.Why.{Why, no_line}
 use Rattle.log_grammar.specs.Kinds.{Kind, either}
 use Rattle.log_grammar.proofs.KindLemmas.{IsShortened, EndsStand, IsWrongOnce, NextIsJudged, IsSound, first_stand}
-use Rattle.log_grammar.proofs.KindFaults.{FrontsBeginCleanOf}
+use Rattle.log_grammar.proofs.KindFaults.{FrontsBeginCleanOf, FaultText}
 
 -- each log of the kind begins with this line, and it may be alone
 pub record IsHeaded (kind : Kind) (first : List ℕ) : Type 0 where
@@ -129,3 +129,21 @@ either_completes one two first second completes also bytes (texts, cut, inr stan
     let (more, clean) = also bytes (texts, cut, stands) in
     let (all, there, ends) = clean in
     (more, (all, there, inr ends))
+
+-- a whole line at fault is a first line, or at fault in one of the kinds
+pub fault_in_either : (one two : Kind) (first second : List ℕ) → AreApart one two first second → (before : List (List ℕ)) (text : List ℕ) (why : Why)
+    → FaultText (either one two first second) before text why
+    → ((before ≡ []) × (why ≡ no_line)) ⊎ (FaultText one before text why ⊎ FaultText two before text why)
+fault_in_either one two first second a [] text why f = inl (refl, f.wrong.2)
+fault_in_either one two first second a (t ∷ before) text why f = elim f.wrong [
+  | inl wrong ↦ inr (inl (record {
+    stands = stands_in_one one two first second a t before wrong.0 f.stands;
+    wrong = wrong.1;
+    stuck = λ stands. f.stuck (inl stands);
+  }))
+  | inr wrong ↦ inr (inr (record {
+    stands = stands_in_two one two first second a t before wrong.0 f.stands;
+    wrong = wrong.1;
+    stuck = λ stands. f.stuck (inr stands);
+  }))
+]

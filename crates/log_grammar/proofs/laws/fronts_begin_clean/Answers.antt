@@ -1,8 +1,8 @@
-use Rattle.log_grammar.proofs.Completions.{front_completes}
+use Rattle.log_grammar.proofs.VersionLemmas.{completes_both}
 use Rattle.log_grammar.proofs.laws.fronts_begin_clean.Goals as goal
 
 pub returns : goal.returns
-returns c = front_completes (record {
+returns c = completes_both (record {
   once = c.has_one_client_first.ensures;
   firsts = c.client_first_is_decided.ensures;
   names = c.name_is_decided.ensures;
