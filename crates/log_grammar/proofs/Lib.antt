@@ -63,3 +63,4 @@ pub mod NumberedEnds
 pub mod Closings
 pub mod NumberedCompletions
 pub mod NumberedFronts
+pub mod UpgradeLemmas

@@ -32,20 +32,20 @@ halt_leads : (d : Demands) (place next : Place) → Goes d place (said halt) nex
 halt_leads d (got_code account sent) next h = h
 halt_leads d place next h = absurd h
 
-no_busy_line : (d : Demands) (place next : Place) → Goes d place (said busy) next → ⊥
+pub no_busy_line : (d : Demands) (place next : Place) → Goes d place (said busy) next → ⊥
 no_busy_line d before_all next h = h
 no_busy_line d place next h = absurd h
 
-halt_leads_in : (d : Demands) (place : Place) (line : LogLine) (next : Place) → line ≡ said halt → GoesIn d place line next → next ≡ halted
+pub halt_leads_in : (d : Demands) (place : Place) (line : LogLine) (next : Place) → line ≡ said halt → GoesIn d place line next → next ≡ halted
 halt_leads_in d place line next is (inl h) = halt_leads d place next (subst (λ (l : LogLine). Goes d place l next) is h)
 halt_leads_in d place line next is (inr b) = let wrong = sym is ∙ b.1 in absurd (cc wrong)
 
-busy_leads_in : (d : Demands) (place : Place) (line : LogLine) (next : Place) → line ≡ said busy → GoesIn d place line next → next ≡ over
+pub busy_leads_in : (d : Demands) (place : Place) (line : LogLine) (next : Place) → line ≡ said busy → GoesIn d place line next → next ≡ over
 busy_leads_in d place line next is (inl h) = absurd (no_busy_line d place next (subst (λ (l : LogLine). Goes d place l next) is h))
 busy_leads_in d place line next is (inr b) = b.2
 
 -- a line is HALT, or BUSY, or any line may follow it
-last_kind : (line : LogLine) → (line ≡ said halt) ⊎ ((line ≡ said busy) ⊎ ((n m : ℕ) (next : LogLine) → MayFollow n line m next))
+pub last_kind : (line : LogLine) → (line ≡ said halt) ⊎ ((line ≡ said busy) ⊎ ((n m : ℕ) (next : LogLine) → MayFollow n line m next))
 last_kind (said halt) = inl refl
 last_kind (said busy) = inr (inl refl)
 last_kind line = inr (inr (λ n m next. tt))

@@ -14,6 +14,7 @@ pub mod Kinds
 pub mod KindOne
 pub mod KindTwo
 pub mod NumberedLogLaws
+pub mod Upgrades
 pub mod Versions
 pub mod Counts
 pub mod Numbered
