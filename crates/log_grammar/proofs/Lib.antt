@@ -63,4 +63,5 @@ pub mod NumberedEnds
 pub mod Closings
 pub mod NumberedCompletions
 pub mod NumberedFronts
+pub mod Renumbered
 pub mod UpgradeLemmas

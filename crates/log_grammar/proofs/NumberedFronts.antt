@@ -1,10 +1,9 @@
 -- Each front of version 2 begins a clean log, whatever its last line is.
-use Rattle.std.proofs.Common.{◌≡◌, ◌⊎◌, inl, inr, ℕ, ◌+◌, false, List, [], ◌∷◌, ◌++◌, reverse, refl, sym, ◌∙◌, ap, subst, arith, append-nil}
+use Rattle.std.proofs.Common.{◌≡◌, ◌⊎◌, inl, inr, ℕ, ◌+◌, false, List, [], ◌∷◌, ◌++◌, reverse, refl, sym, ◌∙◌, ap, subst, arith}
 use Rattle.std.specs.Prelude.{codes}
-use Rattle.std.specs.List.{AllByRecursion, AllZip}
-use Rattle.std.proofs.lemmas.Grind.{flat_map-append}
+use Rattle.std.specs.List.{AllZip}
 use Rattle.log_grammar.specs.Lines.{LogLine, said, ended, halt, busy}
-use Rattle.log_grammar.specs.Bytes.{LacksLf, ended_by_lf, IsCut}
+use Rattle.log_grammar.specs.Bytes.{ended_by_lf, IsCut}
 use Rattle.log_grammar.specs.Sessions.{Told}
 use Rattle.log_grammar.specs.Demands.{Accounts, AreFit, Demands, demands, AreReplies}
 use Rattle.log_grammar.specs.Places.{Place, before_all, between, got_code, over, halted}
@@ -16,7 +15,7 @@ use Rattle.log_grammar.specs.NumberedSteps.{GoesIn, put}
 use Rattle.log_grammar.specs.Kinds.{BeginsCleanOf}
 use Rattle.log_grammar.specs.KindTwo.{two}
 use Rattle.log_grammar.proofs.Completions.{Ground, spelt_end}
-use Rattle.log_grammar.proofs.CutLemmas.{each-append}
+use Rattle.log_grammar.proofs.CutLemmas.{cut_with}
 use Rattle.log_grammar.proofs.KindFaults.{FrontsBeginCleanOf}
 use Rattle.log_grammar.proofs.NumberedCompletions.{CompletesTwo, finished, then, Free, free_after, Ranged, close_all}
 use Rattle.log_grammar.proofs.NumberedCuts.{numbered_before}
@@ -121,15 +120,6 @@ ranged_of limit accounts texts log places told are s n is = elim (given_or_not (
       let text = read_at texts found.0 (numbered n first.0) found.1 (subst (λ (l : List (Numbered LogLine)). AllZip IsNumberedLine texts l) found.2 are) in
       text.1.number
 ]
-
--- bytes that are whole lines, and more lines after them
-cut_with : (bytes : List ℕ) (texts more : List (List ℕ)) → IsCut bytes texts [] → AllByRecursion LacksLf more → IsCut (bytes ++ ended_by_lf more) (texts ++ more) []
-cut_with bytes texts more cut lack = record {
-  bytes_are = ap (λ (b : List ℕ). b ++ ended_by_lf more) (cut.bytes_are ∙ append-nil (ended_by_lf texts))
-      ∙ sym (flat_map-append (λ text. text ++ 10 ∷ []) texts more) ∙ sym (append-nil (ended_by_lf (texts ++ more)));
-  lines = each-append texts more cut.lines lack;
-  after = refl;
-}
 
 pairs_on : (texts more : List (List ℕ)) (lines others : List (Numbered LogLine)) → AllZip IsNumberedLine texts lines → AllZip IsNumberedLine more others
     → AllZip IsNumberedLine (texts ++ more) (lines ++ others)
