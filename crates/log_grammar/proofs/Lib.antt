@@ -65,3 +65,4 @@ pub mod NumberedCompletions
 pub mod NumberedFronts
 pub mod Renumbered
 pub mod UpgradeLemmas
+pub mod BothVersions
