@@ -1,9 +1,9 @@
 -- The laws of numbered lines: that a text is one or none, that a line without a number is none, and that a line is read
 -- from its text.
-use Rattle.std.specs.Prelude.{ℕ, ◌≡◌, ◌≤◌, ◌⊎◌, List, length}
+use Rattle.std.specs.Prelude.{ℕ, ◌≡◌, ◌≤◌, ◌⊎◌, ◌↔◌, List, ◌∷◌, ◌++◌, length, decimal}
 use Rattle.log_grammar.specs.Bytes.{LacksLf}
 use Rattle.log_grammar.specs.Lines.{LogLine, log_text, IsLogLine}
-use Rattle.log_grammar.specs.Numbered.{Numbered}
+use Rattle.log_grammar.specs.Numbered.{Numbered, numbered}
 use Rattle.log_grammar.specs.NumberedLines.{IsSessionNumber, HasNumber, numbered_text, IsNumberedLine, IsNoNumberedLine}
 
 -- each text is one numbered line or none
@@ -21,3 +21,10 @@ abbrev pub WrittenNumberedLinesAreRead : Type 0
 WrittenNumberedLinesAreRead = (x : Numbered LogLine) → IsSessionNumber x.number → HasNumber x.value → IsLogLine (log_text x.value) x.value
     → IsNumberedLine (numbered_text x) x × ((other : Numbered LogLine) → IsNumberedLine (numbered_text x) other → other ≡ x)
     × LacksLf (numbered_text x) × (length (numbered_text x) ≤ 6222)
+
+-- a number in its range, a space and a text are a numbered line exactly where the text is a line that may have a number;
+-- they have this number
+abbrev pub NumbersGoBeforeLines : Type 0
+NumbersGoBeforeLines = (n : ℕ) (text : List ℕ) → IsSessionNumber n
+    → ((line : LogLine) → HasNumber line → IsLogLine text line ↔ IsNumberedLine (decimal n ++ (32 ∷ text)) (numbered n line))
+    × ((x : Numbered LogLine) → IsNumberedLine (decimal n ++ (32 ∷ text)) x → x.number ≡ n)

@@ -1,5 +1,5 @@
 //! Laws of the lines of a log of version 2: each is the promise of a function that does nothing.
-ghost use Rattle.log_grammar.specs.NumberedLineLaws.{IsOneNumberedLineOrNone, UnnumberedLinesAreNone, WrittenNumberedLinesAreRead};
+ghost use Rattle.log_grammar.specs.NumberedLineLaws.{IsOneNumberedLineOrNone, UnnumberedLinesAreNone, WrittenNumberedLinesAreRead, NumbersGoBeforeLines};
 
 /// Each text is one numbered line or none.
 pub fn is_one_numbered_line_or_none()
@@ -15,4 +15,10 @@ pub fn unnumbered_lines_are_none()
 /// them and as no other, has no LF, and has at most 6222 bytes.
 pub fn written_numbered_lines_are_read()
     ensures { WrittenNumberedLinesAreRead }
+{}
+
+/// A number in its range, a space and a text are a numbered line exactly where the text is a line that may have a number;
+/// they have this number.
+pub fn numbers_go_before_lines()
+    ensures { NumbersGoBeforeLines }
 {}
