@@ -12,9 +12,11 @@ use Rattle.std.specs.BTreeMap.{is_at, insert_entry}
 use Rattle.std.specs.Map.{lookup, remove_entry, set_value}
 use Rattle.std.proofs.lemmas.Cmp.{eq_by_cmp_equiv, nat_list_cmp_total}
 use Rattle.std.proofs.lemmas.Map.{lookup-set_value}
+use Rattle.std.proofs.lemmas.Map.Text.{is_eq-slice_cmp}
 use Rattle.book_format.specs.Account.{AccountFields}
 use Rattle.book_format.specs.Book.{BookFields}
 use Rattle.account_book.specs.Accounts.{name_cmp, account_at, accounts_of, with_account, with_changed, IsAdded, IsChanged, IsRemoved}
+use Rattle.account_book.specs.Laws.{AddedIsApart}
 
 -- both look a name up in the same way
 looked_up : (name : List ℕ) (es : List (List ℕ × AccountFields))
@@ -92,17 +94,28 @@ entry_put (e ∷ es) name account =
     ∙ ap (λ rest. by_order (name_cmp name e.0) ((name, account) ∷ e ∷ es) ((e.0, account) ∷ es) (e ∷ rest))
     (entry_put es name account)
 
+-- the account that a name has after another one was added
+added_lookup : (es : List (List ℕ × AccountFields)) (name : List ℕ) (account : AccountFields) (other : List ℕ)
+    → lookup (is_at (name_cmp other)) (insert_entry name_cmp es name account)
+    ≡ cond (is_at (name_cmp name) other) (Some account) (lookup (is_at (name_cmp other)) es)
+added_lookup es name account other =
+    sym (looked_up other _)
+    ∙ ap (find name_cmp other) (entry_put es name account)
+    ∙ find-put name_cmp nat_list_cmp_total other name account es
+    ∙ ap (λ b. cond b (Some account) (find name_cmp other es)) ((eq_by_cmp_equiv nat_list_cmp_total).symm other name)
+    ∙ ap (cond (is_at (name_cmp name) other) (Some account)) (looked_up other es)
+
 pub is_added : (old : BookFields) (name : List ℕ) (account : AccountFields) (new : BookFields)
     → new ≡ with_account old name account → IsAdded old name account new
 is_added old name account new same = record {
   book = same;
-  accounts = ap accounts_of same ∙ put_map old.accounts _ name account (λ other.
-      sym (looked_up other _)
-      ∙ ap (find name_cmp other) (entry_put old.accounts name account)
-      ∙ find-put name_cmp nat_list_cmp_total other name account old.accounts
-      ∙ ap (λ b. cond b (Some account) (find name_cmp other old.accounts)) ((eq_by_cmp_equiv nat_list_cmp_total).symm other name)
-      ∙ ap (cond (is_at (name_cmp name) other) (Some account)) (looked_up other old.accounts));
+  accounts = ap accounts_of same ∙ put_map old.accounts _ name account (added_lookup old.accounts name account);
 }
+
+pub added_is_apart : AddedIsApart
+added_is_apart old name account other =
+    added_lookup old.accounts name account other
+    ∙ ap (λ b. cond b (Some account) (account_at old other)) (is_eq-slice_cmp name other)
 
 pub is_removed : (inside old : BookFields) (name : List ℕ) (new : List (List ℕ × AccountFields)) → inside ≡ old
     → new ≡ remove_entry (is_at (name_cmp name)) inside.accounts

@@ -1,11 +1,12 @@
--- What changes, and what stays, where one account of a book gets another token.
+-- What changes, and what stays, where an account of a book gets another token, and where an account is added.
 use Rattle.std.specs.Prelude.{ℕ, ◌≡◌, List, cond}
 use Rattle.std.specs.Str.{bytes_eq}
 use Rattle.std.specs.declared.option.Option.TheVariants.{Some}
 use Rattle.mac_core.specs.declared.mechanism.Mechanism.{Mechanism}
 use Rattle.otp_core.specs.declared.token.kinds.Fields.{Fields}
+use Rattle.book_format.specs.Account.{AccountFields}
 use Rattle.book_format.specs.Book.{BookFields}
-use Rattle.account_book.specs.Accounts.{with_changed}
+use Rattle.account_book.specs.Accounts.{account_at, with_account, with_changed}
 use Rattle.account_book.specs.View.{entry_in}
 use Rattle.account_book.specs.Tokens.{token_at, with_token}
 
@@ -27,3 +28,8 @@ TokensStay = (old : BookFields) (name : List ℕ) (token : Fields) → token_at 
 abbrev pub TokensGoBack : Type 0
 TokensGoBack = (old : BookFields) (name : List ℕ) (token next : Fields) → token_at old name ≡ Some token
     → with_changed (with_changed old name (with_token next)) name (with_token token) ≡ old
+
+-- the account that is added stands at its name, and every other name has the account that it had
+abbrev pub AddedIsApart : Type 0
+AddedIsApart = (old : BookFields) (name : List ℕ) (account : AccountFields) (other : List ℕ)
+    → account_at (with_account old name account) other ≡ cond (bytes_eq name other) (Some account) (account_at old other)

@@ -4,6 +4,7 @@ use Rattle.std.specs.declared.option.Option.TheVariants.{None, Some}
 use Rattle.otp_core.specs.Attempt.{Attempt, CodeTexts, attempt_of}
 use Rattle.otp_core.specs.History.{IsAfter}
 use Rattle.otp_core.specs.Reply.{IsDueReply}
+use Rattle.otp_core.specs.Settings.{unlocked}
 use Rattle.otp_core.specs.State.{advanced}
 use Rattle.otp_core.specs.declared.token.answer.Reply.{Reply}
 use Rattle.otp_core.specs.declared.token.kinds.Fields.{Fields}
@@ -36,3 +37,8 @@ IsAnswered old name moment said answer new =
     MatchOption (token_at old name)
     ((answer ≡ None) × (new ≡ old))
     (λ token. (reply : Reply) × (answer ≡ Some reply) × IsAttempt old name token moment said reply new)
+
+-- the token of this name's account has no failures any more, and nothing else changes; where there is no account of the name
+-- or it has no token, nothing does
+abbrev pub IsUnlocked : BookFields → List ℕ → BookFields → Type 0
+IsUnlocked old name new = MatchOption (token_at old name) (new ≡ old) (λ token. IsChanged old name (with_token (unlocked token)) new)

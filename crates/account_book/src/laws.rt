@@ -1,7 +1,7 @@
 //! What follows from the contracts of a book's calls.
 ghost use Rattle.std.specs.Prelude.{◌≡◌, IfOk};
 ghost use Rattle.book_format.specs.Book.{IsBook};
-ghost use Rattle.account_book.specs.Laws.{TokensAreApart, EntriesStay, TokensStay, TokensGoBack};
+ghost use Rattle.account_book.specs.Laws.{TokensAreApart, EntriesStay, TokensStay, TokensGoBack, AddedIsApart};
 
 use crate::book::Book;
 use book_format::BookWhy;
@@ -48,4 +48,9 @@ pub fn tokens_stay()
 /// A token that is put back makes the book that there was.
 pub fn tokens_go_back()
     ensures { TokensGoBack }
+{}
+
+/// Where an account is added, it stands at its name, and every other name has the account that it had.
+pub fn added_is_apart()
+    ensures { AddedIsApart }
 {}

@@ -1,9 +1,8 @@
 //! The tokens of accounts, and attempts to pass with a code.
-ghost use Rattle.std.specs.Prelude.{◌≡◌, is_some, MatchOption};
-ghost use Rattle.otp_core.specs.Settings.{unlocked};
+ghost use Rattle.std.specs.Prelude.{◌≡◌, is_some};
 ghost use Rattle.otp_core.specs.Attempt.CodeTexts.{OneText, TwoTexts};
 ghost use Rattle.account_book.specs.Accounts.{account_at, IsChanged};
-ghost use Rattle.account_book.specs.Tokens.{IsAnswered, token_at, with_token};
+ghost use Rattle.account_book.specs.Tokens.{IsAnswered, IsUnlocked, token_at, with_token};
 
 use crate::book::Book;
 use otp_core::{Moment, Reply, Token};
@@ -69,8 +68,7 @@ impl Book {
     /// of the name that has a token; else nothing changes.
     pub fn unlock(&mut self, name: &PlainName) -> bool
         ensures found { result ≡ is_some (token_at self.old name.now) }
-        ensures unlocked { MatchOption (token_at self.old name.now) (self.new ≡ self.old)
-            (λ token. IsChanged self.old name.now (with_token (unlocked token)) self.new) }
+        ensures unlocked { IsUnlocked self.old name.now self.new }
     {
         let Some(mut token) = self.token(name) else {
             return false;

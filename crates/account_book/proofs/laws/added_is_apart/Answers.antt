@@ -1,0 +1,5 @@
+use Rattle.account_book.proofs.MapLemmas.{added_is_apart}
+use Rattle.account_book.proofs.laws.added_is_apart.Goals as goal
+
+pub returns : goal.returns
+returns c = added_is_apart
