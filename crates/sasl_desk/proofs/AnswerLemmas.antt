@@ -1,5 +1,5 @@
 -- The answers of a session are those that are due.
-use Rattle.std.proofs.Common.{◌≡◌, ℕ, List, [], ◌∷◌, ◌++◌, refl, sym, ◌∙◌, ap, subst}
+use Rattle.std.proofs.Common.{◌≡◌, ℕ, List, [], refl, sym, ap, subst}
 use Rattle.std.specs.declared.option.Option.{Option}
 use Rattle.std.specs.declared.option.Option.TheVariants.{None, Some}
 use Rattle.mac_core.specs.Mechanism.{name_of}
@@ -18,12 +18,11 @@ use Rattle.scram_ends.specs.declared.first.FirstFault.{FirstFault}
 use Rattle.scram_ends.specs.declared.verdict.Refusal.{Refusal}
 use Rattle.scram_ends.specs.declared.verdict.Verdict.{Verdict}
 use Rattle.log_grammar.specs.Demands.{Accounts, NamesMechanism, IsFirstOf}
-use Rattle.log_grammar.specs.Places.{Place, before_all, between, offered, asks_bare, waits_first, got_first, waits_final, got_final, waits_code, got_code, leaving, over, halted}
+use Rattle.log_grammar.specs.Places.{Place, between, asks_bare, waits_first, got_first, waits_final, got_final, waits_code, leaving, over}
 use Rattle.sasl_log.proofs.LoginLemmas.{stands_same, challenge_of}
 use Rattle.sasl_desk.specs.Waiting.{waiting_of}
 use Rattle.sasl_desk.specs.Sessions.{answer_of, verdict_answer, IsTurnedAway, IsAnswer}
 use Rattle.sasl_desk.specs.declared.session.Session.TheVariants.{WaitsFirst, WaitsFinal}
-use Rattle.sasl_desk.specs.declared.session.turn.Answer.{Answer}
 use Rattle.sasl_desk.specs.declared.session.turn.Saying.TheVariants.{Nothing, Continues, Refuses}
 
 -- a bare `S NO` is due to a client that is turned away

@@ -1,16 +1,17 @@
 -- What came of a line is what came of the event that it was.
-use Rattle.std.proofs.Common.{◌≡◌, true, false, ℕ, List, [], refl, sym, subst}
-use Rattle.std.specs.Prelude.{IfOk, OnErr}
+use Rattle.std.proofs.Common.{◌≡◌, true, false, ℕ, List, refl, sym, subst}
+use Rattle.std.specs.Prelude.{IfOk}
 use Rattle.std.specs.declared.result.Result.{Result}
 use Rattle.std.specs.declared.result.Result.TheVariants.{Ok, Err}
 use Rattle.log_grammar.specs.Laws.{IsOneLine}
-use Rattle.log_grammar.specs.Lines.{LogLine, heard, bad, ClientLine, asking, from_client, IsLine}
+use Rattle.otp_core.specs.Attempt.{CodeTexts, OneText, TwoTexts}
+use Rattle.log_grammar.specs.Lines.{LogLine, heard, bad, ClientLine, code, sync, asking, from_client, IsLine}
 use Rattle.log_grammar.specs.Demands.{Accounts}
-use Rattle.log_grammar.specs.Places.{Place, waits_final}
+use Rattle.log_grammar.specs.Places.{Place}
 use Rattle.sasl_desk.specs.Events.{ClientEvent, sends, goes_away}
 use Rattle.sasl_desk.specs.Keeper.{texts_of}
 use Rattle.sasl_desk.specs.Turns.{is_due, BearsMessage}
-use Rattle.sasl_desk.specs.Sessions.{IsLineOf, IsRecord, IsLineRecord, IsHeard, IsLineHeard}
+use Rattle.sasl_desk.specs.Sessions.{IsLineOf, IsRecord, IsLineRecord, IsHeard, IsLineHeard, AsksFor, AsksForEvent, TakesMemory, SentWhatTakesMemory}
 use Rattle.sasl_desk.specs.declared.session.Session.{Session}
 use Rattle.sasl_desk.specs.declared.session.turn.Heard.{Heard}
 use Rattle.sasl_desk.specs.declared.session.turn.Heard.TheVariants.{Answered, Asks}
@@ -47,9 +48,20 @@ pub no_line_record : (event : ClientEvent) (at : Place) → ((line : ClientLine)
 no_line_record goes_away at no_line sent = absurd (sent refl)
 no_line_record (sends text) at no_line sent = λ line is. absurd (no_line line is)
 
--- where memory ran out at a line that bears a message, and the event is that line, it is no other
-pub memory_of_line : IsOneLine → (event : ClientEvent) (line other : ClientLine) (r : Result Heard Session) → IsLineOf event line → IsLineOf event other
-    → OnErr r (BearsMessage line) → OnErr r (BearsMessage other)
-memory_of_line once goes_away line other r is also bears = absurd is
-memory_of_line once (sends text) line other r is also bears =
-    subst (λ (l : ClientLine). OnErr r (BearsMessage l)) (line_inside line other (once text (from_client line) (from_client other) is also)) bears
+-- a code is that of the event where it is that of the line that the event was
+asks_of_line : (event : ClientEvent) (line : ClientLine) (h : Heard) → IsLineOf event line → AsksFor h line → AsksForEvent h event
+asks_of_line event line (Answered turn) is same = tt
+asks_of_line event line (Asks name sent) is same = subst (λ (l : ClientLine). IsLineOf event l) same is
+
+pub all_asks_of_line : (event : ClientEvent) (line : ClientLine) (r : Result Heard Session) → IsLineOf event line → IfOk r (λ h. AsksFor h line)
+    → IfOk r (λ h. AsksForEvent h event)
+all_asks_of_line event line (Ok h) is same = asks_of_line event line h is same
+all_asks_of_line event line (Err back) is same = tt
+
+-- a code takes memory, and so do two in a row
+takes_code : (sent : CodeTexts) → TakesMemory (asking sent)
+takes_code (OneText text) = tt
+takes_code (TwoTexts first second) = tt
+
+pub sent_code : (event : ClientEvent) (sent : CodeTexts) → IsLineOf event (asking sent) → SentWhatTakesMemory event
+sent_code event sent is = (asking sent, is, takes_code sent)

@@ -12,7 +12,7 @@ use Rattle.otp_core.specs.declared.token.kinds.Fields.{Fields}
 use Rattle.book_format.specs.Book.{BookFields}
 use Rattle.account_book.specs.Accounts.{IsChanged, with_changed}
 use Rattle.account_book.specs.Store.{StoreFacts}
-use Rattle.account_book.specs.Tokens.{token_at, with_token, IsAttempt, IsAnswered}
+use Rattle.account_book.specs.Tokens.{token_at, with_token, IsAttempt}
 use Rattle.account_book.proofs.MapLemmas.{is_changed}
 use Rattle.account_book.proofs.TokenLemmas.{tokens_go_back, tokens_stay}
 use Rattle.log_grammar.specs.Demands.{Accounts, IsReplyDue}

@@ -1,19 +1,18 @@
 -- The lines of a turn are a path from the place where the session stands, and a log goes on by them.
-use Rattle.std.proofs.Common.{◌≡◌, true, false, ℕ, List, [], ◌∷◌, ◌++◌, reverse, refl, sym, ap, subst, append_assoc, append-nil}
+use Rattle.std.proofs.Common.{◌≡◌, true, ℕ, List, [], ◌∷◌, ◌++◌, reverse, refl, sym, subst, append_assoc, append-nil}
 use Rattle.std.specs.List.{AllByRecursion}
 use Rattle.std.specs.declared.option.Option.{Option}
 use Rattle.std.specs.declared.option.Option.TheVariants.{None, Some}
-use Rattle.otp_core.specs.Attempt.{CodeTexts}
 use Rattle.log_grammar.specs.Laws.{GoesOnByALine}
-use Rattle.log_grammar.specs.Lines.{LogLine, header, said, heard, bad, gone, ended, mechs, cont, accepts, refuses, replies, halt, ClientLine}
+use Rattle.log_grammar.specs.Lines.{LogLine, said, heard, bad, gone, replies}
 use Rattle.log_grammar.specs.Sessions.{Told}
 use Rattle.log_grammar.specs.Demands.{Accounts, Demands, demands, AreReplies}
-use Rattle.log_grammar.specs.Places.{Place, before_all, between, offered, asks_bare, waits_first, got_first, waits_final, got_final, waits_code, got_code, leaving, over, halted}
+use Rattle.log_grammar.specs.Places.{Place, got_code}
 use Rattle.log_grammar.specs.Steps.{Goes, told_at}
 use Rattle.log_grammar.specs.Clean.{Begins}
 use Rattle.sasl_desk.specs.Events.{ClientEvent, sends, goes_away}
 use Rattle.sasl_desk.specs.Turns.{is_client_turn, record_place, IsPath}
-use Rattle.sasl_desk.specs.Sessions.{IsAt, IsRecord, IsAnswer, IsTurn, recorded_shown, turn_lines, said_lines, end_lines, answer_lines}
+use Rattle.sasl_desk.specs.Sessions.{IsAt, IsRecord, IsTurn, recorded_shown, turn_lines, said_lines, end_lines}
 use Rattle.sasl_desk.specs.declared.session.Session.{Session}
 use Rattle.sasl_desk.specs.declared.session.Session.TheVariants.{Offered, WaitsFirst, WaitsFinal, WaitsCode}
 use Rattle.sasl_desk.specs.declared.session.turn.Saying.{Saying}

@@ -1,16 +1,17 @@
 -- A desk's log is a front, and clean between sessions; and what is spent over runs one after another.
-use Rattle.std.proofs.Common.{◌≡◌, inl, inr, ◌⊎◌, true, ℕ, List, [], ◌∷◌, ◌++◌, reverse, map, refl, sym, ◌∙◌, ap, subst, append_assoc, append-nil}
+use Rattle.std.proofs.Common.{◌≡◌, inl, inr, ◌⊎◌, true, ℕ, List, [], ◌∷◌, ◌++◌, reverse, map, refl, sym, subst, append_assoc, append-nil}
 use Rattle.std.specs.List.{AllByRecursion}
 use Rattle.book_format.specs.Book.{BookFields}
 use Rattle.book_format.specs.Trees.{IsBookText}
 use Rattle.account_book.specs.Store.{StoreFacts}
-use Rattle.otp_core.specs.Laws.{BeginsWithItself}
+use Rattle.account_book.specs.Laws.{TokensAreApart, AddedIsApart}
+use Rattle.otp_core.specs.Laws.{BeginsWithItself, CandidatesAreNew}
 use Rattle.log_grammar.specs.Books.{accounts_in}
 use Rattle.log_grammar.specs.Laws.{HasOneReading, GoesOnByNoOther}
 use Rattle.log_grammar.specs.Lines.{LogLine, said, halt, log_text}
 use Rattle.log_grammar.specs.Sessions.{Told}
 use Rattle.log_grammar.specs.Demands.{Accounts, Demands, demands}
-use Rattle.log_grammar.specs.Places.{Place, between, got_code, halted, MayEnd}
+use Rattle.log_grammar.specs.Places.{Place, got_code, halted, MayEnd}
 use Rattle.log_grammar.specs.Steps.{Goes}
 use Rattle.log_grammar.specs.Clean.{Begins, AreLines}
 use Rattle.log_grammar.specs.Versions.{IsFront, IsClean}
@@ -21,7 +22,7 @@ use Rattle.sasl_desk.specs.Sessions.{CanBeWritten}
 use Rattle.sasl_desk.specs.Runs.{Call, run_lines, log_bytes}
 use Rattle.sasl_desk.specs.Spent.{AreDifferent, IsUsedUp, IsSpent, spent_by, SpentStaysSpent}
 use Rattle.sasl_desk.specs.Desks.{IsHeld, IsLostAfter, IsStoredAt, IsStateAt, all_spent, Stands, phase_of, session_phase}
-use Rattle.sasl_desk.specs.Restarts.{Run, IsRunOf, AreRuns, spent_in}
+use Rattle.sasl_desk.specs.Restarts.{Run, IsRunOf, Change, ran, judged, unlocks, adds, IsChange, AreChanges, spent_by_change, spent_in}
 use Rattle.sasl_desk.specs.declared.desk.Desk.{Desk}
 use Rattle.sasl_desk.specs.declared.desk.state.State.{State}
 use Rattle.sasl_desk.specs.declared.desk.state.State.TheVariants.{Closed, Open, Halted}
@@ -30,6 +31,7 @@ use Rattle.sasl_desk.specs.declared.session.Session.{Session}
 use Rattle.sasl_desk.specs.declared.session.Session.TheVariants.{Offered, WaitsFirst, WaitsFinal, WaitsCode}
 use Rattle.sasl_desk.proofs.KeeperLemmas.{told_due, told_after}
 use Rattle.sasl_desk.proofs.StandLemmas.{book_itself}
+use Rattle.sasl_desk.proofs.UnlockLemmas.{unlocks_keep, added_keeps}
 
 -- the bytes of lines that can be written are these lines
 bytes_are_lines : (lines : List LogLine) → CanBeWritten lines → AreLines (log_bytes lines) lines []
@@ -96,6 +98,13 @@ fewer_used book (p ∷ ps) qs all = fewer_used book ps qs all.1
 fewer_spent : (book : BookFields) (ps qs : List (List ℕ × ℕ)) → IsSpent (ps ++ qs) book → IsSpent qs book
 fewer_spent book ps qs spent = record { different = fewer_different ps qs spent.different; used = fewer_used book ps qs spent.used }
 
+-- what was spent after an attempt that the book's token judged
+spent_after_told : BeginsWithItself → SpentStaysSpent → (old new : BookFields) (t : Told) (ps : List (List ℕ × ℕ)) → IsTold old t new
+    → IsSpent ps old → IsSpent (spent_by t ++ ps) new
+spent_after_told itself stays old new t ps one spent =
+    let self = book_itself itself old in
+    stays old new t ps one.is_moment (told_due old new t one (accounts_in old) [] self) (told_after old new t one (accounts_in old) [] self) spent
+
 -- what was spent after one run
 spent_after_run : BeginsWithItself → SpentStaysSpent → HasOneReading → {S : Type 0} (facts : S → StoreFacts) (r : Run) (ps : List (List ℕ × ℕ))
     → IsRunOf facts r → IsSpent ps r.start → IsSpent (all_spent (reverse r.told) ++ ps) r.left
@@ -106,21 +115,29 @@ spent_after_run itself stays once facts r ps run spent =
     elim run.leaves [
       | inl left ↦ subst (λ (b : BookFields). IsSpent (all_spent (reverse r.told) ++ ps) b) (sym left) own
       | inr (t, one) ↦
-          let book = run.desk.keeper.book in
-          let self = book_itself itself book in
           fewer_spent r.left (spent_by t) (all_spent (reverse r.told) ++ ps)
-          (stays book r.left t (all_spent (reverse r.told) ++ ps) one.is_moment (told_due book r.left t one (accounts_in book) [] self)
-          (told_after book r.left t one (accounts_in book) [] self) own)
+          (spent_after_told itself stays run.desk.keeper.book r.left t (all_spent (reverse r.told) ++ ps) one own)
     ]
 
-pub spent_over_runs : BeginsWithItself → SpentStaysSpent → HasOneReading → {S : Type 0} (facts : S → StoreFacts) (first : BookFields) (runs : List Run)
-    (last : BookFields) (ps : List (List ℕ × ℕ)) → AreRuns facts first runs last → IsSpent ps first → IsSpent (spent_in runs ++ ps) last
-spent_over_runs itself stays once facts first [] last ps are spent = subst (λ (b : BookFields). IsSpent ps b) are spent
-spent_over_runs itself stays once facts first (r ∷ before) last ps (earlier, run, left) spent =
-    let until = spent_over_runs itself stays once facts first before r.start ps earlier spent in
-    subst (λ (b : BookFields). IsSpent ((all_spent (reverse r.told) ++ spent_in before) ++ ps) b) left
-    (subst (λ (l : List (List ℕ × ℕ)). IsSpent l r.left) (sym (append_assoc (all_spent (reverse r.told)) (spent_in before) ps))
-    (spent_after_run itself stays once facts r (spent_in before ++ ps) run until))
+-- what was spent after a change
+spent_after : BeginsWithItself → SpentStaysSpent → HasOneReading → TokensAreApart → CandidatesAreNew → AddedIsApart → {S : Type 0} (facts : S → StoreFacts)
+    (c : Change) (old new : BookFields) (ps : List (List ℕ × ℕ)) → IsChange facts c old new → IsSpent ps old → IsSpent (spent_by_change c ++ ps) new
+spent_after itself stays once apart fresh added facts (ran r) old new ps (run, start, left) spent =
+    subst (λ (b : BookFields). IsSpent (all_spent (reverse r.told) ++ ps) b) left
+    (spent_after_run itself stays once facts r ps run (subst (λ (b : BookFields). IsSpent ps b) (sym start) spent))
+spent_after itself stays once apart fresh added facts (judged t) old new ps one spent = spent_after_told itself stays old new t ps one spent
+spent_after itself stays once apart fresh added facts (unlocks name) old new ps changed spent = unlocks_keep apart fresh old new name ps changed spent
+spent_after itself stays once apart fresh added facts (adds name account) old new ps (free, is) spent =
+    added_keeps added old new name account ps free is spent
+
+pub spent_over_changes : BeginsWithItself → SpentStaysSpent → HasOneReading → TokensAreApart → CandidatesAreNew → AddedIsApart → {S : Type 0}
+    (facts : S → StoreFacts) (first : BookFields) (changes : List Change) (last : BookFields) (ps : List (List ℕ × ℕ)) → AreChanges facts first changes last
+    → IsSpent ps first → IsSpent (spent_in changes ++ ps) last
+spent_over_changes itself stays once apart fresh added facts first [] last ps same spent = subst (λ (b : BookFields). IsSpent ps b) (sym same) spent
+spent_over_changes itself stays once apart fresh added facts first (c ∷ before) last ps (middle, earlier, change) spent =
+    let until = spent_over_changes itself stays once apart fresh added facts first before middle ps earlier spent in
+    subst (λ (l : List (List ℕ × ℕ)). IsSpent l last) (sym (append_assoc (spent_by_change c) (spent_in before) ps))
+    (spent_after itself stays once apart fresh added facts c middle last (spent_in before ++ ps) change until)
 
 held_or_lost : (accounts : Accounts) (calls : List Call) (place : Place) (book : BookFields) (store : StoreFacts) → IsStoredAt accounts calls place book store
     → IsHeld book store ⊎ IsLostAfter accounts calls book store

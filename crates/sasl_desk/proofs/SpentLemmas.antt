@@ -1,7 +1,6 @@
 -- What was spent stays spent.
-use Rattle.std.proofs.Common.{◌≡◌, ◌≢◌, ◌<◌, ◌≤◌, ◌+◌, ◌-◌, ◌⊎◌, ℕ, Bool, true, false, List, [], ◌∷◌, ◌++◌, Option, inl, inr, refl, sym, ap, subst, arith, ◌∙◌}
+use Rattle.std.proofs.Common.{◌≡◌, ◌≢◌, ◌<◌, ◌≤◌, ◌-◌, ◌⊎◌, ℕ, List, [], ◌∷◌, ◌++◌, Option, inl, inr, refl, sym, ap, subst, arith, ◌∙◌}
 use Rattle.std.specs.List.{AllByRecursion}
-use Rattle.std.specs.Str.{bytes_eq}
 use Rattle.std.specs.declared.option.Option.TheVariants.{None, Some}
 use Rattle.std.proofs.lemmas.Slice.Eq.{bytes_eq-Decides}
 use Rattle.otp_core.specs.Attempt.{Attempt, CodeTexts, OneText, TwoTexts, passed, used_by, attempt_of}
@@ -22,7 +21,7 @@ use Rattle.sasl_log.specs.Tokens.{LeadsTo, IsBookAfter}
 use Rattle.sasl_desk.specs.Spent.{IsUsedUp, IsSpent, counters_by, with_name, SpentStaysSpent}
 
 -- a counter is below each that can pass with a token
-abbrev IsBelow : Fields → ℕ → Type 0
+abbrev pub IsBelow : Fields → ℕ → Type 0
 IsBelow token counter = (history : List Attempt) (moment c : ℕ) → IsMoment moment → IsLegal token history
     → (IsCandidate token history moment c ⊎ IsPairCandidate token history c) → counter < c
 
@@ -51,7 +50,7 @@ above_rest : (xs ys : List ℕ) (c : ℕ) → IsAbove (xs ++ ys) c → IsAbove y
 above_rest [] ys c above = above
 above_rest (x ∷ xs) ys c above = above_rest xs ys c above.1
 
-above_first : (xs ys : List ℕ) (c : ℕ) → IsAbove (xs ++ ys) c → IsAbove xs c
+pub above_first : (xs ys : List ℕ) (c : ℕ) → IsAbove (xs ++ ys) c → IsAbove xs c
 above_first [] ys c above = tt
 above_first (x ∷ xs) ys c above = (above.0, above_first xs ys c above.1)
 
@@ -79,7 +78,7 @@ stays_used join old new t after name counter used =
     let later = token_later used.token (attempts_of name (t ∷ [])) (token_at new name) leads in
     record { token = later.0; has = later.1; below = still_below join used.token _ later.0 counter later.2 used.below }
 
-all_stay : {X : Type 0} (P Q : X → Type 0) → ((x : X) → P x → Q x) → (xs : List X) → AllByRecursion P xs → AllByRecursion Q xs
+pub all_stay : {X : Type 0} (P Q : X → Type 0) → ((x : X) → P x → Q x) → (xs : List X) → AllByRecursion P xs → AllByRecursion Q xs
 all_stay P Q on [] all = tt
 all_stay P Q on (x ∷ xs) all = (on x all.0, all_stay P Q on xs all.1)
 

@@ -1,6 +1,5 @@
 -- What a desk stands for after each of its calls.
 use Rattle.std.proofs.Common.{◌≡◌, inl, inr, ◌⊎◌, ◌+◌, true, false, ℕ, List, [], ◌∷◌, ◌++◌, reverse, length, filter, refl, sym, ◌∙◌, ap, subst, append_assoc, append-nil, arith}
-use Rattle.std.specs.List.{AllByRecursion}
 use Rattle.std.specs.declared.option.Option.{Option}
 use Rattle.std.specs.declared.option.Option.TheVariants.{None, Some}
 use Rattle.std.proofs.lemmas.Grind.{reverse_onto}
@@ -16,17 +15,14 @@ use Rattle.book_format.specs.Trees.{IsBookText}
 use Rattle.account_book.specs.Store.{StoreFacts, IsLost}
 use Rattle.account_book.specs.Tokens.{token_at}
 use Rattle.log_grammar.specs.Books.{accounts_in}
-use Rattle.log_grammar.specs.Laws.{GoesOnByALine, LinesLackLf}
-use Rattle.log_grammar.specs.Lines.{LogLine, header, said, heard, mechs, replies, halt, asking, log_text, IsLogLine}
+use Rattle.log_grammar.specs.Laws.{GoesOnByALine}
+use Rattle.log_grammar.specs.Lines.{LogLine, header, said, heard, mechs, replies, halt, asking}
 use Rattle.log_grammar.specs.Words.{offered_names}
 use Rattle.log_grammar.specs.Sessions.{Told, told_of}
-use Rattle.log_grammar.specs.Demands.{Accounts, Demands, demands, IsReplyDue, AreReplies}
-use Rattle.log_grammar.specs.Places.{Place, before_all, between, offered, waits_code, got_code, halted, MayEnd}
-use Rattle.log_grammar.specs.Steps.{Goes}
-use Rattle.log_grammar.specs.Clean.{Begins, Spells, AreLines}
-use Rattle.log_grammar.specs.Versions.{IsFront, IsClean}
+use Rattle.log_grammar.specs.Demands.{Accounts, demands, IsReplyDue}
+use Rattle.log_grammar.specs.Places.{Place, before_all, between, offered, waits_code, got_code, halted}
+use Rattle.log_grammar.specs.Clean.{Begins}
 use Rattle.log_grammar.proofs.ExampleLemmas.{is_sha_256, is_sha_1}
-use Rattle.log_grammar.proofs.HeadlineLemmas.{are_lines, each_lacks}
 use Rattle.log_grammar.proofs.LineBytes.{reply_line}
 use Rattle.log_grammar.proofs.Shortening.{code_goes}
 use Rattle.sasl_log.specs.Logins.{KeepsEntries}
@@ -34,11 +30,11 @@ use Rattle.sasl_log.specs.Texts.{CanBeLogLine}
 use Rattle.sasl_log.specs.Tokens.{LeadsTo, IsBookAfter}
 use Rattle.sasl_desk.specs.Events.{ClientEvent}
 use Rattle.sasl_desk.specs.Turns.{is_client_turn, IsPath}
-use Rattle.sasl_desk.specs.Keeper.{IsTold, NeedsSave, HoldsText, LosesText, IsKept, IsJudged, IsJudgedInRange}
+use Rattle.sasl_desk.specs.Keeper.{IsTold, HoldsText, IsKept, IsJudged, IsJudgedInRange}
 use Rattle.sasl_desk.specs.Sessions.{IsAt, IsLeftAt, IsRecord, IsTurn, IsAsked, recorded_shown, said_lines, end_lines, answer_lines, turn_lines, CanBeWritten, IsOwnChallenge}
-use Rattle.sasl_desk.specs.Runs.{greets, hears, IsAtRest, Call, call_of, run_lines, own_part, log_bytes, wire_bytes, IsRun, IsTurnTaken}
+use Rattle.sasl_desk.specs.Runs.{greets, hears, IsAtRest, Call, call_of, run_lines, own_part, log_bytes, wire_bytes, IsRun}
 use Rattle.sasl_desk.specs.Spent.{IsSpent, spent_by, SpentStaysSpent}
-use Rattle.sasl_desk.specs.Desks.{IsStateAt, IsHeld, IsAttemptOf, IsLatestAttempt, IsLostAfter, IsStoredAt, IsBookWith, all_spent, Stands, Answers, IsCodeTurn, phase_of, session_phase, desk_of, state_with, judged_lines, judged_state, is_saving}
+use Rattle.sasl_desk.specs.Desks.{IsStateAt, IsHeld, IsAttemptOf, IsStoredAt, IsBookWith, all_spent, Stands, Answers, IsCodeTurn, phase_of, session_phase, desk_of, state_with, judged_lines, judged_state, is_saving}
 use Rattle.sasl_desk.specs.declared.keeper.Keeper.{Keeper}
 use Rattle.sasl_desk.specs.declared.keeper.Judged.{Judged}
 use Rattle.sasl_desk.specs.declared.keeper.Judged.TheVariants.{Replied, Lost}
@@ -55,7 +51,7 @@ use Rattle.sasl_desk.specs.declared.session.turn.Saying.TheVariants.{Nothing, Co
 use Rattle.sasl_desk.specs.declared.session.turn.Turn.{Turn}
 use Rattle.sasl_desk.proofs.KeeperLemmas.{told_due, told_after}
 use Rattle.sasl_desk.proofs.PathLemmas.{client_turn, turn_path, turn_no_reply, goes_on_by_path}
-use Rattle.sasl_desk.proofs.RunLemmas.{all-append, left_rests, turn_rests, answer_bears, answer_answers}
+use Rattle.sasl_desk.proofs.RunLemmas.{all-append, left_rests, answer_bears, answer_answers}
 
 -- without an attempt a book is the one after what was told of it
 leads_itself : BeginsWithItself → (o : Option Fields) → LeadsTo o [] o

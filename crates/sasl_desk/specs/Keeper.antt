@@ -69,6 +69,10 @@ IsJudged old was name moment sent Lost new now =
     (new ≡ old)
     × ((reply : Option Reply) × (next : BookFields) × NeedsSave reply × IsTold old (told_of name moment sent reply) next × LosesText was next now)
 
+-- the reply that is due needs a save
+abbrev pub IsToBeSaved : BookFields → List ℕ → ℕ → CodeTexts → Type 0
+IsToBeSaved old name moment sent = (reply : Option Reply) × (next : BookFields) × NeedsSave reply × IsTold old (told_of name moment sent reply) next
+
 -- the counter of a reply is one that can pass
 abbrev pub IsJudgedInRange : Judged → Type 0
 IsJudgedInRange (Replied reply) = IsReplyInRange reply

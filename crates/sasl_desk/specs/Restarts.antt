@@ -1,8 +1,11 @@
--- Runs of desks one after another: each begins with a book whose text the store held when the one before stopped.
+-- What befalls a book over its life: runs of desks, one after another, and what is done with it between them.
 use Rattle.std.specs.Prelude.{ℕ, ◌≡◌, ◌⊎◌, List, [], ◌∷◌, ◌++◌, reverse}
+use Rattle.std.specs.declared.option.Option.TheVariants.{None}
+use Rattle.book_format.specs.Account.{AccountFields}
 use Rattle.book_format.specs.Book.{BookFields}
-use Rattle.book_format.specs.Trees.{IsBookText}
+use Rattle.account_book.specs.Accounts.{account_at, IsAdded}
 use Rattle.account_book.specs.Store.{StoreFacts}
+use Rattle.account_book.specs.Tokens.{IsUnlocked}
 use Rattle.log_grammar.specs.Books.{accounts_in}
 use Rattle.log_grammar.specs.Sessions.{Told}
 use Rattle.log_grammar.specs.Demands.{demands}
@@ -11,6 +14,7 @@ use Rattle.log_grammar.specs.Clean.{Begins}
 use Rattle.sasl_desk.specs.Keeper.{IsTold}
 use Rattle.sasl_desk.specs.Runs.{Call, run_lines}
 use Rattle.sasl_desk.specs.Desks.{Stands, all_spent}
+use Rattle.sasl_desk.specs.Spent.{spent_by}
 use Rattle.sasl_desk.specs.declared.desk.Desk.{Desk}
 
 -- the calls that a desk has answered, and what its log tells
@@ -30,13 +34,35 @@ pub record IsRunOf {S : Type 0} (facts : S → StoreFacts) (r : Run) : Type 0 wh
   pub begins : Begins (demands (accounts_in r.start)) (run_lines r.calls) r.place r.told
   pub leaves : (r.left ≡ desk.keeper.book) ⊎ ((t : Told) × IsTold desk.keeper.book t r.left)
 
--- runs, the latest first, each begun with the book that the one before left; the first began with this book, and the last
--- left that one
-abbrev pub AreRuns : {S : Type 0} → (S → StoreFacts) → BookFields → List Run → BookFields → Type 0
-AreRuns facts first [] last = first ≡ last
-AreRuns facts first (r ∷ before) last = AreRuns facts first before r.start × IsRunOf facts r × (r.left ≡ last)
+-- what befalls a book: a desk runs with it, from the text that the store held when the run began to the one that it holds when
+-- the run has stopped; its token judges an attempt of an account, without a desk; the token of an account is unlocked; an
+-- account is added
+pub data Change : Type 0 where
+  ran : (r : Run) → Change
+  judged : (t : Told) → Change
+  unlocks : (name : List ℕ) → Change
+  adds : (name : List ℕ) (account : AccountFields) → Change
 
--- the counters that the replies of all runs use, with their accounts
-abbrev pub spent_in : List Run → List (List ℕ × ℕ)
+-- the change makes the one book the other
+abbrev pub IsChange : {S : Type 0} → (S → StoreFacts) → Change → (old new : BookFields) → Type 0
+IsChange facts (ran r) old new = IsRunOf facts r × (r.start ≡ old) × (r.left ≡ new)
+IsChange facts (judged t) old new = IsTold old t new
+IsChange facts (unlocks name) old new = IsUnlocked old name new
+IsChange facts (adds name account) old new = (account_at old name ≡ None) × IsAdded old name account new
+
+-- changes, the latest first, each of the book that the one before left, from the first book to the last
+abbrev pub AreChanges : {S : Type 0} → (S → StoreFacts) → BookFields → List Change → BookFields → Type 0
+AreChanges facts first [] last = last ≡ first
+AreChanges facts first (c ∷ before) last = (middle : BookFields) × AreChanges facts first before middle × IsChange facts c middle last
+
+-- the counters that the replies of a change use, with their accounts
+abbrev pub spent_by_change : Change → List (List ℕ × ℕ)
+spent_by_change (ran r) = all_spent (reverse r.told)
+spent_by_change (judged t) = spent_by t
+spent_by_change (unlocks name) = []
+spent_by_change (adds name account) = []
+
+-- the counters that the replies of all changes use, with their accounts
+abbrev pub spent_in : List Change → List (List ℕ × ℕ)
 spent_in [] = []
-spent_in (r ∷ before) = all_spent (reverse r.told) ++ spent_in before
+spent_in (c ∷ before) = spent_by_change c ++ spent_in before

@@ -30,11 +30,16 @@ pub record AnswersAll {S : Type 0} (facts : S → StoreFacts) (old : Desk S) (ca
   pub saves : (start : BookFields) (before : List Call) → Stands facts start before old
       → (facts new.keeper.store).saves ≡ (facts old.keeper.store).saves + length (filter is_saving (call_lines calls))
 
+-- the desk has not halted, but for a store that has failed
+abbrev pub HaltsByStore : {S : Type 0} → (S → StoreFacts) → Desk S → Type 0
+HaltsByStore facts desk = phase_of desk.state ≡ phase.Halted → (facts desk.keeper.store).failed ≡ true
+
 -- the desk answered what it was asked, and its lines were written
 pub record IsDone {S : Type 0} (facts : S → StoreFacts) (asked : Asked) (old new : Desk S) (wire wire' log log' : SinkFacts) : Type 0 where
   pub lines : List LogLine
   pub answers : AnswersAll facts old (call_of asked lines ∷ []) new
   pub written : AreWritten lines wire wire' log log'
+  pub halts : HaltsByStore facts new
 
 -- the desk answered what it was asked, and its lines were logged, but the wire to the client has failed
 pub record IsUnsent {S : Type 0} (facts : S → StoreFacts) (asked : Asked) (old new : Desk S) (wire' log log' : SinkFacts) : Type 0 where
@@ -42,6 +47,7 @@ pub record IsUnsent {S : Type 0} (facts : S → StoreFacts) (asked : Asked) (old
   pub answers : AnswersAll facts old (call_of asked lines ∷ []) new
   pub logged : Appends log.given log'.given (log_bytes lines)
   pub failed : wire'.failed ≡ true
+  pub halts : HaltsByStore facts new
 
 -- the desk answered what it was asked, but the log has failed: the desk has halted then, and nothing was sent
 pub record IsUnlogged {S : Type 0} (facts : S → StoreFacts) (asked : Asked) (old new : Desk S) (wire wire' log' : SinkFacts) : Type 0 where
@@ -112,6 +118,7 @@ pub record IsServedUpTo {S : Type 0} (facts : S → StoreFacts) (own : List ℕ)
   pub reads : ReadsLines old.input (reads_in turns) new.input
   pub answers : AnswersAll facts old.desk (session_calls own greeting turns) new.desk
   pub written : AreWritten (call_lines (session_calls own greeting turns)) old.wire new.wire old.log new.log
+  pub halts : HaltsByStore facts new.desk
 
 -- a session that its turns, at most 10000, have ended
 pub record IsServedToEnd {S : Type 0} (facts : S → StoreFacts) (own : List ℕ) (old new : Service S) : Type 0 where

@@ -8,7 +8,7 @@ ghost use Rattle.otp_core.specs.Secret.{IsMoment};
 ghost use Rattle.otp_core.specs.State.{advanced};
 ghost use Rattle.otp_core.specs.declared.token.kinds.Fields.{Fields};
 ghost use Rattle.log_grammar.specs.Lines.{IsReplyInRange};
-ghost use Rattle.sasl_desk.specs.Keeper.{HoldsText, IsNotBegun, IsJudged, IsJudgedInRange, texts_of};
+ghost use Rattle.sasl_desk.specs.Keeper.{HoldsText, IsNotBegun, IsJudged, IsJudgedInRange, IsToBeSaved, texts_of};
 
 use crate::fault::DeskFault;
 use crate::sent::Sent;
@@ -70,8 +70,8 @@ impl<S: BookStore> Keeper<S> {
     /// Judges what the client of this account sent at a moment, as `Token::attempt` and `Token::sync` do. PASS and FAIL
     /// are answered once the store holds the text of the book with this attempt in it; LOCKED and no token change
     /// nothing, and ask nothing of the store. Where the save fails, the book is as before, and the store holds the text
-    /// from before or that of the book with this attempt. After an error, which is that memory ran out, nothing has
-    /// changed.
+    /// from before or that of the book with this attempt. After an error, which is that memory ran out for the text that is
+    /// to be saved, nothing has changed.
     pub fn judge(
         &mut self,
         alloc: Global,
@@ -83,6 +83,8 @@ impl<S: BookStore> Keeper<S> {
             judged self.new.book (S.facts self.new.store)) }
         ensures counter { IfOk result IsJudgedInRange }
         ensures err { OnErr result ((self.new.book ≡ self.old.book) × (self.new.store ≡ self.old.store)) }
+        // Where nothing is to be saved, memory does not run out.
+        ensures memory { OnErr result (IsToBeSaved self.old.book name.now moment (texts_of sent.entry)) }
     {
         moment_is_in_range(moment);
         let Some(mut token) = self.book.token(name) else {

@@ -8,7 +8,8 @@ ghost use Rattle.log_grammar.specs.Lines.{LogLine, said, halt};
 ghost use Rattle.log_grammar.specs.Sessions.{Told};
 ghost use Rattle.sasl_desk.specs.Desks.{Stands, phase_of};
 ghost use Rattle.sasl_desk.specs.Keeper.{IsTold};
-ghost use Rattle.sasl_desk.specs.Restarts.{Run, IsRunOf, AreRuns, spent_in};
+ghost use Rattle.sasl_desk.specs.Records.{HasItsRecords};
+ghost use Rattle.sasl_desk.specs.Restarts.{Run, IsRunOf, Change, AreChanges, spent_in};
 ghost use Rattle.sasl_desk.specs.Runs.{Call, run_lines, log_bytes, wire_bytes};
 ghost use Rattle.sasl_desk.specs.Serves.{LongTextsAreBad};
 ghost use Rattle.sasl_desk.specs.Spent.{SpentStaysSpent, IsSpent};
@@ -17,6 +18,7 @@ ghost use Rattle.sasl_desk.specs.declared.desk.state.Phase.TheVariants as phase;
 ghost use Rattle.sasl_desk.specs.Turns.{DueLinesStand, BadLinesStand, GoneClientsStand};
 
 use account_book::BookStore;
+use account_book::laws::{added_is_apart, tokens_are_apart};
 use log_grammar::laws::{goes_on_by_no_other, has_one_reading};
 use otp_core::laws::{begins_with_itself, candidates_are_new, legal_histories_join};
 
@@ -53,6 +55,13 @@ pub fn log_is_clean<S: BookStore>()
     goes_on_by_no_other();
 }
 
+/// A desk's log offers mechanisms once for each client that was greeted, and records what its clients did, each as is due where it
+/// was done, in its order: nothing is left out, and nothing is invented.
+pub fn log_has_its_records<S: BookStore>()
+    ensures { (start : BookFields) (calls : List Call) (desk : Desk S) → Stands S.facts start calls desk
+        → HasItsRecords (accounts_in start) calls }
+{}
+
 /// The bytes of a run are those of its calls, one after another: in its log after the first line, and to its clients.
 pub fn bytes_are_those_of_calls()
     ensures log { (c : Call) (before : List Call) → log_bytes (run_lines (c ∷ before)) ≡ log_bytes (run_lines before) ++ log_bytes c.lines }
@@ -74,15 +83,19 @@ pub fn stops_leave_runs<S: BookStore>()
         → IsTold desk.keeper.book t next → (r : Run) × IsRunOf S.facts r × (r.start ≡ start) × (r.calls ≡ calls) × (r.left ≡ next) }
 {}
 
-/// No counter of an account passes twice over all runs, wherever each of them stopped: the counters that the replies of all
-/// runs use are different from each other and from those that were used before, and all are used in the book that is left.
+/// No counter of an account passes twice over all that befalls a book: runs of desks, wherever each of them stopped, and between
+/// them attempts that the book's tokens judge without a desk, unlocked tokens and added accounts. The counters that the replies
+/// use are different from each other and from those that were used before, and all are used in the book that is left.
 pub fn no_counter_passes_twice<S: BookStore>()
-    ensures { (first : BookFields) (runs : List Run) (last : BookFields) (ps : List (List ℕ × ℕ)) → AreRuns S.facts first runs last
-        → IsSpent ps first → IsSpent (spent_in runs ++ ps) last }
+    ensures { (first : BookFields) (changes : List Change) (last : BookFields) (ps : List (List ℕ × ℕ)) → AreChanges S.facts first changes last
+        → IsSpent ps first → IsSpent (spent_in changes ++ ps) last }
 {
     begins_with_itself();
+    candidates_are_new();
     spent_stays_spent();
     has_one_reading();
+    tokens_are_apart();
+    added_is_apart();
 }
 
 /// A text of more than 6200 bytes, as a client's line of that length is handed in, is recorded as `C BAD`.

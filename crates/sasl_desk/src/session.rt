@@ -2,7 +2,7 @@
 //!
 //! A session hears what its client does and answers it. It reads the book's accounts and keeps what it needs of the login;
 //! it knows nothing of the store, of other sessions and of what a log holds. A code it hands on to be judged.
-ghost use Rattle.std.specs.Prelude.{◌≡◌, ◌≢◌, [], IfOk, IfErr, OnErr};
+ghost use Rattle.std.specs.Prelude.{◌≡◌, [], IfOk, IfErr, OnErr};
 ghost use Rattle.log_grammar.specs.Lines as grammar;
 ghost use Rattle.log_grammar.specs.Lines.{from_client};
 ghost use Rattle.log_grammar.specs.Demands.{Accounts};
@@ -12,7 +12,7 @@ ghost use Rattle.sasl_log.specs.Shown.{client_shown};
 ghost use Rattle.sasl_log.specs.Texts.{CanBeLine};
 ghost use Rattle.sasl_desk.specs.Events.{event_shown};
 ghost use Rattle.sasl_desk.specs.Turns.{BearsMessage};
-ghost use Rattle.sasl_desk.specs.Sessions.{IsAt, IsLineOf, heard_lines, CanBeWritten, IsHeard, IsLineHeard, IsOfCode};
+ghost use Rattle.sasl_desk.specs.Sessions.{IsAt, IsLineOf, heard_lines, CanBeWritten, IsHeard, IsLineHeard, IsOfCode, AsksFor, AsksForEvent};
 
 mod answer;
 mod first;
@@ -69,9 +69,10 @@ impl Session {
         ensures lines { IfOk result (λ heard. CanBeWritten (heard_lines heard message.new.items)) }
         // A code is to be judged only where the session waits for one.
         ensures asks { IfOk result (λ heard. IsOfCode heard self) }
+        // And only the one that the client sent.
+        ensures asked { IfOk result (λ heard. AsksForEvent heard (event_shown event.entry)) }
         ensures err { IfErr result (λ session. (session ≡ self) × (message.new.items ≡ [])) }
-        ensures sent { OnErr result (event.entry ≢ Event.Gone) }
-        ensures memory { (line : grammar.ClientLine) → IsLineOf (event_shown event.entry) line → OnErr result (BearsMessage line) }
+        ensures memory { OnErr result ((line : grammar.ClientLine) × IsLineOf (event_shown event.entry) line × BearsMessage line) }
     {
         is_one_line();
         match event {
@@ -98,6 +99,7 @@ impl Session {
             → IfOk result (λ heard. IsLineHeard accounts own.now (client_shown line.entry) at heard message.new.items) }
         ensures lines { IfOk result (λ heard. CanBeWritten (heard_lines heard message.new.items)) }
         ensures asks { IfOk result (λ heard. IsOfCode heard self) }
+        ensures asked { IfOk result (λ heard. AsksFor heard (client_shown line.entry)) }
         ensures err { IfErr result (λ session. (session ≡ self) × (message.new.items ≡ [])) }
         ensures memory { OnErr result (BearsMessage (client_shown line.entry)) }
     {

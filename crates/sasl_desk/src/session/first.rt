@@ -18,7 +18,7 @@ use sasl_log::{NoMemory, Payload};
 use scram_ends::laws::refused_is_not_taken_up;
 use scram_ends::{FirstRefused, first_name, server_first};
 use scram_text::laws::{has_one_client_first, spells_one_name};
-use scram_text::{NoncePart, PlainName};
+use scram_text::{NoncePart, PlainName, WriteFault};
 use std::alloc::{Allocator, Global};
 
 /// The answer to the client-first message of a client that asks for the mechanism of this name: a challenge, whose message
@@ -113,6 +113,7 @@ fn challenge<A: Allocator>(
             session: Some(Session::WaitsFinal(Waiting::new(wait, mechanism, user))),
         }),
         Err(FirstRefused::First(_)) => Ok(refusal()),
-        Err(FirstRefused::Write(_)) => Err(NoMemory),
+        Err(FirstRefused::Write(WriteFault::NoMemory)) => Err(NoMemory),
+        Err(FirstRefused::Write(_)) => unreachable!(),
     }
 }

@@ -10,7 +10,7 @@ ghost use Rattle.sasl_log.specs.Shown.{client_shown};
 ghost use Rattle.sasl_log.specs.Texts.{CanBeLine};
 ghost use Rattle.sasl_desk.specs.Events.{ClientEvent};
 ghost use Rattle.sasl_desk.specs.Turns.{is_client_turn, is_due, BearsMessage};
-ghost use Rattle.sasl_desk.specs.Sessions.{IsWaitingAt, IsRecord, turn_lines, heard_lines, CanBeWritten, IsTurn, IsLineTurn, IsLineHeard, IsOfCode};
+ghost use Rattle.sasl_desk.specs.Sessions.{IsWaitingAt, IsRecord, turn_lines, heard_lines, CanBeWritten, IsTurn, IsLineTurn, IsLineHeard, IsOfCode, AsksFor};
 
 use crate::sent::Sent;
 use crate::session::Session;
@@ -175,6 +175,7 @@ pub(crate) fn hear_code<'a>(name: PlainName, line: ClientLine<'a>) -> Heard<'a>
     ensures heard { (accounts : Accounts) (own : List ℕ)
         → IsLineHeard accounts own (client_shown line.entry) (waits_code name) result [] }
     ensures asks { IsOfCode result (Session.WaitsCode name) }
+    ensures asked { AsksFor result (client_shown line.entry) }
     ensures lines { CanBeWritten (heard_lines result []) }
 {
     match line {

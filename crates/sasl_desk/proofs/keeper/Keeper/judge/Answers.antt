@@ -16,6 +16,16 @@ returns-in-Err-clause-err g c = (
   refl,
 )
 
+pub returns-in-Err-clause-memory : goal.returns-in-Err-clause-memory
+returns-in-Err-clause-memory g c = (
+  Some c.reply_to-reply.result,
+  c.put_token.new.self,
+  needs_save c.reply_to-reply.result c.if-is_locked.ensures.open,
+  told_by _ _ c.args.name.now c.in-Some.token c.reply_to-reply.new.token c.args.moment _ c.reply_to-reply.result c.moment_is_in_range.ensures (sym c.token.ensures ∙ c.in-Some.is)
+      (record { due = c.reply_to-reply.ensures.due; after = c.reply_to-reply.ensures.after; state = c.reply_to-reply.ensures.state })
+      c.put_token.ensures.put,
+)
+
 pub returns-in-Ok-saved-clause-ok : goal.returns-in-Ok-saved-clause-ok
 returns-in-Ok-saved-clause-ok g c = (
   told_by _ _ c.args.name.now c.in-Some.token c.reply_to-reply.new.token c.args.moment _ c.reply_to-reply.result c.moment_is_in_range.ensures (sym c.token.ensures ∙ c.in-Some.is)

@@ -1,4 +1,4 @@
-use Rattle.std.proofs.Common.{◌≡◌, ℕ, List, ◌++◌, sym, ◌∙◌, ap, subst, arith}
+use Rattle.std.proofs.Common.{ℕ, List, ◌++◌, sym, ◌∙◌, ap, subst, arith}
 use Rattle.scram_ends.specs.Stages.{challenged_login}
 use Rattle.scram_ends.specs.Verdict.{due_text, final_due}
 use Rattle.scram_ends.specs.declared.server.ServerWait.{ServerWait}

@@ -1,0 +1,49 @@
+-- What the log of a run records: one offer of mechanisms for each client that was greeted, and one line for each thing that a
+-- client did.
+use Rattle.std.specs.Prelude.{ℕ, ◌≡◌, Bool, true, false, List, [], ◌∷◌, ◌++◌, length, filter}
+use Rattle.log_grammar.specs.Lines.{LogLine, said, heard, bad, gone, mechs}
+use Rattle.log_grammar.specs.Demands.{Accounts}
+use Rattle.log_grammar.specs.Places.{Place}
+use Rattle.sasl_desk.specs.Sessions.{IsRecord}
+use Rattle.sasl_desk.specs.Runs.{Asked, greets, hears, Call, run_lines, IsRun}
+
+-- the line offers mechanisms
+abbrev pub is_offer : LogLine → Bool
+is_offer (said (mechs names)) = true
+is_offer line = false
+
+-- the line records what a client did: one of its lines, `C BAD` or `C GONE`
+abbrev pub is_record : LogLine → Bool
+is_record (heard line) = true
+is_record bad = true
+is_record gone = true
+is_record line = false
+
+-- the server's parts of nonces, with the one for which a client was greeted
+abbrev pub nonces_with : Asked → List (List ℕ) → List (List ℕ)
+nonces_with (greets own) before = own ∷ before
+nonces_with (hears event moment) before = before
+
+-- the server's parts of the nonces for which clients were greeted, the latest first
+abbrev pub nonces_in : List Call → List (List ℕ)
+nonces_in [] = []
+nonces_in (c ∷ before) = nonces_with c.asked (nonces_in before)
+
+-- the records before an event, and the one of it, which is that at the place where the log stood
+abbrev pub HasRecordOf : Accounts → Asked → (before : List Call) → (Earlier : List LogLine → Type 0) → List LogLine → Type 0
+HasRecordOf accounts (greets own) before Earlier records = Earlier records
+HasRecordOf accounts (hears event moment) before Earlier records =
+    (at : Place) × (earlier : List LogLine) × (kept : LogLine)
+    × IsRun accounts before at × IsRecord event at kept × Earlier earlier × (records ≡ earlier ++ kept ∷ [])
+
+-- the lines are the records of what clients did in these calls, in its order: the latest call, which comes first, has the
+-- last record
+abbrev pub AreRecords : Accounts → List Call → List LogLine → Type 0
+AreRecords accounts [] records = records ≡ []
+AreRecords accounts (c ∷ before) records = HasRecordOf accounts c.asked before (AreRecords accounts before) records
+
+-- the log of these calls has one offer for each nonce, and its records are those of what clients did: nothing that a client
+-- did is left out, and nothing is invented
+pub record HasItsRecords (accounts : Accounts) (calls : List Call) : Type 0 where
+  pub offers : length (filter is_offer (run_lines calls)) ≡ length (nonces_in calls)
+  pub records : AreRecords accounts calls (filter is_record (run_lines calls))
