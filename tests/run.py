@@ -24,6 +24,7 @@ TESTS = [
     "audits.py",
     "book_faults.py",
     "vectors.py",
+    "refused_memory.py",
     "commands.py",
     "process.sh",
     "terminal.py",

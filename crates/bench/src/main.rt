@@ -7,18 +7,21 @@
 //! and prints how often it was accepted; `bench book COUNT FILE` reads the bytes of FILE once and the
 //! account book of them COUNT times, and prints how often they were one, as `book 20 of 20`;
 //! `bench logins COUNT FILE` serves COUNT logins over the book of FILE, and `bench codes COUNT FILE` one login
-//! with COUNT codes: both print how many were served, and how many bytes were logged and sent.
+//! with COUNT codes: both print how many were served, and how many bytes were logged and sent; `bench calls COUNT FILE`, `bench
+//! turns COUNT FILE` and `bench service COUNT FILE` serve that login while a test refuses memory, and print the log.
 #![tactic(auto)]
 
 mod book;
 mod login;
 mod memory;
 mod pair;
+mod refused;
 mod service;
 
 use crate::book::print_readings;
 use crate::login::print_verdicts;
 use crate::pair::print_failures;
+use crate::refused::{print_calls, print_service, print_turns};
 use crate::service::{print_codes_served, print_logins};
 use mac_core::{HSha1, Prepared};
 use otp_core::{Digits, Secret, hotp_with};
@@ -76,6 +79,9 @@ fn main(rt: HostRuntime) -> io::Result<ExitCode> {
         "verdict" => print_verdicts(&rt, text.as_bytes(), count)?,
         "logins" => print_logins(&rt, text.as_str(), count)?,
         "codes" => print_codes_served(&rt, text.as_str(), count)?,
+        "calls" => print_calls(&rt, text.as_str(), count)?,
+        "turns" => print_turns(&rt, text.as_str(), count)?,
+        "service" => print_service(&rt, text.as_str(), count)?,
         "book" => print_readings(&rt, text.as_str(), count)?,
         kind => println!(rt; "{kind} {}", readings(kind, text.as_bytes(), count))?,
     }

@@ -1,8 +1,9 @@
-//! What a service stands on, in memory: a store of its book, a clock that stands still, and sinks that keep nothing.
+//! What a service stands on, in memory: a store of its book, a clock that stands still, and sinks that count bytes, or keep them.
 ghost use Rattle.std.specs.Prelude.{◌≡◌, ◌<◌, ◌+◌, ◌^◌, false, string_bytes};
 ghost use Rattle.std.specs.declared.option.Option.TheVariants.{None};
 
 use account_book::{BookStore, StoreFault};
+use arrayvec::ArrayVec;
 use otp_core::Moment;
 use sasl_desk::Clock;
 use sasl_log::{Sink, SinkFault};
@@ -92,6 +93,40 @@ impl Sink for Counted {
 
     fn put(&mut self, bytes: &[u8]) -> Result<(), SinkFault> {
         self.bytes = self.bytes.saturating_add(bytes.len() as u64);
+        Ok(())
+    }
+}
+
+/// A sink that keeps up to 8192 bytes, and asks for no memory.
+#[derive(Drop)]
+pub(crate) struct Kept {
+    bytes: ArrayVec<u8, 8192>,
+    failed: bool,
+}
+
+impl Kept {
+    /// A sink that was given nothing.
+    pub(crate) fn new() -> Kept {
+        Kept {
+            bytes: ArrayVec::new(),
+            failed: false,
+        }
+    }
+
+    /// The bytes that it was given.
+    pub(crate) fn bytes(&self) -> &[u8] {
+        self.bytes.as_slice()
+    }
+}
+
+impl Sink for Kept {
+    ghost facts = { λ s. record { given = None; failed = s.failed } };
+
+    fn put(&mut self, bytes: &[u8]) -> Result<(), SinkFault> {
+        if self.failed || self.bytes.try_extend_from_slice(bytes).is_err() {
+            self.failed = true;
+            return Err(SinkFault);
+        }
         Ok(())
     }
 }

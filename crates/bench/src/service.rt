@@ -16,8 +16,30 @@ const LOGIN: &str = "AUTH SCRAM-SHA-256 :n,,n=user,r=rOprNGfwEbeRWgbNEkqO
 RESP :c=biws,r=rOprNGfwEbeRWgbNEkqO%25hvYDpWUa2RaTCAfuxFIlj)hNlF$k0,p=dHzbZapWIk4jUhN+Ute9ytag9zjfMHgsqmmiz7AndVQ=
 ";
 
-// The server's part of the nonce.
-const OWN: &[u8] = b"%hvYDpWUa2RaTCAfuxFIlj)hNlF$k0";
+/// The server's part of the nonce.
+pub(crate) const OWN: &[u8] = b"%hvYDpWUa2RaTCAfuxFIlj)hNlF$k0";
+
+/// What stands for a file that cannot be used, and for codes that cannot be made.
+pub(crate) fn refusal() -> io::Error {
+    io::Error::from(ErrorKind::InvalidInput)
+}
+
+/// What a client sends who logs in and sends the HOTP codes of RFC 4226's secret from counter 0 on, `count` of them.
+pub(crate) fn login_and_codes(alloc: Global, count: u32) -> io::Result<String> {
+    let (Ok(secret), Ok(digits)) = (Secret::new(b"12345678901234567890"), Digits::new(6)) else {
+        return Err(refusal());
+    };
+    let key = Prepared::<HSha1>::new(secret.bytes());
+    let mut text = String::new(alloc);
+    text.push_str(LOGIN)?;
+    for counter in 0..count {
+        let code = hotp_with(&key, u64::from(counter), digits);
+        text.push_str("CODE ")?;
+        text.push_str(code.text())?;
+        text.push_str("\n")?;
+    }
+    Ok(text)
+}
 
 // The service of a book, and how many bytes it has logged and sent.
 #[derive(Drop)]
@@ -30,14 +52,13 @@ struct Service {
 
 // A service of the book in the file at this path.
 fn begun<R: Files + AllocGlobal>(rt: &R, path: &str) -> io::Result<Service> {
-    let refused = || io::Error::from(ErrorKind::InvalidInput);
     let bytes = fs::read(rt, path)?;
     let (Ok(book), Some(now)) = (Book::read(rt.alloc(), bytes.as_slice()), Moment::new(5)) else {
-        return Err(refused());
+        return Err(refusal());
     };
     let mut first_line = Vec::new(rt.alloc());
     let Ok(desk) = Desk::begin(rt.alloc(), book, Memory::new(rt.alloc()), &mut first_line) else {
-        return Err(refused());
+        return Err(refusal());
     };
     Ok(Service {
         desk,
@@ -90,18 +111,7 @@ where
     R: Print + Files + AllocGlobal,
 {
     let mut service = begun(rt, path)?;
-    let (Ok(secret), Ok(digits)) = (Secret::new(b"12345678901234567890"), Digits::new(6)) else {
-        return Err(io::Error::from(ErrorKind::InvalidInput));
-    };
-    let key = Prepared::<HSha1>::new(secret.bytes());
-    let mut text = String::new(rt.alloc());
-    text.push_str(LOGIN)?;
-    for counter in 0..count {
-        let code = hotp_with(&key, u64::from(counter), digits);
-        text.push_str("CODE ")?;
-        text.push_str(code.text())?;
-        text.push_str("\n")?;
-    }
+    let text = login_and_codes(rt.alloc(), count)?;
     let served = is_served(rt.alloc(), &mut service, text.as_str());
     let (logged, sent) = (service.log.bytes, service.wire.bytes);
     println!(rt; "served {served} logged {logged} sent {sent}")
