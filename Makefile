@@ -5,7 +5,7 @@ DESTDIR ?=
 CPU ?= x86-64-v2
 JOBS ?= $(shell nproc)
 PROGRAM = crates/scramotp/out/scramotp
-# What the program stands on, lowest first. rt builds a library that is not named here before the one that needs it.
+# What the program stands on.
 LIBRARIES = mac_core otp_core scram_text scram_ends book_format account_book book_file command_line log_grammar sasl_log sasl_desk commands
 SOURCES = crates.txt HANDLES $(shell find crates \( -name out -prune \) -o \( -name '*.rt' -o -name '*.antt' \) -print)
 # Succeeds where the program is built and newer than its sources.
@@ -15,7 +15,7 @@ EXAMPLE = keys --mechanism SCRAM-SHA-1 --salt 4125c247e43ab1e93c6dff76 --count 4
 # The processors that the program was last built for; rt ci builds it for the default ones.
 BUILT_FOR := $(shell cat crates/scramotp/out/built_for 2>/dev/null || echo x86-64-v2)
 
-.PHONY: help run build install test bench clean kit FORCE
+.PHONY: help run build libraries install test bench clean kit FORCE
 
 help:
 	@echo 'make run      prints the keys of the example in RFC 5802, also before anything is built'
@@ -39,13 +39,26 @@ ifneq ($(CPU),$(BUILT_FOR))
 $(PROGRAM): FORCE
 endif
 
+# The libraries of ours that one uses, as crates.txt names them.
+uses = $(filter $(LIBRARIES),$(shell sed -n 's/^$(1): //p' crates.txt))
+# The sources of a crate.
+sources_of = $(filter crates/$(1)/%,$(SOURCES))
+
+# A library is proved after those that it uses; those that do not use one another are proved at the same time.
+define library_rule
+crates/$(1)/out/built: $(foreach it,$(call uses,$(1)),crates/$(it)/out/built) $(call sources_of,$(1)) crates.txt
+	@echo "$$$$(date +%T) $(1)" && mkdir -p $$(@D) && cd crates/$(1) && \
+		{ rt lib --jobs $(JOBS) >out/build.log 2>&1 || { cat out/build.log; exit 1; }; }
+	@touch $$@
+endef
+$(foreach it,$(LIBRARIES),$(eval $(call library_rule,$(it))))
+
+libraries: $(foreach it,$(LIBRARIES),crates/$(it)/out/built)
+
 $(PROGRAM): $(SOURCES)
 	@$(MAKE) --no-print-directory kit
 	@echo 'This proves $(words $(LIBRARIES)) libraries and the program, and builds it for $(CPU). From nothing, allow 20 minutes on 4 cores.'
-	@for it in $(LIBRARIES); do \
-		echo "$$(date +%T) $$it" && mkdir -p crates/$$it/out && cd crates/$$it && \
-		{ rt lib --jobs $(JOBS) >out/build.log 2>&1 || { cat out/build.log; exit 1; }; } && cd ../.. || exit 1; \
-	done
+	@$(MAKE) --no-print-directory -j 2 libraries
 	@echo "$$(date +%T) scramotp"
 	@mkdir -p $(@D) && cd crates/scramotp && \
 		{ rt run --jobs $(JOBS) $(addprefix --cpu=,$(filter-out x86-64-v2,$(CPU))) -- --version 2>out/build.log || { cat out/build.log; exit 1; }; }
