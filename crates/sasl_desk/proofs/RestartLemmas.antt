@@ -168,3 +168,29 @@ stopped_run facts start calls desk t next s one = (
   refl,
   refl,
 )
+
+-- what was spent is spent after one more attempt
+told_spent : BeginsWithItself → SpentStaysSpent → (old new : BookFields) (t : Told) (ps : List (List ℕ × ℕ)) → IsTold old t new → IsSpent ps old → IsSpent ps new
+told_spent itself stays old new t ps one spent = fewer_spent new (spent_by t) ps (spent_after_told itself stays old new t ps one spent)
+
+-- each counter that was told is used in the book whose text the store holds
+pub saved_spent : BeginsWithItself → SpentStaysSpent → {S : Type 0} (facts : S → StoreFacts) (start : BookFields) (calls : List Call) (desk : Desk S)
+    (s : Stands facts start calls desk) (ps : List (List ℕ × ℕ)) → IsSpent ps start
+    → (saved : BookFields) × IsBookText (facts desk.keeper.store).saved saved × IsSpent (all_spent (reverse s.told) ++ ps) saved
+saved_spent itself stays facts start calls desk s ps spent =
+    let book = desk.keeper.book in
+    let own = s.spent ps spent in
+    elim (held_or_lost (accounts_in start) calls s.place book (facts desk.keeper.store) s.is_stored) [
+      | inl held ↦ (book, held.saved, own)
+      | inr lost ↦ elim lost.saved [
+        | inl before ↦ (book, before, own)
+        | inr after ↦ (lost.next, after, told_spent itself stays book lost.next lost.t (all_spent (reverse s.told) ++ ps) lost.is_told own)
+      ]
+    ]
+
+-- and in the one that a stop within a call leaves
+pub stopped_spent : BeginsWithItself → SpentStaysSpent → {S : Type 0} (facts : S → StoreFacts) (start : BookFields) (calls : List Call) (desk : Desk S)
+    (s : Stands facts start calls desk) (ps : List (List ℕ × ℕ)) (t : Told) (next : BookFields) → IsSpent ps start → IsTold desk.keeper.book t next
+    → IsSpent (all_spent (reverse s.told) ++ ps) next
+stopped_spent itself stays facts start calls desk s ps t next spent one =
+    told_spent itself stays desk.keeper.book next t (all_spent (reverse s.told) ++ ps) one (s.spent ps spent)

@@ -1,12 +1,12 @@
 //! Laws of sessions, of a keeper of books and of desks, each the promise of a function that does nothing.
-ghost use Rattle.std.specs.Prelude.{◌≡◌, ◌⊎◌, true, ℕ, List, [], ◌∷◌, ◌++◌};
+ghost use Rattle.std.specs.Prelude.{◌≡◌, ◌⊎◌, true, ℕ, List, [], ◌∷◌, ◌++◌, reverse};
 ghost use Rattle.book_format.specs.Book.{BookFields};
 ghost use Rattle.book_format.specs.Trees.{IsBookText};
 ghost use Rattle.log_grammar.specs.Books.{accounts_in};
 ghost use Rattle.log_grammar.specs.Versions.{IsFront, IsClean};
 ghost use Rattle.log_grammar.specs.Lines.{LogLine, said, halt};
 ghost use Rattle.log_grammar.specs.Sessions.{Told};
-ghost use Rattle.sasl_desk.specs.Desks.{Stands, phase_of};
+ghost use Rattle.sasl_desk.specs.Desks.{Stands, phase_of, all_spent};
 ghost use Rattle.sasl_desk.specs.Keeper.{IsTold};
 ghost use Rattle.sasl_desk.specs.Records.{HasItsRecords};
 ghost use Rattle.sasl_desk.specs.Restarts.{Run, IsRunOf, Change, AreChanges, spent_in};
@@ -82,6 +82,19 @@ pub fn stops_leave_runs<S: BookStore>()
     ensures { (start : BookFields) (calls : List Call) (desk : Desk S) (t : Told) (next : BookFields) → Stands S.facts start calls desk
         → IsTold desk.keeper.book t next → (r : Run) × IsRunOf S.facts r × (r.start ≡ start) × (r.calls ≡ calls) × (r.left ≡ next) }
 {}
+
+/// At every moment of a run the store holds a book in which each counter that a client was told has passed is used, and each that
+/// was used before the run: after a call, and where the run stops within one, as the store puts the text with the attempt that is
+/// judged in the place of the old one.
+pub fn told_counters_are_saved<S: BookStore>()
+    ensures ended { (start : BookFields) (calls : List Call) (desk : Desk S) (s : Stands S.facts start calls desk) (ps : List (List ℕ × ℕ)) → IsSpent ps start
+        → (saved : BookFields) × IsBookText (S.facts desk.keeper.store).saved saved × IsSpent (all_spent (reverse s.told) ++ ps) saved }
+    ensures within { (start : BookFields) (calls : List Call) (desk : Desk S) (s : Stands S.facts start calls desk) (ps : List (List ℕ × ℕ)) (t : Told)
+        (next : BookFields) → IsSpent ps start → IsTold desk.keeper.book t next → IsSpent (all_spent (reverse s.told) ++ ps) next }
+{
+    begins_with_itself();
+    spent_stays_spent();
+}
 
 /// No counter of an account passes twice over all that befalls a book: runs of desks, wherever each of them stopped, and between
 /// them attempts that the book's tokens judge without a desk, unlocked tokens and added accounts. The counters that the replies
