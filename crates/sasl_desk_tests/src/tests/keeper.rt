@@ -1,7 +1,6 @@
 //! Codes of RFC 4226, appendix D, and what the store holds after them.
-use super::BOOK;
-use super::memory::Memory;
 use account_book::Book;
+use desk_in_memory::{BOOK, Memory};
 use sasl_desk::{DeskFault, Judged, Keeper, Moment, Reply, Sent};
 use scram_text::PlainName;
 use std::alloc::Global;
@@ -146,47 +145,58 @@ fn no_account_and_no_token(rt: HostRuntime) -> Result<(), Fail> {
     check_kept(&rt, keeper, 1, BOOK)
 }
 
-// After a save that failed no reply is told, and the book stays as it was, whichever text the store has.
-#[test]
-fn a_reply_is_lost_with_its_save(rt: HostRuntime) -> Result<(), Fail> {
+// A code's save fails, before or after the new text is in its place: no reply is told, then or later, and the book stays as it
+// was. The store has the text of this counter.
+fn check_lost(rt: &(impl Abort + AllocGlobal), is_late: bool, held: u64) -> Result<(), Fail> {
     let alloc = rt.alloc();
     let before = book_at(alloc, 0, 0)?;
-    let after = book_at(alloc, 0, 1)?;
-    for (is_late, held) in [(false, before.as_str()), (true, after.as_str())] {
-        let mut keeper = begun(alloc, before.as_str(), Memory::new(alloc, 2, is_late))?;
-        for code in ["755224", "755224", "000000"] {
-            let judged = judge(alloc, &mut keeper, b"user", Sent::One(code.as_bytes()))?;
-            assert_eq!(rt; judged, Judged::Lost, "{code}");
-            let text = keeper.book().write(alloc)?;
-            assert_eq!(rt; text.as_str(), before.as_str(), "{code}");
-        }
-        let (_, store) = keeper.close();
-        assert_eq!(rt; store.saves, 2);
-        assert_eq!(rt; store.saved.as_str(), held);
+    let mut keeper = begun(alloc, before.as_str(), Memory::new(alloc, 2, is_late))?;
+    for code in ["755224", "755224", "000000"] {
+        let judged = judge(alloc, &mut keeper, b"user", Sent::One(code.as_bytes()))?;
+        assert_eq!(rt; judged, Judged::Lost, "{code}");
+        let text = keeper.book().write(alloc)?;
+        assert_eq!(rt; text.as_str(), before.as_str(), "{code}");
+    }
+    let (_, store) = keeper.close();
+    assert_eq!(rt; store.saves, 2);
+    assert_eq!(rt; store.saved.as_str(), book_at(alloc, 0, held)?.as_str());
+    Ok(())
+}
+
+#[test]
+fn a_reply_is_lost_with_its_save(rt: HostRuntime) -> Result<(), Fail> {
+    check_lost(&rt, false, 0)?;
+    check_lost(&rt, true, 1)
+}
+
+// The first save of this book fails, before or after the text is in its place: there is no keeper, and with that store there
+// will be none. The store has that text.
+fn check_no_keeper(
+    rt: &(impl Abort + AllocGlobal),
+    text: &str,
+    is_late: bool,
+    held: &str,
+) -> Result<(), Fail> {
+    let mut book = Book::read(rt.alloc(), text.as_bytes())?;
+    let mut store = Memory::new(rt.alloc(), 1, is_late);
+    for _ in 0..2 {
+        let Err((same, failed, fault)) = Keeper::begin(rt.alloc(), book, store) else {
+            return Err("a keeper".into());
+        };
+        assert_eq!(rt; fault, DeskFault::Halted);
+        assert_eq!(rt; fault.number(), 72);
+        assert_eq!(rt; same.write(rt.alloc())?.as_str(), text);
+        assert_eq!(rt; failed.saves, 1);
+        assert_eq!(rt; failed.saved.as_str(), held);
+        book = same;
+        store = failed;
     }
     Ok(())
 }
 
-// Where the first save fails there is no keeper, and with that store there will be none.
 #[test]
 fn no_keeper_over_a_failing_store(rt: HostRuntime) -> Result<(), Fail> {
-    let alloc = rt.alloc();
-    let text = book_at(alloc, 0, 0)?;
-    for (is_late, held) in [(false, ""), (true, text.as_str())] {
-        let mut book = Book::read(alloc, text.as_bytes())?;
-        let mut store = Memory::new(alloc, 1, is_late);
-        for _ in 0..2 {
-            let Err((same, failed, fault)) = Keeper::begin(alloc, book, store) else {
-                return Err("a keeper".into());
-            };
-            assert_eq!(rt; fault, DeskFault::Halted);
-            assert_eq!(rt; fault.number(), 72);
-            assert_eq!(rt; same.write(alloc)?.as_str(), text.as_str());
-            assert_eq!(rt; failed.saves, 1);
-            assert_eq!(rt; failed.saved.as_str(), held);
-            book = same;
-            store = failed;
-        }
-    }
-    Ok(())
+    let text = book_at(rt.alloc(), 0, 0)?;
+    check_no_keeper(&rt, text.as_str(), false, "")?;
+    check_no_keeper(&rt, text.as_str(), true, text.as_str())
 }

@@ -1,6 +1,5 @@
 //! What ends a session at each place where it is the client's turn.
-use super::memory::Memory;
-use super::service::{begun, check_written, greet, hear};
+use desk_in_memory::{Memory, Service};
 use sasl_desk::{Event, Phase};
 use sasl_log::Clean;
 use std::process::Abort;
@@ -31,6 +30,17 @@ struct Place<'a> {
     accepted: u64,
 }
 
+// A service whose session stands there.
+fn service_at(rt: &(impl Abort + AllocGlobal), place: Place<'_>) -> Result<Service, Fail> {
+    let mut service = Service::begin(rt.alloc(), Memory::new(rt.alloc(), 0, false))?;
+    assert_eq!(rt; service.greet()?, Ok(Phase::WaitAuth));
+    for line in place.lines {
+        let phase = service.hear(rt.alloc(), Event::Line(line.as_bytes()))?;
+        assert!(rt; phase.is_ok());
+    }
+    Ok(service)
+}
+
 // There the session hears the event, and ends: the log has these lines of it.
 fn check_end(
     rt: &(impl Abort + AllocGlobal),
@@ -38,16 +48,9 @@ fn check_end(
     event: Event<'_>,
     ends: &str,
 ) -> Result<(), Fail> {
-    let mut service = begun(rt.alloc(), Memory::new(rt.alloc(), 0, false))?;
-    assert_eq!(rt; greet(&mut service)?, Ok(Phase::WaitAuth));
-    for line in place.lines {
-        assert!(rt; hear(rt.alloc(), &mut service, Event::Line(line.as_bytes()))?.is_ok());
-    }
-    assert_eq!(rt;
-        hear(rt.alloc(), &mut service, event)?,
-        Ok(Phase::Closed),
-        "{ends}"
-    );
+    let mut service = service_at(rt, place)?;
+    let phase = service.hear(rt.alloc(), event)?;
+    assert_eq!(rt; phase, Ok(Phase::Closed), "{ends}");
     let before = place.logged;
     let log = format!(in rt.alloc();
         "SCRAMLOG 1\nS MECHS SCRAM-SHA-256 SCRAM-SHA-1\n{before}{ends}"
@@ -57,7 +60,7 @@ fn check_end(
         accepted: place.accepted,
         codes_passed: 0,
     };
-    check_written(rt, &service, log.as_str(), counts)
+    service.check_log(rt.alloc(), log.as_str(), counts)
 }
 
 // There `C BAD` is recorded of these lines, which are not due, and of texts that are no lines of a client; a client may give

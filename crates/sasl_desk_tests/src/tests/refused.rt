@@ -1,8 +1,6 @@
 //! Calls that are refused memory: they change nothing, and the same call then succeeds.
-use super::BOOK;
-use super::memory::Memory;
-use super::service::{Service, begun, greet, hear};
 use account_book::Book;
+use desk_in_memory::{BOOK, Memory, Service};
 use linked_list_allocator::LocalHeap;
 use sasl_desk::{Desk, DeskFault, Event, Moment, Phase};
 use scram_text::NoncePart;
@@ -31,7 +29,7 @@ fn a_desk_begins_with_room_for_its_log(rt: HostRuntime) -> Result<(), Fail> {
 fn a_greeting_needs_room(rt: HostRuntime) -> Result<(), Fail> {
     let heap = LocalHeap::new(rt.alloc(), 16)?;
     let mut none = Vec::new(&heap);
-    let mut service = begun(rt.alloc(), Memory::new(rt.alloc(), 0, false))?;
+    let mut service = Service::begin(rt.alloc(), Memory::new(rt.alloc(), 0, false))?;
     let own = NoncePart::new(b"3rfcNHYJY1ZVvWVs7j").ok_or("a part of a nonce")?;
     let Service { desk, wire, log } = &mut service;
     if desk.phase() != Phase::Closed {
@@ -41,7 +39,7 @@ fn a_greeting_needs_room(rt: HostRuntime) -> Result<(), Fail> {
     assert!(rt; wire.is_empty());
     assert!(rt; none.is_empty());
     assert_eq!(rt; log.as_slice(), b"SCRAMLOG 1\n".as_slice());
-    assert_eq!(rt; greet(&mut service)?, Ok(Phase::WaitAuth));
+    assert_eq!(rt; service.greet()?, Ok(Phase::WaitAuth));
     Ok(())
 }
 
@@ -49,8 +47,8 @@ fn a_greeting_needs_room(rt: HostRuntime) -> Result<(), Fail> {
 fn a_turn_needs_room(rt: HostRuntime) -> Result<(), Fail> {
     let heap = LocalHeap::new(rt.alloc(), 16)?;
     let mut none = Vec::new(&heap);
-    let mut service = begun(rt.alloc(), Memory::new(rt.alloc(), 0, false))?;
-    assert_eq!(rt; greet(&mut service)?, Ok(Phase::WaitAuth));
+    let mut service = Service::begin(rt.alloc(), Memory::new(rt.alloc(), 0, false))?;
+    assert_eq!(rt; service.greet()?, Ok(Phase::WaitAuth));
     let moment = Moment::new(3).ok_or("a moment")?;
     let asks = Event::Line(b"AUTH SCRAM-SHA-1");
     let Service { desk, log, .. } = &mut service;
@@ -61,6 +59,6 @@ fn a_turn_needs_room(rt: HostRuntime) -> Result<(), Fail> {
     assert_eq!(rt; refused, Err(DeskFault::NoMemory));
     assert!(rt; none.is_empty());
     assert_eq!(rt; desk.phase(), Phase::WaitAuth);
-    assert_eq!(rt; hear(rt.alloc(), &mut service, asks)?, Ok(Phase::WaitFirst));
+    assert_eq!(rt; service.hear(rt.alloc(), asks)?, Ok(Phase::WaitFirst));
     Ok(())
 }

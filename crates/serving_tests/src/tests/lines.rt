@@ -1,8 +1,6 @@
 //! How a client's line is read: by its LF, by its length, by the end of the input, or by a read that fails.
-use super::client::{Ticking, take_turn};
-use super::memory::Memory;
-use super::service::{begun, check_written, greet};
-use sasl_desk::Phase;
+use desk_in_memory::{Memory, Service, Ticking};
+use sasl_desk::{Phase, ServeFault};
 use sasl_log::{Clean, Got, OverRead, Source};
 use std::alloc::Global;
 use std::io;
@@ -25,6 +23,17 @@ fn long_line(alloc: Global, letters: u64) -> Result<String, Fail> {
     Ok(line)
 }
 
+// A service that has taken one turn, its first, with this client.
+fn one_turn<C: Source>(
+    rt: &(impl Abort + AllocGlobal),
+    client: &mut C,
+) -> Result<(Service, Result<Phase, ServeFault>), Fail> {
+    let mut service = Service::begin(rt.alloc(), Memory::new(rt.alloc(), 0, false))?;
+    assert_eq!(rt; service.greet()?, Ok(Phase::WaitAuth));
+    let end = service.take_turn(rt.alloc(), client, &mut Ticking::after(0)?)?;
+    Ok((service, end))
+}
+
 // One turn with this client ends the session: the log has these lines of it, and this is what the client gives next.
 fn check_end<C: Source>(
     rt: &(impl Abort + AllocGlobal),
@@ -32,10 +41,7 @@ fn check_end<C: Source>(
     logged: &str,
     next: Got,
 ) -> Result<(), Fail> {
-    let mut service = begun(rt.alloc(), Memory::new(rt.alloc(), 0, false))?;
-    let mut clock = Ticking::after(0)?;
-    assert_eq!(rt; greet(&mut service)?, Ok(Phase::WaitAuth));
-    let end = take_turn(rt.alloc(), &mut service, client, &mut clock)?;
+    let (service, end) = one_turn(rt, client)?;
     assert_eq!(rt; end, Ok(Phase::Closed));
     assert_eq!(rt; client.next(), next);
     let log = format!(in rt.alloc(); "SCRAMLOG 1\nS MECHS SCRAM-SHA-256 SCRAM-SHA-1\n{logged}")?;
@@ -44,7 +50,7 @@ fn check_end<C: Source>(
         accepted: 0,
         codes_passed: 0,
     };
-    check_written(rt, &service, log.as_str(), counts)
+    service.check_log(rt.alloc(), log.as_str(), counts)
 }
 
 // A line of 6200 bytes is heard as it is. Its message is no client-first message.

@@ -1,7 +1,6 @@
 //! A wire and a log that fail at each of their writes in turn.
-use super::client::{AMPLE, Room, Ticking, login_and, serve_client, take_turn};
-use super::memory::Memory;
-use super::service::{begun, check_written, hear};
+use super::check_halted;
+use desk_in_memory::{AMPLE, Memory, Room, Service, login_and};
 use sasl_desk::{Event, Phase, ServeFault};
 use sasl_log::{Clean, OverRead};
 use std::alloc::Global;
@@ -77,6 +76,46 @@ fn text_and(alloc: Global, text: &str, next: &str, bytes: usize) -> Result<Vec<u
     Ok(all)
 }
 
+// Serves the client of this session, where the wire and the log have so much room.
+fn served(
+    alloc: Global,
+    wire_room: Room,
+    log_room: Room,
+) -> Result<(Service, Result<Phase, ServeFault>), Fail> {
+    let mut service = Service::begin(alloc, Memory::new(alloc, 0, false))?;
+    let sent = login_and(alloc, "CODE 755224\nABORT\n")?;
+    let mut client = OverRead::new(sent.as_bytes());
+    let end = service.serve(alloc, &mut client, wire_room, log_room)?;
+    Ok((service, end))
+}
+
+// The desk stands at this phase, the client was sent this, and this is the log.
+fn check_left(rt: &impl Abort, service: &Service, phase: Phase, wire: &[u8], log: &[u8]) {
+    assert_eq!(rt; service.desk.phase(), phase);
+    assert_eq!(rt; service.wire.as_slice(), wire);
+    assert_eq!(rt; service.log.as_slice(), log);
+}
+
+// A client that is gone after what was written here, and before it, leaves a clean log.
+fn check_gone(
+    rt: &(impl Abort + AllocGlobal),
+    mut service: Service,
+    here: Written<'_>,
+    logged: &str,
+) -> Result<(), Fail> {
+    let mut log = format!(in rt.alloc(); "{logged}")?;
+    if here.phase != Phase::Closed {
+        assert_eq!(rt; service.hear(rt.alloc(), Event::Gone)?, Ok(Phase::Closed));
+        log.push_str("C GONE\nE\n")?;
+    }
+    let counts = Clean {
+        sessions: 1,
+        accepted: here.accepted,
+        codes_passed: here.codes_passed,
+    };
+    service.check_log(rt.alloc(), log.as_str(), counts)
+}
+
 // The wire fails here, after these bytes: the log has the turn, the desk stands after it, and a client that is then gone
 // leaves a clean log.
 fn check_unsent(
@@ -86,31 +125,15 @@ fn check_unsent(
     told: &str,
     logged: &str,
 ) -> Result<(), Fail> {
-    let alloc = rt.alloc();
-    let mut service = begun(alloc, Memory::new(alloc, 0, false))?;
-    let sent = login_and(alloc, "CODE 755224\nABORT\n")?;
     let room = Room {
         writes: here.before,
         bytes,
     };
-    let mut client = OverRead::new(sent.as_bytes());
-    let fault = serve_client(alloc, &mut service, &mut client, room, AMPLE)?;
+    let wire = text_and(rt.alloc(), told, here.told, bytes)?;
+    let (service, fault) = served(rt.alloc(), room, AMPLE)?;
     assert_eq!(rt; fault, Err(ServeFault::WriteFault));
-    assert_eq!(rt; service.desk.phase(), here.phase);
-    let wire = text_and(alloc, told, here.told, bytes)?;
-    assert_eq!(rt; service.wire.as_slice(), wire.as_slice());
-    assert_eq!(rt; service.log.as_slice(), logged.as_bytes());
-    let mut log = format!(in alloc; "{logged}")?;
-    if here.phase != Phase::Closed {
-        assert_eq!(rt; hear(alloc, &mut service, Event::Gone)?, Ok(Phase::Closed));
-        log.push_str("C GONE\nE\n")?;
-    }
-    let counts = Clean {
-        sessions: 1,
-        accepted: here.accepted,
-        codes_passed: here.codes_passed,
-    };
-    check_written(rt, &service, log.as_str(), counts)
+    check_left(rt, &service, here.phase, wire.as_slice(), logged.as_bytes());
+    check_gone(rt, service, here, logged)
 }
 
 #[test]
@@ -135,24 +158,15 @@ fn check_unlogged(
     told: &str,
     logged: &str,
 ) -> Result<(), Fail> {
-    let alloc = rt.alloc();
-    let mut service = begun(alloc, Memory::new(alloc, 0, false))?;
-    let sent = login_and(alloc, "CODE 755224\nABORT\n")?;
     let room = Room {
         writes: here.before,
         bytes,
     };
-    let mut client = OverRead::new(sent.as_bytes());
-    let fault = serve_client(alloc, &mut service, &mut client, AMPLE, room)?;
+    let log = text_and(rt.alloc(), logged, here.logged, bytes)?;
+    let (mut service, fault) = served(rt.alloc(), AMPLE, room)?;
     assert_eq!(rt; fault, Err(ServeFault::LogFault));
-    assert_eq!(rt; service.desk.phase(), Phase::Halted);
-    let again = serve_client(alloc, &mut service, &mut client, AMPLE, AMPLE)?;
-    assert_eq!(rt; again, Err(ServeFault::Halted));
-    let turn = take_turn(alloc, &mut service, &mut client, &mut Ticking::after(0)?)?;
-    assert_eq!(rt; turn, Err(ServeFault::Halted));
-    let log = text_and(alloc, logged, here.logged, bytes)?;
-    assert_eq!(rt; service.log.as_slice(), log.as_slice());
-    assert_eq!(rt; service.wire.as_slice(), told.as_bytes());
+    check_halted(rt, &mut service, &mut OverRead::new(b"ABORT\n".as_slice()))?;
+    check_left(rt, &service, Phase::Halted, told.as_bytes(), log.as_slice());
     Ok(())
 }
 

@@ -26,7 +26,9 @@ pub struct Memory {
 impl Memory {
     /// A store that holds an empty text, whose save of this number fails, counted from 1, and with 0 none: before the new
     /// text is in its place, or, where `is_late`, after it.
-    pub fn new(alloc: Global, failing: u64, is_late: bool) -> Memory {
+    pub fn new(alloc: Global, failing: u64, is_late: bool) -> Memory
+        ensures { result.saves ≡ 0 }
+    {
         Memory {
             saved: String::new(alloc),
             asked: None,

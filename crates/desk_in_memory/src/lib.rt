@@ -1,0 +1,12 @@
+//! For tests of `sasl_desk`: a desk whose store, wire and log are in memory, and clients that it serves.
+#![tactic(auto)]
+
+mod client;
+mod login;
+mod memory;
+mod service;
+
+pub use client::{AMPLE, Room, Ticking};
+pub use login::{ANSWERS, BOOK, LOGGED, LOGIN, login_and};
+pub use memory::Memory;
+pub use service::{Service, book_text};

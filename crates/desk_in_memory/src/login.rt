@@ -1,0 +1,46 @@
+//! The login of RFC 5802, section 5, which others have published, and the book of its user.
+use std::alloc::Global;
+use std::test::Fail;
+
+/// A book with the account of the RFC's user, whose keys are those of the password `pencil`, in the form in which a book is
+/// written. No account has a token.
+pub const BOOK: &str = "decoy_count = 4096
+decoy_key = \"000102030405060708090a0b0c0d0e0f101112131415161718191a1b1c1d1e1f\"
+format = 1
+
+[accounts.user]
+act_as = []
+
+[accounts.user.sha1]
+count = 4096
+salt = \"4125c247e43ab1e93c6dff76\"
+server = \"0fe09258b3ac852ba502cc62ba903eaacdbf7d31\"
+stored = \"e9d94660c39d65c38fbad91c358f14da0eef2bd6\"
+";
+
+/// What its client sends, line by line.
+pub const LOGIN: [&str; 2] = [
+    "AUTH SCRAM-SHA-1 :n,,n=user,r=fyko+d2lbbFgONRv9qkxdawL",
+    "RESP :c=biws,r=fyko+d2lbbFgONRv9qkxdawL3rfcNHYJY1ZVvWVs7j,p=v0X8v3Bz2T0CJGbJQyF0X+HI4Ts=",
+];
+
+/// What its client is sent.
+pub const ANSWERS: &str = "MECHS SCRAM-SHA-256 SCRAM-SHA-1
+CONT :r=fyko+d2lbbFgONRv9qkxdawL3rfcNHYJY1ZVvWVs7j,s=QSXCR+Q6sek8bf92,i=4096
+OK :v=rmF9pqV8S7suAoZWja4dJRkFsKQ=
+";
+
+/// The log of it, from the log's first line on.
+pub const LOGGED: &str = "SCRAMLOG 1
+S MECHS SCRAM-SHA-256 SCRAM-SHA-1
+C AUTH SCRAM-SHA-1 :n,,n=user,r=fyko+d2lbbFgONRv9qkxdawL
+S CONT :r=fyko+d2lbbFgONRv9qkxdawL3rfcNHYJY1ZVvWVs7j,s=QSXCR+Q6sek8bf92,i=4096
+C RESP :c=biws,r=fyko+d2lbbFgONRv9qkxdawL3rfcNHYJY1ZVvWVs7j,p=v0X8v3Bz2T0CJGbJQyF0X+HI4Ts=
+S OK :v=rmF9pqV8S7suAoZWja4dJRkFsKQ=
+";
+
+/// What its client sends, and then this; an error where memory runs out.
+pub fn login_and(alloc: Global, rest: &str) -> Result<String, Fail> {
+    let [opens, proves] = LOGIN;
+    Ok(format!(in alloc; "{opens}\n{proves}\n{rest}")?)
+}

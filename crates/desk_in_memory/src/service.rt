@@ -1,0 +1,116 @@
+//! A desk over memory, and what it has written.
+use crate::login::{ANSWERS, BOOK, LOGGED};
+use crate::memory::Memory;
+use account_book::Book;
+use sasl_desk::{Desk, DeskFault, Event, Moment, Phase};
+use sasl_log::{Clean, OverRead, audit};
+use scram_text::NoncePart;
+use std::alloc::Global;
+use std::test::Fail;
+
+// The token of RFC 4226, appendix D.
+const TOKEN: &str = "
+[accounts.user.token]
+digits = 6
+failures = 0
+kind = \"hotp\"
+limit = 3
+look_ahead = 3
+next = 0
+secret = \"3132333435363738393031323334353637383930\"
+sync_ahead = 8
+";
+
+/// A desk, and all that it has written.
+#[derive(Drop)]
+pub struct Service {
+    /// The desk.
+    pub desk: Desk<Memory>,
+
+    /// What its clients were sent.
+    pub wire: Vec<u8>,
+
+    /// Its log.
+    pub log: Vec<u8>,
+}
+
+/// The text of the book that each service begins with: its user has the token of RFC 4226, appendix D. An error where memory
+/// runs out.
+pub fn book_text(alloc: Global) -> Result<String, Fail> {
+    Ok(format!(in alloc; "{BOOK}{TOKEN}")?)
+}
+
+impl Service {
+    /// A service over this store; an error where its desk cannot begin.
+    pub fn begin(alloc: Global, store: Memory) -> Result<Service, Fail> {
+        let book = Book::read(alloc, book_text(alloc)?.as_bytes())?;
+        let mut log = Vec::new(alloc);
+        match Desk::begin(alloc, book, store, &mut log) {
+            Ok(desk) => Ok(Service {
+                desk,
+                wire: Vec::new(alloc),
+                log,
+            }),
+            Err(_) => Err("no desk".into()),
+        }
+    }
+
+    /// Greets a client; an error where a session is open.
+    pub fn greet(&mut self) -> Result<Result<Phase, DeskFault>, Fail> {
+        let own = NoncePart::new(b"3rfcNHYJY1ZVvWVs7j").ok_or("a part of a nonce")?;
+        let Service { desk, wire, log } = self;
+        match desk.phase() {
+            Phase::Closed => Ok(desk.greet(own, wire, log)),
+            Phase::Halted => Ok(desk.greet(own, wire, log)),
+            _ => Err("a session is open".into()),
+        }
+    }
+
+    /// Hands in what the client does, at the moment 3; an error where no session is open.
+    pub fn hear(
+        &mut self,
+        alloc: Global,
+        event: Event<'_>,
+    ) -> Result<Result<Phase, DeskFault>, Fail> {
+        let moment = Moment::new(3).ok_or("a moment")?;
+        let Service { desk, wire, log } = self;
+        if desk.phase() == Phase::Closed {
+            return Err("no session is open".into());
+        }
+        Ok(desk.client(alloc, event, moment, wire, log))
+    }
+
+    /// An error unless the log is this, and an audit of it finds it clean, with these counts.
+    pub fn check_log(&self, alloc: Global, log: &str, counts: Clean) -> Result<(), Fail> {
+        if self.log.as_slice() != log.as_bytes() {
+            return Err("the log is another".into());
+        }
+        let book = Book::read(alloc, book_text(alloc)?.as_bytes())?;
+        if audit(book, &mut OverRead::new(self.log.as_slice()))? != counts {
+            return Err("the audit of the log counts otherwise".into());
+        }
+        Ok(())
+    }
+
+    /// An error unless, after the published login, its client was told this and the log has that; an audit finds the log clean,
+    /// and that so many codes passed.
+    pub fn check_after_login(
+        &self,
+        alloc: Global,
+        told: &str,
+        logged: &str,
+        codes_passed: u64,
+    ) -> Result<(), Fail> {
+        let wire = format!(in alloc; "{ANSWERS}{told}")?;
+        if self.wire.as_slice() != wire.as_bytes() {
+            return Err("the client was told something else".into());
+        }
+        let log = format!(in alloc; "{LOGGED}{logged}")?;
+        let counts = Clean {
+            sessions: 1,
+            accepted: 1,
+            codes_passed,
+        };
+        self.check_log(alloc, log.as_str(), counts)
+    }
+}
