@@ -22,6 +22,7 @@ TESTS = [
     "login.py",
     "book_commands.py",
     "audits.py",
+    "sessions.py",
     "book_faults.py",
     "vectors.py",
     "refused_memory.py",

@@ -86,7 +86,7 @@ impl Service {
             return Err("the log is another".into());
         }
         let book = Book::read(alloc, book_text(alloc)?.as_bytes())?;
-        if audit(book, &mut OverRead::new(self.log.as_slice()))? != counts {
+        if audit(alloc, book, &mut OverRead::new(self.log.as_slice()))? != counts {
             return Err("the audit of the log counts otherwise".into());
         }
         Ok(())

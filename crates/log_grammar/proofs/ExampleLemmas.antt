@@ -304,6 +304,7 @@ text_differs e = let wrong : 69 ≡ 83 = ap (λ (l : List ℕ). get_or l 0 0) e 
 pub end_is_no_line : (accounts : Accounts) → IsWhy accounts (ended_by_lf (codes "E" ∷ [])) 1 no_line
 end_is_no_line accounts =
     first_text_why accounts (ended_by_lf (codes "E" ∷ [])) (codes "E") [] [] (whole (codes "E" ∷ []) (refl, tt)) text_differs
+    (λ e. let wrong : 69 ≡ 83 = ap (λ (l : List ℕ). get_or l 0 0) e in omega (arith, wrong))
 
 -- two sessions, one after the other
 pub two_are_clean : (accounts : Accounts) → IsClean accounts (one_session (codes "C GONE" ∷ codes "E" ∷ offer_text ∷ codes "C ABORT" ∷ bare_no))

@@ -10,8 +10,9 @@ use Rattle.log_grammar.specs.Demands.{Accounts, AreFit, IsFirstOf, demands, Sess
 use Rattle.log_grammar.specs.Histories.{IsHistory}
 use Rattle.log_grammar.specs.Places.{got_code}
 use Rattle.log_grammar.specs.Clean.{Begins}
-use Rattle.log_grammar.specs.Kinds.{BeginsCleanOf, IsFirstToBeginNoCleanOf}
-use Rattle.log_grammar.specs.Versions.{both, IsFront, IsClean, IsFaultLine}
+use Rattle.log_grammar.specs.KindOne.{one}
+use Rattle.log_grammar.specs.Kinds.{IsCleanOf, BeginsCleanOf, IsFirstToBeginNoCleanOf}
+use Rattle.log_grammar.specs.Versions.{both, IsFront, IsFaultLine}
 use Rattle.log_grammar.specs.Logins.{log_bytes}
 use Rattle.log_grammar.specs.Outcomes.{EndsWith, IsSentBy}
 
@@ -42,10 +43,10 @@ pub record IsLogOf (accounts : Accounts) (bytes : List ℕ) (sessions : List Ses
   pub good : AllByRecursion (SessionMeets (demands accounts)) sessions
   pub histories : (account : List ℕ) → IsHistory (accounts.token account) account (flat_map session_told sessions)
 
--- a log is clean exactly where it is that of some sessions
+-- a log of version 1 is clean exactly where it is that of some sessions
 abbrev pub CleanLogsAreThoseOfSessions : Type 0
 CleanLogsAreThoseOfSessions = (accounts : Accounts) (bytes : List ℕ)
-    → IsClean accounts bytes ↔ ((sessions : List Session) × IsLogOf accounts bytes sessions)
+    → IsCleanOf (one accounts) bytes ↔ ((sessions : List Session) × IsLogOf accounts bytes sessions)
 
 -- the bytes begin a clean log: with some bytes after them they are one
 abbrev pub BeginsClean : Accounts → List ℕ → Type 0

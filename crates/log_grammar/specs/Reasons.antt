@@ -14,6 +14,8 @@ use Rattle.log_grammar.specs.Lines.{LogLine, said, mechs, cont, accepts, refuses
 use Rattle.log_grammar.specs.Bytes.{ended_by_lf, IsCut}
 use Rattle.log_grammar.specs.Demands.{Accounts, AreFit, IsReplyBy}
 use Rattle.log_grammar.specs.Why.{Why, is_cut, no_line, out_of_order, other_mechs, other_challenge, other_outcome, other_reply, accepted, refused_with}
+use Rattle.log_grammar.specs.Kinds.{IsWhyOf}
+use Rattle.log_grammar.specs.KindOne.{one}
 use Rattle.log_grammar.specs.Versions.{IsWhy}
 use Rattle.log_grammar.specs.Headline.{IsWritable, BeginsClean}
 
@@ -57,17 +59,17 @@ pub record IsMended (accounts : Accounts) (texts : List (List ℕ)) (k : ℕ) (w
   pub writable : IsWritable line
   pub begins : BeginsClean accounts (ended_by_lf (before ++ log_text line ∷ []))
 
--- what a reason names as due may stand in the place of the line at fault
+-- what a reason names as due may stand in the place of the line at fault, in a log of version 1
 abbrev pub WhatIsDueMayStand : Type 0
 WhatIsDueMayStand = (accounts : Accounts) → AreFit accounts → (bytes : List ℕ) (texts : List (List ℕ)) (rest : List ℕ) (k : ℕ) (why : Why)
-    → IsCut bytes texts rest → IsWhy accounts bytes k why → NamesWhatIsDue why → IsMended accounts texts k why
+    → IsCut bytes texts rest → IsWhyOf (one accounts) bytes k why → NamesWhatIsDue why → IsMended accounts texts k why
 
 -- each line that can be written and says what is due may stand there; except a challenge, since the reason names no
 -- text of one
 abbrev pub EachLineThatIsDueMayStand : Type 0
 EachLineThatIsDueMayStand = (accounts : Accounts) → AreFit accounts
     → (bytes : List ℕ) (before : List (List ℕ)) (text : List ℕ) (more : List (List ℕ)) (rest : List ℕ) (why : Why) (line : LogLine)
-    → IsCut bytes (before ++ text ∷ more) rest → IsWhy accounts bytes (length before + 1) why → (why ≡ other_challenge → ⊥)
+    → IsCut bytes (before ++ text ∷ more) rest → IsWhyOf (one accounts) bytes (length before + 1) why → (why ≡ other_challenge → ⊥)
     → SaysWhatIsDue why line → IsWritable line → BeginsClean accounts (ended_by_lf (before ++ log_text line ∷ []))
 
 -- where a whole line is at fault, it is at fault for the same reason in any bytes that begin with the same lines

@@ -4,7 +4,7 @@ ghost use Rattle.log_grammar.specs.Headline.{CleanLogsAreThoseOfSessions, Fronts
 
 use crate::laws::fronts_begin_clean;
 
-/// A log is clean exactly where it is the first line and the lines of some sessions, each ended by an LF: each
+/// A log of version 1 is clean exactly where it is the first line and the lines of some sessions, each ended by an LF: each
 /// session but the last is closed, and the last is closed or halted; each meets its demands; and what was told of
 /// each account in all of them, in their order, is a legal history of its token, or no reply to each code where the
 /// account has no token.

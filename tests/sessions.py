@@ -1,0 +1,182 @@
+#!/usr/bin/env python3
+"""Audits logs of many sessions by the built program: logs of version 2, in which each line has its session's number.
+
+Usage: sessions.py PROGRAM
+
+Three sessions dealt in all 1680 orders of their turns, each log clean, and with one session's outcome turned, at fault in
+that line with the same outcome due in every order; 64 logins with codes, shuffled, in which replies follow the order of the
+whole log; 64 open sessions and a 65th that is turned away; and the longest lines. Exits at the first difference.
+"""
+import hmac
+import itertools
+import os
+import pathlib
+import random
+import subprocess
+import sys
+import tempfile
+
+FILES = pathlib.Path(__file__).parent / "data" / "audits"
+BOOK = FILES / "hotp.toml"
+FIRST_LINE = "SCRAMLOG 2"
+MECHS, AUTH, CONT, RESP, OK, GONE, END = (FILES / "sha1.log").read_text().splitlines()[1:]
+WRONG_PROOF = RESP.replace("p=v0X8", "p=w0X8")
+INVALID_PROOF = "S NO :e=invalid-proof"
+SECRET = b"12345678901234567890"
+
+# The turns of three sessions: one is let in, one has a wrong proof, one asks for a mechanism that is not offered.
+LET_IN = [[MECHS], [AUTH, CONT], [RESP, OK, GONE, END]]
+REFUSED = [[MECHS], [AUTH, CONT], [WRONG_PROOF, INVALID_PROOF, END]]
+LEAVES = [[MECHS], ["C AUTH SCRAM-SHA-1", "S CONT :"], ["C ABORT", "S NO :", END]]
+# Of each, its outcome and what an audit says where the other stands in its place.
+OUTCOMES = [
+    (OK, INVALID_PROOF, f"outcome, due {OK[2:]}"),
+    (INVALID_PROOF, OK, f"outcome, due {INVALID_PROOF[2:]}"),
+    ("S NO :", INVALID_PROOF, "outcome, due NO :"),
+]
+
+
+def audited(program, log, lines, book):
+    """The answer to a log of these lines, and its status."""
+    log.write_text("".join(line + "\n" for line in lines))
+    done = subprocess.run([program, "audit", "--book", book, "--log", log], capture_output=True, text=True, timeout=60)
+    if done.stderr:
+        sys.exit(f"sessions.py: {done.stderr!r}")
+    return done.returncode, done.stdout
+
+
+def answers(what, program, log, lines, status, answer, book=BOOK):
+    got = audited(program, log, lines, book)
+    if got != (status, answer + "\n"):
+        sys.exit(f"sessions.py: {what}: {got!r}, not {(status, answer)!r}")
+
+
+def numbers_of(order):
+    """The number of each session, in the order in which they begin."""
+    return {which: number for number, which in enumerate(dict.fromkeys(order), 1)}
+
+
+def dealt(order, sessions):
+    """The log of these sessions, whose turns come in this order, and of each line whose it is."""
+    turns, numbers = [iter(session) for session in sessions], numbers_of(order)
+    lines, owners = [FIRST_LINE], [None]
+    for which in order:
+        for line in next(turns[which]):
+            lines.append(f"{numbers[which]} {line}")
+            owners.append(which)
+    return lines, owners
+
+
+def all_orders(program, log):
+    """Every order of three turns of three sessions, each outcome turned in a third of the orders."""
+    orders = sorted(set(itertools.permutations([0, 0, 0, 1, 1, 1, 2, 2, 2])))
+    if len(orders) != 1680:
+        sys.exit(f"sessions.py: {len(orders)} orders, not 1680")
+    for index, order in enumerate(orders):
+        lines, owners = dealt(order, [LET_IN, REFUSED, LEAVES])
+        answers(order, program, log, lines, 0, "clean sessions=3 accepted=1 codes=0")
+        which = index % 3
+        outcome, other, answer = OUTCOMES[which]
+        number = numbers_of(order)[which]
+        at = next(at for at, owner in enumerate(owners) if owner == which and lines[at] == f"{number} {outcome}")
+        lines[at] = f"{number} {other}"
+        answers(f"{order}, {which} turned", program, log, lines, 1, f"line {at + 1}: {answer}")
+    return len(orders)
+
+
+def code(counter):
+    """The code of six digits that goes with a counter (RFC 4226, section 5.3)."""
+    mac = hmac.digest(SECRET, counter.to_bytes(8, "big"), "sha1")
+    part = mac[mac[19] & 15:][:4]
+    return f"{(int.from_bytes(part, 'big') & 0x7fffffff) % 1000000:06}"
+
+
+def shuffled(seed):
+    """64 logins in a random order, each of which sends the code of a counter near the next one. The reply is the one due to
+    the replies before it in the whole log: a code passes where its counter is none that passed before, nor before such a one."""
+    turns = [[MECHS], [AUTH, CONT], [RESP, OK], ["code"], ["reply"], [GONE, END]]
+    chosen = random.Random(seed)
+    order = [which for which in range(64) for _ in turns]
+    chosen.shuffle(order)
+    left, numbers = [iter(turns) for _ in range(64)], numbers_of(order)
+    lines, sent, after, passed = [FIRST_LINE], {}, 0, 0
+    for which in order:
+        for line in next(left[which]):
+            if line == "code":
+                sent[which] = after + chosen.randrange(3)
+                line = f"C CODE {code(sent[which])}"
+            elif line == "reply" and sent[which] >= after:
+                after, passed = sent[which] + 1, passed + 1
+                line = f"S PASS {len(lines)} {sent[which]}"
+            elif line == "reply":
+                line = f"S FAIL {len(lines)}"
+            lines.append(f"{numbers[which]} {line}")
+    return lines, passed
+
+
+def shuffles(program, log, folder):
+    """The token's history is that of the whole log, whichever session sends a code."""
+    book = folder / "book"
+    book.write_text(BOOK.read_text().replace("limit = 3\n", "limit = 100\n"))
+    for seed in range(40):
+        lines, passed = shuffled(seed)
+        answers(f"shuffle {seed}", program, log, lines, 0, f"clean sessions=64 accepted=64 codes={passed}", book)
+        at = next(at for at, line in enumerate(lines) if " S FAIL " in line)
+        moment = lines[at].rpartition(" ")[2]
+        lines[at] = lines[at].replace(f"S FAIL {moment}", f"S PASS {moment} 0")
+        answers(f"shuffle {seed}, turned", program, log, lines, 1, f"line {at + 1}: reply, due FAIL {moment}", book)
+
+
+def sixty_four(program, log):
+    """64 sessions are open, and one more is turned away; where it is offered mechanisms, its line is at fault."""
+    opened = [FIRST_LINE] + [f"{number} {MECHS}" for number in range(1, 65)]
+    ended = [f"{number} {line}" for number in range(1, 65) for line in (GONE, END)]
+    away = ["65 S BUSY", "65 E"]
+    clean = "clean sessions=64 accepted=0 codes=0"
+    answers("64 and one more", program, log, opened + away + ended, 0, clean)
+    answers("64 and two more", program, log, opened + away + ["66 S BUSY", "66 E"] + ended, 0, clean)
+    answers("a 65th", program, log, opened + [f"65 {MECHS}"] + ended, 1, "line 66: order")
+    answers("BUSY with 63 open", program, log, opened[:64] + ["64 S BUSY", "64 E"], 1, "line 65: order")
+    answers("BUSY without its E", program, log, opened + away[:1] + ended, 1, "line 67: order")
+    answers("the E of another", program, log, opened + ["65 S BUSY", "64 E"], 1, "line 67: order")
+    answers("the number of BUSY again", program, log, opened + away + ended[:2] + [f"65 {MECHS}"], 1, "line 70: order")
+    answers("the number after BUSY's", program, log, opened + away + ended[:2] + [f"66 {MECHS}", "66 C GONE", "66 E"] + ended[2:], 0,
+            "clean sessions=65 accepted=0 codes=0")
+    answers("nothing after BUSY's E", program, log, opened + away, 1, "line 68: cut")
+
+
+def long_lines(program, log):
+    """A line may have 6202 bytes, and 6222 after the first line of version 2, 6202 of them after its number."""
+    words = [program, "audit", "--book", BOOK, "--log", log]
+    long = "9223372036854775806 "
+    for what, text, answer in [
+        ("6202 bytes of a first line", "S" * 6202, "line 1: cut"),
+        ("6203 bytes of a first line", "S" * 6203, "line 1: not a line"),
+        ("6202 bytes and LF", "S" * 6202 + "\n", "line 1: not a line"),
+        ("6202 bytes, version 1", "SCRAMLOG 1\n" + "S" * 6202, "line 2: cut"),
+        ("6203 bytes, version 1", "SCRAMLOG 1\n" + "S" * 6203, "line 2: not a line"),
+        ("6222 bytes, version 2", "SCRAMLOG 2\n" + "S" * 6222, "line 2: cut"),
+        ("6223 bytes, version 2", "SCRAMLOG 2\n" + "S" * 6223, "line 2: not a line"),
+        ("6222 bytes of another number", f"SCRAMLOG 2\n{long}C AUTH PLAIN :{'x' * 6188}\n", "line 2: order"),
+        ("6203 after a number", f"SCRAMLOG 2\n1 C AUTH PLAIN :{'x' * 6189}\n", "line 2: not a line"),
+        ("6202 after a number", f"SCRAMLOG 2\n1 C AUTH PLAIN :{'x' * 6188}\n", "line 2: order"),
+    ]:
+        log.write_text(text)
+        done = subprocess.run(words, capture_output=True, text=True, timeout=60)
+        if (done.returncode, done.stdout, done.stderr) != (1, answer + "\n", ""):
+            sys.exit(f"sessions.py: {what}: {done!r}, not {answer!r}")
+
+
+def main():
+    program = os.path.abspath(sys.argv[1])
+    with tempfile.TemporaryDirectory() as name:
+        folder = pathlib.Path(name)
+        log = folder / "log"
+        sixty_four(program, log)
+        long_lines(program, log)
+        shuffles(program, log, folder)
+        orders = all_orders(program, log)
+    print(f"sessions.py: three sessions in {orders} orders, and 40 shuffles of 64, as they should be")
+
+
+main()
