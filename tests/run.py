@@ -23,6 +23,7 @@ TESTS = [
     "book_commands.py",
     "audits.py",
     "sessions.py",
+    "upgrades.py",
     "book_faults.py",
     "vectors.py",
     "refused_memory.py",

@@ -20,6 +20,7 @@ mod random;
 mod sent;
 mod shown;
 mod unlock;
+mod upgrade;
 mod verify;
 mod words;
 

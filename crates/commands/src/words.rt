@@ -80,6 +80,17 @@ Example, after that of `scramotp enrol --help`: a log whose client leaves at onc
   printf '%s\\n' 'SCRAMLOG 1' 'S MECHS SCRAM-SHA-256 SCRAM-SHA-1' 'C GONE' E >log.txt
   scramotp audit --book book.toml --log log.txt";
 
+const UPGRADE_EXAMPLE: &str =
+    "A log of version 2 begins with `SCRAMLOG 2`, and the number of its session stands before each other
+line: one more than the number of `E` lines before. The new log is clean exactly where the old one
+is, by the same book. Its lines need not be due, only lines of a log. Else nothing is printed, and
+the first line at fault is told on standard error, as `audit` tells it. The log is read whole, up to
+1000000 lines, before anything is printed. Standard input is read only where it is /dev/stdin.
+
+Example, after that of `scramotp audit --help`:
+  scramotp upgrade --log log.txt >log2.txt
+  scramotp audit --book book.toml --log log2.txt";
+
 const LOGIN_EXAMPLE: &str =
     "The first line of standard input is the password, and each line after it a code, sent once the
 client is logged in. A line as `SYNC 399871 520489` is two codes in a row. Typed at a terminal, all
@@ -228,6 +239,13 @@ fn audit<'a>(alloc: Global) -> Result<Command<'a>, AllocError> {
         .arg(required(alloc, "log", "FILE", "The log"))
 }
 
+fn upgrade<'a>(alloc: Global) -> Result<Command<'a>, AllocError> {
+    Command::new(alloc, "upgrade")
+        .about("Prints a log of version 1 as one of version 2, whose sessions are numbered")
+        .after_help(UPGRADE_EXAMPLE)
+        .arg(required(alloc, "log", "FILE", "The log"))
+}
+
 fn login<'a>(alloc: Global) -> Result<Command<'a>, AllocError> {
     let mechanism = "SCRAM-SHA-1 or SCRAM-SHA-256 [default: the best that is offered]";
     let random = option(alloc, "random", "FILE", "Where random bytes are read");
@@ -273,7 +291,8 @@ pub fn scramotp<'a>(alloc: Global) -> Result<Command<'a>, AllocError> {
         .subcommand(verify(alloc)?)?
         .subcommand(unlock(alloc)?)?
         .subcommand(login(alloc)?)?
-        .subcommand(audit(alloc)?)
+        .subcommand(audit(alloc)?)?
+        .subcommand(upgrade(alloc)?)
 }
 
 /// The value of an option, its default included, or None where none was given.

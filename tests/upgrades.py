@@ -1,0 +1,135 @@
+#!/usr/bin/env python3
+"""Upgrades logs of version 1 by the built program, and audits the logs of version 2 that it prints.
+
+Usage: upgrades.py PROGRAM
+
+Each log of data/audits/cases.csv: what is upgraded has the audit's answer of before, line by line, and what is refused is
+refused in no line before the first at fault. Then a log's text line by line, faults and what is printed of them, limits,
+logs that are pipes, and a log of 990000 lines in at most 2 seconds. Exits at the first difference.
+"""
+import csv
+import os
+import pathlib
+import re
+import subprocess
+import sys
+import tempfile
+import time
+
+FILES = pathlib.Path(__file__).parent / "data" / "audits"
+LOGIN = (FILES / "sha1.log").read_bytes()
+MECHS = b"S MECHS SCRAM-SHA-256 SCRAM-SHA-1\n"
+GONE = MECHS + b"C GONE\nE\n"
+
+
+def spelled(text):
+    """The bytes that a cell of the table spells."""
+    return text.encode("latin-1").decode("unicode_escape").encode("latin-1")
+
+
+def rows():
+    """Of each row of the table, its book, its log and its answer."""
+    with open(FILES / "cases.csv", newline="", encoding="ascii") as table:
+        for row in csv.DictReader(table):
+            log = (FILES / row["log"]).with_suffix(".log").read_bytes()
+            for old, new in [(row["old"], row["new"]), (row["old2"], row["new2"])]:
+                log = log.replace(spelled(old), spelled(new)) if old else log
+            yield (FILES / row["book"]).with_suffix(".toml"), log, row["answer"]
+
+
+def run(program, words, log):
+    """Status, output and faults of a command whose log this is."""
+    done = subprocess.run([program, *words, "--log", "/dev/stdin"], input=log, capture_output=True, timeout=60)
+    return done.returncode, done.stdout, done.stderr
+
+
+def same(what, got, want):
+    if got != want:
+        sys.exit(f"upgrades.py: {what}: {got!r}, not {want!r}")
+
+
+def numbered(log):
+    """A log of version 1 as one of version 2."""
+    first, *lines = log.splitlines(keepends=True)
+    assert first == b"SCRAMLOG 1\n", log
+    session, text = 1, b"SCRAMLOG 2\n"
+    for line in lines:
+        text += b"%d %s" % (session, line)
+        session += line == b"E\n"
+    return text
+
+
+def same_answers(program):
+    """The audit's answer to each log of the table, before and after. A first line in the middle has no number in either."""
+    upgraded = 0
+    for book, log, answer in rows():
+        status, text, fault = run(program, ["upgrade"], log)
+        if status == 0:
+            same(log, (text, fault), (numbered(log), b""))
+            if b"\nSCRAMLOG" not in log:
+                same(log, run(program, ["audit", "--book", book], text)[1].decode(), answer + "\n")
+                upgraded += 1
+            continue
+        same(log, (status, text), (1, b""))
+        line = int(re.fullmatch(rb"line (\d+): (cut|not a line)\n", fault)[1])
+        first = re.match(r"line (\d+): ", answer)
+        if log.startswith(b"SCRAMLOG 1"):
+            assert first and int(first[1]) <= line, (log, fault, answer)
+        else:
+            same(log, line, 1)
+    if upgraded < 30:
+        sys.exit(f"upgrades.py: {upgraded} logs were upgraded")
+    return upgraded
+
+
+def faults(program, folder):
+    """What can't be upgraded: nothing is printed but the line at fault."""
+    for what, log, status, fault in [
+        ("without the last LF", LOGIN[:-1], 1, "line 8: cut"),
+        ("the empty log", b"", 1, "line 1: cut"),
+        ("version 2", numbered(LOGIN), 1, "line 1: not a line"),
+        ("a first line cut", b"SCRAMLOG 1", 1, "line 1: cut"),
+        ("a line that is none", LOGIN.replace(b"C GONE", b"C GONE "), 1, "line 7: not a line"),
+        ("6202 bytes", b"SCRAMLOG 1\n" + b"E" * 6202, 1, "line 2: cut"),
+        ("6203 bytes", b"SCRAMLOG 1\n" + b"E" * 6203, 1, "line 2: not a line"),
+        ("1000000 lines and a byte", b"SCRAMLOG 1\n" + b"E\n" * 999999 + b"S", 1, "too many lines"),
+    ]:
+        same(what, run(program, ["upgrade"], log), (status, b"", fault.encode() + b"\n"))
+    words = [program, "upgrade", "--log", folder]
+    done = subprocess.run(words, capture_output=True, text=True, timeout=60)
+    same("a folder", (done.returncode, done.stdout, done.stderr), (3, "", "read fault\n"))
+    missing = folder / "missing"
+    done = subprocess.run([*words[:3], missing], capture_output=True, text=True, timeout=60)
+    same("no log", (done.returncode, done.stdout, done.stderr), (3, "", f"scramotp: cannot read {missing}\n"))
+    with open("/dev/full", "wb") as full:
+        done = subprocess.run([*words[:3], FILES / "sha1.log"], stdout=full, stderr=subprocess.PIPE, text=True, timeout=60)
+    same("a full device", (done.returncode, done.stderr), (3, "scramotp: cannot write output\n"))
+
+
+def long_logs(program, folder):
+    """1000000 lines are upgraded, and 990000 in at most 2 seconds, the best of three runs."""
+    log = b"SCRAMLOG 1\n" + GONE * 333333
+    same("1000000 lines", run(program, ["upgrade"], log), (0, numbered(log), b""))
+    path = folder / "log"
+    path.write_bytes(b"SCRAMLOG 1\n" + GONE * 330000)
+    times = []
+    for _ in range(3):
+        began = time.monotonic()
+        subprocess.run([program, "upgrade", "--log", path], stdout=subprocess.DEVNULL, check=True)
+        times.append(time.monotonic() - began)
+    if min(times) > 2:
+        sys.exit(f"upgrades.py: 990000 lines took {min(times):.2f} s")
+    return min(times)
+
+
+def main():
+    program = os.path.abspath(sys.argv[1])
+    with tempfile.TemporaryDirectory() as name:
+        folder = pathlib.Path(name)
+        upgraded = same_answers(program)
+        faults(program, folder)
+        took = long_logs(program, folder)
+    print(f"upgrades.py: {upgraded} logs have the same answer after their upgrade; 990000 lines in {took:.2f} s")
+
+
+main()
