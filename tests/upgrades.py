@@ -52,11 +52,11 @@ def numbered(log):
     """A log of version 1 as one of version 2."""
     first, *lines = log.splitlines(keepends=True)
     assert first == b"SCRAMLOG 1\n", log
-    session, text = 1, b"SCRAMLOG 2\n"
+    session, upgraded = 1, [b"SCRAMLOG 2\n"]
     for line in lines:
-        text += b"%d %s" % (session, line)
+        upgraded.append(b"%d %s" % (session, line))
         session += line == b"E\n"
-    return text
+    return b"".join(upgraded)
 
 
 def same_answers(program):

@@ -244,14 +244,10 @@ fn had_memory(alloc: Global, bytes: usize) -> Result<Option<bool>, Fail> {
 #[test]
 fn refused_memory(rt: HostRuntime) -> Result<(), Fail> {
     let alloc = rt.alloc();
-    let mut enough = 0;
-    for size in 0..50u64 {
-        let had = had_memory(alloc, (16 + 64 * size) as usize)?;
-        assert!(rt; had.is_some());
-        if had == Some(true) {
-            enough += 1;
-        }
+    assert_eq!(rt; had_memory(alloc, 16)?, Some(false));
+    for size in 0..50usize {
+        assert!(rt; had_memory(alloc, 64 + 64 * size)?.is_some());
     }
-    assert!(rt; enough > 0 && enough < 50);
+    assert_eq!(rt; had_memory(alloc, 4096)?, Some(true));
     Ok(())
 }
