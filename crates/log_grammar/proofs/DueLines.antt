@@ -17,12 +17,12 @@ use Rattle.log_grammar.proofs.FaultLemmas.{Lead, fault_after}
 use Rattle.log_grammar.proofs.Mended.{by_text, begins_with}
 
 -- the reason is neither a challenge nor an acceptance, so that one line says what is due
-abbrev NamesOneLine : Why → Type 0
+abbrev pub NamesOneLine : Why → Type 0
 NamesOneLine other_challenge = ⊥
 NamesOneLine (other_outcome (accepted signature)) = ⊥
 NamesOneLine why = Unit {0}
 
-says_once : (why : Why) (one other : LogLine) → NamesOneLine why → SaysWhatIsDue why one → SaysWhatIsDue why other → one ≡ other
+pub says_once : (why : Why) (one other : LogLine) → NamesOneLine why → SaysWhatIsDue why one → SaysWhatIsDue why other → one ≡ other
 says_once is_cut one other single says also = absurd says
 says_once no_line one other single says also = absurd says
 says_once out_of_order one other single says also = absurd says
@@ -33,7 +33,7 @@ says_once (other_outcome (refused_with message)) one other single says also = sa
 says_once (other_reply moment due) one other single says also = says ∙ sym also
 
 -- a reason that a line can say is one that names what is due
-named : (why : Why) (line : LogLine) → SaysWhatIsDue why line → IsWritable line → NamesWhatIsDue why
+pub named : (why : Why) (line : LogLine) → SaysWhatIsDue why line → IsWritable line → NamesWhatIsDue why
 named is_cut line says writable = says
 named no_line line says writable = says
 named out_of_order line says writable = says
@@ -43,7 +43,7 @@ named (other_outcome due) line says writable = tt
 named (other_reply moment due) line says writable = (subst IsLogInRange says writable.ranges).1
 
 -- an acceptance with the signature that is due
-goes_ok : (accounts : Accounts) (place : Place) (signature text : List ℕ) → IsWrongWord accounts place (other_outcome (accepted signature))
+pub goes_ok : (accounts : Accounts) (place : Place) (signature text : List ℕ) → IsWrongWord accounts place (other_outcome (accepted signature))
     → IsAuthentic text signature → (next : Place) × Goes (demands accounts) place (said (accepts text)) next × (told_at place (said (accepts text)) ≡ [])
 goes_ok accounts (asks_bare m) signature text (inl (is, same)) bears = absurd (cc same)
 goes_ok accounts (asks_bare m) signature text (inr (none, same)) bears = absurd (cc same)
@@ -61,7 +61,7 @@ no_reply_why : (accounts : Accounts) (place : Place) (told : List Told) (moment 
 no_reply_why accounts (got_code account sent) told moment signature (due, is, same) = cc same
 no_reply_why accounts place told moment signature wrong = wrong
 
-word_of : (accounts : Accounts) (place : Place) (told : List Told) (line : LogLine) (signature : List ℕ)
+pub word_of : (accounts : Accounts) (place : Place) (told : List Told) (line : LogLine) (signature : List ℕ)
     → IsWrong accounts place told line (other_outcome (accepted signature)) → IsWrongWord accounts place (other_outcome (accepted signature))
 word_of accounts place told (said (mechs names)) signature wrong = absurd (cc wrong)
 word_of accounts place told (said (cont message)) signature wrong = wrong

@@ -35,40 +35,40 @@ is_sha_1 = record { at_least = omega arith; at_most = omega arith; each = refl }
 is_header : IsLogLine first_text header
 is_header = record { spelled = refl; ranges = tt; short = omega arith }
 
-is_offer : IsLogLine offer_text (said (mechs (codes "SCRAM-SHA-256 SCRAM-SHA-1")))
+pub is_offer : IsLogLine offer_text (said (mechs (codes "SCRAM-SHA-256 SCRAM-SHA-1")))
 is_offer = record { spelled = refl; ranges = (is_sha_256, (is_sha_1, tt)); short = omega arith }
 
-is_other_offer : IsLogLine (codes "S MECHS SCRAM-SHA-1") (said (mechs (codes "SCRAM-SHA-1")))
+pub is_other_offer : IsLogLine (codes "S MECHS SCRAM-SHA-1") (said (mechs (codes "SCRAM-SHA-1")))
 is_other_offer = record { spelled = refl; ranges = (is_sha_1, tt); short = omega arith }
 
-is_abort : IsLogLine (codes "C ABORT") (heard abort)
+pub is_abort : IsLogLine (codes "C ABORT") (heard abort)
 is_abort = record { spelled = refl; ranges = tt; short = omega arith }
 
-is_bad : IsLogLine (codes "C BAD") bad
+pub is_bad : IsLogLine (codes "C BAD") bad
 is_bad = record { spelled = refl; ranges = tt; short = omega arith }
 
-is_gone : IsLogLine (codes "C GONE") gone
+pub is_gone : IsLogLine (codes "C GONE") gone
 is_gone = record { spelled = refl; ranges = tt; short = omega arith }
 
-is_no : IsLogLine (codes "S NO :") (said (refuses []))
+pub is_no : IsLogLine (codes "S NO :") (said (refuses []))
 is_no = record { spelled = refl; ranges = tt; short = omega arith }
 
-is_cont : IsLogLine (codes "S CONT :") (said (cont []))
+pub is_cont : IsLogLine (codes "S CONT :") (said (cont []))
 is_cont = record { spelled = refl; ranges = tt; short = omega arith }
 
-is_end : IsLogLine (codes "E") ended
+pub is_end : IsLogLine (codes "E") ended
 is_end = record { spelled = refl; ranges = tt; short = omega arith }
 
-is_halt : IsLogLine (codes "S HALT") (said halt)
+pub is_halt : IsLogLine (codes "S HALT") (said halt)
 is_halt = record { spelled = refl; ranges = tt; short = omega arith }
 
-is_plain_auth : IsLogLine (codes "C AUTH PLAIN") (heard (auth (codes "PLAIN")))
+pub is_plain_auth : IsLogLine (codes "C AUTH PLAIN") (heard (auth (codes "PLAIN")))
 is_plain_auth = record { spelled = refl; ranges = record { at_least = omega arith; at_most = omega arith; each = refl }; short = omega arith }
 
-is_auth : IsLogLine (codes "C AUTH SCRAM-SHA-1") (heard (auth (codes "SCRAM-SHA-1")))
+pub is_auth : IsLogLine (codes "C AUTH SCRAM-SHA-1") (heard (auth (codes "SCRAM-SHA-1")))
 is_auth = record { spelled = refl; ranges = is_sha_1; short = omega arith }
 
-is_auth_with : IsLogLine (codes "C AUTH SCRAM-SHA-1 :") (heard (auth_with (codes "SCRAM-SHA-1") []))
+pub is_auth_with : IsLogLine (codes "C AUTH SCRAM-SHA-1 :") (heard (auth_with (codes "SCRAM-SHA-1") []))
 is_auth_with = record { spelled = refl; ranges = (is_sha_1, tt); short = omega arith }
 
 lead_first : (accounts : Accounts) → Lead accounts (first_text ∷ []) (header ∷ []) between []
@@ -320,10 +320,10 @@ header_again one_first once accounts =
     last_why one_first once accounts (first_text ∷ []) header [] between [] first_text header out_of_order l is_header refl (λ f. f.goes)
     (inl (not_due accounts (header ∷ []) between _ l.begins (λ is. cc is), refl))
 
-is_ok : IsLogLine (codes "S OK :") (said (accepts []))
+pub is_ok : IsLogLine (codes "S OK :") (said (accepts []))
 is_ok = record { spelled = refl; ranges = tt; short = omega arith }
 
-is_error : IsLogLine (codes "S NO :e=other-error") (said (refuses (codes "e=other-error")))
+pub is_error : IsLogLine (codes "S NO :e=other-error") (said (refuses (codes "e=other-error")))
 is_error = record {
   spelled = refl;
   ranges = (omega arith, (omega arith, (omega arith, (omega arith, (omega arith, (omega arith, (omega arith, (omega arith, (omega arith, (omega arith, (omega arith, (omega arith, (omega arith, tt)))))))))))));

@@ -1,7 +1,7 @@
 -- Logs of each kind: the fault line is the first that begins no clean log, and the lines up to it decide the reason.
-use Rattle.std.proofs.Common.{◌≡◌, ◌↔◌, inl, inr, ℕ, zero, suc, ◌+◌, ◌<◌, ◌≤◌, List, [], ◌∷◌, ◌++◌, length, take, drop, sym, ◌∙◌, ap, subst, arith, length-append, append_assoc}
+use Rattle.std.proofs.Common.{◌≡◌, ◌↔◌, inl, inr, ℕ, zero, suc, ◌+◌, ◌<◌, ◌≤◌, List, [], ◌∷◌, ◌++◌, length, take, drop, refl, sym, ◌∙◌, ap, subst, arith, length-append, append_assoc}
 use Rattle.std.specs.List.{AllByRecursion}
-use Rattle.std.proofs.Math.Seq.{take-length, take-append_seam, drop-append_seam}
+use Rattle.std.proofs.Math.Seq.{take-length, drop-length, take-append_seam, drop-append_seam}
 use Rattle.std.proofs.lemmas.List.{take-append-le}
 use Rattle.std.proofs.lemmas.Bool.{cases_lt}
 use Rattle.log_grammar.specs.Bytes.{LacksLf, ended_by_lf, IsCut}
@@ -189,3 +189,26 @@ whatever_follows kind shorter bytes other texts more others rest also (suc n) wh
     (elsewhere kind shorter bytes other before text (middle ++ more) (middle ++ others) rest also why
     (longer bytes texts before text middle more rest same cut) (longer other texts before text middle others also same there)
     (subst (λ (i : ℕ). IsWhyOf kind bytes i why) k w))
+
+-- a fault after the last line: all lines stand, and the bytes are not clean
+pub record FaultEnd (kind : Kind) (bytes : List ℕ) (texts : List (List ℕ)) (rest : List ℕ) (why : Why) : Type 0 where
+  pub stands : kind.Stands texts
+  pub unclean : IsCleanOf kind bytes → ⊥
+  pub wrong : IsWrongNextOf kind texts [] rest why
+
+pub after_last : (kind : Kind) (bytes : List ℕ) (texts : List (List ℕ)) (rest : List ℕ) (why : Why) → IsCut bytes texts rest
+    → IsWhyOf kind bytes (length texts + 1) why → FaultEnd kind bytes texts rest why
+after_last kind bytes texts rest why cut w =
+    let f = among_these kind bytes texts rest (length texts + 1) cut w.fault in
+    let front = subst (λ (ts : List (List ℕ)). IsFrontOf kind (ended_by_lf ts)) (take-length texts) (f.below (length texts) (omega arith) (omega arith)) in
+    let same = cut_one_way bytes w.fault.texts texts w.fault.rest rest w.fault.cut cut in
+    let at : w.before ≡ length texts = omega (arith, w.this) in
+    let wrong = subst (λ (n : ℕ). IsWrongNextOf kind (take n w.fault.texts) (drop n w.fault.texts) w.fault.rest why) at w.wrong in
+    let here = subst (λ (ts : List (List ℕ)). IsWrongNextOf kind (take (length texts) ts) (drop (length texts) ts) w.fault.rest why) same.0 wrong in
+    let ended = subst (λ (r : List ℕ). IsWrongNextOf kind (take (length texts) texts) (drop (length texts) texts) r why) same.1 here in
+    let none = subst (λ (ts : List (List ℕ)). IsWrongNextOf kind (take (length texts) texts) ts rest why) (drop-length texts) ended in
+    record {
+      stands = front_stands kind (ended_by_lf texts) texts (whole texts cut.lines) front;
+      unclean = f.unclean refl;
+      wrong = subst (λ (ts : List (List ℕ)). IsWrongNextOf kind ts [] rest why) (take-length texts) none;
+    }

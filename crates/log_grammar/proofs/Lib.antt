@@ -66,3 +66,10 @@ pub mod NumberedFronts
 pub mod Renumbered
 pub mod UpgradeLemmas
 pub mod BothVersions
+pub mod UpgradedTexts
+pub mod UpgradedFaults
+pub mod NumberedHeadlineLemmas
+pub mod NumberedReplyLemmas
+pub mod UpgradedExampleLemmas
+pub mod NumberedMended
+pub mod UpgradedLoginLemmas

@@ -14,7 +14,7 @@ abbrev pub Ranged : List LogLine → Type 0
 Ranged lines = AllByRecursion IsLogInRange lines
 
 -- all replies are at moments
-abbrev Timed : List Told → Type 0
+abbrev pub Timed : List Told → Type 0
 Timed told = AllByRecursion (λ t. IsMoment t.moment) told
 
 of_codes : (account : List ℕ) (c : Codes) → Ranged (codes_lines c) → Timed (codes_told account c)
@@ -55,7 +55,7 @@ of_login (quits_login q) h = tt
 of_login (with_first m first a) h = of_answer a h.1
 of_login (without_first m i) h = of_invitation i h.1
 
-of_session : (s : Session) → Ranged (session_lines s) → Timed (session_told s)
+pub of_session : (s : Session) → Ranged (session_lines s) → Timed (session_told s)
 of_session (session names l) h = of_login l h.1
 
 parted : {A : Type 0} (P : A → Type 0) (front back : List A) → AllByRecursion P (front ++ back) → AllByRecursion P front × AllByRecursion P back

@@ -111,16 +111,16 @@ turned_part : (front middle : List Told) (t : Told) → reverse (front ++ t ∷ 
 turned_part front middle t = reverse-append front (t ∷ middle) ∙ turned t middle (reverse front)
 
 -- the later of two passes, by what was told before it
-later : CandidatesAreNew → (accounts : Accounts) (log : List LogLine) (moment counter at d : ℕ) (next : Place) (account : List ℕ) (sent : CodeTexts) (before rest : List Told)
-    → (c : IsCodeOf accounts log at d next) → account ≡ c.account
-    → c.told ≡ (before ++ told_of account moment sent (Some (Pass counter)) ∷ []) ++ rest → counter < d
-later new accounts log moment counter at d next account sent before rest c same tells =
-    let t = told_of account moment sent (Some (Pass counter)) in
-    let above = fits_above new c.token (attempts_of c.account (reverse c.told)) at c.sent d c.fits in
+pub later : CandidatesAreNew → (token : Fields) (account : List ℕ) (last : CodeTexts) (told : List Told) (at d : ℕ)
+    → IsFitting token (attempts_of account (reverse told)) at last d → (mine : List ℕ) (moment counter : ℕ) (sent : CodeTexts) (before rest : List Told)
+    → mine ≡ account → told ≡ (before ++ told_of mine moment sent (Some (Pass counter)) ∷ []) ++ rest → counter < d
+later new token account last told at d fits mine moment counter sent before rest same tells =
+    let t = told_of mine moment sent (Some (Pass counter)) in
+    let above = fits_above new token (attempts_of account (reverse told)) at last d fits in
     let split = tells ∙ append_assoc before (t ∷ []) rest in
-    let turned = subst (λ (l : List Told). IsAbove (passed (attempts_of c.account (reverse l))) d) split above in
-    let here = subst (λ (l : List Told). IsAbove (passed (attempts_of c.account l)) d) (turned_part before rest t) turned in
-    above_pass c.account t (reverse before) counter d same refl (above_late c.account (reverse rest) (t ∷ reverse before) d here)
+    let turned = subst (λ (l : List Told). IsAbove (passed (attempts_of account (reverse l))) d) split above in
+    let here = subst (λ (l : List Told). IsAbove (passed (attempts_of account l)) d) (turned_part before rest t) turned in
+    above_pass account t (reverse before) counter d same refl (above_late account (reverse rest) (t ∷ reverse before) d here)
 
 pub counters_rise : HasOneClientFirst → SpellsOneName → CandidatesAreNew → EachReplyIsDue → CountersRise
 counters_rise one_first names new replied accounts log more account moment counter at greater told all begins both =
@@ -133,7 +133,7 @@ counters_rise one_first names new replied accounts log more account moment count
     let same = (one_reading one_first names accounts first front.0 (waits_code account) front.1 told front.3 begins).1 in
     let tells = front.4 ∙ ap (λ (l : List Told). l ++ front.2) (same ∙ one.tells) in
     let mine : one.account ≡ two.account = cc (sym one.is_next ∙ two.is_next) in
-    later new accounts (first ++ more) moment counter at greater (waits_code account) one.account one.sent one.told front.2 two mine tells
+    later new two.token two.account two.sent two.told at greater two.fits one.account moment counter one.sent one.told front.2 mine tells
 
 -- a code's text is a code word
 visible : (c : ℕ) → IsAsciiDigit c → is_code_char c ≡ true

@@ -50,7 +50,7 @@ told_rises new accounts account before t due rising = elim (of_account t account
   | inr other ↦ rw other.0 rising
 ]
 
-all_rise : CandidatesAreNew → (accounts : Accounts) (account : List ℕ) (before told : List Told) → AreReplies (demands accounts) before told
+pub all_rise : CandidatesAreNew → (accounts : Accounts) (account : List ℕ) (before told : List Told) → AreReplies (demands accounts) before told
     → AreRising (passed (attempts_of account before)) → AreRising (passed (attempts_of account (reverse told ++ before)))
 all_rise new accounts account before [] are rising = rising
 all_rise new accounts account before (t ∷ told) are rising =

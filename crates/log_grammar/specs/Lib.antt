@@ -32,3 +32,8 @@ pub mod Examples
 pub mod Laws
 pub mod Headline
 pub mod Reasons
+pub mod NumberedHeadline
+pub mod NumberedReplies
+pub mod UpgradedExamples
+pub mod NumberedReasons
+pub mod UpgradedLogins

@@ -1,7 +1,6 @@
 //! Laws of whole logs of version 2, as bytes, for every limit of open sessions: each is the promise of a function that
 //! does nothing.
 ghost use Rattle.log_grammar.specs.NumberedLogLaws.{EachNumberedLogIsJudged, NumberedLogsHaveOneWhy, NumberedFrontsBeginWithFronts, NumberedFrontsBeginClean};
-ghost use Rattle.log_grammar.specs.Upgrades.{RenumberedLogsAreClean};
 
 use otp_core::laws::{only_one_reply_is_due, some_reply_is_due};
 use scram_ends::laws::{at_most_one_verdict_is_due, some_verdict_is_due};
@@ -53,9 +52,3 @@ pub fn numbered_fronts_begin_clean()
     name_is_decided();
     some_verdict_is_due();
 }
-
-/// A log of version 1 is clean exactly where it is, as one of version 2, with each line after the first numbered by one more
-/// than the `E` lines before it: so of all lines, where one session at least may be open.
-pub fn renumbered_logs_are_clean()
-    ensures { RenumberedLogsAreClean }
-{}

@@ -1,6 +1,6 @@
 use Rattle.log_grammar.specs.Demands.{demands}
 use Rattle.log_grammar.proofs.UpgradeLemmas.{renumbered_clean}
-use Rattle.log_grammar.proofs.numbered_logs.renumbered_logs_are_clean.Goals as goal
+use Rattle.log_grammar.proofs.upgrades.renumbered_logs_are_clean.Goals as goal
 
 pub returns : goal.returns
 returns c = λ limit accounts lines some. renumbered_clean limit (demands accounts) lines some

@@ -1,0 +1,5 @@
+use Rattle.log_grammar.proofs.UpgradedFaults.{upgraded_clean}
+use Rattle.log_grammar.proofs.upgrades.upgraded_logs_are_clean.Goals as goal
+
+pub returns : goal.returns
+returns c = upgraded_clean

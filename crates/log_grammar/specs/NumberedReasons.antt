@@ -1,0 +1,42 @@
+-- What the reason of a fault says of a log of version 2: the line that it names as due may stand in the place of the one at
+-- fault, under the same number.
+use Rattle.std.specs.Prelude.{ℕ, ◌≡◌, ◌+◌, List, [], ◌∷◌, ◌++◌, length}
+use Rattle.log_grammar.specs.Lines.{LogLine}
+use Rattle.log_grammar.specs.Bytes.{ended_by_lf, IsCut}
+use Rattle.log_grammar.specs.Demands.{Accounts, AreFit}
+use Rattle.log_grammar.specs.Why.{Why, other_challenge}
+use Rattle.log_grammar.specs.Kinds.{IsWhyOf, BeginsCleanOf}
+use Rattle.log_grammar.specs.KindTwo.{two}
+use Rattle.log_grammar.specs.Numbered.{Numbered, numbered}
+use Rattle.log_grammar.specs.NumberedLines.{numbered_text, IsNumberedLine}
+use Rattle.log_grammar.specs.NumberedHeadline.{IsNumberedWritable}
+use Rattle.log_grammar.specs.Reasons.{SaysWhatIsDue, NamesWhatIsDue}
+
+-- line k is one of the texts, and a line of some number; and a line of this number that says what the reason names as due, in
+-- its place, makes the first k lines begin a clean log
+pub record IsNumberedMended (limit : ℕ) (accounts : Accounts) (texts : List (List ℕ)) (k : ℕ) (why : Why) : Type 0 where
+  pub before : List (List ℕ)
+  pub text : List ℕ
+  pub more : List (List ℕ)
+  pub split : texts ≡ before ++ text ∷ more
+  pub this : k ≡ length before + 1
+  pub at_fault : Numbered LogLine
+  pub is_line : IsNumberedLine text at_fault
+  pub line : LogLine
+  pub says : SaysWhatIsDue why line
+  pub writable : IsNumberedWritable (numbered at_fault.number line)
+  pub begins : BeginsCleanOf (two limit accounts) (ended_by_lf (before ++ numbered_text (numbered at_fault.number line) ∷ []))
+
+-- what a reason names as due may stand in the place of the line at fault, under its number
+abbrev pub WhatIsDueMayStandUnderItsNumber : Type 0
+WhatIsDueMayStandUnderItsNumber = (limit : ℕ) (accounts : Accounts) → AreFit accounts → (bytes : List ℕ) (texts : List (List ℕ)) (rest : List ℕ) (k : ℕ) (why : Why)
+    → IsCut bytes texts rest → IsWhyOf (two limit accounts) bytes k why → NamesWhatIsDue why → IsNumberedMended limit accounts texts k why
+
+-- each line that can be written and says what is due may stand there; except a challenge, since the reason names no
+-- text of one
+abbrev pub EachNumberedLineThatIsDueMayStand : Type 0
+EachNumberedLineThatIsDueMayStand = (limit : ℕ) (accounts : Accounts) → AreFit accounts
+    → (bytes : List ℕ) (before : List (List ℕ)) (text : List ℕ) (more : List (List ℕ)) (rest : List ℕ) (why : Why) (at_fault : Numbered LogLine) (line : LogLine)
+    → IsCut bytes (before ++ text ∷ more) rest → IsWhyOf (two limit accounts) bytes (length before + 1) why → (why ≡ other_challenge → ⊥)
+    → IsNumberedLine text at_fault → SaysWhatIsDue why line → IsNumberedWritable (numbered at_fault.number line)
+    → BeginsCleanOf (two limit accounts) (ended_by_lf (before ++ numbered_text (numbered at_fault.number line) ∷ []))

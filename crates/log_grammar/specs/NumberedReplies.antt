@@ -1,0 +1,46 @@
+-- Codes that passed in a log of version 2, in whichever of its sessions.
+use Rattle.std.specs.Prelude.{ℕ, ◌≡◌, ◌<◌, List, [], ◌∷◌, ◌++◌, reverse}
+use Rattle.std.specs.declared.option.Option.TheVariants.{Some}
+use Rattle.otp_core.specs.Attempt.{CodeTexts, passed}
+use Rattle.otp_core.specs.Reply.{IsFitting}
+use Rattle.otp_core.specs.declared.token.kinds.Fields.{Fields}
+use Rattle.log_grammar.specs.Lines.{LogLine}
+use Rattle.log_grammar.specs.Sessions.{Told}
+use Rattle.log_grammar.specs.Demands.{Accounts, attempts_of, demands}
+use Rattle.log_grammar.specs.Places.{Place, got_code, waits_code}
+use Rattle.log_grammar.specs.Replies.{passes, AreRising}
+use Rattle.log_grammar.specs.Numbered.{Numbered, numbered, SpellsNumbered}
+
+-- after these lines a number waits for the reply to a code, or to two in a row, of an account that has a token; the code is
+-- the token's for this counter, which could pass at the moment, after what was told of the account before, under whichever
+-- numbers; or the two are its codes for the counter before this one and for this one, and that one could pass as the first of two
+pub record IsNumberedCodeOf (limit : ℕ) (accounts : Accounts) (log : List (Numbered LogLine)) (n moment counter : ℕ) (next : Place) : Type 0 where
+  pub account : List ℕ
+  pub sent : CodeTexts
+  pub places : ℕ → Place
+  pub told : List Told
+  pub token : Fields
+  pub after : SpellsNumbered limit (demands accounts) log places told
+  pub waits : places n ≡ got_code account sent
+  pub has_token : accounts.token account ≡ Some token
+  pub fits : IsFitting token (attempts_of account (reverse told)) moment sent counter
+  pub is_next : next ≡ waits_code account
+
+-- PASS may stand under a number only after such a code
+abbrev pub EachNumberedPassIsACode : Type 0
+EachNumberedPassIsACode = (limit : ℕ) (accounts : Accounts) (log : List (Numbered LogLine)) (n moment counter : ℕ) (places : ℕ → Place) (told : List Told)
+    → SpellsNumbered limit (demands accounts) (log ++ numbered n (passes moment counter) ∷ []) places told
+    → IsNumberedCodeOf limit accounts log n moment counter (places n)
+
+-- of two passes of one account in a log, under whichever numbers, the later has the greater counter
+abbrev pub NumberedCountersRise : Type 0
+NumberedCountersRise = (limit : ℕ) (accounts : Accounts) (log more : List (Numbered LogLine)) (account : List ℕ) (n moment counter m later greater : ℕ)
+    (places after : ℕ → Place) (told all : List Told)
+    → SpellsNumbered limit (demands accounts) (log ++ numbered n (passes moment counter) ∷ []) places told → places n ≡ waits_code account
+    → SpellsNumbered limit (demands accounts) ((log ++ numbered n (passes moment counter) ∷ []) ++ (more ++ numbered m (passes later greater) ∷ [])) after all
+    → after m ≡ waits_code account → counter < greater
+
+-- the counters that an account's codes use in a log, both counters of two codes in a row, rise: none is used twice
+abbrev pub NoNumberedCounterIsUsedTwice : Type 0
+NoNumberedCounterIsUsedTwice = (limit : ℕ) (accounts : Accounts) (log : List (Numbered LogLine)) (places : ℕ → Place) (told : List Told) (account : List ℕ)
+    → SpellsNumbered limit (demands accounts) log places told → AreRising (passed (attempts_of account (reverse told)))

@@ -1,0 +1,29 @@
+//! Codes that passed in a log of version 2.
+ghost use Rattle.log_grammar.specs.NumberedReplies.{EachNumberedPassIsACode, NumberedCountersRise, NoNumberedCounterIsUsedTwice};
+
+use otp_core::laws::candidates_are_new;
+use scram_text::laws::{has_one_client_first, spells_one_name};
+
+/// PASS may stand under a number only after a code of its session that is the token's for the counter that passes, which was
+/// inside the window (RFC 4226, section 7.4, and RFC 6238, sections 5.2 and 6) after what was told of the account under all
+/// numbers; or after two codes in a row that are the token's for the counter before it and for it, inside the window for two.
+pub fn each_numbered_pass_is_a_code()
+    ensures { EachNumberedPassIsACode }
+{}
+
+/// No counter of an account passes twice in a log: of two passes of one account, under whichever numbers, the later has the
+/// greater counter.
+pub fn numbered_counters_rise()
+    ensures { NumberedCountersRise }
+{
+    candidates_are_new();
+    has_one_client_first();
+    spells_one_name();
+}
+
+/// No counter of an account is used twice in a log: those of its codes that passed, both of two codes in a row, rise.
+pub fn no_numbered_counter_is_used_twice()
+    ensures { NoNumberedCounterIsUsedTwice }
+{
+    candidates_are_new();
+}
