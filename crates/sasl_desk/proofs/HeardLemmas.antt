@@ -5,12 +5,12 @@ use Rattle.std.specs.declared.result.Result.{Result}
 use Rattle.std.specs.declared.result.Result.TheVariants.{Ok, Err}
 use Rattle.log_grammar.specs.Laws.{IsOneLine}
 use Rattle.otp_core.specs.Attempt.{CodeTexts, OneText, TwoTexts}
-use Rattle.log_grammar.specs.Lines.{LogLine, heard, bad, ClientLine, code, sync, asking, from_client, IsLine}
+use Rattle.log_grammar.specs.Lines.{LogLine, heard, bad, ClientLine, asking, from_client, IsLine}
 use Rattle.log_grammar.specs.Demands.{Accounts}
 use Rattle.log_grammar.specs.Places.{Place}
 use Rattle.sasl_desk.specs.Events.{ClientEvent, sends, goes_away}
 use Rattle.sasl_desk.specs.Keeper.{texts_of}
-use Rattle.sasl_desk.specs.Turns.{is_due, BearsMessage}
+use Rattle.sasl_desk.specs.Turns.{is_due}
 use Rattle.sasl_desk.specs.Sessions.{IsLineOf, IsRecord, IsLineRecord, IsHeard, IsLineHeard, AsksFor, AsksForEvent, TakesMemory, SentWhatTakesMemory}
 use Rattle.sasl_desk.specs.declared.session.Session.{Session}
 use Rattle.sasl_desk.specs.declared.session.turn.Heard.{Heard}

@@ -1,6 +1,14 @@
+pub mod AloneLemmas
 pub mod AnswerLemmas
+pub mod GuestLemmas
+pub mod HallGreetings
+pub mod HallLaws
+pub mod HallLemmas
+pub mod HallPaths
+pub mod HallSteps
 pub mod HeardLemmas
 pub mod KeeperLemmas
+pub mod LeftLemmas
 pub mod PathLemmas
 pub mod RecordLemmas
 pub mod RestartLemmas

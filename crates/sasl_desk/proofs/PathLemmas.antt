@@ -73,7 +73,7 @@ turn_no_reply accounts own event at turn message t =
     (record_no_reply event at (recorded_shown turn.recorded) t.is_record, answer_no_reply turn.answer.says turn.answer.session message)
 
 -- such a line tells nothing
-quiet_at : (at : Place) (line : LogLine) → IsNoReply line → told_at at line ≡ []
+pub quiet_at : (at : Place) (line : LogLine) → IsNoReply line → told_at at line ≡ []
 quiet_at (got_code account sent) (said (replies moment reply)) no_reply = absurd no_reply
 quiet_at (got_code account sent) line no_reply = refl
 quiet_at at line no_reply = refl

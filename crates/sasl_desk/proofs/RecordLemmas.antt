@@ -104,13 +104,13 @@ records_next accounts (hears event moment) at lines next before run turn records
       (turn_records accounts (own_part before) event moment at lines next turn),
 )
 
-run_offers : (accounts : Accounts) (calls : List Call) (at : Place) → IsRun accounts calls at
+pub run_offers : (accounts : Accounts) (calls : List Call) (at : Place) → IsRun accounts calls at
     → length (filter is_offer (run_lines calls)) ≡ length (nonces_in calls)
 run_offers accounts [] at run = refl
 run_offers accounts (c ∷ before) at (place, run, answered) =
     offers_next accounts (own_part before) c.asked place c.lines at (run_lines before) (nonces_in before) answered (run_offers accounts before place run)
 
-run_records : (accounts : Accounts) (calls : List Call) (at : Place) → IsRun accounts calls at
+pub run_records : (accounts : Accounts) (calls : List Call) (at : Place) → IsRun accounts calls at
     → AreRecords accounts calls (filter is_record (run_lines calls))
 run_records accounts [] at run = refl
 run_records accounts (c ∷ before) at (place, run, answered) =

@@ -22,7 +22,9 @@ use Rattle.sasl_desk.specs.Sessions.{CanBeWritten}
 use Rattle.sasl_desk.specs.Runs.{Call, run_lines, log_bytes}
 use Rattle.sasl_desk.specs.Spent.{AreDifferent, IsUsedUp, IsSpent, spent_by, SpentStaysSpent}
 use Rattle.sasl_desk.specs.Desks.{IsHeld, IsLostAfter, IsStoredAt, IsStateAt, all_spent, Stands, phase_of, session_phase}
-use Rattle.sasl_desk.specs.Restarts.{Run, IsRunOf, Change, ran, judged, unlocks, adds, IsChange, AreChanges, spent_by_change, spent_in}
+use Rattle.log_grammar.specs.NumberedLaws.{HasOneNumberedReading}
+use Rattle.sasl_desk.specs.Halls.{hall_lines}
+use Rattle.sasl_desk.specs.Restarts.{Run, IsRunOf, HallRun, IsHallRunOf, Change, ran, hosts, judged, unlocks, adds, IsChange, AreChanges, spent_by_change, spent_in}
 use Rattle.sasl_desk.specs.declared.desk.Desk.{Desk}
 use Rattle.sasl_desk.specs.declared.desk.state.State.{State}
 use Rattle.sasl_desk.specs.declared.desk.state.State.TheVariants.{Closed, Open, Halted}
@@ -119,27 +121,44 @@ spent_after_run itself stays once facts r ps run spent =
           (spent_after_told itself stays run.desk.keeper.book r.left t (all_spent (reverse r.told) ++ ps) one own)
     ]
 
+-- what was spent after one run of a hall
+spent_after_hall : BeginsWithItself → SpentStaysSpent → HasOneNumberedReading → {S : Type 0} (facts : S → StoreFacts) (r : HallRun) (ps : List (List ℕ × ℕ))
+    → IsHallRunOf facts r → IsSpent ps r.start → IsSpent (all_spent (reverse r.told) ++ ps) r.left
+spent_after_hall itself stays once facts r ps run spent =
+    let s = run.stands in
+    let same = once 64 (accounts_in r.start) (hall_lines r.calls) s.places r.places s.told r.told s.spelled run.spelled in
+    let own = subst (λ (t : List Told). IsSpent (all_spent (reverse t) ++ ps) run.hall.keeper.book) same.1 (s.spent ps spent) in
+    elim run.leaves [
+      | inl left ↦ subst (λ (b : BookFields). IsSpent (all_spent (reverse r.told) ++ ps) b) (sym left) own
+      | inr (t, one) ↦
+          fewer_spent r.left (spent_by t) (all_spent (reverse r.told) ++ ps)
+          (spent_after_told itself stays run.hall.keeper.book r.left t (all_spent (reverse r.told) ++ ps) one own)
+    ]
+
 -- what was spent after a change
-spent_after : BeginsWithItself → SpentStaysSpent → HasOneReading → TokensAreApart → CandidatesAreNew → AddedIsApart → {S : Type 0} (facts : S → StoreFacts)
+spent_after : BeginsWithItself → SpentStaysSpent → HasOneReading → HasOneNumberedReading → TokensAreApart → CandidatesAreNew → AddedIsApart → {S : Type 0} (facts : S → StoreFacts)
     (c : Change) (old new : BookFields) (ps : List (List ℕ × ℕ)) → IsChange facts c old new → IsSpent ps old → IsSpent (spent_by_change c ++ ps) new
-spent_after itself stays once apart fresh added facts (ran r) old new ps (run, start, left) spent =
+spent_after itself stays once numbered_once apart fresh added facts (ran r) old new ps (run, start, left) spent =
     subst (λ (b : BookFields). IsSpent (all_spent (reverse r.told) ++ ps) b) left
     (spent_after_run itself stays once facts r ps run (subst (λ (b : BookFields). IsSpent ps b) (sym start) spent))
-spent_after itself stays once apart fresh added facts (judged t) old new ps one spent = spent_after_told itself stays old new t ps one spent
-spent_after itself stays once apart fresh added facts (unlocks name) old new ps changed spent = unlocks_keep apart fresh old new name ps changed spent
-spent_after itself stays once apart fresh added facts (adds name account) old new ps (free, is) spent =
+spent_after itself stays once numbered_once apart fresh added facts (hosts r) old new ps (run, start, left) spent =
+    subst (λ (b : BookFields). IsSpent (all_spent (reverse r.told) ++ ps) b) left
+    (spent_after_hall itself stays numbered_once facts r ps run (subst (λ (b : BookFields). IsSpent ps b) (sym start) spent))
+spent_after itself stays once numbered_once apart fresh added facts (judged t) old new ps one spent = spent_after_told itself stays old new t ps one spent
+spent_after itself stays once numbered_once apart fresh added facts (unlocks name) old new ps changed spent = unlocks_keep apart fresh old new name ps changed spent
+spent_after itself stays once numbered_once apart fresh added facts (adds name account) old new ps (free, is) spent =
     added_keeps added old new name account ps free is spent
 
-pub spent_over_changes : BeginsWithItself → SpentStaysSpent → HasOneReading → TokensAreApart → CandidatesAreNew → AddedIsApart → {S : Type 0}
+pub spent_over_changes : BeginsWithItself → SpentStaysSpent → HasOneReading → HasOneNumberedReading → TokensAreApart → CandidatesAreNew → AddedIsApart → {S : Type 0}
     (facts : S → StoreFacts) (first : BookFields) (changes : List Change) (last : BookFields) (ps : List (List ℕ × ℕ)) → AreChanges facts first changes last
     → IsSpent ps first → IsSpent (spent_in changes ++ ps) last
-spent_over_changes itself stays once apart fresh added facts first [] last ps same spent = subst (λ (b : BookFields). IsSpent ps b) (sym same) spent
-spent_over_changes itself stays once apart fresh added facts first (c ∷ before) last ps (middle, earlier, change) spent =
-    let until = spent_over_changes itself stays once apart fresh added facts first before middle ps earlier spent in
+spent_over_changes itself stays once numbered_once apart fresh added facts first [] last ps same spent = subst (λ (b : BookFields). IsSpent ps b) (sym same) spent
+spent_over_changes itself stays once numbered_once apart fresh added facts first (c ∷ before) last ps (middle, earlier, change) spent =
+    let until = spent_over_changes itself stays once numbered_once apart fresh added facts first before middle ps earlier spent in
     subst (λ (l : List (List ℕ × ℕ)). IsSpent l last) (sym (append_assoc (spent_by_change c) (spent_in before) ps))
-    (spent_after itself stays once apart fresh added facts c middle last (spent_in before ++ ps) change until)
+    (spent_after itself stays once numbered_once apart fresh added facts c middle last (spent_in before ++ ps) change until)
 
-held_or_lost : (accounts : Accounts) (calls : List Call) (place : Place) (book : BookFields) (store : StoreFacts) → IsStoredAt accounts calls place book store
+pub held_or_lost : (accounts : Accounts) (calls : List Call) (place : Place) (book : BookFields) (store : StoreFacts) → IsStoredAt accounts calls place book store
     → IsHeld book store ⊎ IsLostAfter accounts calls book store
 held_or_lost accounts calls halted book store lost = inr lost
 held_or_lost accounts calls place book store held = inl held
@@ -170,7 +189,7 @@ stopped_run facts start calls desk t next s one = (
 )
 
 -- what was spent is spent after one more attempt
-told_spent : BeginsWithItself → SpentStaysSpent → (old new : BookFields) (t : Told) (ps : List (List ℕ × ℕ)) → IsTold old t new → IsSpent ps old → IsSpent ps new
+pub told_spent : BeginsWithItself → SpentStaysSpent → (old new : BookFields) (t : Told) (ps : List (List ℕ × ℕ)) → IsTold old t new → IsSpent ps old → IsSpent ps new
 told_spent itself stays old new t ps one spent = fewer_spent new (spent_by t) ps (spent_after_told itself stays old new t ps one spent)
 
 -- each counter that was told is used in the book whose text the store holds

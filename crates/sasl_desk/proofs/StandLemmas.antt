@@ -31,10 +31,13 @@ use Rattle.sasl_log.specs.Tokens.{LeadsTo, IsBookAfter}
 use Rattle.sasl_desk.specs.Events.{ClientEvent}
 use Rattle.sasl_desk.specs.Turns.{is_client_turn, IsPath}
 use Rattle.sasl_desk.specs.Keeper.{IsTold, HoldsText, IsKept, IsJudged, IsJudgedInRange}
-use Rattle.sasl_desk.specs.Sessions.{IsAt, IsLeftAt, IsRecord, IsTurn, IsAsked, recorded_shown, said_lines, end_lines, answer_lines, turn_lines, CanBeWritten, IsOwnChallenge}
-use Rattle.sasl_desk.specs.Runs.{greets, hears, IsAtRest, Call, call_of, run_lines, own_part, log_bytes, wire_bytes, IsRun}
+use Rattle.sasl_desk.specs.Sessions.{IsAt, IsLeftAt, IsRecord, IsTurn, recorded_shown, said_lines, end_lines, answer_lines, turn_lines, CanBeWritten, IsOwnChallenge}
+use Rattle.sasl_desk.specs.Runs.{greets, hears, IsAtRest, IsTurnTaken, Call, call_of, run_lines, own_part, log_bytes, wire_bytes, IsRun}
 use Rattle.sasl_desk.specs.Spent.{IsSpent, spent_by, SpentStaysSpent}
-use Rattle.sasl_desk.specs.Desks.{IsStateAt, IsHeld, IsAttemptOf, IsStoredAt, IsBookWith, all_spent, Stands, Answers, IsCodeTurn, phase_of, session_phase, desk_of, state_with, judged_lines, judged_state, is_saving}
+use Rattle.sasl_desk.specs.Left.{left_of, judged_lines, judged_left, IsAnswered, IsCodeJudged, AsksJudgement, AreSent, IsTurnWritten}
+use Rattle.sasl_desk.specs.Marks.{marked_bytes}
+use Rattle.sasl_desk.specs.Desks.{IsStateAt, IsHeld, IsAttemptOf, IsStoredAt, IsBookWith, all_spent, Stands, Answers, phase_of, session_phase, desk_of, state_after, is_saving}
+use Rattle.sasl_desk.specs.declared.turn.Left.{Left}
 use Rattle.sasl_desk.specs.declared.keeper.Keeper.{Keeper}
 use Rattle.sasl_desk.specs.declared.keeper.Judged.{Judged}
 use Rattle.sasl_desk.specs.declared.keeper.Judged.TheVariants.{Replied, Lost}
@@ -69,36 +72,36 @@ with_after itself start (t ∷ before) book (old, with_old, one) =
     subst (λ (l : List Told). IsBookAfter (accounts_in start) l book) (sym (reverse_onto before t []))
     (told_after old book t one (accounts_in start) (reverse before) (with_after itself start before old with_old))
 
-book_after_told : BeginsWithItself → (start : BookFields) (told : List Told) (book : BookFields) → IsBookWith start (reverse told) book
+pub book_after_told : BeginsWithItself → (start : BookFields) (told : List Told) (book : BookFields) → IsBookWith start (reverse told) book
     → IsBookAfter (accounts_in start) told book
 book_after_told itself start told book is =
     subst (λ (l : List Told). IsBookAfter (accounts_in start) l book) (reverse-reverse told) (with_after itself start (reverse told) book is)
 
 -- where it is the client's turn, the store has not failed
-held_in_turn : (accounts : Accounts) (calls : List Call) (at : Place) (book : BookFields) (store : StoreFacts) → is_client_turn at ≡ true
+pub held_in_turn : (accounts : Accounts) (calls : List Call) (at : Place) (book : BookFields) (store : StoreFacts) → is_client_turn at ≡ true
     → IsStoredAt accounts calls at book store → IsHeld book store
 held_in_turn accounts calls halted book store turn stored = absurd (cc turn)
 held_in_turn accounts calls at book store turn stored = stored
 
-held_at_turn : (accounts : Accounts) (calls : List Call) (at : Place) (book : BookFields) (store : StoreFacts) → IsAtRest at → (at ≡ halted → ⊥) → IsHeld book store
+pub held_at_turn : (accounts : Accounts) (calls : List Call) (at : Place) (book : BookFields) (store : StoreFacts) → IsAtRest at → (at ≡ halted → ⊥) → IsHeld book store
     → IsStoredAt accounts calls at book store
 held_at_turn accounts calls halted book store rests going held = absurd (going refl)
 held_at_turn accounts calls at book store rests going held = held
 
 -- the place at which a session is left is not that of a halt
-left_going : (accounts : Accounts) (at : Place) (going : Option Session) → IsLeftAt accounts at going → at ≡ halted → ⊥
+pub left_going : (accounts : Accounts) (at : Place) (going : Option Session) → IsLeftAt accounts at going → at ≡ halted → ⊥
 left_going accounts at None is same = cc (is, same)
 left_going accounts at (Some going) is same =
     let turn : is_client_turn halted ≡ true = subst (λ (p : Place). is_client_turn p ≡ true) same (client_turn accounts at going is) in
     cc turn
 
 left_state : (accounts : Accounts) (own part : List ℕ) (at : Place) (going : Option Session) → part ≡ own → IsLeftAt accounts at going
-    → IsStateAt accounts own at (state_with going part)
+    → IsStateAt accounts own at (state_after (left_of going) part)
 left_state accounts own part at (Some going) same is = (is, same)
 left_state accounts own part at None same is = is
 
 -- a desk that begins
-header_written : CanBeLogLine header
+pub header_written : CanBeLogLine header
 header_written = record { spelled = refl; ranges = tt; short = omega arith }
 
 stands_at_first : BeginsWithItself → GoesOnByALine → {S : Type 0} (facts : S → StoreFacts) (keeper : Keeper S) (was : StoreFacts)
@@ -122,7 +125,7 @@ stands_from itself law facts book keeper was same holds =
     (stands_at_first itself law facts keeper was (subst (λ (b : BookFields). HoldsText was b (facts keeper.store)) (sym same) holds))
 
 -- a desk that greets
-mechs_written : CanBeLogLine (said (mechs offered_names))
+pub mechs_written : CanBeLogLine (said (mechs offered_names))
 mechs_written = record { spelled = refl; ranges = (is_sha_256, (is_sha_1, tt)); short = omega arith }
 
 pub stands_by_greeting : GoesOnByALine → {S : Type 0} (facts : S → StoreFacts) (start : BookFields) (calls : List Call) (keeper : Keeper S) (own : List ℕ)
@@ -146,12 +149,62 @@ stands_by_greeting law facts start calls keeper own s =
       spent = s.spent;
     }
 
+-- the turn that a session took, in the words of a run
+pub taken_by_turn : (accounts : Accounts) (own part : List ℕ) (event : ClientEvent) (moment : ℕ) (at : Place) (going : Session) (turn : Turn) (message : List ℕ)
+    → part ≡ own → IsAt accounts at going → (t : IsTurn accounts part event at turn message)
+    → IsTurnTaken accounts own event moment at (turn_lines turn message) t.is_answer.next
+taken_by_turn accounts own part event moment at going turn message same is t = record {
+  recorded = recorded_shown turn.recorded;
+  answered = answer_lines turn.answer message;
+  lines_are = refl;
+  is_record = t.is_record;
+  answers = answer_answers turn.answer.says turn.answer.session message;
+  path = turn_path accounts part event at going turn message is t;
+  rests = left_rests accounts t.is_answer.next turn.answer.session t.is_answer.left;
+  challenge = subst (λ (o : List ℕ). IsOwnChallenge accounts o t.is_answer.next) same t.is_answer.own_part;
+  plain = t.is_answer.plain;
+  moments = answer_bears moment turn.answer.says turn.answer.session message;
+}
+
+-- that of a code, or two in a row, with its reply
+pub taken_by_reply : (accounts : Accounts) (own : List ℕ) (event : ClientEvent) (moment : ℕ) (name : List ℕ) (sent : CodeTexts) (reply : Option Reply)
+    → IsRecord event (waits_code name) (heard (asking sent))
+    → IsTurnTaken accounts own event moment (waits_code name) (judged_lines moment sent (Replied reply)) (waits_code name)
+taken_by_reply accounts own event moment name sent reply is_record = record {
+  recorded = heard (asking sent);
+  answered = said (replies moment reply) ∷ [];
+  lines_are = refl;
+  is_record = is_record;
+  answers = (tt, tt);
+  path = (got_code name sent, code_goes name sent, (waits_code name, refl, refl));
+  rests = refl;
+  challenge = tt;
+  plain = (tt, tt);
+  moments = (refl, tt);
+}
+
+-- and that of one whose save failed
+pub taken_by_halt : (accounts : Accounts) (own : List ℕ) (event : ClientEvent) (moment : ℕ) (name : List ℕ) (sent : CodeTexts)
+    → IsRecord event (waits_code name) (heard (asking sent)) → IsTurnTaken accounts own event moment (waits_code name) (judged_lines moment sent Lost) halted
+taken_by_halt accounts own event moment name sent is_record = record {
+  recorded = heard (asking sent);
+  answered = said halt ∷ [];
+  lines_are = refl;
+  is_record = is_record;
+  answers = (tt, tt);
+  path = (got_code name sent, code_goes name sent, (halted, refl, refl));
+  rests = tt;
+  challenge = tt;
+  plain = (tt, tt);
+  moments = (tt, tt);
+}
+
 -- a desk whose session answers a turn
 stands_by_turn : BeginsWithItself → GoesOnByALine → {S : Type 0} (facts : S → StoreFacts) (start : BookFields) (calls : List Call) (keeper : Keeper S) (going : Session)
     (own : List ℕ) (event : ClientEvent) (moment : ℕ) (turn : Turn) (message : List ℕ) → Stands facts start calls (desk_of keeper (Open going own))
     → ((accounts : Accounts) (at : Place) → KeepsEntries accounts keeper.book → IsAt accounts at going → IsTurn accounts own event at turn message)
     → CanBeWritten (turn_lines turn message)
-    → Stands facts start (call_of (hears event moment) (turn_lines turn message) ∷ calls) (desk_of keeper (state_with turn.answer.session own))
+    → Stands facts start (call_of (hears event moment) (turn_lines turn message) ∷ calls) (desk_of keeper (state_after (left_of turn.answer.session) own))
 stands_by_turn itself law facts start calls keeper going own event moment turn message s hears_it written =
     let accounts = accounts_in start in
     let is = s.is_state.0 in
@@ -166,18 +219,7 @@ stands_by_turn itself law facts start calls keeper going own event moment turn m
       is_run = (
         s.place,
         s.is_run,
-        record {
-          recorded = recorded_shown turn.recorded;
-          answered = answer_lines turn.answer message;
-          lines_are = refl;
-          is_record = t.is_record;
-          answers = answer_answers turn.answer.says turn.answer.session message;
-          path = path;
-          rests = left_rests accounts t.is_answer.next turn.answer.session t.is_answer.left;
-          challenge = subst (λ (o : List ℕ). IsOwnChallenge accounts o t.is_answer.next) same t.is_answer.own_part;
-          plain = t.is_answer.plain;
-          moments = answer_bears moment turn.answer.says turn.answer.session message;
-        },
+        taken_by_turn accounts (own_part calls) own event moment s.place going turn message same is t,
       );
       begins = goes_on_by_path law accounts (run_lines calls) s.place s.told lines t.is_answer.next s.begins path
           (turn_no_reply accounts own event s.place turn message t);
@@ -211,7 +253,7 @@ turn_saves turn message =
     recorded_saves turn.recorded (answer_lines turn.answer message) ∙ answer_saves turn.answer.says turn.answer.session message
 
 -- after a reply the store holds the text of the book, if it held that of the book before it
-kept_held : (reply : Option Reply) (old new : BookFields) (was now : StoreFacts) → IsKept reply old was new now → IsHeld old was → IsHeld new now
+pub kept_held : (reply : Option Reply) (old new : BookFields) (was now : StoreFacts) → IsKept reply old was new now → IsHeld old was → IsHeld new now
 kept_held (Some (Pass c)) old new was now kept held =
     record { working = kept.saved.working; saved = subst (λ (t : List ℕ). IsBookText t new) (sym kept.saved.saved) kept.is_text }
 kept_held (Some Fail) old new was now kept held =
@@ -222,7 +264,7 @@ kept_held None old new was now (same, unasked) held =
     subst (λ (b : BookFields). IsHeld b now) (sym same) (subst (λ (f : StoreFacts). IsHeld old f) (sym unasked) held)
 
 -- what was spent after one more reply
-spent_after : BeginsWithItself → SpentStaysSpent → (start old new : BookFields) (told : List Told) (t : Told) → IsTold old t new
+pub spent_after : BeginsWithItself → SpentStaysSpent → (start old new : BookFields) (told : List Told) (t : Told) → IsTold old t new
     → ((ps : List (List ℕ × ℕ)) → IsSpent ps start → IsSpent (all_spent (reverse told) ++ ps) old)
     → (ps : List (List ℕ × ℕ)) → IsSpent ps start → IsSpent (all_spent (reverse (told ++ t ∷ [])) ++ ps) new
 spent_after itself stays start old new told t one before ps spent =
@@ -251,7 +293,7 @@ pub stands_by_reply : BeginsWithItself → SpentStaysSpent → GoesOnByALine →
     → Stands facts start calls (desk_of old (Open (WaitsCode name) own)) → IsRecord event (waits_code name) (heard (asking sent))
     → CanBeLogLine (heard (asking sent)) → IsMoment moment → IsJudged old.book (facts old.store) name moment sent (Replied reply) new.book (facts new.store)
     → IsJudgedInRange (Replied reply)
-    → Stands facts start (call_of (hears event moment) (judged_lines moment sent (Replied reply)) ∷ calls) (desk_of new (judged_state name own (Replied reply)))
+    → Stands facts start (call_of (hears event moment) (judged_lines moment sent (Replied reply)) ∷ calls) (desk_of new (state_after (judged_left name (Replied reply)) own))
 stands_by_reply itself stays law facts start calls old new name own event moment sent reply s is_record written is (one, kept) range =
     let accounts = accounts_in start in
     let at = s.is_state.0 in
@@ -266,18 +308,7 @@ stands_by_reply itself stays law facts start calls old new name own event moment
       is_run = (
         waits_code name,
         run,
-        record {
-          recorded = heard (asking sent);
-          answered = said (replies moment reply) ∷ [];
-          lines_are = refl;
-          is_record = is_record;
-          answers = (tt, tt);
-          path = (got_code name sent, code_goes name sent, (waits_code name, refl, refl));
-          rests = refl;
-          challenge = tt;
-          plain = (tt, tt);
-          moments = (refl, tt);
-        },
+        taken_by_reply accounts (own_part calls) event moment name sent reply is_record,
       );
       begins = begins_by_reply law accounts (run_lines calls) name s.told moment sent reply begins (told_due old.book new.book t one accounts s.told after);
       written = all-append CanBeLogLine (run_lines calls) (judged_lines moment sent (Replied reply)) s.written (written, (reply_line moment reply is range, tt));
@@ -287,68 +318,64 @@ stands_by_reply itself stays law facts start calls old new name own event moment
       spent = spent_after itself stays start old.book new.book s.told t one s.spent;
     }
 
-halt_written : CanBeLogLine (said halt)
+pub halt_written : CanBeLogLine (said halt)
 halt_written = record { spelled = refl; ranges = tt; short = omega arith }
 
 -- the store failed in a save, and not before it
-lost_now : (was now : StoreFacts) (text : List ℕ) → was.failed ≡ false → ((was.failed ≡ true) × (now ≡ was)) ⊎ IsLost was text now → IsLost was text now
+pub lost_now : (was now : StoreFacts) (text : List ℕ) → was.failed ≡ false → ((was.failed ≡ true) × (now ≡ was)) ⊎ IsLost was text now → IsLost was text now
 lost_now was now text working (inl (failed, same)) = let never : false ≡ true = sym working ∙ failed in absurd (cc never)
 lost_now was now text working (inr lost) = lost
+
+-- what the store holds after a save in which it failed
+pub stored_by_halt : (accounts : Accounts) (calls : List Call) (old new : BookFields) (was now : StoreFacts) (name : List ℕ) (event : ClientEvent) (moment : ℕ)
+    (sent : CodeTexts) → IsRun accounts calls (waits_code name) → IsHeld old was → IsJudged old was name moment sent Lost new now
+    → IsStoredAt accounts (call_of (hears event moment) (judged_lines moment sent Lost) ∷ calls) halted new now
+stored_by_halt accounts calls old new was now name event moment sent run held (same, (reply, next, needs, one, loses)) =
+    let lost = lost_now was now loses.text held.working loses.lost in
+    let of_old : IsBookText now.saved old ⊎ IsBookText now.saved next = elim lost.saved [
+      | inl before ↦ inl (subst (λ (t : List ℕ). IsBookText t old) (sym before) held.saved)
+      | inr after ↦ inr (subst (λ (t : List ℕ). IsBookText t next) (sym after) loses.is_text)
+    ] in
+    record {
+      failed = lost.failed;
+      t = told_of name moment sent reply;
+      next = next;
+      is_latest = (
+        waits_code name,
+        run,
+        record { event = event; answer = said halt; is_asked = refl; place = refl; lines_are = refl; needs_save = needs },
+      );
+      is_told = subst (λ (b : BookFields). IsTold b (told_of name moment sent reply) next) (sym same) one;
+      saved = subst (λ (b : BookFields). IsBookText now.saved b ⊎ IsBookText now.saved next) (sym same) of_old;
+    }
 
 -- a desk whose keeper lost a save
 pub stands_by_halt : GoesOnByALine → {S : Type 0} (facts : S → StoreFacts) (start : BookFields) (calls : List Call)
     (old new : Keeper S) (name own : List ℕ) (event : ClientEvent) (moment : ℕ) (sent : CodeTexts)
     → Stands facts start calls (desk_of old (Open (WaitsCode name) own)) → IsRecord event (waits_code name) (heard (asking sent))
     → CanBeLogLine (heard (asking sent)) → IsMoment moment → IsJudged old.book (facts old.store) name moment sent Lost new.book (facts new.store)
-    → Stands facts start (call_of (hears event moment) (judged_lines moment sent Lost) ∷ calls) (desk_of new (judged_state name own Lost))
+    → Stands facts start (call_of (hears event moment) (judged_lines moment sent Lost) ∷ calls) (desk_of new (state_after (judged_left name Lost) own))
 stands_by_halt law facts start calls old new name own event moment sent s is_record written is (same, (reply, next, needs, one, loses)) =
     let accounts = accounts_in start in
     let at = s.is_state.0 in
     let run = subst (λ (p : Place). IsRun accounts calls p) at s.is_run in
     let begins = subst (λ (p : Place). Begins (demands accounts) (run_lines calls) p s.told) at s.begins in
     let held = held_in_turn accounts calls s.place old.book (facts old.store) (client_turn accounts s.place (WaitsCode name) at) s.is_stored in
-    let lost = lost_now (facts old.store) (facts new.store) loses.text held.working loses.lost in
     let lines = judged_lines moment sent Lost in
     let path : IsPath (demands accounts) (waits_code name) lines halted = (got_code name sent, code_goes name sent, (halted, refl, refl)) in
-    let of_old : IsBookText (facts new.store).saved old.book ⊎ IsBookText (facts new.store).saved next = elim lost.saved [
-      | inl before ↦ inl (subst (λ (t : List ℕ). IsBookText t old.book) (sym before) held.saved)
-      | inr after ↦ inr (subst (λ (t : List ℕ). IsBookText t next) (sym after) loses.is_text)
-    ] in
     record {
       place = halted;
       told = s.told;
       is_run = (
         waits_code name,
         run,
-        record {
-          recorded = heard (asking sent);
-          answered = said halt ∷ [];
-          lines_are = refl;
-          is_record = is_record;
-          answers = (tt, tt);
-          path = path;
-          rests = tt;
-          challenge = tt;
-          plain = (tt, tt);
-          moments = (tt, tt);
-        },
+        taken_by_halt accounts (own_part calls) event moment name sent is_record,
       );
       begins = goes_on_by_path law accounts (run_lines calls) (waits_code name) s.told lines halted begins path (tt, (tt, tt));
       written = all-append CanBeLogLine (run_lines calls) lines s.written (written, (halt_written, tt));
       is_state = tt;
       is_book = subst (λ (b : BookFields). IsBookWith start (reverse s.told) b) (sym same) s.is_book;
-      is_stored = record {
-        failed = lost.failed;
-        t = told_of name moment sent reply;
-        next = next;
-        is_latest = (
-          waits_code name,
-          run,
-          record { event = event; answer = said halt; is_asked = refl; place = refl; lines_are = refl; needs_save = needs },
-        );
-        is_told = subst (λ (b : BookFields). IsTold b (told_of name moment sent reply) next) (sym same) one;
-        saved = subst (λ (b : BookFields). IsBookText (facts new.store).saved b ⊎ IsBookText (facts new.store).saved next) (sym same) of_old;
-      };
+      is_stored = stored_by_halt accounts calls old.book new.book (facts old.store) (facts new.store) name event moment sent run held (same, (reply, next, needs, one, loses));
       spent = λ ps spent. subst (λ (b : BookFields). IsSpent (all_spent (reverse s.told) ++ ps) b) (sym same) (s.spent ps spent);
     }
 
@@ -358,14 +385,14 @@ stands_by_code : BeginsWithItself → SpentStaysSpent → GoesOnByALine → {S :
     → Stands facts start calls (desk_of old (Open (WaitsCode name) own)) → IsRecord event (waits_code name) (heard (asking sent))
     → CanBeLogLine (heard (asking sent)) → IsMoment moment → IsJudged old.book (facts old.store) name moment sent judged new.book (facts new.store)
     → IsJudgedInRange judged
-    → Stands facts start (call_of (hears event moment) (judged_lines moment sent judged) ∷ calls) (desk_of new (judged_state name own judged))
+    → Stands facts start (call_of (hears event moment) (judged_lines moment sent judged) ∷ calls) (desk_of new (state_after (judged_left name judged) own))
 stands_by_code itself stays law facts start calls old new name own event moment sent (Replied reply) s is_record written is judged range =
     stands_by_reply itself stays law facts start calls old new name own event moment sent reply s is_record written is judged range
 stands_by_code itself stays law facts start calls old new name own event moment sent Lost s is_record written is judged range =
     stands_by_halt law facts start calls old new name own event moment sent s is_record written is judged
 
 -- one save for PASS, FAIL and HALT, and none for another reply
-saves_by_code : (moment : ℕ) (sent : CodeTexts) (name : List ℕ) (judged : Judged) (old new : BookFields) (was now : StoreFacts) → IsHeld old was
+pub saves_by_code : (moment : ℕ) (sent : CodeTexts) (name : List ℕ) (judged : Judged) (old new : BookFields) (was now : StoreFacts) → IsHeld old was
     → IsJudged old was name moment sent judged new now → now.saves ≡ was.saves + length (filter is_saving (judged_lines moment sent judged))
 saves_by_code moment sent name (Replied (Some (Pass c))) old new was now held (one, kept) = kept.saved.taken_up.counted
 saves_by_code moment sent name (Replied (Some Fail)) old new was now held (one, kept) = kept.saved.taken_up.counted
@@ -375,7 +402,7 @@ saves_by_code moment sent name Lost old new was now held (same, (reply, next, ne
     (lost_now was now loses.text held.working loses.lost).taken_up.counted
 
 -- what the store was given for it
-asked_by_code : (event : ClientEvent) (moment : ℕ) (sent : CodeTexts) (name : List ℕ) (at : Place) (judged : Judged) (old new : BookFields) (was now : StoreFacts)
+pub asked_by_code : (event : ClientEvent) (moment : ℕ) (sent : CodeTexts) (name : List ℕ) (at : Place) (judged : Judged) (old new : BookFields) (was now : StoreFacts)
     → at ≡ waits_code name → IsHeld old was → IsJudged old was name moment sent judged new now → (filter is_saving (judged_lines moment sent judged) ≡ [] → ⊥)
     → (t : Told) × (next : BookFields) × IsAttemptOf (hears event moment) at (judged_lines moment sent judged) t × IsTold old t next × IsBookText now.asked next
 asked_by_code event moment sent name at (Replied (Some (Pass c))) old new was now here held (one, kept) some = (
@@ -403,7 +430,7 @@ asked_by_code event moment sent name at Lost old new was now here held (same, (r
 )
 
 -- where nothing is saved, nothing changes
-quiet_by_code : (moment : ℕ) (sent : CodeTexts) (name : List ℕ) (judged : Judged) (old new : BookFields) (was now : StoreFacts)
+pub quiet_by_code : (moment : ℕ) (sent : CodeTexts) (name : List ℕ) (judged : Judged) (old new : BookFields) (was now : StoreFacts)
     → IsJudged old was name moment sent judged new now → filter is_saving (judged_lines moment sent judged) ≡ [] → (new ≡ old) × (now ≡ was)
 quiet_by_code moment sent name (Replied (Some (Pass c))) old new was now judged none = absurd (cc none)
 quiet_by_code moment sent name (Replied (Some Fail)) old new was now judged none = absurd (cc none)
@@ -412,12 +439,12 @@ quiet_by_code moment sent name (Replied None) old new was now (one, kept) none =
 quiet_by_code moment sent name Lost old new was now judged none = absurd (cc none)
 
 -- the desk has halted only where the save was lost
-failed_by : (was now : StoreFacts) (text : List ℕ) → ((was.failed ≡ true) × (now ≡ was)) ⊎ IsLost was text now → now.failed ≡ true
+pub failed_by : (was now : StoreFacts) (text : List ℕ) → ((was.failed ≡ true) × (now ≡ was)) ⊎ IsLost was text now → now.failed ≡ true
 failed_by was now text (inl (failed, same)) = rw same failed
 failed_by was now text (inr lost) = lost.failed
 
 halts_by_code : (moment : ℕ) (sent : CodeTexts) (name own : List ℕ) (judged : Judged) (old new : BookFields) (was now : StoreFacts)
-    → IsJudged old was name moment sent judged new now → phase_of (judged_state name own judged) ≡ phase.Halted → (now.failed ≡ true) × (new ≡ old)
+    → IsJudged old was name moment sent judged new now → phase_of (state_after (judged_left name judged) own) ≡ phase.Halted → (now.failed ≡ true) × (new ≡ old)
 halts_by_code moment sent name own (Replied reply) old new was now judged is = absurd (cc is)
 halts_by_code moment sent name own Lost old new was now (same, (reply, next, needs, one, loses)) is = (failed_by was now loses.text loses.lost, same)
 
@@ -428,61 +455,77 @@ open_goes_on (WaitsFirst mechanism) is = cc is
 open_goes_on (WaitsFinal waiting) is = cc is
 open_goes_on (WaitsCode name) is = cc is
 
-left_goes_on : (going : Option Session) (own : List ℕ) → phase_of (state_with going own) ≡ phase.Halted → ⊥
+left_goes_on : (going : Option Session) (own : List ℕ) → phase_of (state_after (left_of going) own) ≡ phase.Halted → ⊥
 left_goes_on None own is = cc is
 left_goes_on (Some going) own is = open_goes_on going is
 
+-- the lines of a session without a number stand as they are
+unmarked : (lines : List LogLine) → marked_bytes None lines ≡ log_bytes lines
+unmarked lines = refl
+
 -- the session that waits for a code of this account was asked to hear one
-pub answers_by_code : BeginsWithItself → SpentStaysSpent → GoesOnByALine → {S : Type 0} (facts : S → StoreFacts) (old : Keeper S) (going : Session)
-    (name own : List ℕ) (event : ClientEvent) (moment : ℕ) (sent : CodeTexts) (wire wire' log log' : List ℕ) (new : Desk S) → going ≡ WaitsCode name
-    → ((accounts : Accounts) (at : Place) → KeepsEntries accounts old.book → IsAt accounts at going → IsAsked event at name (asking sent))
-    → CanBeLogLine (heard (asking sent)) → IsCodeTurn facts old name own moment sent wire wire' log log' new
+answers_by_code : BeginsWithItself → SpentStaysSpent → GoesOnByALine → {S : Type 0} (facts : S → StoreFacts) (old : Keeper S) (going : Session)
+    (own : List ℕ) (event : ClientEvent) (moment : ℕ) (lines : List LogLine) (left : Left) (wire wire' log log' : List ℕ) (new : Desk S) (name : List ℕ)
+    (sent : CodeTexts) → AsksJudgement old going event name sent → IsCodeJudged facts old name moment sent lines left new.keeper
+    → AreSent None lines wire wire' log log' → new.state ≡ state_after left own
     → Answers facts (desk_of old (Open going own)) (hears event moment) wire wire' log log' new
-answers_by_code itself stays law {S} facts old going name own event moment sent wire wire' log log' new waits asked written t = record {
-  lines = judged_lines moment sent t.judged;
-  logged = t.logged;
-  sent = t.sent;
-  stands = λ start calls s.
-      let here = subst (λ (g : Session). Stands facts start calls (desk_of old (Open g own))) waits s in
-      let at = here.is_state.0 in
-      let after = book_after_told itself start s.told old.book s.is_book in
-      let is_asked = asked (accounts_in start) s.place after.entries s.is_state.0 in
-      let is_record = subst (λ (p : Place). IsRecord event p (heard (asking sent))) is_asked.place is_asked.is_record in
-      subst (λ (st : State). Stands facts start (call_of (hears event moment) (judged_lines moment sent t.judged) ∷ calls) (desk_of new.keeper st)) (sym t.is_state)
-      (stands_by_code itself stays law facts start calls old new.keeper name own event moment sent t.judged here is_record written t.is_moment t.is_judged t.in_range);
-  saves = λ start calls s.
-      saves_by_code moment sent name t.judged old.book new.keeper.book (facts old.store) (facts new.keeper.store)
-      (held_in_turn (accounts_in start) calls s.place old.book (facts old.store) (client_turn (accounts_in start) s.place going s.is_state.0) s.is_stored) t.is_judged;
-  asks = λ start calls s some.
-      let here = subst (λ (g : Session). IsAt (accounts_in start) s.place g) waits s.is_state.0 in
-      asked_by_code event moment sent name s.place t.judged old.book new.keeper.book (facts old.store) (facts new.keeper.store) here
-      (held_in_turn (accounts_in start) calls s.place old.book (facts old.store) (client_turn (accounts_in start) s.place going s.is_state.0) s.is_stored) t.is_judged some;
-  quiet = λ none. quiet_by_code moment sent name t.judged old.book new.keeper.book (facts old.store) (facts new.keeper.store) t.is_judged none;
-  halts = λ is.
-      halts_by_code moment sent name own t.judged old.book new.keeper.book (facts old.store) (facts new.keeper.store) t.is_judged (rw t.is_state at is);
-}
+answers_by_code itself stays law {S} facts old going own event moment lines left wire wire' log log' new name sent asked t written is_state =
+    let held = λ (start : BookFields) (calls : List Call) (s : Stands facts start calls (desk_of old (Open going own))).
+    held_in_turn (accounts_in start) calls s.place old.book (facts old.store) (client_turn (accounts_in start) s.place going s.is_state.0) s.is_stored in
+    record {
+      lines = lines;
+      logged = written.logged;
+      sent = written.sent;
+      stands = λ start calls s.
+          let here = subst (λ (g : Session). Stands facts start calls (desk_of old (Open g own))) asked.waits s in
+          let after = book_after_told itself start s.told old.book s.is_book in
+          let asks = asked.asks (accounts_in start) s.place after.entries s.is_state.0 in
+          let is_record = subst (λ (p : Place). IsRecord event p (heard (asking sent))) asks.place asks.is_record in
+          rw (is_state, t.is_left, t.lines_are)
+          (stands_by_code itself stays law facts start calls old new.keeper name own event moment sent t.judged here is_record asked.written t.is_moment t.is_judged t.in_range);
+      saves = λ start calls s.
+          rw t.lines_are (saves_by_code moment sent name t.judged old.book new.keeper.book (facts old.store) (facts new.keeper.store) (held start calls s) t.is_judged);
+      asks = λ start calls s some.
+          let here = subst (λ (g : Session). IsAt (accounts_in start) s.place g) asked.waits s.is_state.0 in
+          rw t.lines_are (asked_by_code event moment sent name s.place t.judged old.book new.keeper.book (facts old.store) (facts new.keeper.store) here
+          (held start calls s) t.is_judged (rw t.lines_are at some));
+      quiet = λ none. quiet_by_code moment sent name t.judged old.book new.keeper.book (facts old.store) (facts new.keeper.store) t.is_judged (rw t.lines_are at none);
+      halts = λ is.
+          halts_by_code moment sent name own t.judged old.book new.keeper.book (facts old.store) (facts new.keeper.store) t.is_judged (rw (is_state, t.is_left) at is);
+    }
 
 -- the session answered a turn
-pub answers_by_turn : BeginsWithItself → GoesOnByALine → {S : Type 0} (facts : S → StoreFacts) (keeper : Keeper S) (going : Session) (own : List ℕ) (event : ClientEvent)
-    (moment : ℕ) (turn : Turn) (message wire wire' log log' : List ℕ) (new : Desk S)
-    → ((accounts : Accounts) (at : Place) → KeepsEntries accounts keeper.book → IsAt accounts at going → IsTurn accounts own event at turn message)
-    → CanBeWritten (turn_lines turn message) → new.keeper ≡ keeper → new.state ≡ state_with turn.answer.session own
-    → log' ≡ log ++ log_bytes (turn_lines turn message) → wire' ≡ wire ++ wire_bytes (turn_lines turn message)
+answers_by_turn : BeginsWithItself → GoesOnByALine → {S : Type 0} (facts : S → StoreFacts) (keeper : Keeper S) (going : Session) (own : List ℕ) (event : ClientEvent)
+    (moment : ℕ) (lines : List LogLine) (left : Left) (wire wire' log log' : List ℕ) (new : Desk S) → IsAnswered keeper going own event lines left new.keeper
+    → AreSent None lines wire wire' log log' → new.state ≡ state_after left own
     → Answers facts (desk_of keeper (Open going own)) (hears event moment) wire wire' log log' new
-answers_by_turn itself law facts keeper going own event moment turn message wire wire' log log' new hears_it written same is_state logged sent = record {
-  lines = turn_lines turn message;
-  logged = logged;
-  sent = sent;
-  stands = λ start calls s.
-      rw (same, is_state) (stands_by_turn itself law facts start calls keeper going own event moment turn message s hears_it written);
-  saves = λ start calls s.
-      let none = ap (λ (l : List LogLine). length l) (turn_saves turn message) in
-      let unasked = ap (λ (k : Keeper _). (facts k.store).saves) same in
-      omega (arith, none, unasked);
-  asks = λ start calls s some. absurd (some (turn_saves turn message));
-  quiet = λ none. (ap (λ (k : Keeper _). k.book) same, ap (λ (k : Keeper _). facts k.store) same);
-  halts = λ is. absurd (left_goes_on turn.answer.session own (rw is_state at is));
-}
+answers_by_turn itself law facts keeper going own event moment lines left wire wire' log log' new t written is_state =
+    let none_saved : filter is_saving lines ≡ [] = rw t.lines_are (turn_saves t.turn t.message) in
+    record {
+      lines = lines;
+      logged = written.logged;
+      sent = written.sent;
+      stands = λ start calls s.
+          rw (t.same, is_state, t.is_left, t.lines_are)
+          (stands_by_turn itself law facts start calls keeper going own event moment t.turn t.message s t.hears (rw t.lines_are at t.written));
+      saves = λ start calls s.
+          let none = ap (λ (l : List LogLine). length l) none_saved in
+          let unasked = ap (λ (k : Keeper _). (facts k.store).saves) t.same in
+          omega (arith, none, unasked);
+      asks = λ start calls s some. absurd (some none_saved);
+      quiet = λ none. (ap (λ (k : Keeper _). k.book) t.same, ap (λ (k : Keeper _). facts k.store) t.same);
+      halts = λ is. absurd (left_goes_on t.turn.answer.session own (rw (is_state, t.is_left) at is));
+    }
+
+-- the open session took a turn
+pub answers_by_taken : BeginsWithItself → SpentStaysSpent → GoesOnByALine → {S : Type 0} (facts : S → StoreFacts) (old : Keeper S) (going : Session) (own : List ℕ)
+    (event : ClientEvent) (moment : ℕ) (left : Left) (wire wire' log log' : List ℕ) (new : Desk S)
+    → IsTurnWritten facts old going own event moment None wire wire' log log' left new.keeper → new.state ≡ state_after left own
+    → Answers facts (desk_of old (Open going own)) (hears event moment) wire wire' log log' new
+answers_by_taken itself stays law facts old going own event moment left wire wire' log log' new (lines, inl t, written) is_state =
+    answers_by_turn itself law facts old going own event moment lines left wire wire' log log' new t written is_state
+answers_by_taken itself stays law facts old going own event moment left wire wire' log log' new (lines, inr (name, sent, asked, t), written) is_state =
+    answers_by_code itself stays law facts old going own event moment lines left wire wire' log log' new name sent asked t written is_state
 
 -- the desk greeted a client
 pub answers_by_greeting : GoesOnByALine → {S : Type 0} (facts : S → StoreFacts) (keeper : Keeper S) (state : State) (own wire wire' log log' : List ℕ)

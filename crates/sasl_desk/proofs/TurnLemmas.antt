@@ -57,7 +57,7 @@ bad_goes d (waits_final mechanism account first challenge) turn = refl
 bad_goes d (waits_code account) turn = refl
 bad_goes d at turn = absurd (cc turn)
 
-goes_bad : (d : Demands) (at next : Place) → Goes d at bad next → (is_client_turn at ≡ true) × (next ≡ leaving)
+pub goes_bad : (d : Demands) (at next : Place) → Goes d at bad next → (is_client_turn at ≡ true) × (next ≡ leaving)
 goes_bad d offered next goes = (refl, goes)
 goes_bad d (waits_first mechanism) next goes = (refl, goes)
 goes_bad d (waits_final mechanism account first challenge) next goes = (refl, goes)
@@ -72,7 +72,7 @@ gone_goes d (waits_final mechanism account first challenge) turn = refl
 gone_goes d (waits_code account) turn = refl
 gone_goes d at turn = absurd (cc turn)
 
-goes_gone : (d : Demands) (at next : Place) → Goes d at gone next → (is_client_turn at ≡ true) × (next ≡ over)
+pub goes_gone : (d : Demands) (at next : Place) → Goes d at gone next → (is_client_turn at ≡ true) × (next ≡ over)
 goes_gone d offered next goes = (refl, goes)
 goes_gone d (waits_first mechanism) next goes = (refl, goes)
 goes_gone d (waits_final mechanism account first challenge) next goes = (refl, goes)

@@ -1,9 +1,6 @@
 -- What a desk stands for: the book with which it began, and the run since.
 use Rattle.std.specs.Prelude.{ℕ, ◌≡◌, ◌+◌, ◌⊎◌, true, false, Bool, List, [], ◌∷◌, ◌++◌, reverse, length, filter}
-use Rattle.std.specs.declared.option.Option.{Option}
-use Rattle.std.specs.declared.option.Option.TheVariants.{None, Some}
-use Rattle.otp_core.specs.Attempt.{CodeTexts}
-use Rattle.otp_core.specs.Secret.{IsMoment}
+use Rattle.std.specs.declared.option.Option.TheVariants.{Some}
 use Rattle.otp_core.specs.declared.token.answer.Reply.TheVariants.{Pass, Fail}
 use Rattle.book_format.specs.Book.{BookFields}
 use Rattle.book_format.specs.Trees.{IsBookText}
@@ -15,15 +12,16 @@ use Rattle.log_grammar.specs.Demands.{Accounts, demands}
 use Rattle.log_grammar.specs.Places.{Place, between, waits_code, halted}
 use Rattle.log_grammar.specs.Clean.{Begins}
 use Rattle.sasl_desk.specs.Events.{ClientEvent}
-use Rattle.sasl_desk.specs.Keeper.{IsTold, NeedsSave, IsJudged, IsJudgedInRange}
+use Rattle.sasl_desk.specs.Keeper.{IsTold, NeedsSave}
 use Rattle.sasl_desk.specs.Runs.{Asked, hears, Call, call_of, run_lines, own_part, log_bytes, wire_bytes, IsRun}
 use Rattle.sasl_desk.specs.Sessions.{IsAt, CanBeWritten}
 use Rattle.sasl_desk.specs.Spent.{IsSpent, spent_by}
 use Rattle.sasl_desk.specs.declared.session.Session.{Session}
 use Rattle.sasl_desk.specs.declared.session.Session.TheVariants.{Offered, WaitsFirst, WaitsFinal, WaitsCode}
 use Rattle.sasl_desk.specs.declared.keeper.Keeper.{Keeper}
-use Rattle.sasl_desk.specs.declared.keeper.Judged.{Judged}
-use Rattle.sasl_desk.specs.declared.keeper.Judged.TheVariants.{Replied, Lost}
+use Rattle.sasl_desk.specs.declared.turn.Left.{Left}
+use Rattle.sasl_desk.specs.declared.turn.Left.TheVariants.{Going, Over}
+use Rattle.sasl_desk.specs.declared.turn.Left.TheVariants as left
 use Rattle.sasl_desk.specs.declared.desk.Desk.{Desk}
 use Rattle.sasl_desk.specs.declared.desk.state.State.{State}
 use Rattle.sasl_desk.specs.declared.desk.state.State.TheVariants.{Closed, Open, Halted}
@@ -123,31 +121,11 @@ pub record IsSame {S : Type 0} (old new : Desk S) : Type 0 where
   pub store : new.keeper.store ≡ old.keeper.store
   pub state : new.state ≡ old.state
 
--- the state of a desk in which this session goes on, or none
-abbrev pub state_with : Option Session → (own : List ℕ) → State
-state_with (Some going) own = Open going own
-state_with None own = Closed
-
--- the lines of a code that was judged, or of two in a row: that of the client, and the reply or `HALT`
-abbrev pub judged_lines : (moment : ℕ) → CodeTexts → Judged → List LogLine
-judged_lines moment sent (Replied reply) = heard (asking sent) ∷ said (replies moment reply) ∷ []
-judged_lines moment sent Lost = heard (asking sent) ∷ said halt ∷ []
-
--- the state of a desk that judged a code of this account's client
-abbrev pub judged_state : (name own : List ℕ) → Judged → State
-judged_state name own (Replied reply) = Open (WaitsCode name) own
-judged_state name own Lost = Halted
-
--- a code of this account's client, or two in a row, was judged by the keeper, and its lines were written
-pub record IsCodeTurn {S : Type 0} (facts : S → StoreFacts) (old : Keeper S) (name own : List ℕ) (moment : ℕ) (texts : CodeTexts)
-    (wire wire' log log' : List ℕ) (new : Desk S) : Type 0 where
-  pub judged : Judged
-  pub is_judged : IsJudged old.book (facts old.store) name moment texts judged new.keeper.book (facts new.keeper.store)
-  pub in_range : IsJudgedInRange judged
-  pub is_moment : IsMoment moment
-  pub logged : log' ≡ log ++ log_bytes (judged_lines moment texts judged)
-  pub sent : wire' ≡ wire ++ wire_bytes (judged_lines moment texts judged)
-  pub is_state : new.state ≡ judged_state name own judged
+-- the state of a desk whose session was left so
+abbrev pub state_after : Left → (own : List ℕ) → State
+state_after (Going going) own = Open going own
+state_after Over own = Closed
+state_after (left.Halted going) own = Halted
 
 -- a line that stands for a save: PASS, FAIL and HALT
 abbrev pub is_saving : LogLine → Bool

@@ -1,7 +1,7 @@
 -- The numbers of a desk's faults.
 use Rattle.std.specs.Prelude.{ℕ}
 use Rattle.sasl_desk.specs.declared.fault.DeskFault.{DeskFault}
-use Rattle.sasl_desk.specs.declared.fault.DeskFault.TheVariants.{Halted, Unwritable, NoMemory}
+use Rattle.sasl_desk.specs.declared.fault.DeskFault.TheVariants.{Halted, Unwritable, NoNumber, NoMemory}
 use Rattle.sasl_desk.specs.declared.fault.ServeFault.{ServeFault}
 use Rattle.sasl_desk.specs.declared.fault.ServeFault.TheVariants as serve
 
@@ -9,6 +9,7 @@ use Rattle.sasl_desk.specs.declared.fault.ServeFault.TheVariants as serve
 abbrev pub desk_number : DeskFault → ℕ
 desk_number Halted = 72
 desk_number Unwritable = 73
+desk_number NoNumber = 76
 desk_number NoMemory = 99
 
 -- the number of a fault in serving
@@ -19,8 +20,9 @@ serve_number serve.NoMemory = 99
 serve_number serve.WriteFault = 74
 serve_number serve.LogFault = 75
 
--- a desk's fault, as one in serving
+-- a desk's fault, as one in serving. No call of a desk answers that no number is left.
 abbrev pub fault_of : DeskFault → ServeFault
 fault_of Halted = serve.Halted
 fault_of Unwritable = serve.Unwritable
+fault_of NoNumber = serve.Unwritable
 fault_of NoMemory = serve.NoMemory

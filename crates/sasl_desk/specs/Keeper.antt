@@ -15,7 +15,7 @@ use Rattle.log_grammar.specs.Sessions.{Told, told_of}
 use Rattle.sasl_desk.specs.declared.sent.Sent.{Sent}
 use Rattle.sasl_desk.specs.declared.sent.Sent.TheVariants.{One, Two}
 use Rattle.sasl_desk.specs.declared.fault.DeskFault.{DeskFault}
-use Rattle.sasl_desk.specs.declared.fault.DeskFault.TheVariants.{Halted, Unwritable, NoMemory}
+use Rattle.sasl_desk.specs.declared.fault.DeskFault.TheVariants.{Halted, Unwritable, NoNumber, NoMemory}
 use Rattle.sasl_desk.specs.declared.keeper.Judged.{Judged}
 use Rattle.sasl_desk.specs.declared.keeper.Judged.TheVariants.{Replied, Lost}
 
@@ -54,6 +54,7 @@ abbrev pub IsNotBegun : StoreFacts → BookFields → DeskFault → StoreFacts �
 IsNotBegun was book NoMemory now = now ≡ was
 IsNotBegun was book Halted now = LosesText was book now
 IsNotBegun was book Unwritable now = ⊥
+IsNotBegun was book NoNumber now = ⊥
 
 -- a reply that changes the token is saved; one that changes nothing asks nothing of the store
 abbrev pub IsKept : Option Reply → BookFields → StoreFacts → BookFields → StoreFacts → Type 0

@@ -1,8 +1,13 @@
+pub mod Alone
 pub mod Desks
 pub mod Events
 pub mod Faults
+pub mod Guests
+pub mod Halls
 pub mod Inputs
 pub mod Keeper
+pub mod Left
+pub mod Marks
 pub mod Outputs
 pub mod Records
 pub mod Restarts

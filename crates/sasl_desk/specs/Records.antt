@@ -1,11 +1,12 @@
 -- What the log of a run records: one offer of mechanisms for each client that was greeted, and one line for each thing that a
 -- client did.
-use Rattle.std.specs.Prelude.{ℕ, ◌≡◌, Bool, true, false, List, [], ◌∷◌, ◌++◌, length, filter}
+use Rattle.std.specs.Prelude.{ℕ, ◌≡◌, ◌⊎◌, Bool, true, false, List, [], ◌∷◌, ◌++◌, length, filter}
 use Rattle.log_grammar.specs.Lines.{LogLine, said, heard, bad, gone, mechs}
 use Rattle.log_grammar.specs.Demands.{Accounts}
 use Rattle.log_grammar.specs.Places.{Place}
 use Rattle.sasl_desk.specs.Sessions.{IsRecord}
-use Rattle.sasl_desk.specs.Runs.{Asked, greets, hears, Call, run_lines, IsRun}
+use Rattle.sasl_desk.specs.Halls.{busy_lines}
+use Rattle.sasl_desk.specs.Runs.{Asked, greets, hears, Call, call_of, run_lines, IsRun}
 
 -- the line offers mechanisms
 abbrev pub is_offer : LogLine → Bool
@@ -47,3 +48,8 @@ AreRecords accounts (c ∷ before) records = HasRecordOf accounts c.asked before
 pub record HasItsRecords (accounts : Accounts) (calls : List Call) : Type 0 where
   pub offers : length (filter is_offer (run_lines calls)) ≡ length (nonces_in calls)
   pub records : AreRecords accounts calls (filter is_record (run_lines calls))
+
+-- the records of a session of a hall: as at a desk; or it was turned away, when it was greeted, and nothing more was asked of it
+abbrev pub HasSessionRecords : Accounts → List Call → Type 0
+HasSessionRecords accounts calls =
+    HasItsRecords accounts calls ⊎ ((part : List ℕ) × (calls ≡ call_of (greets part) busy_lines ∷ []))

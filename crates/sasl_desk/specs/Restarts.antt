@@ -1,4 +1,4 @@
--- What befalls a book over its life: runs of desks, one after another, and what is done with it between them.
+-- What befalls a book over its life: runs of desks and of halls, one after another, and what is done with it between them.
 use Rattle.std.specs.Prelude.{ℕ, ◌≡◌, ◌⊎◌, List, [], ◌∷◌, ◌++◌, reverse}
 use Rattle.std.specs.declared.option.Option.TheVariants.{None}
 use Rattle.book_format.specs.Account.{AccountFields}
@@ -11,9 +11,11 @@ use Rattle.log_grammar.specs.Sessions.{Told}
 use Rattle.log_grammar.specs.Demands.{demands}
 use Rattle.log_grammar.specs.Places.{Place}
 use Rattle.log_grammar.specs.Clean.{Begins}
+use Rattle.log_grammar.specs.Numbered.{Numbered, SpellsNumbered}
 use Rattle.sasl_desk.specs.Keeper.{IsTold}
 use Rattle.sasl_desk.specs.Runs.{Call, run_lines}
 use Rattle.sasl_desk.specs.Desks.{Stands, all_spent}
+use Rattle.sasl_desk.specs.Halls.{HallFields, hall_lines, StandsHall}
 use Rattle.sasl_desk.specs.Spent.{spent_by}
 use Rattle.sasl_desk.specs.declared.desk.Desk.{Desk}
 
@@ -34,11 +36,28 @@ pub record IsRunOf {S : Type 0} (facts : S → StoreFacts) (r : Run) : Type 0 wh
   pub begins : Begins (demands (accounts_in r.start)) (run_lines r.calls) r.place r.told
   pub leaves : (r.left ≡ desk.keeper.book) ⊎ ((t : Told) × IsTold desk.keeper.book t r.left)
 
--- what befalls a book: a desk runs with it, from the text that the store held when the run began to the one that it holds when
+-- the calls that a hall has answered, and what its log tells
+pub record HallRun : Type 0 where
+  pub start : BookFields
+  pub calls : List (Numbered Call)
+  pub places : ℕ → Place
+  pub told : List Told
+  pub left : BookFields
+
+-- a hall that began with the book has answered the calls, and its log tells this. Where it stops, it leaves a book as a desk
+-- does.
+pub record IsHallRunOf {S : Type 0} (facts : S → StoreFacts) (r : HallRun) : Type 0 where
+  pub hall : HallFields S
+  pub stands : StandsHall facts r.start r.calls hall
+  pub spelled : SpellsNumbered 64 (demands (accounts_in r.start)) (hall_lines r.calls) r.places r.told
+  pub leaves : (r.left ≡ hall.keeper.book) ⊎ ((t : Told) × IsTold hall.keeper.book t r.left)
+
+-- what befalls a book: a desk or a hall runs with it, from the text that the store held when the run began to the one that it holds when
 -- the run has stopped; its token judges an attempt of an account, without a desk; the token of an account is unlocked; an
 -- account is added
 pub data Change : Type 0 where
   ran : (r : Run) → Change
+  hosts : (r : HallRun) → Change
   judged : (t : Told) → Change
   unlocks : (name : List ℕ) → Change
   adds : (name : List ℕ) (account : AccountFields) → Change
@@ -46,6 +65,7 @@ pub data Change : Type 0 where
 -- the change makes the one book the other
 abbrev pub IsChange : {S : Type 0} → (S → StoreFacts) → Change → (old new : BookFields) → Type 0
 IsChange facts (ran r) old new = IsRunOf facts r × (r.start ≡ old) × (r.left ≡ new)
+IsChange facts (hosts r) old new = IsHallRunOf facts r × (r.start ≡ old) × (r.left ≡ new)
 IsChange facts (judged t) old new = IsTold old t new
 IsChange facts (unlocks name) old new = IsUnlocked old name new
 IsChange facts (adds name account) old new = (account_at old name ≡ None) × IsAdded old name account new
@@ -58,6 +78,7 @@ AreChanges facts first (c ∷ before) last = (middle : BookFields) × AreChanges
 -- the counters that the replies of a change use, with their accounts
 abbrev pub spent_by_change : Change → List (List ℕ × ℕ)
 spent_by_change (ran r) = all_spent (reverse r.told)
+spent_by_change (hosts r) = all_spent (reverse r.told)
 spent_by_change (judged t) = spent_by t
 spent_by_change (unlocks name) = []
 spent_by_change (adds name account) = []

@@ -1,13 +1,13 @@
 //! Why a desk does not do what it was asked, and why a client is not served.
-ghost use Rattle.std.specs.Prelude.{◌≡◌};
+ghost use Rattle.std.specs.Prelude.{◌≡◌, ◌≢◌};
 ghost use Rattle.sasl_desk.specs.Faults.{desk_number, serve_number, fault_of};
 
 use thiserror::Error;
 
-/// Why a desk refuses a call.
+/// Why a desk or a hall refuses a call.
 #[derive(Clone, Copy, Debug, PartialEq, Eq, Error)]
 pub enum DeskFault {
-    /// 72: the desk has halted, or the first save failed.
+    /// 72: the desk or hall has halted, or the first save failed.
     #[error("the desk has halted")]
     Halted,
 
@@ -15,19 +15,24 @@ pub enum DeskFault {
     #[error("a message that is due cannot be written")]
     Unwritable,
 
+    /// 76: a hall has given all numbers of sessions. No call of a desk answers it.
+    #[error("no number is left for a session")]
+    NoNumber,
+
     /// 99: memory ran out.
     #[error("out of memory")]
     NoMemory,
 }
 
 impl DeskFault {
-    /// The number of the fault: 72, 73 or 99.
+    /// The number of the fault: 72, 73, 76 or 99.
     pub fn number(&self) -> u16
         ensures { result ≡ desk_number self.now }
     {
         match self {
             DeskFault::Halted => 72,
             DeskFault::Unwritable => 73,
+            DeskFault::NoNumber => 76,
             DeskFault::NoMemory => 99,
         }
     }
@@ -73,11 +78,13 @@ impl ServeFault {
 
     /// A fault of the desk.
     pub(crate) fn of_desk(fault: DeskFault) -> ServeFault
+        requires { fault ≢ DeskFault.NoNumber }
         ensures { result ≡ fault_of fault }
     {
         match fault {
             DeskFault::Halted => ServeFault::Halted,
             DeskFault::Unwritable => ServeFault::Unwritable,
+            DeskFault::NoNumber => unreachable!(),
             DeskFault::NoMemory => ServeFault::NoMemory,
         }
     }

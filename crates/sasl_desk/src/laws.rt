@@ -17,9 +17,12 @@ ghost use Rattle.sasl_desk.specs.declared.desk.Desk.{Desk};
 ghost use Rattle.sasl_desk.specs.declared.desk.state.Phase.TheVariants as phase;
 ghost use Rattle.sasl_desk.specs.Turns.{DueLinesStand, BadLinesStand, GoneClientsStand};
 
+pub mod hall;
+
 use account_book::BookStore;
 use account_book::laws::{added_is_apart, tokens_are_apart};
 use log_grammar::laws::{goes_on_by_no_other, has_one_reading};
+use log_grammar::numbered::has_one_numbered_reading;
 use otp_core::laws::{begins_with_itself, candidates_are_new, legal_histories_join};
 
 /// What was spent stays spent over every reply, and the counters that a reply uses are others, and are spent then.
@@ -96,7 +99,7 @@ pub fn told_counters_are_saved<S: BookStore>()
     spent_stays_spent();
 }
 
-/// No counter of an account passes twice over all that befalls a book: runs of desks, wherever each of them stopped, and between
+/// No counter of an account passes twice over all that befalls a book: runs of desks and halls, wherever each of them stopped, and between
 /// them attempts that the book's tokens judge without a desk, unlocked tokens and added accounts. The counters that the replies
 /// use are different from each other and from those that were used before, and all are used in the book that is left.
 pub fn no_counter_passes_twice<S: BookStore>()
@@ -107,6 +110,7 @@ pub fn no_counter_passes_twice<S: BookStore>()
     candidates_are_new();
     spent_stays_spent();
     has_one_reading();
+    has_one_numbered_reading();
     tokens_are_apart();
     added_is_apart();
 }

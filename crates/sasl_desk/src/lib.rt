@@ -2,22 +2,27 @@
 //!
 //! `Session` says what one client is told, line by line, and hands its codes on to be judged. `Keeper` holds the book and the
 //! store of its text: it judges codes, and saves each change before it is told. `Desk` is both, with the log. `serve` reads the
-//! lines of one client, hands them to a desk, and writes its answers.
+//! lines of one client, hands them to a desk, and writes its answers. `Hall` is a keeper and up to 64 sessions at a time, with one
+//! log for all.
 #![tactic(auto)]
 
 mod clock;
 mod desk;
 mod fault;
+mod hall;
 mod keeper;
 pub mod laws;
 mod sent;
 mod serving;
 mod session;
+mod turn;
+mod write;
 
 pub use account_book::{Book, BookStore};
 pub use clock::Clock;
 pub use desk::{Desk, Phase};
 pub use fault::{DeskFault, ServeFault};
+pub use hall::Hall;
 pub use keeper::{Judged, Keeper};
 pub use otp_core::{Moment, Reply};
 pub use sent::Sent;

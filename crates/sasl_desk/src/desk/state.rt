@@ -1,5 +1,6 @@
 //! Where a desk stands.
 use crate::session::Session;
+use crate::turn::Left;
 use scram_text::NoncePart;
 
 /// What may come next at a desk.
@@ -24,6 +25,23 @@ pub enum Phase {
     Halted,
 }
 
+impl Phase {
+    ghost use Rattle.std.specs.Prelude.{◌≡◌};
+    ghost use Rattle.sasl_desk.specs.Desks.{session_phase};
+
+    /// The phase of an open session.
+    pub(crate) fn of(session: &Session) -> Phase
+        ensures { result ≡ session_phase session.now }
+    {
+        match session {
+            Session::Offered => Phase::WaitAuth,
+            Session::WaitsFirst(_) => Phase::WaitFirst,
+            Session::WaitsFinal(_) => Phase::WaitFinal,
+            Session::WaitsCode(_) => Phase::WaitCode,
+        }
+    }
+}
+
 /// The session that is open, with the server's part of its nonce; or none.
 #[derive(Drop)]
 pub(crate) enum State {
@@ -39,7 +57,18 @@ pub(crate) enum State {
 
 impl State {
     ghost use Rattle.std.specs.Prelude.{◌≡◌};
-    ghost use Rattle.sasl_desk.specs.Desks.{phase_of};
+    ghost use Rattle.sasl_desk.specs.Desks.{phase_of, state_after};
+
+    /// The state after a turn, in which the session was left so. `own` is the server's part of its nonce.
+    pub(crate) fn after(left: Left, own: NoncePart) -> State
+        ensures { result ≡ state_after left own }
+    {
+        match left {
+            Left::Going(session) => State::Open(session, own),
+            Left::Over => State::Closed,
+            Left::Halted(_) => State::Halted,
+        }
+    }
 
     /// The phase.
     pub(crate) fn phase(&self) -> Phase
@@ -47,10 +76,7 @@ impl State {
     {
         match self {
             State::Closed => Phase::Closed,
-            State::Open(Session::Offered, _) => Phase::WaitAuth,
-            State::Open(Session::WaitsFirst(_), _) => Phase::WaitFirst,
-            State::Open(Session::WaitsFinal(_), _) => Phase::WaitFinal,
-            State::Open(Session::WaitsCode(_), _) => Phase::WaitCode,
+            State::Open(session, _) => Phase::of(session),
             State::Halted => Phase::Halted,
         }
     }

@@ -11,6 +11,7 @@ fn numbers_and_texts(rt: HostRuntime) -> Result<(), Fail> {
             73,
             "a message that is due cannot be written",
         ),
+        (DeskFault::NoNumber, 76, "no number is left for a session"),
         (DeskFault::NoMemory, 99, "out of memory"),
     ] {
         assert_eq!(rt; fault.number(), number);

@@ -1,0 +1,256 @@
+//! Sessions in a hall: many at a time, one log, and each client's own wire.
+use account_book::Book;
+use desk_in_memory::{ANSWERS, BOOK, LOGIN, Memory, book_text};
+use sasl_desk::{DeskFault, Event, Hall, Moment, Phase};
+use scram_text::NoncePart;
+use std::alloc::Global;
+use std::process::Abort;
+use std::test::Fail;
+
+// A hall, and all that it has written: its log, and what the clients of the odd and of the even numbers were sent.
+#[derive(Drop)]
+struct Party {
+    hall: Hall<Memory>,
+    odd: Vec<u8>,
+    even: Vec<u8>,
+    log: Vec<u8>,
+}
+
+// A hall over this store.
+fn begun(alloc: Global, store: Memory) -> Result<Party, Fail> {
+    let book = Book::read(alloc, book_text(alloc)?.as_bytes())?;
+    let mut log = Vec::new(alloc);
+    match Hall::begin(alloc, book, store, &mut log) {
+        Ok(hall) => Ok(Party {
+            hall,
+            odd: Vec::new(alloc),
+            even: Vec::new(alloc),
+            log,
+        }),
+        Err(_) => Err("no hall".into()),
+    }
+}
+
+// Greets a client, whose number is to be odd or not.
+fn greet(party: &mut Party, is_odd: bool) -> Result<Result<(u64, Phase), DeskFault>, Fail> {
+    let own = NoncePart::new(b"3rfcNHYJY1ZVvWVs7j").ok_or("a part of a nonce")?;
+    let Party {
+        hall,
+        odd,
+        even,
+        log,
+    } = party;
+    if is_odd {
+        Ok(hall.greet(own, odd, log))
+    } else {
+        Ok(hall.greet(own, even, log))
+    }
+}
+
+// Hands in a line of the client of this number, or, where it is empty, that the client has gone.
+fn hear(
+    alloc: Global,
+    party: &mut Party,
+    number: u64,
+    line: &str,
+) -> Result<Result<Phase, DeskFault>, Fail> {
+    let moment = Moment::new(3).ok_or("a moment")?;
+    let Party {
+        hall,
+        odd,
+        even,
+        log,
+    } = party;
+    if hall.phase(number).is_none() && !hall.halted() {
+        return Err("the session is not open".into());
+    }
+    let event = if line.is_empty() {
+        Event::Gone
+    } else {
+        Event::Line(line.as_bytes())
+    };
+    if number % 2 == 1 {
+        Ok(hall.client(alloc, number, event, moment, odd, log))
+    } else {
+        Ok(hall.client(alloc, number, event, moment, even, log))
+    }
+}
+
+// The clients do this, one after the other, which leads their sessions to these phases.
+fn play(
+    rt: &(impl Abort + AllocGlobal),
+    party: &mut Party,
+    steps: &[(u64, &str, Phase)],
+) -> Result<(), Fail> {
+    for (number, line, phase) in steps {
+        assert_eq!(rt;
+            hear(rt.alloc(), party, *number, line)?,
+            Ok(*phase),
+            "{number} {line}"
+        );
+    }
+    Ok(())
+}
+
+// A hall in which so many clients were greeted, with the numbers from 1.
+fn greeted(rt: &(impl Abort + AllocGlobal), store: Memory, many: u64) -> Result<Party, Fail> {
+    let mut party = begun(rt.alloc(), store)?;
+    for before in 0..many {
+        let came = greet(&mut party, before % 2 == 0)?;
+        assert_eq!(rt; came, Ok((before + 1, Phase::WaitAuth)));
+    }
+    Ok(party)
+}
+
+#[test]
+fn two_sessions_stand_in_one_log(rt: HostRuntime) -> Result<(), Fail> {
+    let mut party = greeted(&rt, Memory::new(rt.alloc(), 0, false), 2)?;
+    let steps = [
+        (2, "AUTH PLAIN", Phase::Closed),
+        (1, LOGIN[0], Phase::WaitFinal),
+        (1, LOGIN[1], Phase::WaitCode),
+        (1, "CODE 755224", Phase::WaitCode),
+        (1, "", Phase::Closed),
+    ];
+    play(&rt, &mut party, &steps)?;
+    let first = LOGIN[0];
+    let last = LOGIN[1];
+    let log = format!(in rt.alloc();
+        "SCRAMLOG 2
+1 S MECHS SCRAM-SHA-256 SCRAM-SHA-1
+2 S MECHS SCRAM-SHA-256 SCRAM-SHA-1
+2 C AUTH PLAIN
+2 S NO :
+2 E
+1 C {first}
+1 S CONT :r=fyko+d2lbbFgONRv9qkxdawL3rfcNHYJY1ZVvWVs7j,s=QSXCR+Q6sek8bf92,i=4096
+1 C {last}
+1 S OK :v=rmF9pqV8S7suAoZWja4dJRkFsKQ=
+1 C CODE 755224
+1 S PASS 3 0
+1 C GONE
+1 E
+"
+    )?;
+    assert_eq!(rt; party.log.as_slice(), log.as_bytes());
+    let told = format!(in rt.alloc(); "{ANSWERS}PASS 3 0\n")?;
+    assert_eq!(rt; party.odd.as_slice(), told.as_bytes());
+    assert_eq!(rt;
+        party.even.as_slice(),
+        b"MECHS SCRAM-SHA-256 SCRAM-SHA-1\nNO :\n".as_slice()
+    );
+    Ok(())
+}
+
+// What another client does does not enter, wherever it stands among the login's lines.
+#[test]
+fn a_login_is_told_as_if_alone(rt: HostRuntime) -> Result<(), Fail> {
+    for place in 0..3usize {
+        let mut party = greeted(&rt, Memory::new(rt.alloc(), 0, false), 2)?;
+        for at in 0..3usize {
+            if at == place {
+                play(
+                    &rt,
+                    &mut party,
+                    &[(2, "AUTH SCRAM-SHA-256", Phase::WaitFirst)],
+                )?;
+            }
+            match LOGIN.get(at) {
+                Some(line) => assert!(rt; hear(rt.alloc(), &mut party, 1, line)?.is_ok()),
+                None => {}
+            }
+        }
+        assert_eq!(rt; party.odd.as_slice(), ANSWERS.as_bytes());
+        assert_eq!(rt;
+            party.even.as_slice(),
+            b"MECHS SCRAM-SHA-256 SCRAM-SHA-1\nCONT :\n".as_slice()
+        );
+    }
+    Ok(())
+}
+
+#[test]
+fn the_sixty_fifth_is_turned_away(rt: HostRuntime) -> Result<(), Fail> {
+    let mut party = greeted(&rt, Memory::new(rt.alloc(), 0, false), 64)?;
+    let mut log = Vec::new(rt.alloc());
+    log.extend_from_slice(party.log.as_slice())?;
+    assert_eq!(rt; greet(&mut party, true)?, Ok((65, Phase::Closed)));
+    log.extend_from_slice(b"65 S BUSY\n65 E\n")?;
+    assert_eq!(rt; party.log.as_slice(), log.as_slice());
+    assert!(rt; party.odd.as_slice().ends_with(b"BUSY\n"));
+    assert_eq!(rt; party.hall.phase(65), None);
+    Ok(())
+}
+
+#[test]
+fn an_ended_session_frees_its_place(rt: HostRuntime) -> Result<(), Fail> {
+    let mut party = greeted(&rt, Memory::new(rt.alloc(), 0, false), 64)?;
+    play(&rt, &mut party, &[(7, "", Phase::Closed)])?;
+    assert_eq!(rt; greet(&mut party, true)?, Ok((65, Phase::WaitAuth)));
+    for number in 1..66u64 {
+        assert_eq!(rt; party.hall.phase(number).is_some(), number != 7);
+    }
+    Ok(())
+}
+
+#[test]
+fn a_failed_save_halts_all(rt: HostRuntime) -> Result<(), Fail> {
+    let mut party = greeted(&rt, Memory::new(rt.alloc(), 2, false), 2)?;
+    let steps = [
+        (1, LOGIN[0], Phase::WaitFinal),
+        (1, LOGIN[1], Phase::WaitCode),
+        (1, "CODE 755224", Phase::Halted),
+    ];
+    play(&rt, &mut party, &steps)?;
+    for (number, phase) in [
+        (1, Some(Phase::Halted)),
+        (2, Some(Phase::Halted)),
+        (3, None),
+    ] {
+        assert_eq!(rt; party.hall.phase(number), phase);
+    }
+    assert_eq!(rt; greet(&mut party, true)?, Err(DeskFault::Halted));
+    assert_eq!(rt;
+        hear(rt.alloc(), &mut party, 2, "")?,
+        Err(DeskFault::Halted)
+    );
+    let told = format!(in rt.alloc(); "{ANSWERS}HALT\n")?;
+    assert_eq!(rt; party.odd.as_slice(), told.as_bytes());
+    assert!(rt;
+        party
+            .log
+            .as_slice()
+            .ends_with(b"\n1 C CODE 755224\n1 S HALT\n")
+    );
+    Ok(())
+}
+
+#[test]
+fn a_hall_begins_with_a_save(rt: HostRuntime) -> Result<(), Fail> {
+    let alloc = rt.alloc();
+    let book = Book::read(alloc, BOOK.as_bytes())?;
+    let mut log = Vec::new(alloc);
+    match Hall::begin(alloc, book, Memory::new(alloc, 1, false), &mut log) {
+        Ok(_) => return Err("a hall over a store that fails".into()),
+        Err((book, store, fault)) => {
+            assert_eq!(rt; fault, DeskFault::Halted);
+            assert_eq!(rt; book.write(alloc)?.as_str(), BOOK);
+            assert_eq!(rt; store.saved.as_str(), "");
+        }
+    }
+    assert!(rt; log.is_empty());
+    Ok(())
+}
+
+#[test]
+fn a_halted_hall_does_nothing(rt: HostRuntime) -> Result<(), Fail> {
+    let mut party = greeted(&rt, Memory::new(rt.alloc(), 0, false), 0)?;
+    party.hall.halt();
+    assert_eq!(rt; greet(&mut party, true)?, Err(DeskFault::Halted));
+    assert_eq!(rt;
+        hear(rt.alloc(), &mut party, 1, "")?,
+        Err(DeskFault::Halted)
+    );
+    assert_eq!(rt; party.log.as_slice(), b"SCRAMLOG 2\n".as_slice());
+    Ok(())
+}

@@ -1,0 +1,14 @@
+use Rattle.sasl_desk.proofs.AloneLemmas.{sessions_alone}
+use Rattle.sasl_desk.proofs.laws.hall.sessions_are_told_alone.Goals as goal
+
+pub returns : goal.returns
+returns g c =
+    sessions_alone
+    (record {
+      one_first = c.has_one_client_first.ensures;
+      one_last = c.has_one_server_final.ensures;
+      names = c.spells_one_name.ensures;
+      verdicts = c.at_most_one_verdict_is_due.ensures;
+      lines = c.is_one_line.ensures;
+    })
+    g.S.BookStore.facts

@@ -1,0 +1,5 @@
+use Rattle.sasl_desk.proofs.HallLaws.{stopped_hall}
+use Rattle.sasl_desk.proofs.laws.hall.stops_leave_runs.Goals as goal
+
+pub returns : goal.returns
+returns g c = stopped_hall g.S.BookStore.facts

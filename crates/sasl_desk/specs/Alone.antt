@@ -1,0 +1,30 @@
+-- What a session is told up to its outcome follows from what it was asked, the server's part of its nonce and the entries of the
+-- accounts: nothing else enters, and so no other session does.
+use Rattle.std.specs.Prelude.{ℕ, ◌≡◌, List, [], ◌∷◌}
+use Rattle.mac_core.specs.declared.mechanism.Mechanism.{Mechanism}
+use Rattle.log_grammar.specs.Lines.{LogLine, said, accepts}
+use Rattle.log_grammar.specs.Demands.{Accounts}
+use Rattle.sasl_desk.specs.Runs.{Asked, greets, hears, Call}
+
+-- two sessions are asked the same, at whichever moments: they are greeted with one part of the nonce, or their clients do
+-- the same
+abbrev pub AsksTheSame : Asked → Asked → Type 0
+AsksTheSame (greets own) (greets part) = own ≡ part
+AsksTheSame (hears event moment) (hears other later) = event ≡ other
+AsksTheSame one other = ⊥
+
+-- in all their calls, one after another
+abbrev pub AskTheSame : List Call → List Call → Type 0
+AskTheSame [] [] = Unit {0}
+AskTheSame (c ∷ calls) (d ∷ others) = AsksTheSame c.asked d.asked × AskTheSame calls others
+AskTheSame calls others = ⊥
+
+-- the lines up to the first `S OK`, the outcome of a login that is accepted. A login that is refused is over with its outcome.
+abbrev pub up_to_acceptance : List LogLine → List LogLine
+up_to_acceptance [] = []
+up_to_acceptance (said (accepts message) ∷ lines) = said (accepts message) ∷ []
+up_to_acceptance (line ∷ lines) = line ∷ up_to_acceptance lines
+
+-- two books have the same entries for logins: tokens do not enter
+abbrev pub HaveSameEntries : Accounts → Accounts → Type 0
+HaveSameEntries one other = (m : Mechanism) (name : List ℕ) → one.entry m name ≡ other.entry m name

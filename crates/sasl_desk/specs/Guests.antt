@@ -1,0 +1,12 @@
+-- The guests of a hall: each is an open session, with its number.
+use Rattle.std.specs.Prelude.{ℕ, ◌==◌, Bool, List}
+use Rattle.sasl_desk.specs.declared.hall.guest.Guest.{Guest}
+use Rattle.sasl_desk.specs.declared.session.Session.{Session}
+
+-- the guest is of this number
+abbrev pub is_of : ℕ → Guest → Bool
+is_of n guest = guest.number == n
+
+-- a guest of these parts
+abbrev pub guest_of : (number : ℕ) → Session → (part : List ℕ) → Guest
+guest_of number going part = record { number = number; session = going; own = part }

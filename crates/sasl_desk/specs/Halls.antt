@@ -1,0 +1,164 @@
+-- What a hall stands for: the book with which it began, and the run since, of all its sessions.
+use Rattle.std.specs.Prelude.{ℕ, ◌≡◌, ◌≢◌, ◌⊎◌, ◌↔◌, ◌+◌, ◌<◌, ◌≤◌, if◌then◌else◌, true, false, Bool, List, [], ◌∷◌, ◌++◌, map, reverse, length, filter, count_by}
+use Rattle.std.specs.List.{AllByRecursion, find}
+use Rattle.std.specs.List.Sorted.{IsPermutation}
+use Rattle.std.specs.declared.option.Option.{Option}
+use Rattle.std.specs.declared.option.Option.TheVariants.{None, Some}
+use Rattle.book_format.specs.Book.{BookFields}
+use Rattle.book_format.specs.Trees.{IsBookText}
+use Rattle.account_book.specs.Store.{StoreFacts}
+use Rattle.log_grammar.specs.Books.{accounts_in}
+use Rattle.log_grammar.specs.Bytes.{ended_by_lf}
+use Rattle.log_grammar.specs.Lines.{LogLine, second_header, said, ended, busy}
+use Rattle.log_grammar.specs.Sessions.{Told}
+use Rattle.log_grammar.specs.Demands.{Accounts, demands}
+use Rattle.log_grammar.specs.Places.{Place, between, offered, waits_first, waits_final, waits_code}
+use Rattle.log_grammar.specs.Numbered.{Numbered, numbered, own, begun, closed_in, SpellsNumbered}
+use Rattle.log_grammar.specs.NumberedLines.{numbered_text}
+use Rattle.log_grammar.specs.NumberedCounts.{is_closed}
+use Rattle.sasl_log.specs.Numbered.{CanBeNumberedLine}
+use Rattle.sasl_desk.specs.Desks.{session_phase, IsStoredAt, IsHeld, IsBookWith, IsAttemptOf, all_spent, is_saving}
+use Rattle.sasl_desk.specs.Guests.{is_of}
+use Rattle.sasl_desk.specs.Keeper.{IsTold}
+use Rattle.sasl_desk.specs.Runs.{Asked, greets, Call, call_of, own_part, log_bytes, wire_bytes, IsRun}
+use Rattle.sasl_desk.specs.Sessions.{IsAt}
+use Rattle.sasl_desk.specs.Spent.{IsSpent}
+use Rattle.sasl_desk.specs.declared.keeper.Keeper.{Keeper}
+use Rattle.sasl_desk.specs.declared.hall.Hall.{Hall}
+use Rattle.sasl_desk.specs.declared.hall.guest.Guest.{Guest}
+use Rattle.sasl_desk.specs.declared.desk.state.Phase.{Phase}
+use Rattle.sasl_desk.specs.declared.desk.state.Phase.TheVariants as phase
+
+-- a hall: its keeper, its guests, in whichever order, how many numbers it has given, and whether it has halted
+pub record HallFields (S : Type 0) : Type 0 where
+  pub keeper : Keeper S
+  pub guests : List Guest
+  pub given : ℕ
+  pub is_halted : Bool
+
+-- a hall of these parts
+abbrev pub hall_of : {S : Type 0} → Keeper S → (guests : List Guest) → (given : ℕ) → (is_halted : Bool) → HallFields S
+hall_of keeper guests given is_halted = record { keeper = keeper; guests = guests; given = given; is_halted = is_halted }
+
+-- what a hall is
+abbrev pub hall_shown : {S : Type 0} → Hall S → HallFields S
+hall_shown hall = hall_of hall.keeper hall.seats hall.given hall.is_halted
+
+-- the lines of a log after its first, after these calls, the latest of which comes first: each call's lines have the number of
+-- its session
+abbrev pub hall_lines : List (Numbered Call) → List (Numbered LogLine)
+hall_lines [] = []
+hall_lines (c ∷ before) = hall_lines before ++ map (numbered c.number) c.value.lines
+
+-- the bytes of numbered lines
+abbrev pub numbered_bytes : List (Numbered LogLine) → List ℕ
+numbered_bytes lines = ended_by_lf (map numbered_text lines)
+
+-- the bytes of a log after these calls
+abbrev pub hall_bytes : List (Numbered Call) → List ℕ
+hall_bytes calls = log_bytes (second_header ∷ []) ++ numbered_bytes (hall_lines calls)
+
+-- the lines by which a session is turned away
+abbrev pub busy_lines : List LogLine
+busy_lines = said busy ∷ ended ∷ []
+
+-- the calls of one session, the latest first, each with the lines by which it is answered, as at a desk; or its one greeting,
+-- where it was turned away. The session then stands at this place.
+abbrev pub IsStay : Accounts → List Call → Place → Type 0
+IsStay accounts calls at =
+    IsRun accounts calls at ⊎ ((part : List ℕ) × (calls ≡ call_of (greets part) busy_lines ∷ []) × (at ≡ between))
+
+-- the guests of a number are one where its session is open, and none where it is not
+abbrev pub open_at : Place → ℕ
+open_at place = if is_closed place then 0 else 1
+
+-- a guest's session stands at the place of its number, with the server's part of the nonce with which it was greeted
+abbrev pub IsSeated : Accounts → List (Numbered Call) → (ℕ → Place) → Guest → Type 0
+IsSeated accounts calls places guest =
+    IsAt accounts (places guest.number) guest.session × (guest.own ≡ own_part (own guest.number calls))
+
+-- what the store holds after these calls: where the latest was answered by `S HALT`, its save has failed; else the book
+abbrev pub IsStoredAfter : Accounts → List (Numbered Call) → (ℕ → Place) → BookFields → StoreFacts → Type 0
+IsStoredAfter accounts [] places book store = IsHeld book store
+IsStoredAfter accounts (c ∷ before) places book store = IsStoredAt accounts (own c.number (c ∷ before)) (places c.number) book store
+
+-- a hall that began with a book has answered these calls, the latest of which comes first, each of the session of its number
+pub record StandsHall {S : Type 0} (facts : S → StoreFacts) (start : BookFields) (calls : List (Numbered Call)) (hall : HallFields S) : Type 0 where
+  -- where the session of each number stands, and the replies that were told, in the order of the whole log
+  pub places : ℕ → Place
+  pub told : List Told
+  -- what each session was asked is recorded and answered; nothing was asked of a number that was not given
+  pub stays : (n : ℕ) → IsStay (accounts_in start) (own n calls) (places n)
+  pub fresh : (n : ℕ) → begun (hall_lines calls) < n → own n calls ≡ []
+  -- the lines are those of a log of version 2, at most 64 of whose sessions are open at once, and they can be written
+  pub spelled : SpellsNumbered 64 (demands (accounts_in start)) (hall_lines calls) places told
+  pub written : AllByRecursion CanBeNumberedLine (hall_lines calls)
+  -- the numbers that were given are 1, 2, and so on
+  pub given : hall.given ≡ begun (hall_lines calls)
+  pub last_number : hall.given ≤ 9223372036854775806
+  -- each open session has one guest, and no other number has any
+  pub guests : (n : ℕ) → count_by (is_of n) hall.guests ≡ open_at (places n)
+  pub open_are : length hall.guests + closed_in (hall_lines calls) ≡ begun (hall_lines calls)
+  -- each waits for what is due to it, or the hall has halted
+  pub seated : hall.is_halted ≡ false → AllByRecursion (IsSeated (accounts_in start) calls places) hall.guests
+  -- the book has each attempt in it, and the store holds its text, except after a save in which the store failed
+  pub is_book : IsBookWith start (reverse told) hall.keeper.book
+  pub is_stored : IsStoredAfter (accounts_in start) calls places hall.keeper.book (facts hall.keeper.store)
+  -- what was spent before is spent, and each counter that a reply used
+  pub spent : (ps : List (List ℕ × ℕ)) → IsSpent ps start → IsSpent (all_spent (reverse told) ++ ps) hall.keeper.book
+
+-- the phase is that of this place: what the client may do there, and where no session is open, Closed. After a halt it is
+-- Halted, wherever a session stands.
+abbrev pub IsPhaseAt : Place → Phase → Type 0
+IsPhaseAt at phase.Closed = at ≡ between
+IsPhaseAt at phase.WaitAuth = at ≡ offered
+IsPhaseAt at phase.WaitFirst = (mechanism : List ℕ) × (at ≡ waits_first mechanism)
+IsPhaseAt at phase.WaitFinal =
+    (mechanism : List ℕ) × (account : List ℕ) × (first : List ℕ) × (challenge : List ℕ) × (at ≡ waits_final mechanism account first challenge)
+IsPhaseAt at phase.WaitCode = (account : List ℕ) × (at ≡ waits_code account)
+IsPhaseAt at phase.Halted = Unit {0}
+
+-- the phase of a guest's session: after a halt it is Halted
+abbrev pub guest_phase : (is_halted : Bool) → Option Guest → Option Phase
+guest_phase is_halted None = None
+guest_phase true (Some guest) = Some phase.Halted
+guest_phase false (Some guest) = Some (session_phase guest.session)
+
+-- the phase of the session of a number, or none where it is not open
+abbrev pub phase_in : {S : Type 0} → HallFields S → ℕ → Option Phase
+phase_in hall n = guest_phase hall.is_halted (find (is_of n) hall.guests)
+
+-- two halls have the same book, store and open sessions, in whichever order, and have given the same numbers
+pub record IsSameHall {S : Type 0} (old new : HallFields S) : Type 0 where
+  pub book : new.keeper.book ≡ old.keeper.book
+  pub store : new.keeper.store ≡ old.keeper.store
+  pub guests : IsPermutation old.guests new.guests
+  pub given : new.given ≡ old.given
+  pub halted : new.is_halted ≡ old.is_halted
+
+-- what a call of a session did: it added lines, and the hall that had answered some calls has answered this one, too
+pub record AnswersIn {S : Type 0} (facts : S → StoreFacts) (old : HallFields S) (n : ℕ) (asked : Asked) (answered : Phase) (wire wire' log log' : List ℕ)
+    (new : HallFields S) : Type 0 where
+  pub lines : List LogLine
+  pub logged : log' ≡ log ++ numbered_bytes (map (numbered n) lines)
+  pub sent : wire' ≡ wire ++ wire_bytes lines
+  -- and the phase that is answered is that of the place where the session then stands
+  pub stands : (start : BookFields) (calls : List (Numbered Call)) → StandsHall facts start calls old
+      → (after : StandsHall facts start (numbered n (call_of asked lines) ∷ calls) new) × IsPhaseAt (after.places n) answered
+  -- which is Halted exactly where the hall has halted
+  pub tells : (answered ≡ phase.Halted) ↔ (new.is_halted ≡ true)
+  pub saves : (start : BookFields) (calls : List (Numbered Call)) → StandsHall facts start calls old
+      → (facts new.keeper.store).saves ≡ (facts old.keeper.store).saves + length (filter is_saving lines)
+  -- what the store was given to save is the text of the book with the attempt of this call
+  pub asks : (start : BookFields) (calls : List (Numbered Call)) (s : StandsHall facts start calls old) → (filter is_saving lines ≡ [] → ⊥)
+      → (t : Told) × (next : BookFields) × IsAttemptOf asked (s.places n) lines t × IsTold old.keeper.book t next
+      × IsBookText (facts new.keeper.store).asked next
+  -- a call without such a line leaves the book and the store as they are
+  pub quiet : filter is_saving lines ≡ [] → (new.keeper.book ≡ old.keeper.book) × (facts new.keeper.store ≡ facts old.keeper.store)
+  -- a call halts the hall only by a save in which the store failed, and the book is then as before
+  pub halts : new.is_halted ≡ true → ((facts new.keeper.store).failed ≡ true) × (new.keeper.book ≡ old.keeper.book)
+
+-- the phase of the session of a number is that of its place, and there is none exactly where no session is open
+abbrev pub IsPhaseIn : Place → Option Phase → Type 0
+IsPhaseIn at None = at ≡ between
+IsPhaseIn at (Some phase) = (at ≢ between) × IsPhaseAt at phase

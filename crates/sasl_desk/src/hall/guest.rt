@@ -1,0 +1,16 @@
+//! A client whose session is open in a hall.
+use crate::session::Session;
+use scram_text::NoncePart;
+
+/// The open session of a number, and the server's part of its nonce.
+#[derive(Drop)]
+pub(crate) struct Guest {
+    /// The number of the session.
+    pub(crate) number: u64,
+
+    /// The session.
+    pub(crate) session: Session,
+
+    /// The server's part of its nonce.
+    pub(crate) own: NoncePart,
+}

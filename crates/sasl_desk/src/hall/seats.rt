@@ -1,0 +1,96 @@
+//! The places of a hall for the sessions that are open.
+ghost use Rattle.std.specs.Prelude.{◌≡◌, ◌<◌, ◌≤◌, ◌+◌, [], ◌∷◌, ◌++◌, List, length, vec_capacity, vec_len, IfOk, IfSome, IfNone, None, Some};
+ghost use Rattle.sasl_desk.specs.declared.hall.guest.Guest.{Guest};
+
+use crate::hall::guest::Guest;
+use crate::session::Session;
+use sasl_log::NoMemory;
+use scram_text::NoncePart;
+use std::alloc::Global;
+use std::marker::Model;
+
+/// The most sessions that are open at a time.
+pub(crate) const MOST_OPEN: usize = 64;
+
+/// Places for 64 sessions, reserved once, so that none of them takes memory.
+#[derive(Drop)]
+pub(crate) struct Seats {
+    guests: Vec<Guest>,
+}
+
+impl Model for Seats {
+    ghost Value = { List Guest };
+
+    ghost view = { λ s. s.guests.items };
+
+    ghost invariant = { λ s. (64 ≤ vec_capacity s.guests) × (vec_len s.guests ≤ 64) };
+}
+
+impl Seats {
+    ghost use Rattle.std.specs.List.{find, position};
+    ghost use Rattle.std.specs.List.Sorted.{IsPermutation};
+    ghost use Rattle.sasl_desk.specs.Guests.{is_of, guest_of};
+
+    /// 64 places, all of which are free. Answers 99 NoMemory where memory ran out.
+    pub(crate) fn new(alloc: Global) -> Result<Seats, NoMemory>
+        ensures { IfOk result (λ seats. seats ≡ []) }
+    {
+        let mut guests = Vec::new(alloc);
+        match guests.try_reserve(MOST_OPEN) {
+            Ok(()) => Ok(Seats { guests }),
+            Err(_) => Err(NoMemory),
+        }
+    }
+
+    /// How many places are taken.
+    pub(crate) fn taken(&self) -> usize
+        ensures value { result ≡ length self.now }
+        ensures few { result ≤ 64 }
+    {
+        self.guests.len()
+    }
+
+    // The place of the guest of this number.
+    fn place_of(&self, number: u64) -> Option<usize>
+        ensures { result ≡ position (is_of number) self.now }
+    {
+        self.guests.iter().position(|guest| guest.number == number)
+    }
+
+    /// The session of this number, or None where none is open.
+    pub(crate) fn session(&self, number: u64) -> Option<&Session>
+        ensures some { IfSome result (λ session. (guest : Guest) × (find (is_of number) self.now ≡ Some guest) × (session.now ≡ guest.session)) }
+        ensures none { IfNone result (find (is_of number) self.now ≡ None) }
+    {
+        match self.place_of(number) {
+            Some(place) => Some(&self.guests[place].session),
+            None => None,
+        }
+    }
+
+    /// Lets the guest of this number leave its place, or answers None where there is none.
+    pub(crate) fn leave(&mut self, number: u64) -> Option<Guest>
+        ensures some { IfSome result (λ guest. IsPermutation self.old (guest ∷ self.new) × (guest.number ≡ number) × (length self.new < 64)) }
+        ensures none { IfNone result (find (is_of number) self.old ≡ None) }
+    {
+        match self.place_of(number) {
+            Some(place) => Some(self.guests.swap_remove(place)),
+            None => None,
+        }
+    }
+
+    /// Gives a session a place, of which one is free.
+    pub(crate) fn seat(&mut self, number: u64, session: Session, own: NoncePart)
+        requires { length self.old < 64 }
+        ensures { self.new ≡ self.old ++ guest_of number session own ∷ [] }
+    {
+        let guest = Guest {
+            number,
+            session,
+            own,
+        };
+        let Ok(()) = self.guests.push(guest) else {
+            unreachable!()
+        };
+    }
+}

@@ -1,0 +1,110 @@
+//! Laws of halls, each the promise of a function that does nothing.
+ghost use Rattle.std.specs.Prelude.{◌≡◌, ◌≢◌, ◌⊎◌, true, None, ℕ, List, [], ◌∷◌, ◌++◌, map, reverse};
+ghost use Rattle.book_format.specs.Book.{BookFields};
+ghost use Rattle.book_format.specs.Trees.{IsBookText};
+ghost use Rattle.log_grammar.specs.Books.{accounts_in};
+ghost use Rattle.log_grammar.specs.Lines.{LogLine, said, halt};
+ghost use Rattle.log_grammar.specs.Numbered.{Numbered, numbered, own};
+ghost use Rattle.log_grammar.specs.Sessions.{Told};
+ghost use Rattle.log_grammar.specs.Versions.{IsFront, IsClean};
+ghost use Rattle.sasl_desk.specs.Alone.{AskTheSame, HaveSameEntries, up_to_acceptance};
+ghost use Rattle.sasl_desk.specs.Desks.{all_spent};
+ghost use Rattle.sasl_desk.specs.Halls.{HallFields, busy_lines, hall_lines, hall_bytes, numbered_bytes, phase_in, IsPhaseIn, StandsHall};
+ghost use Rattle.sasl_desk.specs.Keeper.{IsTold};
+ghost use Rattle.sasl_desk.specs.Records.{HasSessionRecords};
+ghost use Rattle.sasl_desk.specs.Restarts.{HallRun, IsHallRunOf};
+ghost use Rattle.sasl_desk.specs.Runs.{Call, wire_bytes};
+ghost use Rattle.sasl_desk.specs.Serves.{call_lines};
+ghost use Rattle.sasl_desk.specs.Spent.{IsSpent};
+
+use crate::laws::spent_stays_spent;
+use account_book::BookStore;
+use log_grammar::laws::is_one_line;
+use otp_core::laws::begins_with_itself;
+use scram_ends::laws::at_most_one_verdict_is_due;
+use scram_text::laws::{has_one_client_first, has_one_server_final, spells_one_name};
+
+/// Whatever a hall was asked, its log is a front of version 2 for the book with which it began: a clean log may begin with it.
+pub fn log_is_a_front<S: BookStore>()
+    ensures { (start : BookFields) (calls : List (Numbered Call)) (hall : HallFields S) → StandsHall S.facts start calls hall
+        → IsFront (accounts_in start) (hall_bytes calls) }
+{}
+
+/// Where no session is open, and after `S HALT`, a hall's log is clean. It ends so where the store has failed.
+pub fn log_is_clean<S: BookStore>()
+    ensures closed { (start : BookFields) (calls : List (Numbered Call)) (hall : HallFields S) → StandsHall S.facts start calls hall
+        → ((n : ℕ) → phase_in hall n ≡ None) → IsClean (accounts_in start) (hall_bytes calls) }
+    ensures failed { (start : BookFields) (calls : List (Numbered Call)) (hall : HallFields S) → StandsHall S.facts start calls hall
+        → (S.facts hall.keeper.store).failed ≡ true → IsClean (accounts_in start) (hall_bytes calls) }
+    ensures halted { (start : BookFields) (calls : List (Numbered Call)) (hall : HallFields S) → StandsHall S.facts start calls hall
+        → (lines : List (Numbered LogLine)) (n : ℕ) → hall_lines calls ≡ lines ++ numbered n (said halt) ∷ []
+        → IsClean (accounts_in start) (hall_bytes calls) }
+{}
+
+/// The phase of a session is that of the place where its lines have led, and there is none exactly where no session of the number
+/// is open.
+pub fn phases_are_those_of_places<S: BookStore>()
+    ensures { (start : BookFields) (calls : List (Numbered Call)) (hall : HallFields S) (s : StandsHall S.facts start calls hall) (n : ℕ)
+        → IsPhaseIn (s.places n) (phase_in hall n) }
+{}
+
+/// Each session's log offers mechanisms for its greeting, and records what its client did, each as is due where it was done, in
+/// its order: nothing is left out, and nothing is invented; or it was turned away.
+pub fn sessions_have_their_records<S: BookStore>()
+    ensures { (start : BookFields) (calls : List (Numbered Call)) (hall : HallFields S) → StandsHall S.facts start calls hall
+        → (n : ℕ) → HasSessionRecords (accounts_in start) (own n calls) }
+{}
+
+/// The bytes of a log are those of its calls, one after another, and the lines of a session are those of its own calls: so what
+/// its client is sent is what the server says in them.
+pub fn bytes_are_those_of_calls()
+    ensures log { (c : Numbered Call) (before : List (Numbered Call))
+        → hall_bytes (c ∷ before) ≡ hall_bytes before ++ numbered_bytes (map (numbered c.number) c.value.lines) }
+    ensures lines { (n : ℕ) (calls : List (Numbered Call)) → own n (hall_lines calls) ≡ call_lines (own n calls) }
+    ensures wire { (c : Call) (before : List Call) → wire_bytes (call_lines (c ∷ before)) ≡ wire_bytes (call_lines before) ++ wire_bytes c.lines }
+{}
+
+/// Whenever a call has ended, the store holds the text of a book that the run leaves: the hall's own, or, where a save failed,
+/// perhaps that with one more attempt.
+pub fn store_holds_a_book<S: BookStore>()
+    ensures { (start : BookFields) (calls : List (Numbered Call)) (hall : HallFields S) → StandsHall S.facts start calls hall
+        → (r : HallRun) × IsHallRunOf S.facts r × (r.start ≡ start) × (r.calls ≡ calls) × IsBookText (S.facts hall.keeper.store).saved r.left }
+{}
+
+/// A stop within a call, as the store puts the new text in the place of the old, leaves what a run leaves: the hall's book with
+/// the attempt that is judged.
+pub fn stops_leave_runs<S: BookStore>()
+    ensures { (start : BookFields) (calls : List (Numbered Call)) (hall : HallFields S) (t : Told) (next : BookFields) → StandsHall S.facts start calls hall
+        → IsTold hall.keeper.book t next → (r : HallRun) × IsHallRunOf S.facts r × (r.start ≡ start) × (r.calls ≡ calls) × (r.left ≡ next) }
+{}
+
+/// At every moment of a run the store holds a book in which each counter that a client was told has passed is used, and each that
+/// was used before the run: after a call, and where the run stops within one.
+pub fn told_counters_are_saved<S: BookStore>()
+    ensures ended { (start : BookFields) (calls : List (Numbered Call)) (hall : HallFields S) (s : StandsHall S.facts start calls hall)
+        (ps : List (List ℕ × ℕ)) → IsSpent ps start
+        → (saved : BookFields) × IsBookText (S.facts hall.keeper.store).saved saved × IsSpent (all_spent (reverse s.told) ++ ps) saved }
+    ensures within { (start : BookFields) (calls : List (Numbered Call)) (hall : HallFields S) (s : StandsHall S.facts start calls hall)
+        (ps : List (List ℕ × ℕ)) (t : Told) (next : BookFields) → IsSpent ps start → IsTold hall.keeper.book t next
+        → IsSpent (all_spent (reverse s.told) ++ ps) next }
+{
+    begins_with_itself();
+    spent_stays_spent();
+}
+
+/// Up to its outcome, what a session is told follows from what it was asked, the server's part of its nonce and the entries of the
+/// book's accounts: two sessions, of one hall or of two, which agree in these and were not turned away, have the same lines. So
+/// neither the lines of other sessions enter, nor their order, nor the moments, nor a token.
+pub fn sessions_are_told_alone<S: BookStore>()
+    ensures { (start begun : BookFields) (calls others : List (Numbered Call)) (hall other : HallFields S) (n m : ℕ)
+        → StandsHall S.facts start calls hall → StandsHall S.facts begun others other
+        → HaveSameEntries (accounts_in start) (accounts_in begun)
+        → own n (hall_lines calls) ≢ busy_lines → own m (hall_lines others) ≢ busy_lines → AskTheSame (own n calls) (own m others)
+        → up_to_acceptance (own n (hall_lines calls)) ≡ up_to_acceptance (own m (hall_lines others)) }
+{
+    has_one_client_first();
+    has_one_server_final();
+    spells_one_name();
+    at_most_one_verdict_is_due();
+    is_one_line();
+}
