@@ -7,7 +7,6 @@ import os
 import re
 import stat
 import subprocess
-import sys
 import tempfile
 import time
 import tomllib
@@ -15,9 +14,8 @@ from hashlib import pbkdf2_hmac, sha1, sha256
 from hmac import digest
 
 import suite
-from suite import SECRET, USER, hotp
+from suite import PROGRAM, SECRET, USER, hotp
 
-PROGRAM = os.path.abspath(sys.argv[1])
 SALT = "4125c247e43ab1e93c6dff76"
 LONGER = "3132333435363738393031323334353637383930313233343536373839303132"
 # 64 bytes
@@ -52,6 +50,7 @@ EXAMPLES = [
     ("audit", "clean sessions=1 accepted=0 codes=0\n"),
     ("upgrade", "clean sessions=1 accepted=0 codes=0\n"),
     ("login", "clean sessions=1 accepted=1 codes=1\n"),
+    ("hall", "clean sessions=2 accepted=0 codes=0\n"),
 ]
 
 
@@ -194,6 +193,7 @@ def usage(folder):
             "login --book book --name user",
             "error: the following required arguments were not provided:\n  --socket <FILE>",
         ),
+        ("hall", "error: the following required arguments were not provided:\n  --book <FILE>"),
         ("upgrade", "error: the following required arguments were not provided:\n  --log <FILE>"),
         ("audit --log log", "error: the following required arguments were not provided:\n  --book <FILE>"),
         ("keys --salt 00 --salt 01", "error: the argument '--salt <HEX>' cannot be used multiple times"),
@@ -216,6 +216,7 @@ def help_and_version(folder):
                 "  verify   Judges ",
                 "  unlock   Lets ",
                 "  login    Logs ",
+                "  hall     Lets ",
                 "  audit    Judges ",
                 "  upgrade  Prints ",
                 "Exit status:",
@@ -231,6 +232,7 @@ def help_and_version(folder):
         (["audit", "--help"], ["nothing is written", "Standard input is read only where the log\nis /dev/stdin."]),
         (["upgrade", "--help"], ["is, by the same book.", "Standard input is read only where it is /dev/stdin."]),
         (["login", "--help"], ["a socket fault", "Codes are saved before they are\ntold", "--as <NAME> ", "every code passed"]),
+        (["hall", "--help"], ["is a bad event and ends the\nrun", "Codes are saved before they are told", "to the end of the input"]),
         (["code", "--help"], ["Standard\ninput is not read."]),
     ]:
         text = help_of(words[:-1])

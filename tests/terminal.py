@@ -9,23 +9,24 @@ RFC 4226, appendix D, and the keys and the login those of RFC 5802, section 5.
 import os
 import select
 import subprocess
-import sys
 import time
 from pathlib import Path
 
 import suite
-from suite import USER, hotp
+from suite import PROGRAM, USER, hotp
 
-PROGRAM = os.path.abspath(sys.argv[1])
 PASSWORD = "Type the password and press Enter; it is shown as you type.\r\n"
 BOTH = "Type the password and press Enter, then one code a line; all is shown as you type. Ctrl-D ends.\r\n"
 CODES = "Type one code a line; it is shown as you type. Ctrl-D ends.\r\n"
+EVENTS = "Type one event a line: open, line or gone; Ctrl-D ends.\r\n"
 KEYS = ["keys", "--mechanism", "SCRAM-SHA-1", "--salt", "4125c247e43ab1e93c6dff76", "--count", "4096"]
 KEYS_OF_PENCIL = "stored=e9d94660c39d65c38fbad91c358f14da0eef2bd6\nserver=0fe09258b3ac852ba502cc62ba903eaacdbf7d31\n"
 AUDITS = Path(__file__).parent / "data" / "audits"
 NONCES = ["--client-nonce", "fyko+d2lbbFgONRv9qkxdawL", "--server-nonce", "3rfcNHYJY1ZVvWVs7j"]
 # The log of RFC 5802's login, up to its acceptance, and of a code.
 LOGIN_AND_CODE = "".join((AUDITS / "sha1.log").read_text().splitlines(True)[:6]) + "C CODE 755224\nS PASS 5 0\nC GONE\nE\n"
+# The log of a client that comes and goes away.
+OPENED_AND_GONE = "SCRAMLOG 2\n1 S MECHS SCRAM-SHA-256 SCRAM-SHA-1\n1 C GONE\n1 E\n"
 # What ends the input that is typed at a terminal.
 END = "\x04"
 
@@ -45,6 +46,7 @@ def commands(folder):
         (on(folder, "enrol"), "pencil\n", "enrolled user\n", PASSWORD),
         (on(folder, "verify", "--moment", "5"), "755224\n287082\n", "PASS 5 0\nPASS 5 1\n", CODES),
         (login(folder), "pencil\n755224\n", LOGIN_AND_CODE, BOTH),
+        (["hall", "--book", os.path.join(folder, "book")], "open zz\ngone 1 5\n", OPENED_AND_GONE, EVENTS),
     ]
 
 

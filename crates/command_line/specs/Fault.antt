@@ -6,7 +6,7 @@ use Rattle.book_format.specs.declared.fault.BookFault.{BookFault}
 use Rattle.book_format.specs.declared.fault.BookWhy.{BookWhy}
 use Rattle.book_format.specs.declared.fault.BookWhy.TheVariants as why
 use Rattle.command_line.specs.declared.fault.Fault.{Fault}
-use Rattle.command_line.specs.declared.fault.Fault.TheVariants.{BadValue, BadPassword, NoCounterOrMoment, BeforeFirstStep, NameTaken, NoSuchAccount, NoToken, BadBook, CannotRead, CannotWrite, Socket, CannotReadInput, CannotWriteOutput, NoMemory}
+use Rattle.command_line.specs.declared.fault.Fault.TheVariants.{BadValue, BadPassword, NoCounterOrMoment, BeforeFirstStep, NameTaken, NoSuchAccount, NoToken, BadBook, CannotRead, CannotWrite, BadEvent, Socket, CannotReadInput, CannotWriteOutput, NoMemory}
 
 -- the exit status: 1 for a refusal, 2 where the user can give other words, 3 for files, sockets, streams and memory
 abbrev pub status_of : Fault → ℕ
@@ -20,6 +20,7 @@ status_of NoToken = 1
 status_of (BadBook number) = 1
 status_of (CannotRead file) = 3
 status_of (CannotWrite file) = 3
+status_of BadEvent = 1
 status_of Socket = 3
 status_of CannotReadInput = 3
 status_of CannotWriteOutput = 3

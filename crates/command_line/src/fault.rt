@@ -53,6 +53,10 @@ pub enum Fault {
     #[error("cannot write {0}")]
     CannotWrite(String),
 
+    /// An input line of `hall` says no event, or one of a session that is not open.
+    #[error("bad event")]
+    BadEvent,
+
     /// The socket can't be made, or fails.
     #[error("socket fault")]
     Socket,
@@ -93,7 +97,8 @@ impl Fault {
             | Fault::NameTaken
             | Fault::NoSuchAccount
             | Fault::NoToken
-            | Fault::BadBook(_) => 1,
+            | Fault::BadBook(_)
+            | Fault::BadEvent => 1,
             Fault::BadValue(_) | Fault::BadPassword | Fault::NoCounterOrMoment => 2,
             Fault::CannotRead(_) | Fault::CannotWrite(_) | Fault::Socket => 3,
             Fault::CannotReadInput | Fault::CannotWriteOutput | Fault::NoMemory => 3,

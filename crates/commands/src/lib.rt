@@ -8,11 +8,14 @@
 mod asked;
 mod audit;
 mod code;
+mod desk_fault;
 mod enrol;
+mod hall;
 mod held_book;
 mod input;
 mod keys;
 mod login;
+mod printed_log;
 mod program;
 mod progress;
 mod prompt;

@@ -5,7 +5,7 @@ ghost use Rattle.command_line.specs.Fault.{status_of};
 use crate::progress::Watched;
 use crate::prompt::Typed;
 use crate::shown::Shown;
-use crate::{audit, code, enrol, keys, login, unlock, upgrade, verify, words};
+use crate::{audit, code, enrol, hall, keys, login, unlock, upgrade, verify, words};
 use book_file::Lockable;
 use clap::ArgMatches;
 use clap::error::ErrorKind;
@@ -99,6 +99,7 @@ where
                 status = REFUSED;
             }
         }
+        Some(("hall", words)) => hall::hall(rt, words, input, output, faults)?,
         Some(("audit", words)) => status = audit::audit(rt, words, output, faults)?,
         Some(("upgrade", words)) => status = upgrade::upgrade(rt, words, output, faults)?,
         _ => {}

@@ -16,6 +16,9 @@ pub const CODES: &str = "Type one code a line; it is shown as you type. Ctrl-D e
 pub const LOGIN: &str =
     "Type the password and press Enter, then one code a line; all is shown as you type. Ctrl-D ends.\n";
 
+/// What `hall` waits for.
+pub const EVENTS: &str = "Type one event a line: open, line or gone; Ctrl-D ends.\n";
+
 /// Where input is read, which may be a terminal.
 pub trait Typed: BufRead {
     /// Whether it is a terminal, where someone types.

@@ -114,6 +114,30 @@ Example, after that of `scramotp unlock --help`: a login and a code, and the aud
       scramotp login --book book.toml --name user --socket login.sock >login.txt
   scramotp audit --book before.toml --log login.txt";
 
+const HALL_EXAMPLE: &str = "Each line of standard input is an event:
+
+  open NONCE          a client comes; NONCE is the service's part of its nonce, fresh and random
+  line N MOMENT TEXT  the client of session N sends a line, of which TEXT is all, at a moment in
+                      seconds since 1970
+  gone N MOMENT       the client of session N goes away
+
+Sessions get the numbers 1, 2 and so on as their clients come. Up to 64 are open at a time, and who
+comes then is told BUSY. Another line, or a number of no open session, is a bad event and ends the
+run, with exit status 1.
+
+Prints the log, of version 2, each event's lines before the next event is read. What client N is to
+be told is in the lines that begin with its number and ` S `. Codes are saved before they are told;
+the book is locked from its reading to the end of the input, and other runs wait for it, up to 30
+seconds. Where a save fails the log ends with `S HALT`, and the run with it.
+
+Nobody else may be able to write the book's folder, nor the folders above it.
+
+Example, after that of `scramotp login --help`: two clients at a time, and the audit of their log
+  cp book.toml opened.toml
+  printf '%s\\n' 'open 3rfcNHYJY1ZVvWVs7j' 'open hvYDpWUa2RaTCAfuxFIl' 'line 2 5 ABORT' 'gone 1 6' |
+      scramotp hall --book book.toml >hall.txt
+  scramotp audit --book opened.toml --log hall.txt";
+
 // An option that takes one value.
 fn option<'a>(alloc: Global, name: &'a str, value: &'a str, help: &'a str) -> Arg<'a> {
     Arg::new(alloc, name)
@@ -274,6 +298,13 @@ fn login<'a>(alloc: Global) -> Result<Command<'a>, AllocError> {
         .arg(option(alloc, "moment", "SECONDS", moment))
 }
 
+fn hall<'a>(alloc: Global) -> Result<Command<'a>, AllocError> {
+    Command::new(alloc, "hall")
+        .about("Lets many users in at a time over a book, by events, and prints the log of all")
+        .after_help(HALL_EXAMPLE)
+        .arg(book(alloc))
+}
+
 /// The program's commands and their options.
 pub fn scramotp<'a>(alloc: Global) -> Result<Command<'a>, AllocError> {
     Command::new(alloc, "scramotp")
@@ -291,6 +322,7 @@ pub fn scramotp<'a>(alloc: Global) -> Result<Command<'a>, AllocError> {
         .subcommand(verify(alloc)?)?
         .subcommand(unlock(alloc)?)?
         .subcommand(login(alloc)?)?
+        .subcommand(hall(alloc)?)?
         .subcommand(audit(alloc)?)?
         .subcommand(upgrade(alloc)?)
 }

@@ -1,0 +1,95 @@
+-- The input of the command `hall`, and the log that it prints.
+use Rattle.std.specs.Prelude.{ℕ, ◌≡◌, ◌⊎◌, true, List, [], ◌∷◌, ◌++◌, codes, decimal}
+use Rattle.std.specs.Io.KnownBytes.{Appends}
+use Rattle.std.specs.declared.option.Option.{Option}
+use Rattle.std.specs.declared.option.Option.TheVariants.{None}
+use Rattle.otp_core.specs.Secret.{IsMoment}
+use Rattle.scram_text.specs.Class.{IsNoncePart}
+use Rattle.book_format.specs.Book.{BookFields}
+use Rattle.account_book.specs.Store.{StoreFacts}
+use Rattle.log_grammar.specs.Numbered.{Numbered}
+use Rattle.log_grammar.specs.NumberedLines.{IsSessionNumber}
+use Rattle.sasl_log.specs.Sink.{SinkFacts}
+use Rattle.sasl_desk.specs.Events.{ClientEvent, sends, goes_away}
+use Rattle.sasl_desk.specs.Halls.{HallFields, hall_shown, hall_bytes, phase_in, StandsHall}
+use Rattle.sasl_desk.specs.Runs.{Asked, greets, hears, Call}
+use Rattle.sasl_desk.specs.declared.hall.Hall.{Hall}
+
+-- what befalls a hall: a client comes, and this is the server's part of its nonce; or the client of the session of this number
+-- says a line at this moment; or it goes away
+pub data InputEvent : Type 0 where
+  opens : (own : List ℕ) → InputEvent
+  says : (session moment : ℕ) (text : List ℕ) → InputEvent
+  leaves : (session moment : ℕ) → InputEvent
+
+-- the input line for it
+abbrev pub event_text : InputEvent → List ℕ
+event_text (opens own) = codes "open " ++ own
+event_text (says session moment text) = codes "line " ++ (decimal session ++ (32 ∷ (decimal moment ++ (32 ∷ text))))
+event_text (leaves session moment) = codes "gone " ++ (decimal session ++ (32 ∷ decimal moment))
+
+-- its nonce, its number and its moment are in their ranges
+abbrev pub IsEventInRange : InputEvent → Type 0
+IsEventInRange (opens own) = IsNoncePart own
+IsEventInRange (says session moment text) = IsSessionNumber session × IsMoment moment
+IsEventInRange (leaves session moment) = IsSessionNumber session × IsMoment moment
+
+-- an input line says this
+pub record SaysEvent (line : List ℕ) (event : InputEvent) : Type 0 where
+  pub spelled : line ≡ event_text event
+  pub ranges : IsEventInRange event
+
+-- what the client of a session does at a moment, as an event
+abbrev pub does_at : (session : ℕ) → ClientEvent → (moment : ℕ) → InputEvent
+does_at session (sends text) moment = says session moment text
+does_at session goes_away moment = leaves session moment
+
+-- the event is that of a session that is not open
+abbrev pub IsOfNobody : {S : Type 0} → HallFields S → InputEvent → Type 0
+IsOfNobody hall (opens own) = ⊥
+IsOfNobody hall (says session moment text) = phase_in hall session ≡ None
+IsOfNobody hall (leaves session moment) = phase_in hall session ≡ None
+
+-- an input line says no event
+abbrev pub SaysNothing : List ℕ → Type 0
+SaysNothing line = (event : InputEvent) → SaysEvent line event → ⊥
+
+-- an input line says no event, or one of a session that is not open
+abbrev pub IsBadEvent : {S : Type 0} → List ℕ → HallFields S → Type 0
+IsBadEvent line hall = SaysNothing line ⊎ ((event : InputEvent) × SaysEvent line event × IsOfNobody hall event)
+
+-- the call of a hall by which it hears an event: a greeting, or one of the session of its number
+abbrev pub IsCallFor : InputEvent → Numbered Call → Type 0
+IsCallFor (opens own) c = c.value.asked ≡ greets own
+IsCallFor (says session moment text) c = (c.number ≡ session) × (c.value.asked ≡ hears (sends text) moment)
+IsCallFor (leaves session moment) c = (c.number ≡ session) × (c.value.asked ≡ hears goes_away moment)
+
+-- calls by which a hall heard these events, the latest of which comes first
+abbrev pub AreCallsFor : List InputEvent → List (Numbered Call) → Type 0
+AreCallsFor [] [] = Unit {0}
+AreCallsFor [] (c ∷ calls) = ⊥
+AreCallsFor (event ∷ events) [] = ⊥
+AreCallsFor (event ∷ events) (c ∷ calls) = IsCallFor event c × AreCallsFor events calls
+
+-- a hall that began with this book has heard these events, the latest of which comes first, and the log took its lines after
+-- what it had before
+pub record IsHallLogOf {S : Type 0} (facts : S → StoreFacts) (start : BookFields) (before : Option (List ℕ)) (events : List InputEvent) (hall : Hall S)
+    (log : SinkFacts) : Type 0 where
+  pub calls : List (Numbered Call)
+  pub heard : AreCallsFor events calls
+  pub stands : StandsHall facts start calls (hall_shown hall)
+  pub logged : Appends before log.given (hall_bytes calls)
+
+-- the hall has heard these events more: where the log was the hall's, it is still
+abbrev pub Hears : {S : Type 0} → (S → StoreFacts) → List InputEvent → (old : Hall S) → (log : SinkFacts) → (new : Hall S) → (log' : SinkFacts) → Type 0
+Hears facts events old log new log' =
+    (start : BookFields) (before : Option (List ℕ)) (earlier : List InputEvent)
+    → IsHallLogOf facts start before earlier old log → IsHallLogOf facts start before (events ++ earlier) new log'
+
+-- the hall has heard what the line says
+abbrev pub HearsLine : {S : Type 0} → (S → StoreFacts) → (line : List ℕ) → (old : Hall S) → (log : SinkFacts) → (new : Hall S) → (log' : SinkFacts) → Type 0
+HearsLine facts line old log new log' = (event : InputEvent) × SaysEvent line event × Hears facts (event ∷ []) old log new log'
+
+-- the hall has heard some events
+abbrev pub HearsSome : {S : Type 0} → (S → StoreFacts) → (old : Hall S) → (log : SinkFacts) → (new : Hall S) → (log' : SinkFacts) → Type 0
+HearsSome facts old log new log' = (events : List InputEvent) × Hears facts events old log new log'
