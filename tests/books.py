@@ -22,9 +22,8 @@ import time
 import tomllib
 
 import suite
-from suite import SECRET, USER, hotp
+from suite import PROGRAM, SECRET, USER, hotp
 
-PROGRAM = os.path.abspath(sys.argv[1])
 BOOK = USER + hotp(look_ahead=3, limit=100)
 # RFC 4226, appendix D
 FIRST_CODE = "755224"

@@ -11,14 +11,12 @@ import pathlib
 import re
 import socket
 import subprocess
-import sys
 import time
 import tomllib
 
 import suite
-from suite import hotp
+from suite import PROGRAM, hotp
 
-PROGRAM = os.path.abspath(sys.argv[1])
 FILES = pathlib.Path(__file__).parent / "data" / "audits"
 # RFC 5802's and RFC 7677's own logins
 SHA1 = ["--mechanism", "SCRAM-SHA-1", "--client-nonce", "fyko+d2lbbFgONRv9qkxdawL", "--server-nonce", "3rfcNHYJY1ZVvWVs7j"]
@@ -30,32 +28,22 @@ REFUSED = ACCEPTED.replace("OK :v=rmF9pqV8S7suAoZWja4dJRkFsKQ=", "NO :e={}") + "
 DECOY_KEY = bytes(range(32))
 
 
-class Login:
+class Login(suite.BookFolder):
     """A folder with a book and a place for the socket, and logins there."""
 
     def __init__(self, folder, text=KEYS):
-        self.folder = pathlib.Path(folder)
-        self.book, self.socket, self.before = (self.folder / name for name in ["book", "socket", "before"])
-        self.put(text)
-
-    def put(self, text):
-        """Makes this the book."""
-        self.book.write_text(text)
-        self.before.write_text(text)
+        super().__init__(folder, text)
+        self.socket = self.folder / "socket"
 
     def words(self, *more, name="user", path=None):
         return [PROGRAM, "login", "--book", self.book, "--name", name, "--socket", path or self.socket, *more]
 
     def run(self, words, text):
-        data = text if isinstance(text, bytes) else text.encode()
-        return subprocess.run(words, input=data, capture_output=True, timeout=60)
+        return subprocess.run(words, input=text.encode(), capture_output=True, timeout=60)
 
     def prints(self, words, text, status, log, fault=""):
         """Runs a login, compares its status, log and fault, and looks that the socket's file is gone."""
-        done = self.run(words, text)
-        faults = f"scramotp: {fault}\n" if fault else ""
-        got = (done.returncode, done.stdout.decode(), done.stderr.decode())
-        assert got == (status, log, faults), (words, text[:100], got)
+        super().prints(words, text, status, log, fault)
         assert not os.path.lexists(self.socket), words
 
     def refuses(self, words, text, status, fault):
@@ -63,19 +51,6 @@ class Login:
         seen = self.seen()
         self.prints(words, text, status, "", fault)
         assert self.seen() == seen, words
-
-    def seen(self):
-        """What differs once the book's name was given to another file, or its file was written."""
-        if not self.book.exists():
-            return None
-        found = self.book.lstat()
-        return found.st_ino, found.st_mtime_ns, found.st_ctime_ns, self.book.read_bytes(), sorted(os.listdir(self.folder))
-
-    def audited(self, log, answer):
-        """Compares what the audit says of a log under the book that it began with."""
-        words = [PROGRAM, "audit", "--book", self.before, "--log", "/dev/stdin"]
-        done = subprocess.run(words, input=log, capture_output=True, text=True)
-        assert (done.stdout, done.stderr) == (answer + "\n", ""), (log, done)
 
     def account(self):
         return tomllib.loads(self.book.read_text())["accounts"]["user"]

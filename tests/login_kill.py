@@ -10,14 +10,12 @@ import pathlib
 import random
 import re
 import subprocess
-import sys
 import time
 import tomllib
 
 import suite
-from suite import SECRET, hotp
+from suite import PROGRAM, SECRET, hotp
 
-PROGRAM = os.path.abspath(sys.argv[1])
 KEYS = (pathlib.Path(__file__).parent / "data" / "audits" / "keys.toml").read_text()
 BOOK = KEYS + hotp(look_ahead=3, limit=100, sync_ahead=10)
 RUNS = 2000

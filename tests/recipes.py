@@ -24,9 +24,8 @@ from concurrent.futures import ThreadPoolExecutor
 from pathlib import Path
 
 import suite
-from suite import SECRET, USER, hotp
+from suite import PROGRAM, SECRET, USER, hotp
 
-PROGRAM = os.path.abspath(sys.argv[1])
 HERE = Path(__file__).resolve().parent
 DOCUMENT = Path(sys.argv[2]) if len(sys.argv) > 2 else HERE.parent / "docs" / "OPERATING.md"
 NAME = "user@example.org"

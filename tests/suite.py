@@ -1,7 +1,11 @@
-"""What commands.py and books.py share: the account `user` with RFC 4226's secret, and the run of all tests."""
+"""What several scripts share: the account `user` with RFC 4226's secret, a folder with a book, and the run of all tests."""
 import os
+import pathlib
+import subprocess
 import sys
 import tempfile
+
+PROGRAM = os.path.abspath(sys.argv[1])
 
 SECRET = "3132333435363738393031323334353637383930"
 
@@ -26,6 +30,41 @@ look_ahead = {look_ahead}
 {sync}limit = {limit}
 failures = 0
 """
+
+
+class BookFolder:
+    """A folder with a book, which runs of the program serve, and a copy of it as it was before them."""
+
+    def __init__(self, folder, text):
+        self.folder = pathlib.Path(folder)
+        self.book, self.before = self.folder / "book", self.folder / "before"
+        self.put(text)
+
+    def put(self, text):
+        """Makes this the book."""
+        self.book.write_text(text)
+        self.before.write_text(text)
+
+    def prints(self, words, text, status, log, fault=""):
+        """Runs the program on this input, and compares its status, log and fault."""
+        data = text if isinstance(text, bytes) else text.encode()
+        done = subprocess.run(words, input=data, capture_output=True, timeout=60)
+        faults = f"scramotp: {fault}\n" if fault else ""
+        got = (done.returncode, done.stdout.decode(), done.stderr.decode())
+        assert got == (status, log, faults), (words, text[:200], got, log)
+
+    def seen(self):
+        """What differs once the book's name was given to another file, or its file was written."""
+        if not self.book.exists():
+            return None
+        found = self.book.lstat()
+        return found.st_ino, found.st_mtime_ns, found.st_ctime_ns, self.book.read_bytes(), sorted(os.listdir(self.folder))
+
+    def audited(self, log, answer):
+        """Compares what the audit says of a log under the book that it began with."""
+        words = [PROGRAM, "audit", "--book", self.before, "--log", "/dev/stdin"]
+        done = subprocess.run(words, input=log, capture_output=True, text=True)
+        assert (done.stdout, done.stderr) == (answer + "\n", ""), (log, done)
 
 
 def run_all(tests):

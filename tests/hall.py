@@ -1,0 +1,195 @@
+#!/usr/bin/env python3
+"""What the built program prints for many sessions over one book, and what it leaves there: the logs that are wanted are worked
+out by clients.py, and each log is audited by the program itself, under the book that the hall began with.
+
+Usage: hall.py PROGRAM
+
+Published logins and codes; 64 sessions and those that come then; three sessions dealt in all 1680 orders of their turns, each
+session's lines the same as where it stands alone; and 64 logins with codes, in a thousand random orders.
+"""
+import itertools
+import os
+import random
+import tempfile
+import tomllib
+
+import clients
+import suite
+from clients import Account, book, dealt, gone, logged_in, of_session, opened, said, turned_away
+from halls import AUTH, CONT, FILES, MECHS, OWN, RESP, USER, Hall, clean, handed, login, read
+
+SHUFFLES = 1000
+# A folder of files in memory, where a system has one.
+MEMORY = "/dev/shm"
+
+
+def two_sessions(folder):
+    """RFC 5802's login with a code, and in the middle of it a client who asks for another mechanism."""
+    here = Hall(folder)
+    events = [
+        f"open {OWN}",
+        "open zz",
+        "line 2 1 AUTH PLAIN",
+        f"line 1 1 {AUTH[2:]}",
+        f"line 1 2 {RESP[2:]}",
+        "line 1 3 CODE 755224",
+        "gone 1 4",
+    ]
+    text, log = "\n".join(events), (FILES / "interleaved.log").read_text()
+    assert log.count("\n") == 14
+    for end in ["\n", ""]:
+        here.put(USER)
+        here.prints(text + end, 0, log)
+        assert (here.token()["next"], here.token()["failures"]) == (1, 0)
+    here.audited(log, clean(2, 1, 1))
+    here.put(USER)
+    here.prints("", 0, clients.FIRST_LINE)
+    here.audited(clients.FIRST_LINE, clean(0))
+    assert tomllib.loads(here.book.read_text())["accounts"]["user"]["sha1"] == tomllib.loads(USER)["accounts"]["user"]["sha1"]
+
+
+def sixty_four(folder):
+    """64 sessions are open at a time; who comes then is turned away, and each number is given once."""
+    here = Hall(folder)
+    text = "open zz\n" * 64
+    log = clients.FIRST_LINE + "".join(f"{number} {MECHS}\n" for number in range(1, 65))
+    here.prints(text, 0, log)
+    text, log = text + "open zz\n", log + "65 S BUSY\n65 E\n"
+    here.prints(text, 0, log)
+    text += "gone 1 0\nopen zz\nopen zz\n" + "".join(f"gone {number} 0\n" for number in range(2, 65))
+    log += f"1 C GONE\n1 E\n66 {MECHS}\n67 S BUSY\n67 E\n" + "".join(f"{number} C GONE\n{number} E\n" for number in range(2, 65))
+    here.prints(text + "gone 66 0\n", 0, log + "66 C GONE\n66 E\n")
+    here.audited(log + "66 C GONE\n66 E\n", clean(65))
+    here.prints(text + "gone 65 0\n", 1, log, "bad event")
+    here.prints(text + "gone 67 0\n", 1, log, "bad event")
+
+
+def bounds(folder):
+    """The longest nonce, and the first and the last moment."""
+    here = Hall(folder)
+    for own in ["z" * 256, "!", "~", "open"]:
+        text, log = dealt([0, 0], [[opened(own), said("AUTH SCRAM-SHA-1", "S CONT :")]])
+        here.prints(text, 0, log)
+    for moment in [0, 253402300799]:
+        here.put(USER)
+        visit = login() + [said("CODE 000000", f"S FAIL {moment}", moment=moment), gone(moment)]
+        text, log = dealt([0] * len(visit), [visit])
+        here.prints(text, 0, log)
+        here.audited(log, clean(1, 1))
+
+
+# Texts that are no protocol line, or that are not due where a session begins.
+BAD_LINES = [
+    *[b"", b" ", b"ABORT ", b"abort", b"\xff\x00", b"AUTH", b"AUTH PLAIN :%2c", b"AUTH PLAIN :\r", b"CODE 1 2", b"open zz"],
+    *[b"CODE 755224", b"RESP :", b"SYNC 755224 287082", b"MECHS PLAIN", b"BUSY"],
+    *[b"AUTH PLAIN :" + b"x" * 6189, b"x" * 6200, b"x" * 500_000],
+]
+
+
+def lines_that_are_none(folder):
+    """What is no protocol line is recorded as such, and so is a line that is not due; it ends the client's session alone."""
+    here = Hall(folder)
+    for line in BAD_LINES:
+        log = f"{clients.FIRST_LINE}1 {MECHS}\n2 {MECHS}\n1 C BAD\n1 S NO :\n1 E\n2 C ABORT\n2 S NO :\n2 E\n"
+        here.prints(b"open zz\nopen zz\nline 1 5 " + line + b"\nline 2 5 ABORT", 0, log)
+        here.audited(log, clean(2))
+    longest = "AUTH PLAIN :" + "x" * 6188
+    log = f"{clients.FIRST_LINE}1 {MECHS}\n1 C {longest}\n1 S NO :\n1 E\n"
+    here.prints(f"open zz\nline 1 5 {longest}\n", 0, log)
+    here.audited(log, clean(1))
+
+
+def codes_of_one_account(folder):
+    """The codes of all sessions are attempts at one token, in the order in which they come (RFC 4226, appendix D)."""
+    here = Hall(folder)
+    codes = [("755224", "PASS 5 0"), ("755224", "FAIL 5"), ("359152", "PASS 5 2"), ("287082", "FAIL 5"), ("359152", "FAIL 5")]
+    codes += [("000000", "FAIL 5"), ("969429", "LOCKED 5")]
+    visits = [login() + [said(f"CODE {sent}", f"S {reply}"), gone()] for sent, reply in codes]
+    text, log = dealt([which for _ in range(5) for which in range(len(visits))], visits)
+    here.prints(text, 0, log)
+    here.audited(log, clean(7, 7, 2))
+    assert (here.token()["next"], here.token()["failures"]) == (3, 3), here.token()
+
+
+def told_at_once(folder):
+    """Each line stands in the log while the input is still open, and a code is spent before its reply is printed."""
+    here = Hall(folder)
+    running = here.start()
+    assert read(running, 1) == clients.FIRST_LINE
+    for event, lines in login() + [said("CODE 755224", "S PASS 5 0"), gone()]:
+        assert handed(running, event.replace("#", "1") + "\n", len(lines)) == "".join(f"1 {line}\n" for line in lines)
+    assert here.token()["next"] == 1
+    output, faults = running.communicate()
+    assert (running.returncode, output, faults) == (0, "", "")
+
+
+def three_visits():
+    """One is let in and sends its token's code, one has a wrong proof, one is let in and sends two codes in a row. After `open`
+    each has three turns, and those who are let in then go away."""
+    anne, bob, carl = Account("anne", "SCRAM-SHA-256"), Account('bob, =7% of \\ "', "SCRAM-SHA-1"), Account("carl", "SCRAM-SHA-256")
+    return [anne, bob, carl], [
+        logged_in(anne, "nonce-of-anne", "own-1") + [said(f"CODE {anne.code(2)}", "S PASS 5 2"), gone()],
+        turned_away(bob, "nonce-of-bob", "own-2"),
+        logged_in(carl, "nonce-of-carl", "own-3") + [said(f"SYNC {carl.code(0)} {carl.code(1)}", "S PASS 5 1"), gone()],
+    ]
+
+
+def all_orders(folder):
+    """Whatever the other two do in between, each session has the lines that it has where it stands alone, and the log is clean."""
+    accounts, visits = three_visits()
+    here, text, alone = Hall(folder, book(accounts)), book(accounts), []
+    for visit in visits:
+        here.put(text)
+        events, log = dealt([0] * len(visit), [visit])
+        here.prints(events, 0, log)
+        alone.append(of_session(log, 1))
+    orders = sorted(set(itertools.permutations([0, 0, 0, 1, 1, 1, 2, 2, 2])))
+    assert len(orders) == 1680
+    for order, begun in zip(orders, itertools.cycle(itertools.permutations([0, 1, 2]))):
+        here.put(text)
+        events, log = dealt(begun + order + (0, 2), visits)
+        here.prints(events, 0, log)
+        assert [of_session(log, number) for number in [1, 2, 3]] == [alone[which] for which in begun], (begun, order, log)
+        here.audited(log, clean(3, 2, 2))
+
+
+def shuffled(_):
+    """64 logins of 64 accounts, each with a code, in random orders: each line of a session is that of its own login, and the log
+    is clean."""
+    accounts = [Account(f"user {number}", list(clients.HASHES)[number % 2]) for number in range(64)]
+    # a book is saved 64 times in each order, and a file in memory is saved at once
+    with tempfile.TemporaryDirectory(dir=MEMORY if os.path.isdir(MEMORY) else None) as folder:
+        here, text = Hall(folder, book(accounts)), book(accounts)
+        for seed in range(SHUFFLES):
+            order, visits = shuffle_of(accounts, random.Random(seed))
+            here.put(text)
+            events, log = dealt(order, visits)
+            here.prints(events, 0, log)
+            here.audited(log, clean(64, 64, log.count(" S PASS ")))
+
+
+def shuffle_of(accounts, chosen):
+    """A login of each account, with a code that passes or fails, and an order of their turns."""
+    visits = []
+    for account in accounts:
+        counter = chosen.randrange(5)
+        reply = f"S PASS 5 {counter}" if counter <= 3 else "S FAIL 5"
+        nonces = [f"{chosen.getrandbits(64):x}" for _ in range(2)]
+        visits.append(logged_in(account, *nonces) + [said(f"CODE {account.code(counter)}", reply), gone()])
+    order = [which for which in range(64) for _ in range(5)]
+    chosen.shuffle(order)
+    return order, visits
+
+
+TESTS = [
+    two_sessions,
+    sixty_four,
+    bounds,
+    lines_that_are_none,
+    codes_of_one_account,
+    told_at_once,
+    all_orders,
+    shuffled,
+]
+
+suite.run_all(TESTS)

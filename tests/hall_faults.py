@@ -1,0 +1,172 @@
+#!/usr/bin/env python3
+"""How halls of the built program end early: what is printed until then, the fault, the status, and what is saved.
+
+Usage: hall_faults.py PROGRAM
+"""
+import os
+import resource
+import subprocess
+import time
+
+import clients
+import suite
+from clients import Account, book, dealt, gone, logged_in, opened, said
+from halls import USER, Hall, clean, handed, login, read
+
+# Input lines that say no event, where sessions 2 and 3 are open, session 1 has ended and no other has begun.
+NO_EVENTS = [
+    *[b"", b" ", b"close 2 5", b"Open zz", b"OPEN zz", b" open zz", b"\topen zz", b"opened zz", b"lines 2 5 ABORT", b"go 2 5"],
+    *[b"open", b"open ", b"open  zz", b"open z z", b"open zz ", b"open z,z", b"open zz\r", b"open z\x7f", b"open \xc3\xa9"],
+    *[b"open z\0", b"open " + b"z" * 257, b"open " + b"z" * 100_000],
+    *[b"line", b"line ", b"line 2", b"line 2 ", b"line 2 5", b"line  2 5 ABORT", b"line 2  5 ABORT", b"line\t2 5 ABORT"],
+    *[b"line 2 ABORT", b"gone", b"gone ", b"gone 2", b"gone 2 ", b"gone  2 5", b"gone 2  5", b"gone 2 5 ", b"gone 2 5\r"],
+    *[b"gone 2 5 5", b"gone  5"],
+]
+NO_NUMBERS = [b"0", b"02", b"+2", b"-2", b"2.0", b"0x2", b"two", b"1", b"4", b"9223372036854775806", b"9223372036854775807"]
+NO_NUMBERS += [b"18446744073709551618", b"340282366920938463463374607431768211458", b"2" * 7000]
+NO_MOMENTS = [b"05", b"00", b"+5", b"-5", b"5.0", b"5s", b"now", b"0x5", b"253402300800", b"18446744073709551621", b"5" * 7000]
+
+
+def let_in():
+    """A session that is let in and sends a code, and two that begin."""
+    visits = [login() + [said("CODE 755224", "S PASS 5 0"), gone()], [opened("aa")], [opened("bb")]]
+    return dealt([0, 0, 0, 0, 0, 1, 2], visits)
+
+
+def bad_events(folder):
+    """A line that says no event ends the hall there: the log so far is printed, the book is saved as the log has it, and nothing
+    that comes later is heard."""
+    here = Hall(folder)
+    text, log = let_in()
+    lines = [*NO_EVENTS]
+    lines += [line for number in NO_NUMBERS for line in [b"line " + number + b" 5 ABORT", b"gone " + number + b" 5"]]
+    lines += [line for moment in NO_MOMENTS for line in [b"line 2 " + moment + b" ABORT", b"gone 2 " + moment]]
+    for line in lines:
+        for end in [b"\nopen cc\ngone 2 5\n", b"\n"] + [b""] * (line != b""):
+            here.put(USER)
+            here.prints(text.encode() + line + end, 1, log, "bad event")
+            assert here.token()["next"] == 1, line
+    here.audited(log, f"line {log.count(chr(10)) + 1}: cut")
+    here.prints(b"\n", 1, clients.FIRST_LINE, "bad event")
+
+
+def full_device(running, _):
+    """Lets a run write no byte to a file any more. Pipes are no files."""
+    resource.prlimit(running.pid, resource.RLIMIT_FSIZE, (0, 0))
+
+
+def taken_name(_, path):
+    """Another file stands where the book's next text is written."""
+    os.mkdir(path)
+
+
+def failed_saves(folder):
+    """Where the book can't be saved the hall halts: the last line tells the client whose code it was, and nobody else is told."""
+    anne, bob = Account("anne", "SCRAM-SHA-256"), Account("bob", "SCRAM-SHA-1")
+    here = Hall(folder, book([anne, bob]))
+    visits = [logged_in(anne, "abc", "def"), logged_in(bob, "uvw", "xyz"), [opened("zz")]]
+    text, log = dealt([0, 1, 2, 0, 1, 1, 0], visits)
+    for block in [taken_name, full_device]:
+        here.put(book([anne, bob]))
+        running = here.start(restore_signals=False)
+        assert read(running, 1) + handed(running, text, log.count("\n") - 1) == log
+        kept = here.book.read_bytes()
+        block(running, f"{here.book}.new")
+        output, faults = running.communicate(f"line 2 5 CODE {bob.code(0)}\nline 1 5 CODE {anne.code(0)}\ngone 3 5\nno event\n")
+        assert (running.returncode, output) == (3, f"2 C CODE {bob.code(0)}\n2 S HALT\n"), (running.returncode, output)
+        assert faults == f"scramotp: cannot write {here.book}\n", faults
+        assert here.book.read_bytes() == kept
+        here.audited(log + output, clean(3, 2))
+        if block == taken_name:
+            os.rmdir(f"{here.book}.new")
+
+
+def first_saves(folder):
+    """The book is saved before the first line; where that fails nothing is printed, and no input is judged."""
+    here = Hall(folder)
+    os.mkdir(f"{here.book}.new")
+    for text in ["", "no event\n", let_in()[0]]:
+        here.refuses(text, 3, f"cannot write {here.book}")
+
+
+def books_that_are_none(folder):
+    """Before any input is judged the book is read."""
+    here = Hall(folder)
+    for text in ["", "no event\n", let_in()[0]]:
+        here.put("format = 2\n")
+        here.refuses(text, 1, "bad book: 61")
+        here.put(USER.replace("digits = 6", "digits = 9"))
+        here.refuses(text, 1, "bad book: 67")
+        here.book.unlink()
+        here.refuses(text, 3, f"cannot read {here.book}")
+        assert not here.book.exists()
+
+
+def held_books(folder):
+    """A hall holds its book until its input ends: another run that needs it waits, and finds the code spent."""
+    here = Hall(folder)
+    text, log = let_in()
+    running = here.start()
+    assert read(running, 1) + handed(running, text, log.count("\n") - 1) == log
+    words = [here.words[0], "verify", "--book", here.book, "--name", "user", "--moment", "5"]
+    waiting = subprocess.Popen(words, stdin=subprocess.PIPE, stdout=subprocess.PIPE, text=True)
+    waiting.stdin.write("755224\n")
+    waiting.stdin.close()
+    time.sleep(0.5)
+    assert waiting.poll() is None
+    output, faults = running.communicate("gone 2 5\n")
+    assert (running.returncode, output, faults) == (0, "2 C GONE\n2 E\n", ""), (running.returncode, output, faults)
+    assert (waiting.stdout.read(), waiting.wait()) == ("FAIL 5\n", 1)
+    waiting.stdout.close()
+
+
+def outputs_that_fail(folder):
+    """Where a line can't be printed the hall ends: no code is judged that the log does not have."""
+    here = Hall(folder)
+    text, log = let_in()
+    with open("/dev/full", "wb") as full:
+        done = subprocess.run(here.words, input=text.encode(), stdout=full, stderr=subprocess.PIPE)
+    assert (done.returncode, done.stderr) == (3, b"scramotp: cannot write output\n"), done
+    assert here.token()["next"] == 0
+    running = here.start()
+    assert read(running, 1) == clients.FIRST_LINE
+    running.stdout.close()
+    running.stdin.write(text)
+    running.stdin.close()
+    assert (running.stderr.read(), running.wait()) == ("scramotp: cannot write output\n", 3)
+    running.stderr.close()
+    assert here.token()["next"] == 0
+
+
+def long_inputs(folder):
+    """More than 16777216 bytes of input are a fault; the log stands as far as it had come."""
+    here = Hall(folder)
+    text, log = let_in()
+    text += "line 2 5 "
+    here.prints(text + "a" * (16777217 - len(text)), 3, log, "cannot read input")
+    assert here.token()["next"] == 1
+    here.put(USER)
+    here.prints(text + "a" * (16777216 - len(text)), 0, log + "2 C BAD\n2 S NO :\n2 E\n")
+
+
+def faulty_inputs(folder):
+    """Input that can't be read."""
+    here = Hall(folder)
+    at = os.open(folder, os.O_RDONLY)
+    done = subprocess.run(here.words, stdin=at, capture_output=True, text=True)
+    os.close(at)
+    assert (done.returncode, done.stdout, done.stderr) == (3, clients.FIRST_LINE, "scramotp: cannot read input\n"), done
+
+
+TESTS = [
+    bad_events,
+    failed_saves,
+    first_saves,
+    books_that_are_none,
+    held_books,
+    outputs_that_fail,
+    long_inputs,
+    faulty_inputs,
+]
+
+suite.run_all(TESTS)

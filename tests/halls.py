@@ -1,0 +1,68 @@
+"""What the scripts on `hall` share: a folder with a book and halls over it, and RFC 5802's login in one."""
+import os
+import pathlib
+import select
+import subprocess
+import time
+import tomllib
+
+import suite
+from clients import opened, said
+from suite import PROGRAM
+
+FILES = pathlib.Path(__file__).parent / "data" / "audits"
+MECHS, AUTH, CONT, RESP, OK = (FILES / "sha1.log").read_text().splitlines()[1:6]
+OWN = "3rfcNHYJY1ZVvWVs7j"
+# RFC 5802's user with RFC 4226's token
+USER = (FILES / "hotp.toml").read_text()
+
+
+class Hall(suite.BookFolder):
+    """A folder with a book, and halls over it."""
+
+    def __init__(self, folder, text=USER):
+        super().__init__(folder, text)
+        self.words = [PROGRAM, "hall", "--book", self.book]
+
+    def prints(self, text, status, log, fault=""):
+        """Runs a hall, and compares its status, log and fault."""
+        super().prints(self.words, text, status, log, fault)
+
+    def refuses(self, text, status, fault):
+        """As `prints` where nothing is printed; and no file is written."""
+        seen = self.seen()
+        self.prints(text, status, "", fault)
+        assert self.seen() == seen, text[:200]
+
+    def token(self, name="user"):
+        return tomllib.loads(self.book.read_text())["accounts"][name]["token"]
+
+    def start(self, **more):
+        """A hall that waits for input."""
+        pipe = subprocess.PIPE
+        return subprocess.Popen(self.words, stdin=pipe, stdout=pipe, stderr=pipe, text=True, bufsize=1, **more)
+
+
+def clean(sessions, accepted=0, codes=0):
+    return f"clean sessions={sessions} accepted={accepted} codes={codes}"
+
+
+def read(running, count):
+    """The next lines that a run prints, while its input is open."""
+    text, deadline = "", time.monotonic() + 20
+    while text.count("\n") < count and time.monotonic() < deadline:
+        if select.select([running.stdout], [], [], 1)[0]:
+            text += os.read(running.stdout.fileno(), 65536).decode()
+    return text
+
+
+def handed(running, text, count):
+    """Hands a run more input, and returns the lines that it prints then."""
+    running.stdin.write(text)
+    running.stdin.flush()
+    return read(running, count)
+
+
+def login():
+    """RFC 5802's login, in three turns."""
+    return [opened(OWN), said(AUTH[2:], CONT), said(RESP[2:], OK)]
