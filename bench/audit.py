@@ -4,8 +4,9 @@
 Usage: audit.py PROGRAM
 
 Each log is made here, each message and each code by Python's hmac: logins of RFC 5802 and RFC 7677 by turns, each
-with nonces of its own; and sessions of many accounts in each of which many codes pass. Each audit has to answer
-with the log's own counts. Best of several turns, with the start of the program and the reading of the book.
+with nonces of its own, one after another, and as logs of version 2, one after another and 64 at once; and sessions of many
+accounts in each of which many codes pass. Each audit has to answer with the log's own counts. Best of several turns, with the
+start of the program and the reading of the book.
 """
 import base64
 import hashlib
@@ -73,10 +74,32 @@ def login(table, name, number):
     )
 
 
-def of_logins(count):
+def logins(count):
     tables = list(HASHES)
-    sessions = (login(tables[i % 2], "user", i) + "C GONE\nE\n" for i in range(count))
-    return "SCRAMLOG 1\n" + "".join(sessions), f"clean sessions={count} accepted={count} codes=0\n"
+    return (login(tables[i % 2], "user", i) + "C GONE\nE\n" for i in range(count))
+
+
+def of_logins(count):
+    return "SCRAMLOG 1\n" + "".join(logins(count)), f"clean sessions={count} accepted={count} codes=0\n"
+
+
+def at_once(count, open_sessions):
+    """A log of version 2 of the same logins, so many of which are open at a time: a line of each in turn, and the next login
+    begins where one ends."""
+    waiting = enumerate(logins(count), 1)
+    seats = [None] * open_sessions
+    lines = ["SCRAMLOG 2\n"]
+    while len(lines) <= 7 * count:
+        for seat, guest in enumerate(seats):
+            if guest is None:
+                number, text = next(waiting, (None, ""))
+                guest = seats[seat] = (number, iter(text.splitlines(keepends=True)))
+            line = next(guest[1], None)
+            if line is not None:
+                lines.append(f"{guest[0]} {line}")
+            if line is None or line == "E\n":
+                seats[seat] = None
+    return "".join(lines), f"clean sessions={count} accepted={count} codes=0\n"
 
 
 def code(counter):
@@ -142,6 +165,10 @@ def main():
         taken = best(program, folder, one, log, want)
         lines = log.count("\n")
         print(f"{LOGINS} logins, {lines} lines, {len(log)} bytes: {taken:.2f} s, {LOGINS / taken:.0f} logins a second")
+        for open_sessions in (1, 64):
+            second, counts = at_once(LOGINS, open_sessions)
+            share = 100 * taken / best(program, folder, one, second, counts)
+            print(f"version 2, {open_sessions} open at a time: {share:.0f} % as many lines a second")
         piped = audit(program, folder, one, "/dev/stdin")
         few, many = peak(piped, *of_logins(FEW)), peak(piped, log, want)
         print(f"peak memory: {few} KiB for {FEW} logins, {many} KiB for {LOGINS}, ratio {many / few:.3f}")

@@ -8,10 +8,13 @@
 //! account book of them COUNT times, and prints how often they were one, as `book 20 of 20`;
 //! `bench logins COUNT FILE` serves COUNT logins over the book of FILE, and `bench codes COUNT FILE` one login
 //! with COUNT codes: both print how many were served, and how many bytes were logged and sent; `bench calls COUNT FILE`, `bench
-//! turns COUNT FILE` and `bench service COUNT FILE` serve that login while a test refuses memory, and print the log.
+//! turns COUNT FILE`, `bench service COUNT FILE` and `bench hall COUNT FILE` serve that login while a test refuses memory, and print
+//! the log; `bench alone COUNT FILE` and `bench together COUNT FILE` let COUNT clients log in by calls of a desk, and of a hall, 64 at
+//! a time, and print what `bench logins` prints.
 #![tactic(auto)]
 
 mod book;
+mod guests;
 mod login;
 mod memory;
 mod pair;
@@ -19,9 +22,10 @@ mod refused;
 mod service;
 
 use crate::book::print_readings;
+use crate::guests::{print_alone, print_together};
 use crate::login::print_verdicts;
 use crate::pair::print_failures;
-use crate::refused::{print_calls, print_service, print_turns};
+use crate::refused::{print_calls, print_hall, print_service, print_turns};
 use crate::service::{print_codes_served, print_logins};
 use mac_core::{HSha1, Prepared};
 use otp_core::{Digits, Secret, hotp_with};
@@ -82,6 +86,9 @@ fn main(rt: HostRuntime) -> io::Result<ExitCode> {
         "calls" => print_calls(&rt, text.as_str(), count)?,
         "turns" => print_turns(&rt, text.as_str(), count)?,
         "service" => print_service(&rt, text.as_str(), count)?,
+        "hall" => print_hall(&rt, text.as_str(), count)?,
+        "alone" => print_alone(&rt, text.as_str(), count)?,
+        "together" => print_together(&rt, text.as_str(), count)?,
         "book" => print_readings(&rt, text.as_str(), count)?,
         kind => println!(rt; "{kind} {}", readings(kind, text.as_bytes(), count))?,
     }

@@ -1,8 +1,11 @@
-//! A client that is served while one request for memory is refused, whichever it is: a call of a desk then answers 99, nothing
-//! is lost by it, and the same call again goes on.
+//! A client that is served while one request for memory is refused, whichever it is: a call of a desk or a hall then answers 99,
+//! nothing is lost by it, and the same call again goes on.
+mod hall;
+
 use crate::memory::{Kept, Memory, Still};
 use crate::service::{OWN, login_and_codes, refusal};
 use account_book::Book;
+pub(crate) use hall::print_hall;
 use otp_core::Moment;
 use sasl_desk::{Desk, DeskFault, Event, Phase, ServeFault, serve, serve_turn};
 use sasl_log::{OverRead, Sink};

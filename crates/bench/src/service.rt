@@ -11,8 +11,8 @@ use std::fs::Files;
 use std::io::ErrorKind;
 use std::{fs, io};
 
-// What the client sends, line by line.
-const LOGIN: &str = "AUTH SCRAM-SHA-256 :n,,n=user,r=rOprNGfwEbeRWgbNEkqO
+/// What the client sends, line by line.
+pub(crate) const LOGIN: &str = "AUTH SCRAM-SHA-256 :n,,n=user,r=rOprNGfwEbeRWgbNEkqO
 RESP :c=biws,r=rOprNGfwEbeRWgbNEkqO%25hvYDpWUa2RaTCAfuxFIlj)hNlF$k0,p=dHzbZapWIk4jUhN+Ute9ytag9zjfMHgsqmmiz7AndVQ=
 ";
 

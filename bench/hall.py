@@ -1,0 +1,96 @@
+#!/usr/bin/env python3
+"""Times logins in a hall, 64 at a time, beside those at a desk, one after another, by processor time; and measures the memory of a
+hall whose sessions come and go.
+
+Usage: hall.py PROGRAM BENCH
+
+BENCH is the built crate bench. It makes the same calls of both over memory, for the login of RFC 7677's example: best of several
+turns, without the time of a start. Memory is measured over memory, by logins, and by `hall`, where 63 sessions stay open while
+others begin and end.
+"""
+import os
+import pathlib
+import subprocess
+import sys
+import tempfile
+import time
+
+from serve import LOGGED, book
+
+# Each of these is a multiple of 64.
+LOGINS = 200_000
+FEW, MANY = 6_400, 1_000_000
+TURNS = 5
+# What an input of 16777216 bytes can hold.
+SESSIONS = 700_000
+LINES = 7  # that a log has of each login
+
+
+def logged(count):
+    """How many bytes a log has of so many logins. Each line of the login has its session's number, and a space."""
+    return count * LOGGED + sum(LINES * (len(str(number)) + 1) for number in range(1, count + 1))
+
+
+def served(count, size):
+    return f"served {count} logged {size} sent "
+
+
+def seconds(words, want):
+    """The processor time of a run, whose output begins like this."""
+    child = subprocess.Popen(words, stdout=subprocess.PIPE, text=True)
+    printed = child.stdout.read()
+    _, child.returncode, used = os.wait4(child.pid, 0)
+    if child.returncode or not printed.startswith(want):
+        sys.exit(f"{words}: status {child.returncode}, {printed!r}, not {want!r}")
+    return used.ru_utime + used.ru_stime
+
+
+def rate(bench, kind, size, path):
+    """Logins a second."""
+    none = min(seconds([bench, kind, "0", path], served(0, 0)) for _ in range(TURNS))
+    all_of_them = min(seconds([bench, kind, str(LOGINS), path], served(LOGINS, size)) for _ in range(TURNS))
+    return LOGINS / (all_of_them - none)
+
+
+def peak(words, given=None):
+    """The most memory in KiB of a run, looked up until it ends."""
+    most, child = 0, subprocess.Popen(words, stdin=given, stdout=subprocess.DEVNULL)
+    while child.poll() is None:
+        status = pathlib.Path(f"/proc/{child.pid}/status").read_text()
+        most = max(most, *[int(line.split()[1]) for line in status.splitlines() if line.startswith("VmHWM:")], 0)
+        time.sleep(0.01)
+    if child.returncode:
+        sys.exit(f"{words}: status {child.returncode}")
+    return most
+
+
+def come_and_go(path, count):
+    """Input of `hall`: 63 sessions begin and stay, and so many others begin and end, one after another."""
+    with open(path, "w") as file:
+        file.write("open z\n" * 63)
+        file.writelines(f"open z\ngone {number} 0\n" for number in range(64, 64 + count))
+
+
+def of_program(program, path, given, count):
+    """The most memory of `hall` whose sessions come and go."""
+    come_and_go(given, count)
+    with open(given, "rb") as events:
+        return peak([program, "hall", "--book", path], events)
+
+
+def main():
+    program, bench = sys.argv[1:]
+    with tempfile.TemporaryDirectory() as folder:
+        path, given = (os.path.join(folder, name) for name in ["book", "events"])
+        pathlib.Path(path).write_text(book(1))
+        alone = rate(bench, "alone", LOGINS * LOGGED, path)
+        together = rate(bench, "together", logged(LOGINS), path)
+        print(f"logins a second: {alone:,.0f} at a desk, {together:,.0f} in a hall with 64 open, ratio {together / alone:.2f}")
+        few, many = (peak([bench, "together", str(count), path]) for count in (FEW, MANY))
+        print(f"peak memory of a hall: {few} KiB for {FEW} logins, {many} KiB for {MANY}, ratio {many / few:.3f}")
+        few, many = (of_program(program, path, given, count) for count in (FEW, SESSIONS))
+        print(f"peak memory of `hall`: {few} KiB for {FEW} sessions, {many} KiB for {SESSIONS}, ratio {many / few:.3f}")
+
+
+if __name__ == "__main__":
+    main()

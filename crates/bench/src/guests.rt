@@ -1,0 +1,180 @@
+//! Logins by calls of a desk, one after another, and of a hall, 64 at a time. What the calls write is counted and not kept.
+use crate::memory::Memory;
+use crate::service::{LOGIN, OWN, refusal};
+use account_book::Book;
+use arrayvec::ArrayVec;
+use otp_core::Moment;
+use sasl_desk::{Desk, Event, Hall, Phase};
+use scram_text::NoncePart;
+use std::alloc::Global;
+use std::fs::Files;
+use std::{fs, io};
+
+// How many clients a hall lets in at a time.
+const OPEN: u32 = 64;
+
+// Where calls write, and how many bytes they have sent and logged.
+#[derive(Drop)]
+struct Written {
+    wire: Vec<u8>,
+    log: Vec<u8>,
+    sent: u64,
+    logged: u64,
+}
+
+impl Written {
+    fn new(alloc: Global) -> Written {
+        Written {
+            wire: Vec::new(alloc),
+            log: Vec::new(alloc),
+            sent: 0,
+            logged: 0,
+        }
+    }
+
+    // Counts the bytes that were written, and forgets them.
+    fn forget(&mut self) {
+        self.sent = self.sent.saturating_add(self.wire.len() as u64);
+        self.logged = self.logged.saturating_add(self.log.len() as u64);
+        self.wire.clear();
+        self.log.clear();
+    }
+}
+
+// The book in the file at this path.
+fn book<R: Files + AllocGlobal>(rt: &R, path: &str) -> io::Result<Book> {
+    let bytes = fs::read(rt, path)?;
+    match Book::read(rt.alloc(), bytes.as_slice()) {
+        Ok(book) => Ok(book),
+        Err(_) => Err(refusal()),
+    }
+}
+
+// Prints how many clients were served, and how many bytes were logged and sent.
+fn print_served(rt: &impl Print, served: u32, written: &Written) -> io::Result<()> {
+    let (logged, sent) = (written.logged, written.sent);
+    println!(rt; "served {served} logged {logged} sent {sent}")
+}
+
+// Lets a desk hear what its client does. None where no session is open, or the desk has no answer.
+fn desk_hears(
+    alloc: Global,
+    desk: &mut Desk<Memory>,
+    event: Event<'_>,
+    written: &mut Written,
+) -> Option<Phase> {
+    let Written { wire, log, .. } = written;
+    if desk.phase() == Phase::Closed {
+        return None;
+    }
+    let answer = desk.client(alloc, event, Moment::new(5)?, wire, log);
+    written.forget();
+    answer.ok()
+}
+
+// Lets a client log in at a desk and leave. None where a session is open before or after it, or a call has no answer.
+fn log_in_alone(alloc: Global, desk: &mut Desk<Memory>, written: &mut Written) -> Option<()> {
+    let own = NoncePart::new(OWN)?;
+    let Written { wire, log, .. } = written;
+    if desk.phase() != Phase::Closed {
+        return None;
+    }
+    desk.greet(own, wire, log).ok()?;
+    for line in LOGIN.lines() {
+        desk_hears(alloc, desk, Event::Line(line.as_bytes()), written)?;
+    }
+    match desk_hears(alloc, desk, Event::Gone, written)? {
+        Phase::Closed => Some(()),
+        _ => None,
+    }
+}
+
+/// Lets `count` clients log in and leave at a desk over the book in the file at `path`, one after another, and prints how many
+/// did, and how many bytes were logged and sent.
+pub(crate) fn print_alone<R>(rt: &R, path: &str, count: u32) -> io::Result<()>
+where
+    R: Print + Files + AllocGlobal,
+{
+    let alloc = rt.alloc();
+    let (mut written, mut first_line) = (Written::new(alloc), Vec::new(alloc));
+    let Ok(mut desk) = Desk::begin(alloc, book(rt, path)?, Memory::new(alloc), &mut first_line)
+    else {
+        return Err(refusal());
+    };
+    let mut served = 0u32;
+    for _ in 0..count {
+        if log_in_alone(alloc, &mut desk, &mut written).is_some() {
+            served = served.saturating_add(1);
+        }
+    }
+    print_served(rt, served, &written)
+}
+
+// Lets 64 clients come into a hall. Returns their numbers, or None where a call has no answer.
+fn all_come(hall: &mut Hall<Memory>, written: &mut Written) -> Option<ArrayVec<u64, 64>> {
+    let mut numbers = ArrayVec::new();
+    for _ in 0..OPEN {
+        let Written { wire, log, .. } = written;
+        let (number, _) = hall.greet(NoncePart::new(OWN)?, wire, log).ok()?;
+        numbers.try_push(number).ok()?;
+        written.forget();
+    }
+    Some(numbers)
+}
+
+// Each of the clients of these numbers does this, one after another. Returns how many sessions have then ended, or None where
+// a session is not open, or a call has no answer.
+fn all_do(
+    alloc: Global,
+    hall: &mut Hall<Memory>,
+    numbers: &[u64],
+    event: Event<'_>,
+    written: &mut Written,
+) -> Option<u32> {
+    let mut ended = 0u32;
+    for number in numbers {
+        let Written { wire, log, .. } = written;
+        if hall.phase(*number).is_none() {
+            return None;
+        }
+        let phase = hall
+            .client(alloc, *number, event, Moment::new(5)?, wire, log)
+            .ok()?;
+        if phase == Phase::Closed {
+            ended = ended.saturating_add(1);
+        }
+        written.forget();
+    }
+    Some(ended)
+}
+
+// Lets 64 clients log in and leave, a line of each in turn. Returns how many did, or None where a call has no answer.
+fn log_in_together(alloc: Global, hall: &mut Hall<Memory>, written: &mut Written) -> Option<u32> {
+    let numbers = all_come(hall, written)?;
+    let numbers = numbers.as_slice();
+    for line in LOGIN.lines() {
+        all_do(alloc, hall, numbers, Event::Line(line.as_bytes()), written)?;
+    }
+    all_do(alloc, hall, numbers, Event::Gone, written)
+}
+
+/// Lets `count` clients log in and leave in a hall over the book in the file at `path`, 64 at a time, and prints what `print_alone`
+/// prints. Where 64 do not divide `count`, the rest are not let in.
+pub(crate) fn print_together<R>(rt: &R, path: &str, count: u32) -> io::Result<()>
+where
+    R: Print + Files + AllocGlobal,
+{
+    let alloc = rt.alloc();
+    let (mut written, mut first_line) = (Written::new(alloc), Vec::new(alloc));
+    let Ok(mut hall) = Hall::begin(alloc, book(rt, path)?, Memory::new(alloc), &mut first_line)
+    else {
+        return Err(refusal());
+    };
+    let mut served = 0u32;
+    for _ in 0..count / OPEN {
+        if let Some(many) = log_in_together(alloc, &mut hall, &mut written) {
+            served = served.saturating_add(many);
+        }
+    }
+    print_served(rt, served, &written)
+}
