@@ -5,7 +5,8 @@ Usage: sessions.py PROGRAM
 
 Three sessions dealt in all 1680 orders of their turns, each log clean, and with one session's outcome turned, at fault in
 that line with the same outcome due in every order; 64 logins with codes, shuffled, in which replies follow the order of the
-whole log; 64 open sessions and a 65th that is turned away; and the longest lines. Exits at the first difference.
+whole log; 64 open sessions and a 65th that is turned away; numbers that are none, or not due; and the longest
+lines. Exits at the first difference.
 """
 import hmac
 import itertools
@@ -145,22 +146,49 @@ def sixty_four(program, log):
     answers("nothing after BUSY's E", program, log, opened + away, 1, "line 68: cut")
 
 
+def other_numbers(program, log):
+    """A number is a decimal from 1 to 9223372036854775806 without a leading zero, and each session has the next one."""
+    first, ended = [FIRST_LINE, f"1 {MECHS}"], [f"1 {GONE}", f"1 {END}"]
+    for number in ["0", "01", "-1", "+1", " 1", "", "9223372036854775807", "9223372036854775808", "18446744073709551617"]:
+        answers(f"number {number!r}", program, log, [FIRST_LINE, f"{number} {MECHS}"], 1, "line 2: not a line")
+        answers(f"then number {number!r}", program, log, first + [f"{number} {GONE}"], 1, "line 3: not a line")
+    for number in ["2", "9223372036854775806"]:
+        answers(f"number {number}", program, log, [FIRST_LINE, f"{number} {MECHS}"], 1, "line 2: order")
+        answers(f"then number {number}", program, log, first + [f"{number} {GONE}"], 1, "line 3: order")
+    answers("a number that is left out", program, log, first + [f"3 {MECHS}"], 1, "line 3: order")
+    answers("a number that comes back", program, log, first + ended + ended[:1], 1, "line 5: order")
+    answers("a number that begins again", program, log, first + ended + first[1:], 1, "line 5: order")
+    answers("two spaces", program, log, [FIRST_LINE, f"1  {MECHS}"], 1, "line 2: not a line")
+    answers("no space", program, log, [FIRST_LINE, f"1{MECHS}"], 1, "line 2: not a line")
+
+
 def long_lines(program, log):
     """A line may have 6202 bytes, and 6222 after the first line of version 2, 6202 of them after its number."""
     words = [program, "audit", "--book", BOOK, "--log", log]
-    long = "9223372036854775806 "
-    for what, text, answer in [
+    cases = [
         ("6202 bytes of a first line", "S" * 6202, "line 1: cut"),
         ("6203 bytes of a first line", "S" * 6203, "line 1: not a line"),
         ("6202 bytes and LF", "S" * 6202 + "\n", "line 1: not a line"),
         ("6202 bytes, version 1", "SCRAMLOG 1\n" + "S" * 6202, "line 2: cut"),
         ("6203 bytes, version 1", "SCRAMLOG 1\n" + "S" * 6203, "line 2: not a line"),
-        ("6222 bytes, version 2", "SCRAMLOG 2\n" + "S" * 6222, "line 2: cut"),
-        ("6223 bytes, version 2", "SCRAMLOG 2\n" + "S" * 6223, "line 2: not a line"),
-        ("6222 bytes of another number", f"SCRAMLOG 2\n{long}C AUTH PLAIN :{'x' * 6188}\n", "line 2: order"),
-        ("6203 after a number", f"SCRAMLOG 2\n1 C AUTH PLAIN :{'x' * 6189}\n", "line 2: not a line"),
-        ("6202 after a number", f"SCRAMLOG 2\n1 C AUTH PLAIN :{'x' * 6188}\n", "line 2: order"),
+        ("6202 bytes and LF, version 1", "SCRAMLOG 1\n" + "S" * 6202 + "\n", "line 2: not a line"),
+        ("6203 bytes and LF, version 1", "SCRAMLOG 1\n" + "S" * 6203 + "\n", "line 2: not a line"),
+    ]
+    # After the first line of version 2: how many bytes, and what is said of them where they have no LF; where they have one and
+    # no number, the number 1, and the greatest number. What follows the number is a line that is not due.
+    for size, *said in [
+        (6202, "cut", "not a line", "order", "order"),
+        (6203, "cut", "not a line", "order", "order"),
+        (6204, "cut", "not a line", "order", "order"),
+        (6205, "cut", "not a line", "not a line", "order"),
+        (6222, "cut", "not a line", "not a line", "order"),
+        (6223, "not a line", "not a line", "not a line", "not a line"),
     ]:
+        for number, ended in zip(["", "1 ", "9223372036854775806 "], said[1:]):
+            line = f"{number}C AUTH PLAIN :".ljust(size, "x")
+            cases.append((f"{size} bytes after {number!r}", f"SCRAMLOG 2\n{line}", f"line 2: {said[0]}"))
+            cases.append((f"{size} bytes after {number!r} and LF", f"SCRAMLOG 2\n{line}\n", f"line 2: {ended}"))
+    for what, text, answer in cases:
         log.write_text(text)
         done = subprocess.run(words, capture_output=True, text=True, timeout=60)
         if (done.returncode, done.stdout, done.stderr) != (1, answer + "\n", ""):
@@ -173,6 +201,7 @@ def main():
         folder = pathlib.Path(name)
         log = folder / "log"
         sixty_four(program, log)
+        other_numbers(program, log)
         long_lines(program, log)
         shuffles(program, log, folder)
         orders = all_orders(program, log)

@@ -16,12 +16,145 @@ const SALT: [u8; 12] = [
 const AUTH_MESSAGE: &str =
     "n=user,r=fyko+d2lbbFgONRv9qkxdawL,r=fyko+d2lbbFgONRv9qkxdawL3rfcNHYJY1ZVvWVs7j,s=QSXCR+Q6sek8bf92,i=4096,c=biws,r=fyko+d2lbbFgONRv9qkxdawL3rfcNHYJY1ZVvWVs7j";
 
-const KEY_FIRST: &str = "Test Using Larger Than Block-Size Key - Hash Key First";
+// Keys, texts and their MACs by SHA-1, in hexadecimal.
+const SHA1_MACS: [(&[u8], &[u8], &str); 8] = [
+    (
+        &[0x0b; 20],
+        b"Hi There",
+        "b617318655057264e28bc0b6fb378c8ef146be00",
+    ),
+    (
+        b"Jefe",
+        b"what do ya want for nothing?",
+        "effcdf6ae5eb2fa2d27416d5f184df9c259a7c79",
+    ),
+    (
+        &[0xaa; 20],
+        &[0xdd; 50],
+        "125d7342b9ac11cd91a39af48aa17b4f63f175d3",
+    ),
+    (
+        &KEY_OF_25,
+        &[0xcd; 50],
+        "4c9007f4026250c6bc8414f9bf50c86c2d7235da",
+    ),
+    (
+        &[0x0c; 20],
+        b"Test With Truncation",
+        "4c1a03424b55e07fe7f27be1d58bb9324a9a5a04",
+    ),
+    (
+        &[0xaa; 80],
+        KEY_FIRST,
+        "aa4ae5e15272d00e95705637ce8a3b55ed402112",
+    ),
+    (
+        &[0xaa; 80],
+        b"Test Using Larger Than Block-Size Key and Larger Than One Block-Size Data",
+        "e8e99d0f45237d786d6bbaa7965c7808bbff1a91",
+    ),
+    (
+        b"password",
+        b"salt\0\0\0\x01",
+        "0c60c80f961f0e71f3a9b524af6012062fe037a6",
+    ),
+];
 
-const BOTH_LONG: &str =
-    "This is a test using a larger than block-size key and a larger than block-size data. The key needs to be hashed before being used by the HMAC algorithm.";
+// Keys, texts and their MACs by SHA-256 and by SHA-512, in hexadecimal; the source cuts one off.
+const SHA2_MACS: [(&[u8], &[u8], &str, &str); 7] = [
+    (
+        &[0x0b; 20],
+        b"Hi There",
+        "b0344c61d8db38535ca8afceaf0bf12b881dc200c9833da726e9376c2e32cff7",
+        "87aa7cdea5ef619d4ff0b4241a1d6cb02379f4e2ce4ec2787ad0b30545e17cdedaa833b7d6b8a702038b274eaea3f4e4be9d914eeb61f1702e696c203a126854",
+    ),
+    (
+        b"Jefe",
+        b"what do ya want for nothing?",
+        "5bdcc146bf60754e6a042426089575c75a003f089d2739839dec58b964ec3843",
+        "164b7a7bfcf819e2e395fbe73b56e0a387bd64222e831fd610270cd7ea2505549758bf75c05a994a6d034f65f8f0e6fdcaeab1a34d4a6b4b636e070a38bce737",
+    ),
+    (
+        &[0xaa; 20],
+        &[0xdd; 50],
+        "773ea91e36800e46854db8ebd09181a72959098b3ef8c122d9635514ced565fe",
+        "fa73b0089d56a284efb0f0756c890be9b1b5dbdd8ee81a3655f83e33b2279d39bf3e848279a722c806b485a47e67c807b946a337bee8942674278859e13292fb",
+    ),
+    (
+        &KEY_OF_25,
+        &[0xcd; 50],
+        "82558a389a443c0ea4cc819899f2083a85f0faa3e578f8077a2e3ff46729665b",
+        "b0ba465637458c6990e5a8c5f61d4af7e576d97ff94b872de76f8050361ee3dba91ca5c11aa25eb4d679275cc5788063a5f19741120c4f2de2adebeb10a298dd",
+    ),
+    (
+        &[0x0c; 20],
+        b"Test With Truncation",
+        "a3b6167473100ee06e0c796c2955552b",
+        "415fad6271580a531d4179bc891d87a6",
+    ),
+    (
+        &[0xaa; 131],
+        KEY_FIRST,
+        "60e431591ee0b67f0d8a26aacbf5b77f8e0bc6213728c5140546040f0ee37f54",
+        "80b24263c7c1a3ebb71493c1dd7be8b49b46d1f41b4aeec1121b013783f8f3526b56d037e05f2598bd0fd2215d6a1e5295e64f73f63f0aec8b915a985d786598",
+    ),
+    (
+        &[0xaa; 131],
+        b"This is a test using a larger than block-size key and a larger than block-size data. The key needs to be hashed before being used by the HMAC algorithm.",
+        "9b09ffa71b942fcb27635fbcd5b0e944bfdc63644f0713938a7f51535c3a35e2",
+        "e37b6a775dc87dbaa4dfa9f96e5e3ffddebd71f8867289865df5a32d20cdc944b6022cac3c4982b10d5eeb55c3e4de15134676fb6de0446065c97440fa8c6a58",
+    ),
+];
 
-const BLOCK_KEY_TEXT: &str = "Sample message for keylen=blocklen";
+// Passwords, salts, counts and the keys of 20 bytes by SHA-1, in hexadecimal; the source cuts the last off.
+const SHA1_KEYS: [(&[u8], &[u8], u32, &str); 4] = [
+    (
+        b"password",
+        b"salt",
+        1,
+        "0c60c80f961f0e71f3a9b524af6012062fe037a6",
+    ),
+    (
+        b"password",
+        b"salt",
+        2,
+        "ea6c014dc72d6f8ccd1ed92ace1d41f0d8de8957",
+    ),
+    (
+        b"password",
+        b"salt",
+        4096,
+        "4b007901b765489abead49d926f721d065a429c1",
+    ),
+    (
+        b"pass\0word",
+        b"sa\0lt",
+        4096,
+        "56fa6aa75548099dcc37d7f03425e0c3",
+    ),
+];
+
+// The same by SHA-256, of 32 bytes.
+const SHA256_KEYS: [(&[u8], &[u8], u32, &str); 2] = [
+    (
+        b"passwd",
+        b"salt",
+        1,
+        "55ac046e56e3089fec1691c22544b605f94185216dde0465e68b9d57c20dacbc",
+    ),
+    (
+        b"Password",
+        b"NaCl",
+        80000,
+        "4ddcd8f60b98be21830cee5ef22701f9641a4418d04c0414aeff08876b34ab56",
+    ),
+];
+
+const KEY_FIRST: &[u8] = b"Test Using Larger Than Block-Size Key - Hash Key First";
+
+const KEY_OF_25: [u8; 25] = [
+    1, 2, 3, 4, 5, 6, 7, 8, 9, 10, 11, 12, 13, 14, 15, 16, 17, 18, 19, 20, 21, 22, 23, 24, 25,
+];
 
 // The bytes 0, 1, 2, .. of a key.
 const COUNTED: [u8; 128] = [
@@ -70,224 +203,80 @@ fn check_mac<H: HashFn>(
     Ok(())
 }
 
-// RFC 2202, section 3.
+// RFC 2202, section 3, and RFC 6070's first case, whose first round is one MAC.
 #[test]
 fn hmac_sha1(rt: HostRuntime) -> Result<(), Fail> {
-    let cases: [(&[u8], &str, &str); 7] = [
-        (
-            &[0x0b; 20],
-            "Hi There",
-            "b617318655057264e28bc0b6fb378c8ef146be00",
-        ),
-        (
-            b"Jefe",
-            "what do ya want for nothing?",
-            "effcdf6ae5eb2fa2d27416d5f184df9c259a7c79",
-        ),
-        (
-            &[0x0c; 20],
-            "Test With Truncation",
-            "4c1a03424b55e07fe7f27be1d58bb9324a9a5a04",
-        ),
-        (
-            &[0xaa; 80],
-            KEY_FIRST,
-            "aa4ae5e15272d00e95705637ce8a3b55ed402112",
-        ),
-        (
-            &[0xaa; 80],
-            "Test Using Larger Than Block-Size Key and Larger Than One Block-Size Data",
-            "e8e99d0f45237d786d6bbaa7965c7808bbff1a91",
-        ),
-        (
-            &COUNTED[..64],
-            BLOCK_KEY_TEXT,
-            "5fd596ee78d5553c8ff4e72d266dfd192366da29",
-        ),
-        (
-            b"password",
-            "salt\0\0\0\x01",
-            "0c60c80f961f0e71f3a9b524af6012062fe037a6",
-        ),
-    ];
-    for (key, text, want) in cases {
-        check_mac::<HSha1>(&rt, key, text.as_bytes(), want)?;
+    for (key, text, want) in SHA1_MACS {
+        check_mac::<HSha1>(&rt, key, text, want)?;
     }
-    check_mac::<HSha1>(
-        &rt,
-        &[0xaa; 20],
-        &[0xdd; 50],
-        "125d7342b9ac11cd91a39af48aa17b4f63f175d3",
-    )?;
-    check_mac::<HSha1>(
-        &rt,
-        &COUNTED[1..26],
-        &[0xcd; 50],
-        "4c9007f4026250c6bc8414f9bf50c86c2d7235da",
-    )?;
     Ok(())
 }
 
 // RFC 4231, sections 4.2 to 4.8.
 #[test]
 fn hmac_sha256(rt: HostRuntime) -> Result<(), Fail> {
-    let cases: [(&[u8], &str, &str); 6] = [
-        (
-            &[0x0b; 20],
-            "Hi There",
-            "b0344c61d8db38535ca8afceaf0bf12b881dc200c9833da726e9376c2e32cff7",
-        ),
-        (
-            b"Jefe",
-            "what do ya want for nothing?",
-            "5bdcc146bf60754e6a042426089575c75a003f089d2739839dec58b964ec3843",
-        ),
-        (
-            &[0x0c; 20],
-            "Test With Truncation",
-            "a3b6167473100ee06e0c796c2955552b",
-        ),
-        (
-            &[0xaa; 131],
-            KEY_FIRST,
-            "60e431591ee0b67f0d8a26aacbf5b77f8e0bc6213728c5140546040f0ee37f54",
-        ),
-        (
-            &[0xaa; 131],
-            BOTH_LONG,
-            "9b09ffa71b942fcb27635fbcd5b0e944bfdc63644f0713938a7f51535c3a35e2",
-        ),
-        (
-            &COUNTED[..64],
-            BLOCK_KEY_TEXT,
-            "8bb9a1db9806f20df7f77b82138c7914d174d59e13dc4d0169c9057b133e1d62",
-        ),
-    ];
-    for (key, text, want) in cases {
-        check_mac::<HSha256>(&rt, key, text.as_bytes(), want)?;
+    for (key, text, want, _) in SHA2_MACS {
+        check_mac::<HSha256>(&rt, key, text, want)?;
     }
-    check_mac::<HSha256>(
-        &rt,
-        &[0xaa; 20],
-        &[0xdd; 50],
-        "773ea91e36800e46854db8ebd09181a72959098b3ef8c122d9635514ced565fe",
-    )?;
-    check_mac::<HSha256>(
-        &rt,
-        &COUNTED[1..26],
-        &[0xcd; 50],
-        "82558a389a443c0ea4cc819899f2083a85f0faa3e578f8077a2e3ff46729665b",
-    )?;
     Ok(())
 }
 
 // RFC 4231, sections 4.2 to 4.8.
 #[test]
 fn hmac_sha512(rt: HostRuntime) -> Result<(), Fail> {
-    let cases: [(&[u8], &str, &str); 6] = [
-        (
-            &[0x0b; 20],
-            "Hi There",
-            "87aa7cdea5ef619d4ff0b4241a1d6cb02379f4e2ce4ec2787ad0b30545e17cdedaa833b7d6b8a702038b274eaea3f4e4be9d914eeb61f1702e696c203a126854",
-        ),
-        (
-            b"Jefe",
-            "what do ya want for nothing?",
-            "164b7a7bfcf819e2e395fbe73b56e0a387bd64222e831fd610270cd7ea2505549758bf75c05a994a6d034f65f8f0e6fdcaeab1a34d4a6b4b636e070a38bce737",
-        ),
-        (
-            &[0x0c; 20],
-            "Test With Truncation",
-            "415fad6271580a531d4179bc891d87a6",
-        ),
-        (
-            &[0xaa; 131],
-            KEY_FIRST,
-            "80b24263c7c1a3ebb71493c1dd7be8b49b46d1f41b4aeec1121b013783f8f3526b56d037e05f2598bd0fd2215d6a1e5295e64f73f63f0aec8b915a985d786598",
-        ),
-        (
-            &[0xaa; 131],
-            BOTH_LONG,
-            "e37b6a775dc87dbaa4dfa9f96e5e3ffddebd71f8867289865df5a32d20cdc944b6022cac3c4982b10d5eeb55c3e4de15134676fb6de0446065c97440fa8c6a58",
-        ),
-        (
-            &COUNTED,
-            BLOCK_KEY_TEXT,
-            "fc25e240658ca785b7a811a8d3f7b4ca48cfa26a8a366bf2cd1f836b05fcb024bd36853081811d6cea4216ebad79da1cfcb95ea4586b8a0ce356596a55fb1347",
-        ),
-    ];
-    for (key, text, want) in cases {
-        check_mac::<HSha512>(&rt, key, text.as_bytes(), want)?;
+    for (key, text, _, want) in SHA2_MACS {
+        check_mac::<HSha512>(&rt, key, text, want)?;
     }
-    check_mac::<HSha512>(
+    Ok(())
+}
+
+// NIST's examples of keys as long as a block.
+#[test]
+fn keys_of_one_block(rt: HostRuntime) -> Result<(), Fail> {
+    let text = b"Sample message for keylen=blocklen";
+    check_mac::<HSha1>(
         &rt,
-        &[0xaa; 20],
-        &[0xdd; 50],
-        "fa73b0089d56a284efb0f0756c890be9b1b5dbdd8ee81a3655f83e33b2279d39bf3e848279a722c806b485a47e67c807b946a337bee8942674278859e13292fb",
+        &COUNTED[..64],
+        text,
+        "5fd596ee78d5553c8ff4e72d266dfd192366da29",
+    )?;
+    check_mac::<HSha256>(
+        &rt,
+        &COUNTED[..64],
+        text,
+        "8bb9a1db9806f20df7f77b82138c7914d174d59e13dc4d0169c9057b133e1d62",
     )?;
     check_mac::<HSha512>(
         &rt,
-        &COUNTED[1..26],
-        &[0xcd; 50],
-        "b0ba465637458c6990e5a8c5f61d4af7e576d97ff94b872de76f8050361ee3dba91ca5c11aa25eb4d679275cc5788063a5f19741120c4f2de2adebeb10a298dd",
+        &COUNTED,
+        text,
+        "fc25e240658ca785b7a811a8d3f7b4ca48cfa26a8a366bf2cd1f836b05fcb024bd36853081811d6cea4216ebad79da1cfcb95ea4586b8a0ce356596a55fb1347",
     )?;
     Ok(())
 }
 
-// RFC 6070 without its case of two blocks, and the first block of the outputs of RFC 7914, section 11.
+// RFC 6070 without its case of two blocks.
 #[test]
-fn hi_is_pbkdf2_of_one_block(rt: HostRuntime) -> Result<(), Fail> {
-    let alloc = rt.alloc();
-    let sha1 = [
-        (
-            "password",
-            "salt",
-            1,
-            "0c60c80f961f0e71f3a9b524af6012062fe037a6",
-        ),
-        (
-            "password",
-            "salt",
-            2,
-            "ea6c014dc72d6f8ccd1ed92ace1d41f0d8de8957",
-        ),
-        (
-            "password",
-            "salt",
-            4096,
-            "4b007901b765489abead49d926f721d065a429c1",
-        ),
-        (
-            "pass\0word",
-            "sa\0lt",
-            4096,
-            "56fa6aa75548099dcc37d7f03425e0c3",
-        ),
-    ];
-    for (password, salt, count, want) in sha1 {
-        let tag = hi::<HSha1>(password.as_bytes(), salt.as_bytes(), count);
+fn hi_by_sha1(rt: HostRuntime) -> Result<(), Fail> {
+    for (password, salt, count, want) in SHA1_KEYS {
+        let key = hi::<HSha1>(password, salt, count);
         assert!(rt;
-            hex_of(alloc, &tag)?.as_str().starts_with(want),
+            hex_of(rt.alloc(), &key)?.as_str().starts_with(want),
             "at {count}"
         );
     }
-    let sha256 = [
-        (
-            "passwd",
-            "salt",
-            1,
-            "55ac046e56e3089fec1691c22544b605f94185216dde0465e68b9d57c20dacbc",
-        ),
-        (
-            "Password",
-            "NaCl",
-            80000,
-            "4ddcd8f60b98be21830cee5ef22701f9641a4418d04c0414aeff08876b34ab56",
-        ),
-    ];
-    for (password, salt, count, want) in sha256 {
-        let tag = hi::<HSha256>(password.as_bytes(), salt.as_bytes(), count);
-        assert_eq!(rt; hex_of(alloc, &tag)?.as_str(), want, "at {count}");
+    Ok(())
+}
+
+// The first block of the outputs of RFC 7914, section 11.
+#[test]
+fn hi_by_sha256(rt: HostRuntime) -> Result<(), Fail> {
+    for (password, salt, count, want) in SHA256_KEYS {
+        let key = hi::<HSha256>(password, salt, count);
+        assert!(rt;
+            hex_of(rt.alloc(), &key)?.as_str().starts_with(want),
+            "at {count}"
+        );
     }
     Ok(())
 }
