@@ -15,7 +15,7 @@ EXAMPLE = keys --mechanism SCRAM-SHA-1 --salt 4125c247e43ab1e93c6dff76 --count 4
 # The processors that the program was last built for; rt ci builds it for the default ones.
 BUILT_FOR := $(shell cat crates/scramotp/out/built_for 2>/dev/null || echo x86-64-v2)
 
-.PHONY: help run build libraries install test bench clean kit FORCE
+.PHONY: help run build libraries install test fuzz bench clean kit FORCE
 
 help:
 	@echo 'make run      prints the keys of the example in RFC 5802, also before anything is built'
@@ -23,6 +23,7 @@ help:
 	@echo '              CPU=x86-64-v3 builds it for newer processors'
 	@echo 'make install  copies the built program to $$(DESTDIR)$$(PREFIX)/bin'
 	@echo 'make test     the gate: every proof, test and run from nothing, wrong bodies, and tests of the built program'
+	@echo 'make fuzz     gives the built program random input, for some minutes'
 	@echo 'make bench    compares speeds with OpenSSL, with Python, and with oathtool'
 	@echo 'make clean    removes what was built'
 
@@ -77,6 +78,13 @@ test: kit
 	$(MAKE) build
 	python3 tests/run.py $(PROGRAM)
 
+# Each run begins from another seed, which it prints: make fuzz SEED=7 tries the same input again.
+SEED := $(or $(SEED),$(shell date +%s))
+COUNT ?= 5000
+fuzz: build
+	@echo 'SEED=$(SEED) COUNT=$(COUNT)'
+	python3 tests/fuzz.py $(PROGRAM) $(SEED) $(COUNT)
+
 bench: build
 	cd crates/bench && rt run -- hotp 1 12345678901234567890
 	python3 bench/keys.py $(PROGRAM)
@@ -84,6 +92,7 @@ bench: build
 	python3 bench/verdicts.py crates/bench/out/bench
 	python3 bench/books.py $(PROGRAM) crates/bench/out/bench
 	python3 bench/serve.py $(PROGRAM) crates/bench/out/bench
+	python3 bench/hall.py $(PROGRAM) crates/bench/out/bench
 	python3 bench/audit.py $(PROGRAM)
 
 clean:

@@ -1,0 +1,303 @@
+#!/usr/bin/env python3
+"""Gives the built program random input: words, messages in lines, logs and books that are a few edits from right ones.
+
+Usage: fuzz.py PROGRAM [SEED [COUNT]]
+
+Every run has to end within 2 seconds, by no signal, with a stated status and a stated fault. Where a command accepts its input,
+Python says what follows: the code (RFC 4226, RFC 6238) and the keys (RFC 5802); the text of the book, by tomllib, which a second
+save leaves as it is; of a log, that its lines before the one at fault begin a clean log, and that what is upgraded has the same
+answer; of the events of a hall, that the log which it prints is clean. An input for which something else is seen is kept, as a file
+fuzz-KIND-SEED-NUMBER in the folder in which the script is started, and ends it.
+
+COUNT, 300 by default, is how many inputs of each kind are tried; each is made from SEED, 1 by default, and its own number.
+"""
+import csv
+import hashlib
+import hmac
+import os
+import pathlib
+import random
+import re
+import subprocess
+import sys
+import tempfile
+import tomllib
+
+HERE = pathlib.Path(__file__).resolve().parent
+BOOKS = sorted((HERE / "book_faults").glob("*.toml"))
+AUDITS = HERE / "data" / "audits"
+SECONDS = 2
+
+# What a command may say on standard error, by its status.
+FAULTS = {
+    0: rb"",
+    1: rb"scramotp: (name is taken|no such account|no token|before the first step|bad book: 6[0-7]|bad event)\n",
+    2: rb"scramotp: (bad value for --[a-z0-9-]+|bad password|needs --counter or --moment)\n|error: [ -~\n]*",
+    3: rb"scramotp: (cannot (read|write) [ -~]+|socket fault|no memory)\n",
+}
+NUMBERS = [
+    *[b"0", b"1", b"-1", b"01", b"+1", b"9", b"64", b"101", b"4096", b"65535", b"1e3", b"0x1f"],
+    *[b"4294967295", b"4294967296", b"253402300799", b"253402300800"],
+    *[b"9223372036854775806", b"9223372036854775807", b"9223372036854775808", b"18446744073709551616"],
+]
+BITS = [
+    *[b"", b" ", b"\n", b"\r\n", b"\0", b"\x7f", b"\xff", b"\xc3\xa9", b"\xed\xa0\x80"],
+    *[b"=", b",", b"%", b"%00", b"=2C", b"=3D", b'"', b"'", b"[", b"]", b"#", b"\\", b"\\u0000", b"{}"],
+    *[b"n,,", b"y,,", b"p=x,,", b"a=", b"m=", b"r=", b"c=biws", b"x" * 300],
+]
+
+
+class Unexpected(Exception):
+    """What was seen instead of what has to be."""
+
+
+def expect(holds, *seen):
+    if not holds:
+        raise Unexpected(*seen)
+
+
+def run(program, words, data=b""):
+    """Status and output of a run, whose faults have to be stated ones."""
+    try:
+        done = subprocess.run([program, *words], input=data, capture_output=True, timeout=SECONDS)
+    except subprocess.TimeoutExpired:
+        raise Unexpected(words, f"more than {SECONDS} seconds") from None
+    fault = FAULTS.get(done.returncode)
+    # A log's line at fault is an answer, and goes to standard output; `upgrade` has none, and tells it as a fault.
+    of_log = words[0] in ("audit", "upgrade") and done.returncode in (1, 3)
+    line = rb"line \d+: [ -~]+\n|too many lines\n|read fault\n"
+    told = re.fullmatch(line, done.stdout + done.stderr) if of_log else None
+    expect(fault is not None and (told or re.fullmatch(fault, done.stderr)), words, done)
+    return done.returncode, done.stdout + (done.stderr if told else b"")
+
+
+def edited(chosen, text, others):
+    """The text after one to three edits: a part of it goes, comes twice, or is replaced."""
+    for _ in range(chosen.randint(1, 3)):
+        start = chosen.randrange(len(text) + 1)
+        end = min(len(text), start + chosen.choice([0, 1, 1, 2, 5, 40]))
+        numbers = list(re.finditer(rb"\d+", text))
+        lines = text.splitlines(keepends=True) or [b""]
+        kind = chosen.randrange(6)
+        if kind == 0 and numbers:
+            start, end = chosen.choice(numbers).span()
+            text = text[:start] + chosen.choice(NUMBERS) + text[end:]
+        elif kind == 1:
+            at, to = chosen.randrange(len(lines)), chosen.randrange(len(lines))
+            lines.insert(to, lines[at] if chosen.random() < 0.5 else lines.pop(at))
+            text = b"".join(lines)
+        elif kind == 2:
+            other = chosen.choice(others).splitlines(keepends=True) or [b""]
+            lines.insert(chosen.randrange(len(lines) + 1), chosen.choice(other))
+            text = b"".join(lines)
+        elif kind == 3:
+            text = text[:start] + bytes([chosen.randrange(256)]) + text[end:]
+        else:
+            text = text[:start] + chosen.choice([*BITS, text[start:end] * 2]) + text[end:]
+    return text
+
+
+def a_book(program, folder, chosen):
+    """A book: what is read is what tomllib reads, and a save changes what its command says, and nothing when made again."""
+    texts = [book.read_bytes() for book in BOOKS]
+    text = edited(chosen, chosen.choice(texts), texts)
+    yield text
+    book = folder / "book"
+    book.write_bytes(text)
+    words = ["unlock", "--book", book, "--name", "user"]
+    status, _ = run(program, words)
+    if status != 0:
+        expect(book.read_bytes() == text, "a refused book has changed")
+        return
+    wanted = tomllib.loads(text.decode())
+    wanted["accounts"]["user"]["token"]["failures"] = 0
+    first = book.read_bytes()
+    expect(plain(tomllib.loads(first.decode())) == plain(wanted), first)
+    expect(run(program, words)[0] == 0 and book.read_bytes() == first, "a second save differs", first)
+    log = folder / "log"
+    log.write_bytes(b"SCRAMLOG 2\n")
+    answer = run(program, ["audit", "--book", book, "--log", log])
+    expect(answer == (0, b"clean sessions=0 accepted=0 codes=0\n"), answer)
+
+
+def plain(book):
+    """A book with what may be missing, and its bytes in lower case."""
+    accounts = {}
+    for name, account in book.get("accounts", {}).items():
+        tables = {key: lowered(table) if isinstance(table, dict) else table for key, table in account.items()}
+        if tables.get("token", {}).get("kind") == "hotp":
+            tables["token"].setdefault("sync_ahead", 0)
+        accounts[name] = {"act_as": [], **tables}
+    return {**book, "accounts": accounts, "decoy_key": book["decoy_key"].lower()}
+
+
+def lowered(table):
+    """A table with its texts in lower case."""
+    return {key: value.lower() if isinstance(value, str) else value for key, value in table.items()}
+
+
+def logs():
+    """Logs of the audits' table, each as it stands and numbered."""
+    for path in sorted(AUDITS.glob("*.log")):
+        text = path.read_bytes()
+        yield text
+        if text.startswith(b"SCRAMLOG 1\n"):
+            session, lines = 1, [b"SCRAMLOG 2\n"]
+            for line in text.splitlines(keepends=True)[1:]:
+                lines.append(b"%d %s" % (session, line))
+                session += line == b"E\n"
+            yield b"".join(lines)
+
+
+def a_log(program, folder, chosen):
+    """A log: what comes before the line at fault begins a clean log, and an upgrade keeps the answer."""
+    texts = [*logs()]
+    text = edited(chosen, chosen.choice(texts), texts)
+    yield text
+    log = folder / "log"
+    words = ["audit", "--book", AUDITS / chosen.choice(["keys.toml", "hotp.toml", "sha256.toml", "sync.toml"]), "--log", log]
+    log.write_bytes(text)
+    status, answer = run(program, words)
+    upgraded, other = run(program, ["upgrade", "--log", log])
+    if upgraded == 0 and b"\nSCRAMLOG" not in text:
+        log.write_bytes(other)
+        expect(run(program, words) == (status, answer), "the upgraded log", answer)
+    if status == 0:
+        expect(re.fullmatch(rb"clean sessions=\d+ accepted=\d+ codes=\d+\n", answer), answer)
+        return
+    line = int(re.match(rb"line (\d+): ", answer)[1])
+    before = b"".join(cut(text)[: line - 1])
+    expect(line <= text.count(b"\n") + 1, answer)
+    log.write_bytes(before)
+    front = run(program, words)
+    cut_there = (1, b"line %d: cut\n" % line)
+    expect(front == cut_there or front[0] == 0 and line > 1, "the lines before", answer, front)
+
+
+def cut(text):
+    """The lines of a text, each with its LF."""
+    return [line + b"\n" for line in text.split(b"\n")[:-1]]
+
+
+def code(secret, counter, digits, name="sha1"):
+    """The code of a counter (RFC 4226, section 5.3)."""
+    mac = hmac.digest(secret, counter.to_bytes(8, "big"), name)
+    part = mac[mac[-1] & 15:][:4]
+    return (int.from_bytes(part, "big") & 0x7FFFFFFF) % 10**digits
+
+
+def words_of_code(program, _, chosen):
+    """The words of `code`: where it prints a code, it is the one by Python's hmac."""
+    odd = [it.decode() for it in NUMBERS]
+    some = {
+        "--secret": chosen.choice(["31" * 20, "00" * 10, "3132333435363738393031323334353637383930", "AB" * 64, "zz", "", "AB" * 65]),
+        "--digits": chosen.choice(["6", "7", "8", "6", "7", "8", "5", "9"]),
+        "--counter": chosen.choice([*odd, *map(str, range(30))]),
+        "--moment": chosen.choice([*odd, *map(str, range(0, 3_000_000_000, 100_000_007))]),
+        "--hash": chosen.choice(["sha1", "sha256", "sha512", "md5"]),
+        "--t0": chosen.choice(["0", "0", "59", *odd]),
+        "--step": chosen.choice(["1", "30", "30", "3600", "0", "3601"]),
+    }
+    given = {name: value for name, value in some.items() if chosen.random() < (0.95 if name == "--secret" else 0.5)}
+    words = ["code", *[f"{name}={value}" for name, value in given.items()]]
+    yield repr(words).encode()
+    status, printed = run(program, words)
+    if status != 0:
+        expect(printed == b"", printed)
+        return
+    secret, digits = bytes.fromhex(given["--secret"]), int(given.get("--digits", 6))
+    if "--counter" in given:
+        wanted = code(secret, int(given["--counter"]), digits)
+    else:
+        since = int(given["--moment"]) - int(given.get("--t0", 0))
+        wanted = code(secret, since // int(given.get("--step", 30)), digits, given.get("--hash", "sha1"))
+    expect(printed == b"%0*d\n" % (digits, wanted), printed, wanted)
+
+
+def words_of_keys(program, _, chosen):
+    """The words and the password of `keys`: the keys are those by Python's hashlib."""
+    salt = bytes(chosen.randrange(256) for _ in range(chosen.choice([0, 1, 12, 16, 64, 65])))
+    name, function, digest = chosen.choice([("SCRAM-SHA-1", "sha1", hashlib.sha1), ("SCRAM-SHA-256", "sha256", hashlib.sha256)])
+    count = chosen.choice(["1", "2", "4096", "4096", "0", "01", "4294967296"])
+    letters = range(32, 127) if chosen.random() < 0.7 else range(256)
+    password = bytes(it for it in chosen.choices(letters, k=chosen.choice([0, 1, 8, 70, 1024, 1025])) if it != 10)
+    yield repr((name, salt, count, password)).encode()
+    words = ["keys", "--mechanism", name, "--salt", salt.hex(), "--count", count]
+    status, printed = run(program, words, password + chosen.choice([b"", b"\n", b"\nmore"]))
+    is_password = 1 <= len(password) <= 1024 and all(32 <= byte <= 126 for byte in password)
+    right = count in ("1", "2", "4096") and 1 <= len(salt) <= 64 and is_password
+    expect(status == (0 if right else 2), status, printed)
+    if right:
+        salted = hashlib.pbkdf2_hmac(function, password, salt, int(count))
+        stored = digest(hmac.digest(salted, b"Client Key", function)).hexdigest()
+        server = hmac.digest(salted, b"Server Key", function).hex()
+        expect(printed.decode() == f"stored={stored}\nserver={server}\n", printed)
+
+
+def some_events(chosen):
+    """Input lines of `hall`: sessions begin, log in as RFC 5802's example does, send codes and go away, in any order, with edits."""
+    mechs, auth, _, resp, *_ = [line[2:].encode() for line in (AUDITS / "sha1.log").read_text().splitlines()[1:]]
+    odd = [b"ABORT", b"AUTH SCRAM-SHA-1", b"AUTH PLAIN", b"CODE 755224", mechs, auth, resp]
+    codes, said, begun = [b"CODE 755224", b"CODE 287082", b"CODE 000000", b"SYNC 755224 287082"], {}, 0
+    for _ in range(chosen.randint(1, 60)):
+        number, moment = chosen.choice([*said, 0, 0]), chosen.randint(0, 9)
+        if number == 0:
+            begun += 1
+            said[begun] = iter([auth, resp, *chosen.choices(codes, k=3)])
+            event = b"open 3rfcNHYJY1ZVvWVs7j"
+        elif chosen.random() < 0.8 and (line := next(said[number], None)):
+            event = b"line %d %d %s" % (number, moment, line)
+        else:
+            del said[number]
+            event = chosen.choice([b"gone %d %d" % (number, moment), b"line %d %d %s" % (number, moment, chosen.choice(odd))])
+        yield (edited(chosen, event, odd) if chosen.random() < 0.02 else event).replace(b"\n", b"")
+
+
+def a_hall(program, folder, chosen):
+    """Events of a hall: the log that it prints begins a clean one, and is one where the sessions that are open then end."""
+    opening = (AUDITS / "hotp.toml").read_bytes()
+    events = [*some_events(chosen)]
+    yield b"\n".join(events)
+    before, book, log = (folder / name for name in ("before", "book", "log"))
+    before.write_bytes(opening)
+
+    def heard(lines):
+        book.write_bytes(opening)
+        status, printed = run(program, ["hall", "--book", book], b"".join(line + b"\n" for line in lines))
+        log.write_bytes(printed)
+        return status, printed, run(program, ["audit", "--book", before, "--log", log])
+
+    status, printed, answer = heard(events)
+    lines = printed.splitlines()
+    expect(answer in [(0, answer[1]), (1, b"line %d: cut\n" % (len(lines) + 1))], answer)
+    begun = [line.split()[0] for line in lines if b" S MECHS " in line]
+    ended = {line.split()[0] for line in lines if line.endswith(b" E")}
+    # Each event has one line of its own: a client's, or the first of a session.
+    taken = sum(re.match(rb"\d+ (C |S MECHS|S BUSY)", line) is not None for line in lines)
+    expect((status, taken) == (0, len(events)) or status == 1 and taken < len(events), status, taken)
+    status, more, answer = heard(events[:taken] + [b"gone %s 9" % number for number in begun if number not in ended])
+    expect(status == 0 and more.startswith(printed) and answer[0] == 0, status, answer)
+
+
+KINDS = [a_book, a_log, words_of_code, words_of_keys, a_hall]
+
+
+def main():
+    program = os.path.abspath(sys.argv[1])
+    seed, count = (int(given or usual) for given, usual in zip([*sys.argv[2:], "", ""], ["1", "300"]))
+    for kind in KINDS:
+        for number in range(count):
+            chosen = random.Random(f"{kind.__name__} {seed} {number}")
+            with tempfile.TemporaryDirectory() as folder:
+                steps = kind(program, pathlib.Path(folder), chosen)
+                tried = next(steps)
+                try:
+                    next(steps, None)
+                except Unexpected as seen:
+                    kept = pathlib.Path(f"fuzz-{kind.__name__}-{seed}-{number}")
+                    kept.write_bytes(tried)
+                    sys.exit(f"fuzz.py: {kept}: {seen}")
+    print(f"fuzz.py: {count} inputs of each of {len(KINDS)} kinds, from seed {seed}")
+
+
+main()
