@@ -1,0 +1,163 @@
+#!/usr/bin/env python3
+"""Books that can't be saved, at each save of a run of the built program, once with the old text kept and once with the new one in its
+place.
+
+Usage: failed_saves.py PROGRAM
+
+The run halts there: it tells no reply that is not saved. Another run that goes on from the saved book is sent the same codes, and lets
+none pass that has passed. Logs are audited, each by the book that it began with. Needs `cc`.
+"""
+import os
+import pathlib
+import tomllib
+
+import shims
+import suite
+from all_commands import ACCEPTED, BOOK, CODES, GONE, book_of, commands, left, new_book, numbered, prepare, run
+
+# The token of BOOK (RFC 4226, appendix D): it lets a code lie three counters ahead, and of two in a row the first none.
+AHEAD = 3
+# What is sent: codes, and lines with two in a row.
+SENT = [
+    [CODES[0], CODES[1], CODES[2]],
+    [f"SYNC {CODES[0]} {CODES[1]}", CODES[2], f"SYNC {CODES[3]} 338314"],
+    ["000000", CODES[1], f"SYNC {CODES[2]} {CODES[3]}"],
+]
+COUNTERS = {text: counter for counter, text in enumerate([*CODES, "338314"])}
+
+
+def replied(next_counter, line):
+    """Whether a line passes where this counter is the next, and the counters that it uses (RFC 4226, sections 7.2 and 7.4)."""
+    texts = line.removeprefix("SYNC ").split()
+    first, *second = (COUNTERS.get(text, -1) for text in texts)
+    if second:
+        return [first, *second] if first == next_counter else []
+    return [first] if next_counter <= first <= next_counter + AHEAD else []
+
+
+def exchanged(next_counter, lines):
+    """The replies to these lines, the counters that each uses, and the next counter after each."""
+    for line in lines:
+        used = replied(next_counter, line)
+        next_counter = used[-1] + 1 if used else next_counter
+        yield f"PASS 5 {used[-1]}" if used else "FAIL 5", used, next_counter
+
+
+def printed(name, lines, replies, is_halted):
+    """What a run prints for lines with these replies, the last of which was not saved where it halted."""
+    if name == "verify":
+        return "".join(f"{reply}\n" for reply in replies)
+    words = [line if line.startswith("SYNC") else f"CODE {line}" for line in lines]
+    log = ACCEPTED + "".join(f"C {word}\nS {reply}\n" for word, reply in zip(words, replies))
+    log += f"C {words[len(replies)]}\nS HALT\n" if is_halted else GONE
+    return numbered(log) if name == "hall" else log
+
+
+def sent(command, lines):
+    """A command that is sent these lines in the place of its codes."""
+    if command.name == "hall":
+        codes = "".join(f"line 1 5 {line if line.startswith('SYNC') else f'CODE {line}'}\n" for line in lines)
+        return command._replace(text=command.text.replace("gone", f"{codes}gone"))
+    return command._replace(text=command.text + "".join(f"{line}\n" for line in lines))
+
+
+class Saves:
+    """A folder with a book that can't be saved at a given save."""
+
+    # The call that fails at a save, how, how many of it each save makes, how many of those come after it, and whether the new text is
+    # then in its place.
+    WAYS = [
+        ("rename", "refused", 1, 0, False),
+        ("fsync", "refused", 2, 1, False),
+        ("rename", "late", 1, 0, True),
+        ("fsync", "refused", 2, 0, True),
+    ]
+
+    def __init__(self, folder):
+        self.folder = os.path.join(folder, "files")
+        os.mkdir(self.folder)
+        self.shim = shims.built("refuse_io", folder)
+        self.book = pathlib.Path(self.folder, "book")
+        self.count = 0
+
+    def fails(self, command, number, way):
+        """What a run answers whose save of this number fails."""
+        call, how, each, before, _ = way
+        more = {"LD_PRELOAD": self.shim, "CALLS": call, "REFUSED": str(number * each - before), "HOW": how}
+        self.count += 1
+        return run(command, self.folder, env={**os.environ, **more})
+
+    def unsaved(self, output):
+        return 3, output, f"scramotp: cannot write {self.book}\n"
+
+    def audited(self, text, log, codes):
+        """Compares what the audit says of a log under the book of this text: one login, and so many codes that passed."""
+        [audit] = [command for command in commands() if command.name == "audit"]
+        before = self.book.read_text()
+        self.book.write_text(text)
+        pathlib.Path(self.folder, "log").write_text(log)
+        assert run(audit, self.folder) == (0, f"clean sessions=1 accepted=1 codes={codes}\n", ""), log
+        self.book.write_text(before)
+
+
+def token(text):
+    return tomllib.loads(text)["accounts"]["user"]["token"]
+
+
+def twice(here, command, lines, number, way):
+    """A run whose save fails, and one after it that is sent the same: no counter is used by both."""
+    first_save = 0 if command.name == "verify" else 1
+    prepare(here.folder, command)
+    here.book.write_text(BOOK.replace("limit = 3", "limit = 100"))
+    opening, done = here.book.read_text(), number - first_save - 1
+    turns = [*exchanged(0, lines)]
+    log = printed(command.name, lines, [reply for reply, _, _ in turns[:done]], True)
+    assert here.fails(sent(command, lines), number, way) == here.unsaved(log), (command.name, lines, number, way)
+    kept = done + way[-1]
+    after = turns[kept - 1][2] if kept else 0
+    saved = here.book.read_text()
+    assert token(saved)["next"] == after and left(here.folder) == set(), (command.name, number, way, saved)
+    again = [*exchanged(after, lines)]
+    more = printed(command.name, lines, [reply for reply, _, _ in again], False)
+    status = 0 if command.name == "hall" or all(used for _, used, _ in again) else 1
+    assert run(sent(command, lines), here.folder) == (status, more, ""), (command.name, lines, number, way)
+    spent = [counter for _, used, _ in [*turns[:done], *again] for counter in used]
+    assert len(spent) == len(set(spent)), spent
+    if first_save:
+        here.audited(opening, log, log.count(" PASS "))
+        here.audited(saved, more, more.count(" PASS "))
+
+
+def codes_of_two_runs(folder):
+    """Whichever save of a code fails, no code passes in that run and in the next."""
+    here = Saves(folder)
+    for command in commands(0):
+        if command.name in ("verify", "login", "hall"):
+            first = 1 if command.name == "verify" else 2
+            for lines in SENT:
+                for number in range(first, first + 3):
+                    for way in Saves.WAYS:
+                        twice(here, command, lines, number, way)
+    assert here.count == 3 * 3 * 3 * 4
+    print(f"failed_saves.py: {here.count} saves of a code fail, and no counter passes twice")
+
+
+def first_saves(folder):
+    """Where the first save fails, nothing is printed, and the book has the old text or the new one."""
+    here = Saves(folder)
+    for command in commands():
+        if len(command.books) > 1:
+            for way in Saves.WAYS:
+                prepare(here.folder, command)
+                assert here.fails(command, 1, way) == here.unsaved(""), (command.name, way)
+                assert book_of(here.folder) == command.books[way[-1]] and left(here.folder) == set(), (command.name, way)
+                assert way[-1] or here.book.read_text() == BOOK
+    command = new_book()
+    for call, how, is_made in [("link", "refused", False), ("fsync", "refused", False), ("link", "late", True)]:
+        prepare(here.folder, command)
+        assert here.fails(command, 1, (call, how, 1, 0, is_made)) == here.unsaved(""), call
+        assert book_of(here.folder) == command.books[is_made] and left(here.folder) == set(), call
+    print(f"failed_saves.py: {here.count} first saves fail")
+
+
+suite.run_all([codes_of_two_runs, first_saves])

@@ -1,0 +1,340 @@
+#!/usr/bin/env python3
+"""Messages, lines, inputs and logs at their limits and one byte longer, and input that never ends, by the built program.
+
+Usage: oversized.py PROGRAM
+
+What is due at a limit is worked out by clients.py and hmac from RFC 5802 and RFC 4226. Endless input is made as it is asked for, and
+the most memory that a run has had is compared early and late.
+"""
+import array
+import fcntl
+import hmac
+import itertools
+import os
+import pathlib
+import subprocess
+import tempfile
+import termios
+import time
+
+import clients
+import suite
+from all_commands import AUDITS, BOOK, commands, login_log, prepare
+from clients import Account, Exchange, base, dealt, escaped, gone, logged_in, opened, said
+from halls import Hall, clean
+from suite import PROGRAM
+
+MOST = 16777216
+# How much more memory a run may have had late than early, in KiB.
+MORE = 256
+DECOY_KEY = bytes(range(32))
+NO_AND_END = ["S NO :", "E"]
+
+
+def decoy(name):
+    """The challenge's salt and count for a name that has no account (RFC 5802, section 5; the salt is this project's)."""
+    salt = hmac.digest(DECOY_KEY, b"SCRAM-SHA-1\0" + name.encode(), "sha256")[:16]
+    return f"s={base(salt)},i={clients.COUNT}"
+
+
+def first_messages(account):
+    """Texts of client-first messages at a limit and past it: what is asked, and the name and nonce of those that are good."""
+    user, long_name = f"n={account.name}", "v" * 255
+    for letters in ["x", " ", "\u00e9"]:
+        rest = "n,,n=user,r=x,x=" + letters * (2032 // len(letters.encode()))
+        yield rest, ("user", "x")
+        yield rest + "x", None
+    for nonce in ["r" * 256, "~" * 256]:
+        yield f"n,,{user},r={nonce}", (account.name, nonce)
+        yield f"n,,{user},r={nonce}~", None
+    for spelled, name in [(long_name, long_name), ("=2C" * 255, "," * 255), ("=3D" * 255, "=" * 255)]:
+        yield f"n,,n={spelled},r=x", (name, "x")
+        yield f"n,,n={spelled}{spelled[:3] if '=' in spelled else 'v'},r=x", None
+        yield f"n,a={spelled},{user},r=x", (account.name, "x")
+        yield f"n,a={spelled}=3D,{user},r=x", None
+
+
+def lengths_of_first_messages(folder):
+    """A client-first message has at most 2048 bytes, a nonce 256, a name and a name to act as 255, however they are spelled."""
+    account = Account("user", "SCRAM-SHA-1")
+    here, tried = Hall(folder, clients.book([account])), 0
+    for text, good in first_messages(account):
+        if good:
+            name, nonce = good
+            known = f"s={base(account.salt)},i={clients.COUNT}" if name == "user" else decoy(name)
+            visit = [opened("own"), said(f"AUTH SCRAM-SHA-1 :{escaped(text)}", f"S CONT :r={nonce}own,{known}"), gone()]
+        else:
+            visit = [opened("own"), said(f"AUTH SCRAM-SHA-1 :{escaped(text)}", *NO_AND_END)]
+        events, log = dealt([0] * len(visit), [visit])
+        here.prints(events, 0, log)
+        here.audited(log, clean(1))
+        tried += 1
+    told("client-first messages", tried)
+
+
+def told(what, count):
+    print(f"oversized.py: {count} {what} at their limits and past them")
+
+
+def lengths_of_lines(folder):
+    """A line has at most 6200 bytes, a mechanism's name 20, and each text of a code 16."""
+    here, user = Hall(folder), Account("user", "SCRAM-SHA-1")
+    here.put(clients.book([user]))
+    let_in, asked = logged_in(user, "abc", "def"), [opened("own"), said("AUTH SCRAM-SHA-1", "S CONT :")]
+    bad = ["C BAD", *NO_AND_END]
+    rows = [
+        (asked, "RESP :" + "x" * 6194, NO_AND_END), (asked, "RESP :" + "x" * 6195, None),
+        (asked[:1], "AUTH " + "A" * 20, NO_AND_END), (asked[:1], "AUTH " + "A" * 21, None),
+        (asked[:1], "AUTH PLAIN :" + "%20" * 2062 + "xx", NO_AND_END), (asked[:1], "AUTH PLAIN :" + "%20" * 2063, None),
+        (let_in, "CODE " + "0" * 16, ["S FAIL 5"]), (let_in, "CODE " + "0" * 17, None),
+        (let_in, f"SYNC {'0' * 16} {'~' * 16}", ["S FAIL 5"]), (let_in, f"SYNC {'0' * 17} 0", None), (let_in, f"SYNC 0 {'0' * 17}", None),
+    ]
+    for before, line, answers in rows:
+        turn = said(line, *answers) if answers else clients.Turn(f"line # 5 {line}", bad)
+        visit = [*before, turn]
+        events, log = dealt([0] * len(visit), [visit])
+        here.put(clients.book([user]))
+        here.prints(events, 0, log)
+        open_still = log.endswith("S FAIL 5\n")
+        here.audited(log + "1 C GONE\n1 E\n" * open_still, clean(1, log.count(" S OK :")))
+    told("lines", len(rows))
+
+
+def final_message(account, more, proof_of=None):
+    """A login in which the client's last message has this extension, and its messages; its proof is right unless one is given."""
+    it = account.exchange("abc", "def")
+    unproved = f"c=biws,r=abcdef{more}"
+    signed = f"{it.first[3:]},{it.challenge},{unproved}".encode()
+    mask = hmac.digest(account.stored, signed, account.hash)
+    proof = bytes(one ^ other for one, other in zip(account.client, mask)) if proof_of is None else proof_of
+    signature = base(hmac.digest(account.server, signed, account.hash))
+    return Exchange(it.first, it.challenge, f"{unproved},p={base(proof)}", signature, "")
+
+
+def lengths_of_last_messages(folder):
+    """A client-final message has at most 2048 bytes, and a proof 64, which is a wrong one unless it has the hash's length."""
+    account = Account("user", "SCRAM-SHA-1")
+    here = Hall(folder, clients.book([account]))
+    room = 2048 - len(final_message(account, ",x=").final)
+    rows = [(f",x={'y' * room}", None, None), (f",x={'y' * (room + 1)}", None, "invalid-encoding"), (f",x={' ' * room}", None, None)]
+    rows += [("", bytes(size), "invalid-proof") for size in [1, 19, 21, 63, 64]] + [("", bytes(65), "invalid-encoding")]
+    rows += [("", b"", "invalid-encoding")]
+    for more, proof, refusal in rows:
+        it = final_message(account, more, proof)
+        answers = [f"S NO :e={refusal}", "E"] if refusal else [f"S OK :v={it.signature}"]
+        visit = [
+            opened("def"),
+            said(f"AUTH SCRAM-SHA-1 :{escaped(it.first)}", f"S CONT :{escaped(it.challenge)}"),
+            said(f"RESP :{escaped(it.final)}", *answers),
+            *([] if refusal else [gone()]),
+        ]
+        events, log = dealt([0] * len(visit), [visit])
+        here.prints(events, 0, log)
+        here.audited(log, clean(1, log.count(" S OK :")))
+    assert len(final_message(account, rows[0][0]).final) == 2048
+    told("client-final messages", len(rows))
+
+
+def lengths_of_words(folder):
+    """Both nonces of a login have at most 256 bytes, and a token's secret 64 and at least 10."""
+    user, tried = Account("user", "SCRAM-SHA-1"), 0
+    book, socket = (os.path.join(folder, name) for name in ["book", "socket"])
+    words = [PROGRAM, "login", "--book", book, "--name", "user", "--mechanism", "SCRAM-SHA-1", "--socket", socket]
+    for own, others in [(256, 256), (257, 256), (256, 257)]:
+        pathlib.Path(book).write_text(clients.book([user]))
+        visit = [*logged_in(user, "n" * own, "s" * others), gone()]
+        log = "SCRAMLOG 1\n" + "".join(line.removeprefix("1 ") for line in dealt([0] * len(visit), [visit])[1].splitlines(True)[1:])
+        option = "client" if own > 256 else "server"
+        want = (0, log, "") if own == others else (2, "", f"scramotp: bad value for --{option}-nonce\n")
+        done = ended([*words, "--client-nonce", "n" * own, "--server-nonce", "s" * others], b"password of user")
+        assert done == want, (own, others, done)
+        tried += 1
+    for size in [9, 10, 64, 65]:
+        want = (0, f"{clients.code(bytes(size), 7)}\n", "") if 10 <= size <= 64 else (2, "", "scramotp: bad value for --secret\n")
+        assert ended([PROGRAM, "code", "--secret", "00" * size, "--counter", "7"], b"") == want, size
+        tried += 1
+    told("nonces and secrets", tried)
+
+
+def lengths_of_files(folder):
+    """A book of 16777216 bytes is read, and one of one more byte is not; and so is the line of a password, which is then none."""
+    tried = 0
+    for command in commands():
+        if command.name in ("login", "hall"):
+            for size, want in [(MOST, (0, command.printed, "")), (MOST + 1, (3, "", f"scramotp: cannot read {folder}/book\n"))]:
+                prepare(folder, command)
+                pathlib.Path(folder, "book").write_text(BOOK + "#" * (size - len(BOOK)))
+                assert ended(command.in_folder(folder), command.text.encode()) == want, (command.name, size)
+                tried += 1
+        if command.name == "enrol":
+            for size, want in [(MOST, (2, "", "scramotp: bad password\n")), (MOST + 1, (3, "", "scramotp: cannot read input\n"))]:
+                prepare(folder, command)
+                assert ended(command.in_folder(folder), b"a" * size) == want, size
+                assert pathlib.Path(folder, "book").read_text() == BOOK
+                tried += 1
+    told("books and passwords", tried)
+
+
+def ended(words, data):
+    """Status, output and faults of a run that is given all of this."""
+    done = subprocess.run(words, input=data, capture_output=True, timeout=60)
+    return done.returncode, done.stdout.decode(), done.stderr.decode()
+
+
+class Fed:
+    """A run that is fed as it reads, what it has printed so far, and the most memory that it has had."""
+
+    def __init__(self, words):
+        self.output = tempfile.TemporaryFile()
+        self.run = subprocess.Popen(words, stdin=subprocess.PIPE, stdout=self.output, stderr=subprocess.PIPE)
+
+    def feed(self, parts):
+        """Feeds all of these, or as many as the run reads. Returns whether it read them all."""
+        try:
+            for part in parts:
+                self.run.stdin.write(part)
+            self.run.stdin.flush()
+        except BrokenPipeError:
+            return False
+        return True
+
+    def most_memory(self):
+        """The most memory that the run has had in KiB, once it has read all that it was fed and waits for more."""
+        left = array.array("i", [1])
+        until = time.monotonic() + 60
+        while left[0] > 0 or not self.waits():
+            assert time.monotonic() < until, "what was fed is not read"
+            time.sleep(0.005)
+            fcntl.ioctl(self.run.stdin.fileno(), termios.FIONREAD, left)
+        status = pathlib.Path(f"/proc/{self.run.pid}/status").read_text()
+        return int(status.split("VmHWM:")[1].split()[0])
+
+    def waits(self):
+        """Whether the run sleeps."""
+        return pathlib.Path(f"/proc/{self.run.pid}/stat").read_text().rpartition(") ")[2][0] == "S"
+
+    def end(self):
+        """Ends the input. Returns the status, what was printed and the fault."""
+        try:
+            self.run.stdin.close()
+        except BrokenPipeError:
+            pass
+        faults = self.run.stderr.read().decode()
+        self.run.stderr.close()
+        status = self.run.wait(60)
+        self.output.seek(0)
+        with self.output:
+            return status, self.output.read().decode(), faults
+
+
+GONE = "S MECHS SCRAM-SHA-256 SCRAM-SHA-1\nC GONE\nE\n"
+# So many sessions of three lines that a log with its first line has a million lines.
+SESSIONS = 333333
+
+
+def sessions(version):
+    """The sessions of a log of a million lines, but for its first line, in parts."""
+    for number in range(1, SESSIONS + 1):
+        yield (GONE if version == 1 else "".join(f"{number} {line}" for line in GONE.splitlines(True))).encode()
+
+
+def long_logs(folder):
+    """A million lines are clean, and a byte more is too much; an audit needs no more memory for them than for ten."""
+    words = [PROGRAM, "audit", "--book", AUDITS / "keys.toml", "--log", "/dev/stdin"]
+    for version in [1, 2]:
+        for more, answer in [(b"", (0, f"clean sessions={SESSIONS} accepted=0 codes=0\n", "")), (b"S", (1, "too many lines\n", ""))]:
+            run, parts = Fed(words), sessions(version)
+            assert run.feed([f"SCRAMLOG {version}\n".encode(), *itertools.islice(parts, 3)])
+            early = run.most_memory()
+            assert run.feed(parts)
+            late = run.most_memory()
+            run.feed([more])
+            assert run.end() == answer, (version, more)
+            assert late - early <= MORE, (version, early, late)
+    print(f"oversized.py: 4 logs of a million lines, and a byte; the last took {late - early} KiB more than its first ten lines")
+
+
+def endless_logs(folder):
+    """A log that never ends is read up to the first fault, or to the byte after its millionth line."""
+    endless = itertools.repeat(GONE.encode())
+    wrong = b"S MECHS SCRAM-SHA-1\n"
+    log = ["--log", "/dev/stdin"]
+    audit, upgrade = [PROGRAM, "audit", "--book", AUDITS / "keys.toml", *log], [PROGRAM, "upgrade", *log]
+    rows = [
+        (b"SCRAMLOG 1\n", endless, "too many lines", "too many lines"),
+        (b"SCRAMLOG 1\n" + wrong, endless, "line 2: mechs", "too many lines"),
+        (b"SCRAMLOG 1\n", itertools.repeat(b"E" * 1000), "line 2: not a line", "line 2: not a line"),
+        (b"SCRAMLOG 2\n", itertools.repeat(b"1 C BAD"), "line 2: not a line", "line 1: not a line"),
+        (b"", itertools.repeat(b"SCRAMLOG 1"), "line 1: not a line", "line 1: not a line"),
+        (b"", itertools.repeat(bytes(1000)), "line 1: not a line", "line 1: not a line"),
+    ]
+    for begin, parts, of_audit, of_upgrade in rows:
+        for words, want in [(audit, (1, f"{of_audit}\n", "")), (upgrade, (1, "", f"{of_upgrade}\n"))]:
+            run = Fed(words)
+            assert not run.feed(itertools.chain([begin], parts)), (words, begin)
+            assert run.end() == want, (words, begin)
+    words = [PROGRAM, "audit", "--book", "/dev/zero", "--log", AUDITS / "sha1.log"]
+    assert ended(words, b"") == (3, "", "scramotp: cannot read /dev/zero\n")
+    print(f"oversized.py: {2 * len(rows)} logs and a book that never end")
+
+
+def endless_passwords(folder):
+    """A password that never ends is a fault of the input, and nothing is written."""
+    count = 0
+    for command in commands():
+        if command.text.startswith("pencil"):
+            prepare(folder, command)
+            run = Fed(command.in_folder(folder))
+            assert not run.feed(itertools.repeat(b"a" * 4096)), command.name
+            assert run.end() == (3, "", "scramotp: cannot read input\n"), command.name
+            assert pathlib.Path(folder, "book").read_text() == BOOK and sorted(os.listdir(folder)) == ["book", "log", "random"]
+            count += 1
+    assert count == 3
+    print(f"oversized.py: {count} passwords that never end")
+
+
+def endless_codes(folder):
+    """Codes that never end are judged up to the last line within 16777216 bytes of input, and a run needs no more memory for them than
+    for the first. The token is locked by the first three; the rest are answered so."""
+    pair = f"SYNC {'0' * 16} {'1' * 16}"
+    rows = {
+        "verify": (b"", f"{'0' * 15}\n", "", "FAIL 5\n", "LOCKED 5\n"),
+        "login": (b"pencil\n", f"{pair}\n", login_log(0).removesuffix("C GONE\nE\n"), f"C {pair}\nS FAIL 5\n", f"C {pair}\nS LOCKED 5\n"),
+        "hall": (EVENTS.encode(), f"line 1 5 {pair}\n", LOGGED, f"1 C {pair}\n1 S FAIL 5\n", f"1 C {pair}\n1 S LOCKED 5\n"),
+    }
+    for command in commands(0):
+        if command.name in rows:
+            begin, line, printed, failed, locked = rows[command.name]
+            prepare(folder, command)
+            pathlib.Path(folder, "book").write_text(BOOK.replace("failures = 2", "failures = 0"))
+            data, whole = line.encode(), (MOST - len(begin)) // len(line)
+            run = Fed(command.in_folder(folder))
+            assert run.feed([begin, *[data] * 1000])
+            early = run.most_memory()
+            assert run.feed(itertools.repeat(data, whole - 1000))
+            late = run.most_memory()
+            assert not run.feed(itertools.repeat(data)), command.name
+            status, output, faults = run.end()
+            assert (status, faults) == (3, "scramotp: cannot read input\n"), (command.name, status, faults)
+            assert output == printed + failed * 3 + locked * (whole - 3), (command.name, len(output))
+            assert late - early <= MORE, (command.name, early, late)
+            print(f"oversized.py: {whole} codes by {command.name}, which took {late - early} KiB more than the first 1000")
+
+
+# A hall's log of RFC 5802's login, and the events that lead to it.
+LOGGED = "".join(commands(0)[6].printed.splitlines(True)[:-2])
+EVENTS = commands(0)[6].text.removesuffix("gone 1 5\n")
+
+TESTS = [
+    lengths_of_first_messages,
+    lengths_of_lines,
+    lengths_of_last_messages,
+    lengths_of_words,
+    lengths_of_files,
+    long_logs,
+    endless_logs,
+    endless_passwords,
+    endless_codes,
+]
+
+suite.run_all(TESTS)
