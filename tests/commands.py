@@ -14,7 +14,7 @@ from hashlib import pbkdf2_hmac, sha1, sha256
 from hmac import digest
 
 import suite
-from suite import PROGRAM, SECRET, USER, hotp
+from suite import PROGRAM, SECRET, USER, hotp, totp
 
 SALT = "4125c247e43ab1e93c6dff76"
 LONGER = "3132333435363738393031323334353637383930313233343536373839303132"
@@ -23,21 +23,7 @@ LONGEST = "00112233445566778899aabbccddeeff00112233445566778899AABBCCDDEEFF" * 2
 # RFC 5802, section 5
 KEYS_OF_PENCIL = "stored=e9d94660c39d65c38fbad91c358f14da0eef2bd6\nserver=0fe09258b3ac852ba502cc62ba903eaacdbf7d31\n"
 
-# A TOTP token for `user`, with the secret of RFC 6238's appendix B.
-TOTP = f"""[accounts.user.token]
-kind = "totp"
-hash = "sha1"
-secret = "{SECRET}"
-digits = 8
-t0 = 0
-step = 30
-back = 0
-ahead = 1
-max_drift = 1
-drift = 0
-limit = 3
-failures = 0
-"""
+TOTP = totp(limit=3)
 
 # What the example of each command prints, in an order in which they can be run: RFC 5802, section 5; RFC 4226, appendix D, and
 # RFC 6238, appendix B; the first code of RFC 4226 once more; a log in which no login was accepted; one of a login and a code.

@@ -27,7 +27,7 @@ import suite
 from all_commands import (
     BOOK, NONCES, begins_clean, book_of, commands, is_front, is_kept, left, login_log, new_book, numbered, prepare, run,
 )
-from suite import PROGRAM, SECRET
+from suite import PROGRAM, totp
 
 ROOT = os.geteuid() == 0
 NOBODY = pwd.getpwnam("nobody")
@@ -328,21 +328,7 @@ def all_at_once(folder):
 
 # RFC 6238, appendix B: the codes of SHA-1 at three moments, of steps 1, 37037036 and 37037037, and a token that takes them.
 EARLY, BEFORE, AFTER = (59, 1, "94287082"), (1111111109, 37037036, "07081804"), (1111111111, 37037037, "14050471")
-TOTP = f"""
-[accounts.user.token]
-kind = "totp"
-hash = "sha1"
-secret = "{SECRET}"
-digits = 8
-t0 = 0
-step = 30
-back = 0
-ahead = 1
-max_drift = 1
-drift = 0
-limit = 100
-failures = 0
-"""
+TOTP = totp(limit=100)
 
 
 class Clocks(Machine):

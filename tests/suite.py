@@ -32,6 +32,25 @@ failures = 0
 """
 
 
+def totp(limit):
+    """A TOTP token for `user`, with the secret of RFC 6238's appendix B."""
+    return f"""
+[accounts.user.token]
+kind = "totp"
+hash = "sha1"
+secret = "{SECRET}"
+digits = 8
+t0 = 0
+step = 30
+back = 0
+ahead = 1
+max_drift = 1
+drift = 0
+limit = {limit}
+failures = 0
+"""
+
+
 class BookFolder:
     """A folder with a book, which runs of the program serve, and a copy of it as it was before them."""
 
