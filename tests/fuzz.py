@@ -3,9 +3,9 @@
 
 Usage: fuzz.py PROGRAM [SEED [COUNT]]
 
-Every run has to end within 2 seconds, by no signal, with a stated status and a stated fault. Where a command accepts its input,
-Python says what follows: the code (RFC 4226, RFC 6238) and the keys (RFC 5802); the text of the book, by tomllib, which a second
-save leaves as it is; of a log, that its lines before the one at fault begin a clean log, and that what is upgraded has the same
+Every run has to end within 2 seconds of the processor's time, by no signal, with a stated status and a stated fault. Where a
+command accepts its input, Python says what follows: the code (RFC 4226, RFC 6238) and the keys (RFC 5802); the text of the book, by
+tomllib, which a second save leaves as it is; of a log, that its lines before the one at fault begin a clean log, and that what is upgraded has the same
 answer; of the events of a hall, that the log which it prints is clean. An input for which something else is seen is kept, as a file
 fuzz-KIND-SEED-NUMBER in the folder in which the script is started, and ends it.
 
@@ -26,6 +26,7 @@ import tomllib
 HERE = pathlib.Path(__file__).resolve().parent
 BOOKS = sorted((HERE / "book_faults").glob("*.toml"))
 AUDITS = HERE / "data" / "audits"
+# What a run may take of the processor, whatever else the machine does.
 SECONDS = 2
 
 # What a command may say on standard error, by its status.
@@ -58,10 +59,13 @@ def expect(holds, *seen):
 
 def run(program, words, data=b""):
     """Status and output of a run, whose faults have to be stated ones."""
+    before = os.times()
     try:
-        done = subprocess.run([program, *words], input=data, capture_output=True, timeout=SECONDS)
+        done = subprocess.run([program, *words], input=data, capture_output=True, timeout=60)
     except subprocess.TimeoutExpired:
-        raise Unexpected(words, f"more than {SECONDS} seconds") from None
+        raise Unexpected(words, "it does not end") from None
+    after = os.times()
+    expect(after.children_user + after.children_system - before.children_user - before.children_system <= SECONDS, words, "too long")
     fault = FAULTS.get(done.returncode)
     # A log's line at fault is an answer, and goes to standard output; `upgrade` has none, and tells it as a fault.
     of_log = words[0] in ("audit", "upgrade") and done.returncode in (1, 3)
