@@ -5,9 +5,9 @@ Usage: fuzz.py PROGRAM [SEED [COUNT]]
 
 Every run has to end within 2 seconds of the processor's time, by no signal, with a stated status and a stated fault. Where a
 command accepts its input, Python says what follows: the code (RFC 4226, RFC 6238) and the keys (RFC 5802); the text of the book, by
-tomllib, which a second save leaves as it is; of a log, that its lines before the one at fault begin a clean log, and that what is upgraded has the same
-answer; of the events of a hall, that the log which it prints is clean. An input for which something else is seen is kept, as a file
-fuzz-KIND-SEED-NUMBER in the folder in which the script is started, and ends it.
+tomllib, which a second save leaves as it is; of a log, that its lines before the one at fault begin a clean log, and that what is
+upgraded has the same answer; of the events of a hall, that the log which it prints is clean. An input for which something else is seen
+is kept, as a file fuzz-KIND-SEED-NUMBER in the folder in which the script is started, and ends it.
 
 COUNT, 300 by default, is how many inputs of each kind are tried; each is made from SEED, 1 by default, and its own number.
 """
