@@ -3,15 +3,12 @@
 
 Usage: audits.py PROGRAM
 
-Each row of data/audits/cases.csv is a log and the book that it is judged by: files of that folder. In the log `old`,
-which is there once, is replaced by `new`, and then `old2` by `new2`; `\\n` is written as in Python. The row's answer
-is the line that is to be printed. sha1.log is the example of RFC 5802, section 5, sha256.log that of RFC 7677,
-section 3. Then come a login whose challenge has an extension, its proof made by Python's hmac; the first log cut after
+Each row of data/audits/cases.csv, as audit_cases.py reads it. sha1.log is the example of RFC 5802, section 5, sha256.log that of
+RFC 7677, section 3. Then come a login whose challenge has an extension, its proof made by Python's hmac; the first log cut after
 each byte; logs of a million lines; logs that are pipes; progress shown at a terminal; files that can't be read; and a
 folder that another run holds. Exits at the first difference.
 """
 import base64
-import csv
 import fcntl
 import hashlib
 import hmac
@@ -23,8 +20,8 @@ import tempfile
 import threading
 import time
 
-FILES = pathlib.Path(__file__).parent / "data" / "audits"
-TABLE = FILES / "cases.csv"
+from audit_cases import FILES, TABLE, cases
+
 KEYS = FILES / "keys.toml"
 LOGIN = FILES / "sha1.log"
 ACCEPTED = "clean sessions=1 accepted=1 codes=0"
@@ -36,22 +33,6 @@ STATUSES = {"clean ": 0, "read fault": 3}
 HEADER = b"SCRAMLOG 1\n"
 GONE = b"S MECHS SCRAM-SHA-256 SCRAM-SHA-1\nC GONE\nE\n"
 ABORTED = b"S MECHS SCRAM-SHA-256 SCRAM-SHA-1\nC ABORT\nS NO :\nE\n"
-
-
-def spelled(text):
-    """The bytes that a cell of the table spells."""
-    return text.encode("latin-1").decode("unicode_escape").encode("latin-1")
-
-
-def edited(row):
-    """The log of a row."""
-    log = (FILES / row["log"]).with_suffix(".log").read_bytes()
-    for old, new in [(row["old"], row["new"]), (row["old2"], row["new2"])]:
-        if old:
-            if log.count(spelled(old)) != 1:
-                sys.exit(f"{TABLE.name}: {row}: what is replaced does not stand there once")
-            log = log.replace(spelled(old), spelled(new))
-    return log
 
 
 def same(what, got, want):
@@ -78,13 +59,11 @@ def answers(what, program, book, log, answer):
 
 def rows_of_table(program, log):
     """Each row, which leaves the book as it is."""
-    with open(TABLE, newline="", encoding="ascii") as table:
-        rows = list(csv.DictReader(table))
-    for line, row in enumerate(rows, 2):
-        log.write_bytes(edited(row))
-        book = (FILES / row["book"]).with_suffix(".toml")
+    rows = cases()
+    for line, (book, text, answer) in enumerate(rows, 2):
+        log.write_bytes(text)
         before = book.read_bytes()
-        answers(f"{TABLE.name}: line {line}: {row}", program, book, log, row["answer"])
+        answers(f"{TABLE.name}: line {line}", program, book, log, answer)
         same(f"{TABLE.name}: line {line}: the book", book.read_bytes(), before)
     return len(rows)
 

@@ -7,7 +7,6 @@ Each log of data/audits/cases.csv: what is upgraded has the audit's answer of be
 refused in no line before the first at fault. Then a log's text line by line, faults and what is printed of them, limits,
 logs that are pipes, and a log of 990000 lines in at most 2 seconds. Exits at the first difference.
 """
-import csv
 import os
 import pathlib
 import re
@@ -16,25 +15,11 @@ import sys
 import tempfile
 import time
 
-FILES = pathlib.Path(__file__).parent / "data" / "audits"
+from audit_cases import FILES, cases
+
 LOGIN = (FILES / "sha1.log").read_bytes()
 MECHS = b"S MECHS SCRAM-SHA-256 SCRAM-SHA-1\n"
 GONE = MECHS + b"C GONE\nE\n"
-
-
-def spelled(text):
-    """The bytes that a cell of the table spells."""
-    return text.encode("latin-1").decode("unicode_escape").encode("latin-1")
-
-
-def rows():
-    """Of each row of the table, its book, its log and its answer."""
-    with open(FILES / "cases.csv", newline="", encoding="ascii") as table:
-        for row in csv.DictReader(table):
-            log = (FILES / row["log"]).with_suffix(".log").read_bytes()
-            for old, new in [(row["old"], row["new"]), (row["old2"], row["new2"])]:
-                log = log.replace(spelled(old), spelled(new)) if old else log
-            yield (FILES / row["book"]).with_suffix(".toml"), log, row["answer"]
 
 
 def run(program, words, log):
@@ -62,7 +47,7 @@ def numbered(log):
 def same_answers(program):
     """The audit's answer to each log of the table, before and after. A first line in the middle has no number in either."""
     upgraded = 0
-    for book, log, answer in rows():
+    for book, log, answer in cases():
         status, text, fault = run(program, ["upgrade"], log)
         if status == 0:
             same(log, (text, fault), (numbered(log), b""))
