@@ -1,9 +1,8 @@
 -- The log of a hall after one more event.
-use Rattle.std.proofs.Common.{◌≡◌, ◌≢◌, ◌⊎◌, inl, inr, ℕ, true, false, Bool, List, [], ◌∷◌, ◌++◌, refl, sym, ◌∙◌, ap, subst, append_assoc}
+use Rattle.std.proofs.Common.{◌≡◌, ◌⊎◌, inl, inr, ℕ, true, Bool, List, [], ◌∷◌, ◌++◌, refl, sym, ◌∙◌, ap, subst, append_assoc}
 use Rattle.std.specs.Prelude.{map}
 use Rattle.std.specs.Io.KnownBytes.{Appends}
 use Rattle.std.proofs.KnownBytes.{Appends-trans}
-use Rattle.std.specs.declared.option.Option.{Option}
 use Rattle.book_format.specs.Book.{BookFields}
 use Rattle.account_book.specs.Store.{StoreFacts}
 use Rattle.command_line.specs.Fault.{IsUnwritten}
@@ -18,11 +17,9 @@ use Rattle.std.specs.declared.option.Option.TheVariants.{None}
 use Rattle.std.specs.declared.result.Result.{Result}
 use Rattle.std.specs.declared.result.Result.TheVariants.{Ok, Err}
 use Rattle.sasl_desk.specs.Halls.{phase_in, HallFields, hall_of, hall_shown, hall_bytes, numbered_bytes, StandsHall, AnswersIn, IsSameHall}
-use Rattle.sasl_desk.specs.Runs.{Asked, greets, hears, Call, call_of}
+use Rattle.sasl_desk.specs.Runs.{Asked, hears, Call, call_of}
 use Rattle.sasl_desk.specs.declared.desk.state.Phase.{Phase}
 use Rattle.sasl_desk.specs.declared.hall.Hall.{Hall}
-use Rattle.sasl_desk.specs.declared.hall.guest.Guest.{Guest}
-use Rattle.sasl_desk.specs.declared.keeper.Keeper.{Keeper}
 use Rattle.sasl_desk.proofs.HallLaws.{hall_bytes_next}
 use Rattle.sasl_desk.proofs.HallSteps.{stands_reordered}
 use Rattle.commands.specs.Hall.{InputEvent, opens, says, leaves, does_at, SaysEvent, SaysNothing, IsOfNobody, IsCallFor, IsHallLogOf, Hears, HearsLine, HearsSome}

@@ -1,5 +1,5 @@
 -- The input of the command `hall`, and the log that it prints.
-use Rattle.std.specs.Prelude.{ℕ, ◌≡◌, ◌⊎◌, true, List, [], ◌∷◌, ◌++◌, codes, decimal}
+use Rattle.std.specs.Prelude.{ℕ, ◌≡◌, ◌⊎◌, List, [], ◌∷◌, ◌++◌, codes, decimal}
 use Rattle.std.specs.Io.KnownBytes.{Appends}
 use Rattle.std.specs.declared.option.Option.{Option}
 use Rattle.std.specs.declared.option.Option.TheVariants.{None}
@@ -12,7 +12,7 @@ use Rattle.log_grammar.specs.NumberedLines.{IsSessionNumber}
 use Rattle.sasl_log.specs.Sink.{SinkFacts}
 use Rattle.sasl_desk.specs.Events.{ClientEvent, sends, goes_away}
 use Rattle.sasl_desk.specs.Halls.{HallFields, hall_shown, hall_bytes, phase_in, StandsHall}
-use Rattle.sasl_desk.specs.Runs.{Asked, greets, hears, Call}
+use Rattle.sasl_desk.specs.Runs.{greets, hears, Call}
 use Rattle.sasl_desk.specs.declared.hall.Hall.{Hall}
 
 -- what befalls a hall: a client comes, and this is the server's part of its nonce; or the client of the session of this number
