@@ -1,35 +1,17 @@
 -- The guests of a hall, by their numbers.
-use Rattle.std.proofs.Common.{◌≡◌, ◌+◌, ◌<◌, inl, inr, Bool, true, false, ℕ, suc, List, [], ◌∷◌, ◌++◌, length, refl, sym, ◌∙◌, ap, subst, arith}
+use Rattle.std.proofs.Common.{◌≡◌, ◌+◌, ◌<◌, inl, inr, Bool, true, false, ℕ, List, [], ◌∷◌, ◌++◌, length, refl, sym, ◌∙◌, ap, subst, arith}
 use Rattle.std.specs.Prelude.{count_by}
 use Rattle.std.specs.Bool.{Decides}
 use Rattle.std.specs.Prelude.{slice_get, nat_lt}
-use Rattle.std.specs.List.{All, AllByRecursion, find, position, position_or_len}
-use Rattle.std.specs.List.Sorted.{IsPermutation}
+use Rattle.std.specs.List.{AllByRecursion, find, position, position_or_len}
 use Rattle.std.specs.declared.option.Option.TheVariants.{None, Some}
 use Rattle.std.proofs.lemmas.Bool.{cases_Bool, eq-eqb}
 use Rattle.std.proofs.lemmas.Bool.Decides.{eqb_tells, Decides-ltb}
 use Rattle.std.proofs.lemmas.List.Folds.{find_at}
 use Rattle.std.proofs.lemmas.Option.{slice_get_cases}
-use Rattle.std.proofs.lemmas.List.Elements.{All-nil, All-cons}
-use Rattle.std.proofs.lemmas.List.Sorted.{All-permutation, sum_by-IsPermutation}
 use Rattle.std.proofs.lemmas.List.Sums.{sum_by-append}
 use Rattle.sasl_desk.specs.Guests.{is_of}
 use Rattle.sasl_desk.specs.declared.hall.guest.Guest.{Guest}
-
--- what holds of each, element by element, holds of each in another order
-all_each : {X : Type 0} (P : X → Type 0) (xs : List X) → AllByRecursion P xs → All P xs
-all_each P [] all = All-nil P
-all_each P (x ∷ xs) all = All-cons P x xs all.0 (all_each P xs all.1)
-
-each_all : {X : Type 0} (P : X → Type 0) (xs : List X) → All P xs → AllByRecursion P xs
-each_all P [] all = tt
-each_all P (x ∷ xs) all = (all 0 x (omega arith), each_all P xs (λ k d less. all (suc k) d (omega (arith, less))))
-
-pub all_permuted : {X : Type 0} (P : X → Type 0) (xs ys : List X) → IsPermutation xs ys → AllByRecursion P xs → AllByRecursion P ys
-all_permuted P xs ys same all = each_all P ys (All-permutation P xs ys same (all_each P xs all))
-
-pub count_permuted : {X : Type 0} (p : X → Bool) (xs ys : List X) → IsPermutation xs ys → count_by p ys ≡ count_by p xs
-count_permuted p xs ys same = sum_by-IsPermutation _ xs ys same
 
 count_one : {X : Type 0} (p : X → Bool) (x : X) → p x ≡ true → count_by p (x ∷ []) ≡ 1
 count_one p x is = rw is refl

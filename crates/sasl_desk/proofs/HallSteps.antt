@@ -21,6 +21,7 @@ use Rattle.log_grammar.proofs.NumberedCuts.{numbered_before}
 use Rattle.log_grammar.proofs.OpenCounts.{open_was_begun}
 use Rattle.log_grammar.proofs.Owns.{at_each, put_here, put_other, begun_append, closed_append}
 use Rattle.sasl_log.specs.Numbered.{CanBeNumberedLine}
+use Rattle.sasl_log.proofs.PermutedSlots.{all_permuted, count_permuted}
 use Rattle.sasl_desk.specs.Desks.{IsHeld, IsStoredAt, IsBookWith, all_spent}
 use Rattle.sasl_desk.specs.Events.{ClientEvent}
 use Rattle.sasl_desk.specs.Guests.{is_of, guest_of}
@@ -34,7 +35,7 @@ use Rattle.sasl_desk.specs.declared.keeper.Keeper.{Keeper}
 use Rattle.sasl_desk.specs.declared.session.Session.{Session}
 use Rattle.sasl_desk.specs.declared.turn.Left.{Left}
 use Rattle.sasl_desk.specs.declared.turn.Left.TheVariants.{Going, Over, Halted}
-use Rattle.sasl_desk.proofs.GuestLemmas.{count_here, count_other, count_last, one_of, none_of, all_with, all_permuted, count_permuted}
+use Rattle.sasl_desk.proofs.GuestLemmas.{count_here, count_other, count_last, one_of, none_of, all_with}
 use Rattle.sasl_desk.proofs.HallPaths.{IsTurnLine, turn_number, turn_begun, halt_leads_to, no_busy, LastFollows}
 use Rattle.sasl_desk.proofs.PathLemmas.{client_turn}
 use Rattle.sasl_desk.proofs.RunLemmas.{all-append}
