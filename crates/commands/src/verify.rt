@@ -82,10 +82,12 @@ fn answer_line<S: BookStore, O: Write>(
     line: &[u8],
     output: &mut O,
 ) -> Result<Reply, Fault>
-    ensures printed { IfOk result (λ reply. Appends (O.contents output.old) (O.contents output.new)
-        (printed_reply reply moment)) }
+    // The reply that is printed is the one that is due to the line, and what it changed is saved.
+    ensures printed { IfOk result (λ reply. Appends (O.contents output.old) (O.contents output.new) (printed_reply reply moment)
+        × ((said : CodeTexts) × Says line.now said
+        × IsReplySaved held.old.book name.now moment said reply held.new.book (S.facts held.new.store).saved)) }
 
-    // Where anything is printed, a reply was due to the line, and what it changed is saved.
+    // Where anything is printed before a fault too, a reply was due to the line, and what it changed is saved.
     ensures saved_first { (O.contents output.new ≡ O.contents output.old) ⊎ ((said : CodeTexts) × (reply : Reply)
         × Says line.now said × IsReplySaved held.old.book name.now moment said reply held.new.book (S.facts held.new.store).saved) }
 {
