@@ -18,7 +18,7 @@ from all_commands import begins_clean, book_of, commands, is_done, is_front, is_
 # The calls that move bytes, and the others that are refused.
 MOVES = "read,write,recv,send"
 FILES = "open,openat,fsync,flock,fchmod,fchown,lseek,rename,link,unlink,realpath,statx"
-SOCKETS = "socket,bind,connect,accept4,shutdown"
+SOCKETS = "socket,bind,listen,connect,accept4,shutdown"
 OTHERS = f"{FILES},{SOCKETS},ioctl,clock_gettime"
 FAULT = r"scramotp: (?:cannot (?:read|write) [ -~]+|socket fault)\n"
 
@@ -84,7 +84,7 @@ def may_be_left(how, name):
     """What a run may leave where this call failed: what it was refused to remove, or was made by a call that was said to have failed."""
     if how == "refused":
         return {"book.new", "socket"} if name == "unlink" else set()
-    return {"open": {"book.new"}, "openat": {"book.new"}, "bind": {"socket"}}.get(name, set())
+    return {"open": {"book.new"}, "openat": {"book.new"}}.get(name, set())
 
 
 def all_told(folder, how, calls):

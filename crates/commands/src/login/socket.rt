@@ -5,6 +5,7 @@
 use command_line::Fault;
 use sasl_log::{OverRead, OverWrite};
 use std::fs::Files;
+use std::io::ErrorKind;
 use std::net::{Net, Shutdown};
 use std::os::unix::net::{UnixListener, UnixStream};
 use std::{fs, io};
@@ -83,14 +84,34 @@ pub fn open<'a, R: Files + Net>(
     rt: &'a R,
     path: &'a str,
 ) -> Result<(Ends, SocketFile<'a, R>), Fault> {
-    let Ok(listener) = UnixListener::bind(rt, path) else {
-        return Err(Fault::Socket);
-    };
-    let file = SocketFile { rt, path };
+    let (listener, file) = bind(rt, path)?;
     match connect(rt, path, &listener) {
         Ok(ends) => Ok((ends, file)),
         Err(_) => Err(Fault::Socket),
     }
+}
+
+// Makes a socket at `path`. To bind makes the file before the socket listens, so a failure between the two leaves one that is
+// removed here; what had the name before, or takes it meanwhile, is another's and stays.
+fn bind<'a, R: Files + Net>(
+    rt: &'a R,
+    path: &'a str,
+) -> Result<(UnixListener, SocketFile<'a, R>), Fault> {
+    let was_free = is_free(rt, path);
+    match UnixListener::bind(rt, path) {
+        Ok(listener) => Ok((listener, SocketFile { rt, path })),
+        Err(error) => {
+            if was_free && error.kind() != ErrorKind::AddrInUse {
+                let _ = fs::remove_file(rt, path);
+            }
+            Err(Fault::Socket)
+        }
+    }
+}
+
+// Whether nothing has this name.
+fn is_free<R: Files>(rt: &R, path: &str) -> bool {
+    matches!(fs::symlink_metadata(rt, path), Err(error) if error.kind() == ErrorKind::NotFound)
 }
 
 // Connects to the socket at `path`, and accepts the connection.
