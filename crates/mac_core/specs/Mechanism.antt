@@ -2,6 +2,7 @@
 -- (RFC 7677). Both hash functions have blocks of 64 bytes.
 use Rattle.std.specs.Prelude.{ℕ, ◌==◌, List, codes}
 use Rattle.std.specs.List.{slice_split, Contains}
+use Rattle.std.specs.Str.{byte}
 use Rattle.sha1.specs.Sha1.{Holds, sha1}
 use Rattle.sha2.specs.Sha256.{sha256}
 use Rattle.sha2.specs.Hashers.{Holds256}
@@ -21,7 +22,7 @@ name_of ScramSha256 = codes "SCRAM-SHA-256"
 
 -- the mechanism's name is one of those in the text, between which there are spaces
 abbrev pub IsOffered : Mechanism → List ℕ → Type 0
-IsOffered mechanism names = Contains (slice_split (λ c. c == 32) names) (name_of mechanism)
+IsOffered mechanism names = Contains (slice_split (λ c. c == byte " ") names) (name_of mechanism)
 
 -- H of the mechanism
 abbrev pub hash_by : Mechanism → List ℕ → List ℕ

@@ -1,5 +1,6 @@
 -- What both ends sign, and what shows that an end has its key (RFC 5802, section 3).
 use Rattle.std.specs.Prelude.{ℕ, ◌≡◌, List, [], ◌∷◌, ◌++◌, length}
+use Rattle.std.specs.Str.{byte}
 use Rattle.mac_core.specs.Mechanism.{length_by, hmac_by, hi_by, client_key_by, stored_key_by}
 use Rattle.mac_core.specs.Keys.{xor_bytes}
 use Rattle.mac_core.specs.declared.mechanism.Mechanism.{Mechanism}
@@ -9,7 +10,7 @@ use Rattle.scram_ends.specs.Entry.{Keys, password_keys}
 -- AuthMessage as far as the challenge: client-first-bare, comma, server-first, comma. A message's text
 -- is that of its parts, so each is here as it was sent.
 abbrev pub auth_front : ClientFirstParts → List ℕ → List ℕ
-auth_front first challenge = bare_text first ++ 44 ∷ [] ++ challenge ++ 44 ∷ []
+auth_front first challenge = bare_text first ++ byte "," ∷ [] ++ challenge ++ byte "," ∷ []
 
 -- AuthMessage: after these, client-final-without-proof
 abbrev pub auth_message : ClientFirstParts → List ℕ → ClientFinalParts → List ℕ

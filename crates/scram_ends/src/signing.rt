@@ -1,6 +1,7 @@
 //! The keys of an account at work on one login: AuthMessage (RFC 5802, section 3) is never kept, but two
 //! MACs take it in as it comes: one by StoredKey checks the client's proof, one by ServerKey signs.
 ghost use Rattle.std.specs.Prelude.{◌≡◌, ◌≤◌, ◌↔◌, ℕ, List, [], ◌∷◌, ◌++◌, length, IsTrue};
+ghost use Rattle.std.specs.Str.{byte};
 ghost use Rattle.mac_core.specs.Mechanism.{length_by, hmac_by, IsScramMac};
 ghost use Rattle.scram_text.specs.Messages.{ClientFirstParts, bare_text};
 ghost use Rattle.scram_ends.specs.Entry.{Keys, keys_of};
@@ -64,7 +65,7 @@ impl Signing {
 // A MAC that has taken in AuthMessage as far as the challenge.
 fn running(mechanism: Mechanism, key: &Tag, bare: &[u8], challenge: &[u8]) -> ScramMac
     ensures { IsScramMac mechanism result key.now.items
-        (bare.now ++ 44 ∷ [] ++ challenge.now ++ 44 ∷ []) }
+        (bare.now ++ byte "," ∷ [] ++ challenge.now ++ byte "," ∷ []) }
 {
     let mut mac = ScramMac::new(mechanism, key.as_slice());
     mac.add(bare);

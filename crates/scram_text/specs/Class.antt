@@ -2,11 +2,11 @@
 -- them that have limits here.
 use Rattle.std.specs.Prelude.{ℕ, ◌≤◌, nat_le, ◌==◌, Bool, not, ◌&&◌, ◌||◌, IsTrue, List, length}
 use Rattle.std.specs.List.{list_all}
-use Rattle.std.specs.Str.{IsUtf8}
+use Rattle.std.specs.Str.{IsUtf8, byte}
 
 -- the byte of a comma, which separates the parts of a message
 abbrev pub is_comma : ℕ → Bool
-is_comma c = c == 44
+is_comma c = c == byte ","
 
 -- printable = %x21-2B / %x2D-7E, as in nonces: "fyko+d2lbbFgONRv9qkxdawL"
 abbrev pub is_printable : ℕ → Bool

@@ -1,5 +1,6 @@
 -- A message that is composed piece by piece.
 use Rattle.std.specs.Prelude.{ℕ, ◌≡◌, ◌<◌, true, false, List, [], ◌∷◌, length}
+use Rattle.std.specs.Str.{byte}
 use Rattle.scram_text.specs.declared.draft.Draft.{Draft}
 
 -- the draft stands for this text: it holds it, or the text has more than 2048 bytes
@@ -10,4 +11,4 @@ pub record IsDraftOf (draft : Draft) (text : List ℕ) : Type 0 where
 -- a text that is not empty, with a comma before it
 abbrev pub after_comma : List ℕ → List ℕ
 after_comma [] = []
-after_comma (c ∷ text) = 44 ∷ c ∷ text
+after_comma (c ∷ text) = byte "," ∷ c ∷ text

@@ -1,6 +1,7 @@
 -- What is wrong with a text that is no message: the first fault that it has. A fault is one of the
 -- whole text or of its parts, and the four messages differ only in the places of their parts.
 use Rattle.std.specs.Prelude.{ℕ, ◌≡◌, ◌<◌, ◌≤◌, ◌+◌, ◌-◌, ◌⊎◌, List, [], ◌∷◌, ◌++◌, length, drop, replicate, IfSome, if◌then◌else◌, IsTrue}
+use Rattle.std.specs.Str.{byte}
 use Rattle.std.specs.declared.option.Option.{Option}
 use Rattle.scram_text.specs.Class.{IsNonce, IsText}
 use Rattle.scram_text.specs.Name.{IsSaslName}
@@ -52,16 +53,16 @@ Fits most NotText part = Unit {0}
 Fits most Missing part = Unit {0}
 Fits most Flag part = IsTrue (is_flag part)
 Fits most Authzid part = IsAuthzid part
-Fits most Mandatory part = IsHeaded 109 IsValue part
-Fits most Name part = IsHeaded 110 IsSaslName part
-Fits most Nonce part = IsHeaded 114 (IsNonce most) part
-Fits most Salt part = IsHeaded 115 (SpellsField 64) part
-Fits most Count part = IsHeaded 105 SpellsCount part
-Fits most Channel part = IsHeaded 99 (SpellsField 1536) part
+Fits most Mandatory part = IsHeaded (byte "m") IsValue part
+Fits most Name part = IsHeaded (byte "n") IsSaslName part
+Fits most Nonce part = IsHeaded (byte "r") (IsNonce most) part
+Fits most Salt part = IsHeaded (byte "s") (SpellsField 64) part
+Fits most Count part = IsHeaded (byte "i") SpellsCount part
+Fits most Channel part = IsHeaded (byte "c") (SpellsField 1536) part
 Fits most Extension part = IsExtension part
-Fits most Proof part = IsHeaded 112 (SpellsField 64) part
-Fits most Verifier part = IsHeaded 118 (SpellsField 64) part
-Fits most ErrorValue part = IsHeaded 101 IsValue part
+Fits most Proof part = IsHeaded (byte "p") (SpellsField 64) part
+Fits most Verifier part = IsHeaded (byte "v") (SpellsField 64) part
+Fits most ErrorValue part = IsHeaded (byte "e") IsValue part
 
 -- from the left, with parts counted from k: the first part that does not fit its place
 unfoldable pub IsFirstMisfit : ℕ → List TextWhy → ℕ → List (List ℕ) → TextFault → Type 0
@@ -106,7 +107,7 @@ first_of (part ∷ pieces) = part
 
 -- the place of a mandatory extension, where the first part begins with "m=", and then the later places
 abbrev pub marked_places : List (List ℕ) → List TextWhy → List TextWhy
-marked_places pieces later = if is_headed 109 (first_of pieces) then Mandatory ∷ later else later
+marked_places pieces later = if is_headed (byte "m") (first_of pieces) then Mandatory ∷ later else later
 
 -- the places of client-first: its bare message is what follows the second part
 abbrev pub client_first_places : List (List ℕ) → List TextWhy

@@ -2,6 +2,7 @@
 -- literals and the parts, joined, and each part is in its class. Fields are shown as bytes, names as
 -- they are spelled, and extensions as the list of their attr-vals.
 use Rattle.std.specs.Prelude.{ℕ, ◌≡◌, ◌≤◌, Bool, ◌||◌, IsTrue, List, [], ◌∷◌, ◌++◌, length, codes, decimal, IfSome, is_some}
+use Rattle.std.specs.Str.{byte}
 use Rattle.std.specs.declared.option.Option.{Option}
 use Rattle.scram_text.specs.Class.{IsNonce, IsText}
 use Rattle.scram_text.specs.Name.{IsSaslName}
@@ -23,7 +24,7 @@ pub record ClientFirstParts : Type 0 where
 
 -- gs2-header = gs2-cbind-flag "," [ authzid ] ",", as "n,a=root,"
 unfoldable pub header_text : ClientFirstParts → List ℕ
-header_text p = p.flag ++ 44 ∷ (authzid_text p.authzid ++ 44 ∷ [])
+header_text p = p.flag ++ byte "," ∷ (authzid_text p.authzid ++ byte "," ∷ [])
 
 -- the parts of client-first-message-bare
 abbrev pub bare_parts : ClientFirstParts → List (List ℕ)
@@ -97,7 +98,7 @@ client_final_without_proof p = joined ((codes "c=" ++ base64 p.channel) ∷ (cod
 -- client-final-message = client-final-message-without-proof "," proof, as
 -- "c=biws,r=abcdef,p=v0X8v3Bz2T0CJGbJQyF0X+HI4Ts="
 unfoldable pub client_final_text : ClientFinalParts → List ℕ
-client_final_text p = client_final_without_proof p ++ 44 ∷ (codes "p=" ++ base64 p.proof)
+client_final_text p = client_final_without_proof p ++ byte "," ∷ (codes "p=" ++ base64 p.proof)
 
 -- the message asks for an extension that must be known
 abbrev pub client_final_mandatory : ClientFinalParts → Bool

@@ -1,6 +1,7 @@
 -- User names in plain bytes, and as messages spell them (RFC 5802, sections 5.1 and 7).
 use Rattle.std.specs.Prelude.{ℕ, ◌≡◌, ◌≤◌, ◌==◌, Bool, true, false, not, ◌&&◌, ◌||◌, if◌then◌else◌, IsTrue, List, [], ◌∷◌, length, flat_map, codes}
 use Rattle.std.specs.List.{list_all}
+use Rattle.std.specs.Str.{byte}
 use Rattle.scram_text.specs.Class.{is_comma}
 
 -- no byte is a comma
@@ -16,7 +17,7 @@ ends_escape (a ∷ b ∷ rest) = (a == 50) && (b == 67) || (a == 51) && (b == 68
 -- each `=` begins "=2C" or "=3D"
 abbrev pub is_escaped : List ℕ → Bool
 is_escaped [] = true
-is_escaped (c ∷ rest) = (not (c == 61) || ends_escape rest) && is_escaped rest
+is_escaped (c ∷ rest) = (not (c == byte "=") || ends_escape rest) && is_escaped rest
 
 -- saslname = 1*(value-safe-char / "=2C" / "=3D"), as in a message that is a text: "a=2Cb"
 pub record IsSaslName (spelled : List ℕ) : Type 0 where
@@ -26,7 +27,7 @@ pub record IsSaslName (spelled : List ℕ) : Type 0 where
 
 -- a comma is spelled "=2C", an equals sign "=3D", and each other byte as itself
 abbrev pub escape : ℕ → List ℕ
-escape c = if c == 44 then codes "=2C" else (if c == 61 then codes "=3D" else c ∷ [])
+escape c = if c == byte "," then codes "=2C" else (if c == byte "=" then codes "=3D" else c ∷ [])
 
 -- the spelling of a name: that of each byte in turn, so that "a,b=c" is "a=2Cb=3Dc"
 abbrev pub name_spelling : List ℕ → List ℕ

@@ -2,6 +2,7 @@
 -- comma in it, so a message is cut in one way.
 use Rattle.std.specs.Prelude.{ℕ, ◌≡◌, ◌≤◌, ◌==◌, nat_le, Bool, false, ◌&&◌, ◌||◌, IsTrue, List, [], ◌∷◌, ◌++◌, length, codes, decimal}
 use Rattle.std.specs.List.{list_all, list_any, slice_split, join_with_byte, AllByRecursion}
+use Rattle.std.specs.Str.{byte}
 use Rattle.std.specs.declared.option.Option.{Option}
 use Rattle.std.specs.declared.option.Option.TheVariants.{None, Some}
 use Rattle.scram_text.specs.Class.{is_comma, is_letter, is_cb_char}
@@ -14,7 +15,7 @@ parts text = slice_split is_comma text
 
 -- parts, joined by commas
 abbrev pub joined : List (List ℕ) → List ℕ
-joined pieces = join_with_byte 44 pieces
+joined pieces = join_with_byte (byte ",") pieces
 
 -- the parts of a text where there is one, else no parts
 abbrev pub parts_of_some : Option (List ℕ) → List (List ℕ)
@@ -25,11 +26,11 @@ parts_of_some (Some text) = parts text
 abbrev pub is_headed : ℕ → List ℕ → Bool
 is_headed letter [] = false
 is_headed letter (a ∷ []) = false
-is_headed letter (a ∷ b ∷ value) = (a == letter) && (b == 61)
+is_headed letter (a ∷ b ∷ value) = (a == letter) && (b == byte "=")
 
 -- the part is this letter, `=` and a value of the class
 abbrev pub IsHeaded : ℕ → (List ℕ → Type 0) → List ℕ → Type 0
-IsHeaded letter class part = (value : List ℕ) × (part ≡ letter ∷ 61 ∷ value) × class value
+IsHeaded letter class part = (value : List ℕ) × (part ≡ letter ∷ byte "=" ∷ value) × class value
 
 -- value = 1*value-char, in a text
 pub record IsValue (value : List ℕ) : Type 0 where
@@ -43,8 +44,8 @@ is_cb_name name = nat_le 1 (length name) && list_all is_cb_char name
 -- gs2-cbind-flag = "n" / "y" / "p=" cb-name
 abbrev pub is_flag : List ℕ → Bool
 is_flag [] = false
-is_flag (c ∷ []) = (c == 110) || (c == 121)
-is_flag (a ∷ b ∷ name) = (a == 112) && (b == 61) && is_cb_name name
+is_flag (c ∷ []) = (c == byte "n") || (c == byte "y")
+is_flag (a ∷ b ∷ name) = (a == byte "p") && (b == byte "=") && is_cb_name name
 
 -- the part of an authorisation name: "a=" and the saslname, or nothing
 abbrev pub authzid_text : Option (List ℕ) → List ℕ
@@ -74,7 +75,7 @@ abbrev pub is_attribute : List ℕ → Bool
 is_attribute [] = false
 is_attribute (a ∷ []) = false
 is_attribute (a ∷ b ∷ []) = false
-is_attribute (a ∷ b ∷ c ∷ value) = is_letter a && (b == 61)
+is_attribute (a ∷ b ∷ c ∷ value) = is_letter a && (b == byte "=")
 
 -- an extension: an attr-val without a comma
 pub record IsExtension (part : List ℕ) : Type 0 where
@@ -87,4 +88,4 @@ AreExtensions extensions = AllByRecursion IsExtension extensions
 
 -- an extension is named "m", so the message is mandatory
 abbrev pub have_mandatory : List (List ℕ) → Bool
-have_mandatory extensions = list_any (is_headed 109) extensions
+have_mandatory extensions = list_any (is_headed (byte "m")) extensions

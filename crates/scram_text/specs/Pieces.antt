@@ -1,5 +1,6 @@
 -- What the readers cut a message into before they read its parts.
 use Rattle.std.specs.Prelude.{◌≡◌, ◌≤◌, ◌+◌, [], ◌∷◌, ◌++◌, List, ℕ, length, IfSome, is_some}
+use Rattle.std.specs.Str.{byte}
 use Rattle.std.specs.Option.{option_copied}
 use Rattle.scram_text.specs.Class.{IsText, IsNonce}
 use Rattle.scram_text.specs.Name.{IsSaslName}
@@ -20,7 +21,7 @@ use Rattle.scram_text.specs.declared.fault.TextWhy.TheVariants.{Name, Nonce}
 pub record IsCutFinal (message : List ℕ) (pieces : Pieces) : Type 0 where
   pub short : length message ≤ 2048
   pub is_text : IsText message
-  pub whole : message ≡ pieces.without_proof.now ++ 44 ∷ pieces.proof.now
+  pub whole : message ≡ pieces.without_proof.now ++ byte "," ∷ pieces.proof.now
   pub cut : parts pieces.without_proof.now ≡ pieces.channel.now ∷ pieces.nonce.now ∷ parts_of_some (option_copied pieces.rest)
   pub cut_whole : parts message ≡ pieces.channel.now ∷ pieces.nonce.now ∷ (parts_of_some (option_copied pieces.rest) ++ pieces.proof.now ∷ [])
   pub count : pieces.count ≡ length (parts message)
@@ -32,7 +33,7 @@ pub record IsCutFinal (message : List ℕ) (pieces : Pieces) : Type 0 where
 pub record IsMarked (pieces rest : List (List ℕ)) (mext : Option (List ℕ)) : Type 0 where
   pub cut : pieces ≡ mext_parts mext ++ rest
   pub value : IfSome mext IsValue
-  pub headed : is_headed 109 (first_of pieces) ≡ is_some mext
+  pub headed : is_headed (byte "m") (first_of pieces) ≡ is_some mext
 
 -- the first part begins with "m=" and is no mandatory extension: it is the first misfit
 abbrev pub IsMextMisfit : ℕ → List (List ℕ) → TextFault → Type 0
@@ -55,7 +56,7 @@ pub record IsCutFirst (message : List ℕ) (pieces : FirstPieces) : Type 0 where
   pub short : length message ≤ 2048
   pub is_text : IsText message
   pub header : message ≡ pieces.header.now ++ pieces.bare.now
-  pub header_parts : pieces.header.now ≡ pieces.flag.now ++ 44 ∷ (pieces.authzid.now ++ 44 ∷ [])
+  pub header_parts : pieces.header.now ≡ pieces.flag.now ++ byte "," ∷ (pieces.authzid.now ++ byte "," ∷ [])
   pub cut : parts message ≡ pieces.flag.now ∷ pieces.authzid.now ∷ parts pieces.bare.now
   pub enough : length (marked_places (parts pieces.bare.now) []) + 2 ≤ length (parts pieces.bare.now)
   pub few : length (parts message) ≤ 2049
@@ -70,7 +71,7 @@ pub record IsCutBare (bare : List ℕ) (pieces : BarePieces) : Type 0 where
 -- the parts of client-first-bare
 pub record IsBare (pieces : List (List ℕ)) (p : ClientFirstParts) : Type 0 where
   pub cut : pieces ≡ bare_parts p
-  pub headed : is_headed 109 (first_of pieces) ≡ is_some p.mext
+  pub headed : is_headed (byte "m") (first_of pieces) ≡ is_some p.mext
   pub mext : IfSome p.mext IsValue
   pub name : IsSaslName p.name
   pub nonce : IsNonce 256 p.nonce

@@ -1,5 +1,6 @@
 //! Cuts a message at its commas into parts, and a part into its letter and its value.
 ghost use Rattle.std.specs.Prelude.{◌≡◌, ◌≤◌, ◌<◌, ◌+◌, ℕ, [], ◌∷◌, ◌++◌, length, position, count_by, List, ◌↔◌, IsTrue, IfOk, IfSome, is_some, OnOk, IfErr, MatchOption, true, false};
+ghost use Rattle.std.specs.Str.{byte};
 ghost use Rattle.std.specs.Option.{option_copied};
 ghost use Rattle.std.specs.declared.option.Option.{Option};
 ghost use Rattle.scram_text.specs.Class.{is_comma, IsText};
@@ -58,7 +59,7 @@ pub(crate) fn cut(text: &[u8]) -> (&[u8], Option<&[u8]>)
     ensures no_comma { LacksComma result.0.now }
     ensures first_len { length result.0.now ≤ length text.now }
     ensures rest_len { IfSome result.1 (λ rest. length rest.now ≤ length text.now) }
-    ensures whole { IfSome result.1 (λ rest. text.now ≡ result.0.now ++ 44 ∷ rest.now) }
+    ensures whole { IfSome result.1 (λ rest. text.now ≡ result.0.now ++ byte "," ∷ rest.now) }
 {
     match comma(text) {
         None => (text, None),
@@ -75,7 +76,7 @@ fn comma(text: &[u8]) -> Option<usize>
 /// The texts before and after the last comma, or None where there is none.
 pub(crate) fn cut_last(text: &[u8]) -> Option<(&[u8], &[u8])>
     ensures whole { MatchOption result (length (parts text.now) ≡ 1)
-        (λ cut. text.now ≡ cut.0.now ++ 44 ∷ cut.1.now) }
+        (λ cut. text.now ≡ cut.0.now ++ byte "," ∷ cut.1.now) }
     ensures no_comma { IfSome result (λ cut. LacksComma cut.1.now) }
     ensures front_len { IfSome result (λ cut. length cut.0.now ≤ length text.now) }
     ensures back_len { IfSome result (λ cut. length cut.1.now ≤ length text.now) }
@@ -93,7 +94,7 @@ pub(crate) fn cut_last(text: &[u8]) -> Option<(&[u8], &[u8])>
 /// The value of a part with this letter, or None where the part has another form.
 pub(crate) fn headed(part: &[u8], letter: u8) -> Option<&[u8]>
     ensures { MatchOption result (is_headed letter part.now ≡ false)
-        (λ value. part.now ≡ letter ∷ 61 ∷ value.now) }
+        (λ value. part.now ≡ letter ∷ byte "=" ∷ value.now) }
 {
     match part {
         [first, b'=', value @ ..] if *first == letter => Some(value),
@@ -103,7 +104,7 @@ pub(crate) fn headed(part: &[u8], letter: u8) -> Option<&[u8]>
 
 /// Whether the part is named `m`.
 pub(crate) fn is_mandatory(part: &[u8]) -> bool
-    ensures { result ≡ is_headed 109 part.now }
+    ensures { result ≡ is_headed (byte "m") part.now }
 {
     matches!(part, [b'm', b'=', ..])
 }
@@ -177,7 +178,7 @@ pub(crate) fn two_of(text: &[u8]) -> (&[u8], &[u8], Option<&[u8]>)
     ensures first_len { length result.0.now ≤ length text.now }
     ensures second_len { length result.1.now ≤ length text.now }
     ensures whole { IfSome result.2 (λ rest. text.now
-        ≡ result.0.now ++ 44 ∷ (result.1.now ++ 44 ∷ rest.now)) }
+        ≡ result.0.now ++ byte "," ∷ (result.1.now ++ byte "," ∷ rest.now)) }
     ensures no_comma { LacksComma result.0.now }
 {
     let (first, rest) = cut(text);
@@ -188,7 +189,7 @@ pub(crate) fn two_of(text: &[u8]) -> (&[u8], &[u8], Option<&[u8]>)
 
 /// Whether the message, and so its first part, begins with `m=`.
 pub(crate) fn is_marked(text: &[u8]) -> bool
-    ensures { result ≡ is_headed 109 (first_of (parts text.now)) }
+    ensures { result ≡ is_headed (byte "m") (first_of (parts text.now)) }
 {
     is_mandatory(text)
 }
@@ -212,7 +213,7 @@ pub(crate) struct Marked<'a> {
 /// Reads reserved-mext, "m=" and a value, where there is one. The text's first part has this index.
 pub(crate) fn mext_of(text: &[u8], index: usize) -> Result<Marked<'_>, TextFault>
     requires few { index < 10 }
-    requires enough { is_headed 109 (first_of (parts text.now)) ≡ true
+    requires enough { is_headed (byte "m") (first_of (parts text.now)) ≡ true
         → 2 ≤ length (parts text.now) }
     ensures found { IfOk result (λ m. (mext : Option (List ℕ))
         × IsMarked (parts text.now) (parts m.rest.now) mext

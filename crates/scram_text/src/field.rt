@@ -1,5 +1,6 @@
 //! Reads the parts whose values are decoded or have a class of their own, each by its letter.
 ghost use Rattle.std.specs.Prelude.{◌≡◌, ◌≤◌, ℕ, List, ◌∷◌, ◌++◌, length, take, decimal, codes, IfNone, IfSome, IsTrue, ◌↔◌};
+ghost use Rattle.std.specs.Str.{byte};
 ghost use Rattle.scram_text.specs.Class.{IsNonce};
 ghost use Rattle.scram_text.specs.Name.{IsSaslName, LacksComma};
 ghost use Rattle.scram_text.specs.Base64Field.{base64, IsField};
@@ -15,7 +16,7 @@ use mac_core::Tag;
 
 /// The nonce of a part that is `r=` and 1 to `most` printable characters.
 pub(crate) fn nonce_of(part: &[u8], most: usize) -> Option<&[u8]>
-    ensures none { IfNone result (IsHeaded 114 (IsNonce most) part.now → ⊥) }
+    ensures none { IfNone result (IsHeaded (byte "r") (IsNonce most) part.now → ⊥) }
     ensures spelled { IfSome result (λ nonce. part.now ≡ codes "r=" ++ nonce.now) }
     ensures class { IfSome result (λ nonce. IsNonce most nonce.now) }
 {
@@ -30,7 +31,7 @@ pub(crate) fn nonce_of(part: &[u8], most: usize) -> Option<&[u8]>
 /// The name of a part that is `n=` or `a=` and a saslname.
 pub(crate) fn name_of(part: &[u8], letter: u8) -> Option<SaslText<'_>>
     ensures none { IfNone result (IsHeaded letter IsSaslName part.now → ⊥) }
-    ensures spelled { IfSome result (λ name. part.now ≡ letter ∷ 61 ∷ name) }
+    ensures spelled { IfSome result (λ name. part.now ≡ letter ∷ byte "=" ∷ name) }
     ensures class { IfSome result (λ name. IsSaslName name) }
 {
     let spelled = cut::headed(part, letter)?;
@@ -41,7 +42,7 @@ pub(crate) fn name_of(part: &[u8], letter: u8) -> Option<SaslText<'_>>
 pub(crate) fn value_of(part: &[u8], letter: u8) -> Option<&[u8]>
     requires { LacksComma part.now }
     ensures none { IfNone result (IsHeaded letter IsValue part.now → ⊥) }
-    ensures spelled { IfSome result (λ value. part.now ≡ letter ∷ 61 ∷ value.now) }
+    ensures spelled { IfSome result (λ value. part.now ≡ letter ∷ byte "=" ∷ value.now) }
     ensures class { IfSome result (λ value. IsValue value.now) }
 {
     let value = cut::headed(part, letter)?;
@@ -64,7 +65,7 @@ pub(crate) fn is_count(count: u32) -> bool
 
 /// The count of a part that is `i=` and a number from 1 to 4294967295.
 pub(crate) fn count_of(part: &[u8]) -> Option<u32>
-    ensures none { IfNone result (IsHeaded 105 SpellsCount part.now → ⊥) }
+    ensures none { IfNone result (IsHeaded (byte "i") SpellsCount part.now → ⊥) }
     ensures spelled { IfSome result (λ count. part.now ≡ codes "i=" ++ decimal count) }
     ensures class { IfSome result (λ count. IsCount count) }
 {
@@ -100,7 +101,7 @@ fn is_decimal(digits: &[u8], number: u32) -> bool
 /// The bytes of a part that is `c=` and the base64 of 1 to 1536 bytes.
 pub(crate) fn channel_of(part: &[u8]) -> Option<ArrayVec<u8, 1536>>
     requires { length part.now ≤ 2048 }
-    ensures none { IfNone result (IsHeaded 99 (SpellsField 1536) part.now → ⊥) }
+    ensures none { IfNone result (IsHeaded (byte "c") (SpellsField 1536) part.now → ⊥) }
     ensures spelled { IfSome result (λ channel. part.now ≡ codes "c=" ++ base64 channel.items) }
     ensures class { IfSome result (λ channel. IsField 1536 channel.items) }
 {
@@ -112,7 +113,7 @@ pub(crate) fn channel_of(part: &[u8]) -> Option<ArrayVec<u8, 1536>>
 pub(crate) fn tag_of(part: &[u8], letter: u8) -> Option<Tag>
     requires { length part.now ≤ 2048 }
     ensures none { IfNone result (IsHeaded letter (SpellsField 64) part.now → ⊥) }
-    ensures spelled { IfSome result (λ tag. part.now ≡ letter ∷ 61 ∷ base64 tag.items) }
+    ensures spelled { IfSome result (λ tag. part.now ≡ letter ∷ byte "=" ∷ base64 tag.items) }
     ensures class { IfSome result (λ tag. IsField 64 tag.items) }
 {
     let text = cut::headed(part, letter)?;
@@ -122,7 +123,7 @@ pub(crate) fn tag_of(part: &[u8], letter: u8) -> Option<Tag>
 /// The salt of a part that is `s=` and the base64 of 1 to 64 bytes.
 pub(crate) fn salt_of(part: &[u8]) -> Option<Salt>
     requires { length part.now ≤ 2048 }
-    ensures none { IfNone result (IsHeaded 115 (SpellsField 64) part.now → ⊥) }
+    ensures none { IfNone result (IsHeaded (byte "s") (SpellsField 64) part.now → ⊥) }
     ensures spelled { IfSome result (λ salt. part.now ≡ codes "s=" ++ base64 salt) }
     ensures class { IfSome result (λ salt. IsField 64 salt) }
 {
