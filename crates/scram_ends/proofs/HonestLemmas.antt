@@ -14,7 +14,7 @@ use Rattle.scram_text.proofs.ComposeLemmas.{signature_text, server_final_related
 use Rattle.scram_text.proofs.ClientFirstLemmas.{client_first_once}
 use Rattle.scram_text.proofs.ServerFirstLemmas.{server_first_once}
 use Rattle.scram_ends.specs.Entry.{Entry, password_keys}
-use Rattle.scram_ends.specs.Stages.{Challenged, Answered, challenged_login}
+use Rattle.scram_ends.specs.Stages.{Answered, challenged_login}
 use Rattle.scram_ends.specs.Auth.{auth_message, client_signature, server_signature, IsProof, proof_of, signature_of}
 use Rattle.scram_ends.specs.Opening.{IsOpening}
 use Rattle.scram_ends.specs.Verdict.{accept, IsDue, due_text, final_due}
@@ -22,7 +22,7 @@ use Rattle.scram_ends.specs.Login.{IsAuthentic, IsValidLogin}
 use Rattle.scram_ends.specs.First.{IsChallengeTo}
 use Rattle.scram_ends.specs.Honest.{IsHonest, honest_signature}
 use Rattle.scram_ends.specs.Laws.{HonestLogsIn}
-use Rattle.scram_ends.proofs.VerdictLemmas.{accepts_exactly_valid}
+use Rattle.scram_ends.proofs.VerdictLemmas.{due_of_valid}
 use Rattle.scram_ends.proofs.DigestLemmas.{AreBytes, mac_bytes, length-mac, length-xor, xor_back}
 
 pub length_range : (m : Mechanism) → (1 ≤ length_by m) × (length_by m ≤ 32)
@@ -86,22 +86,6 @@ same_proof m password salt other auth count also e f = λ i. proof_of m password
 same_signature : (m : Mechanism) (password salt other auth : List ℕ) (count also : ℕ) → salt ≡ other → count ≡ also
     → signature_of m password salt count auth ≡ signature_of m password other also auth
 same_signature m password salt other auth count also e f = λ i. signature_of m password (e i) (f i) auth
-
--- a valid login makes acceptance due with the signature that its last message bears
-due_of_valid : (l : Challenged) (client_final server_final : List ℕ) (v : IsValidLogin l client_final server_final)
-    → IsDue l client_final (accept (server_signature l.mechanism v.keys (auth_message v.opening.first l.server_first v.final)))
-due_of_valid l client_final server_final v = (
-  ((accepts_exactly_valid l client_final server_final).1 v).1.0,
-  record {
-    opening = v.opening;
-    final = v.final;
-    keys = v.keys;
-    is_opening = v.is_opening;
-    is_final = v.is_final;
-    has_keys = v.has_keys;
-    signed = refl;
-  },
-)
 
 pub honest_logs_in : HonestLogsIn
 honest_logs_in e own l has_keys allowed some challenge honest =

@@ -1,4 +1,5 @@
 pub mod OpeningLemmas
+pub mod RowLemmas
 pub mod VerdictLemmas
 pub mod DecisionLemmas
 pub mod ServerLemmas

@@ -11,11 +11,11 @@ use Rattle.scram_text.specs.Messages.{ClientFirstParts, IsClientFirst, IsServerF
 use Rattle.scram_text.specs.Written.{server_first_of}
 use Rattle.scram_ends.specs.Entry.{Entry}
 use Rattle.scram_ends.specs.Stages.{Challenged}
-use Rattle.scram_ends.specs.Auth.{auth_message}
 use Rattle.scram_ends.specs.Verdict.{Due, accept, IsDue}
 use Rattle.scram_ends.specs.Opening.{Opening, IsOpening}
 use Rattle.scram_ends.specs.First.{ShowsTaken, ShowsOpening}
 use Rattle.scram_ends.specs.declared.first.Taken.{Taken}
+use Rattle.scram_ends.proofs.VerdictLemmas.{signature_due}
 
 -- a client-first message that is taken up and a challenge to it are an opening, of the parts that were taken
 pub challenge_opens : (e : Entry) (client_first own server_first sent : List ℕ) (first : ClientFirstParts) (taken : Taken)
@@ -48,5 +48,5 @@ memory_alone l client_final d NoMemory due empty over = refl
 memory_alone l client_final d OverLimit due empty over = absurd (over refl)
 memory_alone l client_final d Unwritable due empty over =
     let none = empty refl in
-    let s = (subst (λ (x : Due). IsDue l client_final x) none.1 due).1 in
-    absurd (is_signed l.mechanism (hmac_by l.mechanism s.keys.server (auth_message s.opening.first l.server_first s.final)) none.0 (length-hmac_by l.mechanism _ _) s.signed none.2)
+    let (keys, auth, signed) = signature_due l client_final none.0 (subst (λ (x : Due). IsDue l client_final x) none.1 due) in
+    absurd (is_signed l.mechanism (hmac_by l.mechanism keys.server auth) none.0 (length-hmac_by l.mechanism _ _) signed none.2)

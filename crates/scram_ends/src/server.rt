@@ -197,6 +197,7 @@ impl ServerWait {
     }
 
     // The verdict on the parts.
+    #[tactic(auto, using(crate::proofs::RowLemmas::first_found))]
     fn weigh(&self, last: &ClientFinal<'_>) -> Judged
         ensures { (l : Challenged) (s : StandsFor self.now l) (p : ClientFinalParts)
             → ShowsClientFinal last.now p → IsWeighed l s.opening p (due_of result) }
