@@ -36,6 +36,7 @@ TESTS = [
     "vectors.py",
     "fuzz.py",
     "refused_memory.py",
+    "refused_calls.py",
     "commands.py",
     "process.sh",
     "terminal.py",

@@ -1,6 +1,6 @@
 //! Logins by calls of a desk, one after another, and of a hall, 64 at a time. What the calls write is counted and not kept.
 use crate::memory::Memory;
-use crate::service::{LOGIN, OWN, refusal};
+use crate::service::{LOGIN, OWN, book_at, refusal};
 use account_book::Book;
 use arrayvec::ArrayVec;
 use otp_core::Moment;
@@ -8,7 +8,7 @@ use sasl_desk::{Desk, Event, Hall, Phase};
 use scram_text::NoncePart;
 use std::alloc::Global;
 use std::fs::Files;
-use std::{fs, io};
+use std::io;
 
 // How many clients a hall lets in at a time.
 const OPEN: u32 = 64;
@@ -38,15 +38,6 @@ impl Written {
         self.logged = self.logged.saturating_add(self.log.len() as u64);
         self.wire.clear();
         self.log.clear();
-    }
-}
-
-// The book in the file at this path.
-fn book<R: Files + AllocGlobal>(rt: &R, path: &str) -> io::Result<Book> {
-    let bytes = fs::read(rt, path)?;
-    match Book::read(rt.alloc(), bytes.as_slice()) {
-        Ok(book) => Ok(book),
-        Err(_) => Err(refusal()),
     }
 }
 
@@ -97,8 +88,12 @@ where
 {
     let alloc = rt.alloc();
     let (mut written, mut first_line) = (Written::new(alloc), Vec::new(alloc));
-    let Ok(mut desk) = Desk::begin(alloc, book(rt, path)?, Memory::new(alloc), &mut first_line)
-    else {
+    let Ok(mut desk) = Desk::begin(
+        alloc,
+        book_at(rt, path)?,
+        Memory::new(alloc),
+        &mut first_line,
+    ) else {
         return Err(refusal());
     };
     let mut served = 0u32;
@@ -166,8 +161,12 @@ where
 {
     let alloc = rt.alloc();
     let (mut written, mut first_line) = (Written::new(alloc), Vec::new(alloc));
-    let Ok(mut hall) = Hall::begin(alloc, book(rt, path)?, Memory::new(alloc), &mut first_line)
-    else {
+    let Ok(mut hall) = Hall::begin(
+        alloc,
+        book_at(rt, path)?,
+        Memory::new(alloc),
+        &mut first_line,
+    ) else {
         return Err(refusal());
     };
     let mut served = 0u32;

@@ -9,7 +9,8 @@
 //! `bench logins COUNT FILE` serves COUNT logins over the book of FILE, and `bench codes COUNT FILE` one login
 //! with COUNT codes: both print how many were served, and how many bytes were logged and sent; `bench calls COUNT FILE`, `bench
 //! turns COUNT FILE`, `bench service COUNT FILE` and `bench hall COUNT FILE` serve that login while a test refuses memory, and print
-//! the log; `bench alone COUNT FILE` and `bench together COUNT FILE` let COUNT clients log in by calls of a desk, and of a hall, 64 at
+//! the log; `bench texts 1 FILE` and `bench changes 1 FILE` write the texts and change the book of FILE meanwhile, and print them;
+//! `bench alone COUNT FILE` and `bench together COUNT FILE` let COUNT clients log in by calls of a desk, and of a hall, 64 at
 //! a time, and print what `bench logins` prints.
 #![tactic(auto)]
 
@@ -25,7 +26,9 @@ use crate::book::print_readings;
 use crate::guests::{print_alone, print_together};
 use crate::login::print_verdicts;
 use crate::pair::print_failures;
-use crate::refused::{print_calls, print_hall, print_service, print_turns};
+use crate::refused::{
+    print_book, print_calls, print_hall, print_service, print_texts, print_turns,
+};
 use crate::service::{print_codes_served, print_logins};
 use mac_core::{HSha1, Prepared};
 use otp_core::{Digits, Secret, hotp_with};
@@ -87,6 +90,8 @@ fn main(rt: HostRuntime) -> io::Result<ExitCode> {
         "turns" => print_turns(&rt, text.as_str(), count)?,
         "service" => print_service(&rt, text.as_str(), count)?,
         "hall" => print_hall(&rt, text.as_str(), count)?,
+        "texts" => print_texts(&rt, text.as_str())?,
+        "changes" => print_book(&rt, text.as_str())?,
         "alone" => print_alone(&rt, text.as_str(), count)?,
         "together" => print_together(&rt, text.as_str(), count)?,
         "book" => print_readings(&rt, text.as_str(), count)?,

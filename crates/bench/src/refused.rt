@@ -1,10 +1,13 @@
 //! A client that is served while one request for memory is refused, whichever it is: a call of a desk or a hall then answers 99,
 //! nothing is lost by it, and the same call again goes on.
+mod books;
 mod hall;
+mod texts;
 
 use crate::memory::{Kept, Memory, Still};
-use crate::service::{OWN, login_and_codes, refusal};
+use crate::service::{OWN, book_at, login_and_codes};
 use account_book::Book;
+pub(crate) use books::print_book;
 pub(crate) use hall::print_hall;
 use otp_core::Moment;
 use sasl_desk::{Desk, DeskFault, Event, Phase, ServeFault, serve, serve_turn};
@@ -12,24 +15,21 @@ use sasl_log::{OverRead, Sink};
 use scram_text::NoncePart;
 use std::alloc::{Allocator, Global};
 use std::fs::Files;
-use std::{fs, io, str};
+use std::{io, str};
+pub(crate) use texts::print_texts;
 
-// A desk over the book of these bytes, and how often it was told first that memory ran out.
+// A desk over this book, and how often it was told first that memory ran out, at most once. None where it does not begin.
 fn begun<A: Allocator>(
     alloc: Global,
-    book: &[u8],
+    book: Book,
     log: &mut Vec<u8, A>,
-) -> io::Result<(Desk<Memory>, u32)> {
-    let Ok(book) = Book::read(alloc, book) else {
-        return Err(refusal());
-    };
+) -> Option<(Desk<Memory>, u32)> {
     match Desk::begin(alloc, book, Memory::new(alloc), log) {
-        Ok(desk) => Ok((desk, 0)),
-        Err((book, store, DeskFault::NoMemory)) => match Desk::begin(alloc, book, store, log) {
-            Ok(desk) => Ok((desk, 1)),
-            Err(_) => Err(refusal()),
-        },
-        Err(_) => Err(refusal()),
+        Ok(desk) => Some((desk, 0)),
+        Err((book, store, DeskFault::NoMemory)) => {
+            Some((Desk::begin(alloc, book, store, log).ok()?, 1))
+        }
+        Err(_) => None,
     }
 }
 
@@ -87,17 +87,21 @@ fn all_heard(
     Some(refused.saturating_add(heard(alloc, desk, Event::Gone, wire, log)?))
 }
 
-// How often memory ran out in all, where each part was answered.
-fn sum(before: u32, greeting: Option<u32>, rest: Option<u32>) -> Option<u32> {
-    Some(before.saturating_add(greeting?).saturating_add(rest?))
-}
-
 // Prints a log and how often memory ran out; or that a client was left without an answer.
 fn print_end(rt: &impl Print, log: &[u8], refused: Option<u32>) -> io::Result<()> {
     match (str::from_utf8(log), refused) {
         (Ok(text), Some(count)) => println!(rt; "{text}out of memory {count}"),
         _ => println!(rt; "a client was left without an answer"),
     }
+}
+
+// Hands these lines to a desk over this book, call by call. A call that is refused memory is made again; counts as `greeted` does.
+fn called(alloc: Global, book: Book, lines: &str, log: &mut Vec<u8>) -> Option<u32> {
+    let mut wire = Vec::new(alloc);
+    let (mut desk, before) = begun(alloc, book, log)?;
+    let greeting = greeted(&mut desk, &mut wire, log)?;
+    let rest = all_heard(alloc, &mut desk, lines, &mut wire, log)?;
+    Some(before.saturating_add(greeting).saturating_add(rest))
 }
 
 /// Hands a login and `count` codes to a desk over the book in the file at `path`, call by call, and prints its log, and how
@@ -107,13 +111,10 @@ where
     R: Print + Files + AllocGlobal,
 {
     let alloc = rt.alloc();
-    let book = fs::read(rt, path)?;
-    let text = login_and_codes(alloc, count)?;
-    let (mut wire, mut log) = (Vec::new(alloc), Vec::new(alloc));
-    let (mut desk, before) = begun(alloc, book.as_slice(), &mut log)?;
-    let greeting = greeted(&mut desk, &mut wire, &mut log);
-    let rest = all_heard(alloc, &mut desk, text.as_str(), &mut wire, &mut log);
-    print_end(rt, log.as_slice(), sum(before, greeting, rest))
+    let (book, text) = (book_at(rt, path)?, login_and_codes(alloc, count)?);
+    let mut log = Vec::new(alloc);
+    let refused = called(alloc, book, text.as_str(), &mut log);
+    print_end(rt, log.as_slice(), refused)
 }
 
 // Takes a turn with a client that sends this line, and counts as `greeted` does.
@@ -154,21 +155,26 @@ fn all_turned(
     Some(refused.saturating_add(turned(alloc, desk, b"", wire, log)?))
 }
 
+// As `called`, by `serve_turn` after the greeting.
+fn called_by_turns(alloc: Global, book: Book, lines: &str, log: &mut Kept) -> Option<u32> {
+    let (mut sent, mut logged) = (Vec::new(alloc), Vec::new(alloc));
+    let (mut desk, before) = begun(alloc, book, &mut logged)?;
+    let greeting = greeted(&mut desk, &mut sent, &mut logged)?;
+    log.put(logged.as_slice()).ok()?;
+    let rest = all_turned(alloc, &mut desk, lines, &mut Kept::new(), log)?;
+    Some(before.saturating_add(greeting).saturating_add(rest))
+}
+
 /// As `print_calls`, by `serve_turn`.
 pub(crate) fn print_turns<R>(rt: &R, path: &str, count: u32) -> io::Result<()>
 where
     R: Print + Files + AllocGlobal,
 {
     let alloc = rt.alloc();
-    let book = fs::read(rt, path)?;
-    let text = login_and_codes(alloc, count)?;
-    let (mut sent, mut logged) = (Vec::new(alloc), Vec::new(alloc));
-    let (mut desk, before) = begun(alloc, book.as_slice(), &mut logged)?;
-    let greeting = greeted(&mut desk, &mut sent, &mut logged);
-    let (mut wire, mut log) = (Kept::new(), Kept::new());
-    log.put(logged.as_slice()).map_err(|_| refusal())?;
-    let rest = all_turned(alloc, &mut desk, text.as_str(), &mut wire, &mut log);
-    print_end(rt, log.bytes(), sum(before, greeting, rest))
+    let (book, text) = (book_at(rt, path)?, login_and_codes(alloc, count)?);
+    let mut log = Kept::new();
+    let refused = called_by_turns(alloc, book, text.as_str(), &mut log);
+    print_end(rt, log.bytes(), refused)
 }
 
 // Serves a client by `serve`, and where memory runs out ends the session that is open, by a client that has gone away. Counts
@@ -201,18 +207,23 @@ fn served(
     }
 }
 
+// As `called`, by `serve`.
+fn called_at_once(alloc: Global, book: Book, text: &str, log: &mut Kept) -> Option<u32> {
+    let mut first_line = Vec::new(alloc);
+    let (mut desk, before) = begun(alloc, book, &mut first_line)?;
+    log.put(first_line.as_slice()).ok()?;
+    let rest = served(alloc, &mut desk, text, &mut Kept::new(), log)?;
+    Some(before.saturating_add(rest))
+}
+
 /// As `print_calls`, by `serve`; where memory runs out, the client is then gone.
 pub(crate) fn print_service<R>(rt: &R, path: &str, count: u32) -> io::Result<()>
 where
     R: Print + Files + AllocGlobal,
 {
     let alloc = rt.alloc();
-    let book = fs::read(rt, path)?;
-    let text = login_and_codes(alloc, count)?;
-    let mut first_line = Vec::new(alloc);
-    let (mut desk, before) = begun(alloc, book.as_slice(), &mut first_line)?;
-    let (mut wire, mut log) = (Kept::new(), Kept::new());
-    log.put(first_line.as_slice()).map_err(|_| refusal())?;
-    let rest = served(alloc, &mut desk, text.as_str(), &mut wire, &mut log);
-    print_end(rt, log.bytes(), sum(before, Some(0), rest))
+    let (book, text) = (book_at(rt, path)?, login_and_codes(alloc, count)?);
+    let mut log = Kept::new();
+    let refused = called_at_once(alloc, book, text.as_str(), &mut log);
+    print_end(rt, log.bytes(), refused)
 }

@@ -24,6 +24,15 @@ pub(crate) fn refusal() -> io::Error {
     io::Error::from(ErrorKind::InvalidInput)
 }
 
+/// The book in the file at this path.
+pub(crate) fn book_at<R: Files + AllocGlobal>(rt: &R, path: &str) -> io::Result<Book> {
+    let bytes = fs::read(rt, path)?;
+    match Book::read(rt.alloc(), bytes.as_slice()) {
+        Ok(book) => Ok(book),
+        Err(_) => Err(refusal()),
+    }
+}
+
 /// What a client sends who logs in and sends the HOTP codes of RFC 4226's secret from counter 0 on, `count` of them.
 pub(crate) fn login_and_codes(alloc: Global, count: u32) -> io::Result<String> {
     let (Ok(secret), Ok(digits)) = (Secret::new(b"12345678901234567890"), Digits::new(6)) else {
@@ -52,10 +61,7 @@ struct Service {
 
 // A service of the book in the file at this path.
 fn begun<R: Files + AllocGlobal>(rt: &R, path: &str) -> io::Result<Service> {
-    let bytes = fs::read(rt, path)?;
-    let (Ok(book), Some(now)) = (Book::read(rt.alloc(), bytes.as_slice()), Moment::new(5)) else {
-        return Err(refusal());
-    };
+    let (book, now) = (book_at(rt, path)?, Moment::new(5).ok_or(refusal())?);
     let mut first_line = Vec::new(rt.alloc());
     let Ok(desk) = Desk::begin(rt.alloc(), book, Memory::new(rt.alloc()), &mut first_line) else {
         return Err(refusal());

@@ -1,31 +1,27 @@
 //! As the calls of a desk: those of a hall with two clients.
 use crate::memory::Memory;
-use crate::refused::{print_end, sum};
-use crate::service::{OWN, login_and_codes, refusal};
+use crate::refused::print_end;
+use crate::service::{OWN, book_at, login_and_codes};
 use account_book::Book;
 use otp_core::Moment;
 use sasl_desk::{DeskFault, Event, Hall};
 use scram_text::NoncePart;
 use std::alloc::{Allocator, Global};
 use std::fs::Files;
-use std::{fs, io};
+use std::io;
 
-// A hall over the book of these bytes, and how often it was told first that memory ran out.
+// A hall over this book, and how often it was told first that memory ran out, at most once. None where it does not begin.
 fn begun<A: Allocator>(
     alloc: Global,
-    book: &[u8],
+    book: Book,
     log: &mut Vec<u8, A>,
-) -> io::Result<(Hall<Memory>, u32)> {
-    let Ok(book) = Book::read(alloc, book) else {
-        return Err(refusal());
-    };
+) -> Option<(Hall<Memory>, u32)> {
     match Hall::begin(alloc, book, Memory::new(alloc), log) {
-        Ok(hall) => Ok((hall, 0)),
-        Err((book, store, DeskFault::NoMemory)) => match Hall::begin(alloc, book, store, log) {
-            Ok(hall) => Ok((hall, 1)),
-            Err(_) => Err(refusal()),
-        },
-        Err(_) => Err(refusal()),
+        Ok(hall) => Some((hall, 0)),
+        Err((book, store, DeskFault::NoMemory)) => {
+            Some((Hall::begin(alloc, book, store, log).ok()?, 1))
+        }
+        Err(_) => None,
     }
 }
 
@@ -83,9 +79,22 @@ fn all_heard(
         let event = Event::Line(line.as_bytes());
         refused = refused.saturating_add(heard(alloc, hall, 1, event, wire, log)?);
     }
-    let first = heard(alloc, hall, 1, Event::Gone, wire, log);
-    let second = heard(alloc, hall, 2, Event::Gone, wire, log);
-    sum(refused, first, second)
+    for session in [1, 2] {
+        refused = refused.saturating_add(heard(alloc, hall, session, Event::Gone, wire, log)?);
+    }
+    Some(refused)
+}
+
+// Hands two clients to a hall over this book, call by call: the first sends these lines. A call that is refused memory is made again;
+// counts as `greeted` does.
+fn called(alloc: Global, book: Book, lines: &str, log: &mut Vec<u8>) -> Option<u32> {
+    let mut wire = Vec::new(alloc);
+    let (mut hall, mut refused) = begun(alloc, book, log)?;
+    for session in [1, 2] {
+        refused = refused.saturating_add(greeted(&mut hall, session, &mut wire, log)?);
+    }
+    let rest = all_heard(alloc, &mut hall, lines, &mut wire, log)?;
+    Some(refused.saturating_add(rest))
 }
 
 /// Hands two clients to a hall over the book in the file at `path`, call by call: the first logs in and sends `count` codes. Prints
@@ -95,13 +104,8 @@ where
     R: Print + Files + AllocGlobal,
 {
     let alloc = rt.alloc();
-    let book = fs::read(rt, path)?;
-    let text = login_and_codes(alloc, count)?;
-    let (mut wire, mut log) = (Vec::new(alloc), Vec::new(alloc));
-    let (mut hall, before) = begun(alloc, book.as_slice(), &mut log)?;
-    let first = greeted(&mut hall, 1, &mut wire, &mut log);
-    let second = greeted(&mut hall, 2, &mut wire, &mut log);
-    let rest = all_heard(alloc, &mut hall, text.as_str(), &mut wire, &mut log);
-    let greetings = sum(0, first, second);
-    print_end(rt, log.as_slice(), sum(before, greetings, rest))
+    let (book, text) = (book_at(rt, path)?, login_and_codes(alloc, count)?);
+    let mut log = Vec::new(alloc);
+    let refused = called(alloc, book, text.as_str(), &mut log);
+    print_end(rt, log.as_slice(), refused)
 }
