@@ -134,7 +134,7 @@ const SHA1_KEYS: [(&[u8], &[u8], u32, &str); 4] = [
     ),
 ];
 
-// The same by SHA-256, of 32 bytes.
+// Keys of 32 bytes by SHA-256.
 const SHA256_KEYS: [(&[u8], &[u8], u32, &str); 2] = [
     (
         b"passwd",
