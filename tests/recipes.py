@@ -283,8 +283,27 @@ def a_password(folder):
         want = keys_of(mechanism, b"another one", bytes.fromhex(new["salt"]), new["count"])
         assert (new["stored"], new["server"]) == want
     assert after == before
-    assert not list(Path(folder).glob("*fresh*")) + list(Path(folder).glob("keys*"))
     does(folder, verify(NAME, CODES[0]), printed="PASS 5 0\n")
+    left = Path(folder, "left")
+    left.mkdir()
+    does(folder, change, "a third\n", f"enrolled {NAME}\n", TMPDIR=str(left))
+    assert not any(left.iterdir())
+
+
+def a_password_that_is_refused(folder):
+    """Where `enrol` refuses the password, or a later step fails, the book is as it was."""
+    enrolled(folder)
+    before = Path(folder, "book.toml").read_bytes()
+    [change] = blocks("Change a password")
+    for password in ["ü\n", "\n", ""]:
+        _, output, faults = ran(folder, change, password)
+        assert (output, faults) == ("", "scramotp: bad password\n"), (password, output, faults)
+        assert Path(folder, "book.toml").read_bytes() == before, password
+    for old, new in [("sed -n", "false"), ("sed -n '/\\.sha1]$/,$p'", "sed -n /none/p"), (".sha1]'", ".md5]'")]:
+        assert old in change, old
+        status, output, _ = ran(folder, change.replace(old, new), "another one\n")
+        assert output == f"enrolled {NAME}\n", (old, output)
+        assert Path(folder, "book.toml").read_bytes() == before, old
 
 
 def a_removed_account(folder):
@@ -482,6 +501,7 @@ TESTS = [
     a_hotp_token,
     a_fob_that_ran_ahead,
     a_password,
+    a_password_that_is_refused,
     a_removed_account,
     decoys,
     verifiers_of_others,
