@@ -5,9 +5,10 @@ By default it takes the crates that have a folder edits/; rt ci tries those in m
 Usage: edits.py [--jobs N] [--self-test] [CRATE..]
 
 A function is proved from its own body and the contracts of what it calls, so a wrong body fails its own function and no
-other. Edits of different functions are therefore put into one copy of their crate and judged by one check, in which the
-function of each must fail at a goal of its own: that it calls what failed does not count. An edit that is not refused so
-is tried again alone. A batch that the check cannot read, or in which a function fails that none of them changes, is tried in halves.
+other. Edits of different functions are therefore put into one copy of their crate and judged by one check of these functions and of
+those that they call, in which the function of each must fail at a goal of its own: that it calls what failed does not count. An edit
+that is not refused so is tried again alone, by a check of the whole crate. A batch that the check cannot read, or in which a function
+fails that none of them changes, is tried in halves.
 
 An edit has the form that `rt help` describes, and changes only src/. The script works in a temporary folder, over the
 libraries that `rt ci` or `rt lib` left in crates/NAME/out/, or else builds them there. Whether the crates are proved as
@@ -35,11 +36,13 @@ ROOT = Path(__file__).resolve().parent.parent
 FOLDERS = ("must-fail", "edits")
 # What a check reads of a crate.
 PARTS = ("src", "specs", "proofs")
+# The status of a check of a path that fits no function, or several.
+FITS_NOTHING = 2
 # More than a check of the largest crate here takes, in bytes.
 MEMORY = 3 << 30
 
 FUNCTION = re.compile(r"( *)(?:pub(?:\([a-z ]+\))? )?(?:(?:const|unsafe) )*fn (\w+)")
-IMPL = re.compile(r"impl(?:<.*?>)? (?:.* for )?(?:\w+::)*(\w+)")
+IMPL = re.compile(r"impl(?:<.*?>)? (?:(?:\w+::)*(\w+)(?:<.*?>)? for )?(?:\w+::)*(\w+)")
 # What a check says of a place: an error in a file, or a goal of a function that has no proof.
 ERROR = re.compile(r"(?:\./)?(src|specs|proofs)/([^\s:]+):(\d+):\d+: error: (.*)")
 GOAL = re.compile(r"note: (src)/([^\s:]+):(\d+):\d+: (it is not proved that .*)")
@@ -55,10 +58,11 @@ class Unusable(Exception):
 
 @dataclass(frozen=True)
 class Function:
-    """A function: the path of its module, its type or nothing, its name, and its first and last line in a file of src/."""
+    """A function: the path of its module, its type and trait or nothing, its name, and its first and last line in a file of src/."""
 
     module: tuple[str, ...]
     of: str
+    trait: str
     name: str
     file: str
     first: int
@@ -66,6 +70,11 @@ class Function:
 
     def __str__(self) -> str:
         return "::".join([*self.module, *[self.of] * bool(self.of), self.name])
+
+    def path(self) -> str:
+        """Returns the end of its name as a check prints it, in which the name of a trait follows the type's in one word. A method's
+        module is left out, since it is that of its type."""
+        return f"{self.of}{self.trait}::{self.name}" if self.of else str(self)
 
     def holds(self, file: str, line: int) -> bool:
         """Returns whether the line is one of its lines."""
@@ -111,14 +120,14 @@ def functions_of(crate: Path) -> list[Function]:
     """Finds a crate's functions by the layout of `rt fmt`, in which a body ends with a brace below its first letter."""
     found = []
     for path in sorted((crate / "src").rglob("*.rt")):
-        file, of = path.relative_to(crate / "src").as_posix(), ""
+        file, of, trait = path.relative_to(crate / "src").as_posix(), "", ""
         module = () if file in ("lib.rt", "main.rt") else tuple(file.removesuffix(".rt").split("/"))
         lines = path.read_text(encoding="utf-8").split("\n")
         for at, line in enumerate(lines):
             if line[:1].isalpha() and line != "where":
-                of = it[1] if (it := IMPL.match(line)) else ""
+                trait, of = (it[1] or "", it[2]) if (it := IMPL.match(line)) else ("", "")
             if it := FUNCTION.match(line):
-                found.append(Function(module, of, it[2], file, first_line(lines, at, it[1]), last_line(lines, at, it[1])))
+                found.append(Function(module, of, trait, it[2], file, first_line(lines, at, it[1]), last_line(lines, at, it[1])))
     return found
 
 
@@ -202,29 +211,34 @@ class Room:
             if (self.source / part).is_dir():
                 shutil.copytree(self.source / part, at / part)
         root = next(it for it in ("src/lib.rt", "src/main.rt") if (at / it).is_file())
-        # a build checks as a check does, but for a function that is not proved it offers no files, which takes a third of the time
-        self.words = [f"{kit()}/bin/rattle", "build", "--crate-name", crate, root, "--jobs", "1", "--incremental", "kept"]
-        self.words += ["-o", f"{crate}.rlib"]
+        self.words = ["--crate-name", crate, root, "--jobs", "1", "--incremental", "kept"]
         self.words += ["--antt-project", f"{kit()}/rattle/logic/antt-project.json", "--logic-built", f"{kit()}/logic_built"]
         for it in ["std", *uses[crate]]:
             self.words += ["--extern", f"{it}={rlib_of(base, it) if it in uses else f'{kit()}/rlibs/{it}.rlib'}"]
         for folder in [*[rlib_of(base, it).parent for it in below(crate, uses)], f"{kit()}/rlibs"]:
             self.words += ["-L", f"dependency={folder}"]
 
-    def check(self, edits: list[Edit]) -> Report:
-        """Checks the crate with these edits, which change different lines, and no others."""
+    def check(self, edits: list[Edit], is_whole: bool = False) -> Report:
+        """Checks the crate with these edits, which change different lines, and no others: what they change and what that calls, or
+        all of it, also where a path does not name one function."""
         lines = {place: text for edit in edits for place, text in edit.lines.items()}
         for path in (self.source / "src").rglob("*.rt"):
             file = path.relative_to(self.source / "src").as_posix()
             text = path.read_text(encoding="utf-8").split("\n")
             text = [lines.get((file, at), line) for at, line in enumerate(text, 1)]
             (self.folder / "src" / file).write_text("\n".join(text), encoding="utf-8")
-        return self.report(run(self.words, self.folder))
+        paths = sorted({it.path() for edit in edits for it in edit.owners})
+        if paths and not is_whole:
+            ran = run([f"{kit()}/bin/rattle", "check", *self.words, *(f"--only={it}" for it in paths)], self.folder)
+            if ran.returncode != FITS_NOTHING:
+                return self.report(ran)
+        # a build checks as a check does, but for a function that is not proved it offers no files, which takes a third of the time
+        return self.report(run([f"{kit()}/bin/rattle", "build", *self.words, "-o", f"{self.crate}.rlib"], self.folder))
 
     def report(self, ran: subprocess.CompletedProcess[str]) -> Report:
         """Reads what a check said."""
         said = ran.stdout.rstrip("\n").split("\n")
-        report = Report(ran.returncode == 0, ran.returncode in (0, 1) and any(it.startswith("logic=") for it in said))
+        report = Report(ran.returncode == 0, ran.returncode in (0, 1) and any(it.startswith(("logic=", "only=")) for it in said))
         for line in said:
             it = GOAL.match(line) or ERROR.match(line)
             if not it:
@@ -265,6 +279,8 @@ def try_together(room: Room, batch: list[Edit]) -> dict[str, Outcome]:
 def try_alone(room: Room, edit: Edit) -> Outcome:
     """Returns the outcome of one edit, which any goal may refuse, since nothing else is changed."""
     report = room.check([edit])
+    if report.is_proved or not report.is_judged or not report.goals:
+        report = room.check([edit], is_whole=True)
     names = ", ".join(sorted(map(str, edit.owners))) or "no function"
     if report.is_proved:
         return Outcome(False, f"{names}: LET THROUGH")
