@@ -2,7 +2,7 @@
 """Tries the wrong bodies in crates/NAME/must-fail/ and crates/NAME/edits/: the contract of what each changes must refuse it.
 By default it takes the crates that have a folder edits/; rt ci tries those in must-fail/ one by one.
 
-Usage: edits.py [--jobs N] [--self-test] [CRATE..]
+Usage: edits.py [--jobs N] [--anew] [--self-test] [CRATE..]
 
 A function is proved from its own body and the contracts of what it calls, so a wrong body fails its own function and no
 other. Edits of different functions are therefore put into one copy of their crate and judged by one check of these functions and of
@@ -13,9 +13,13 @@ fails that none of them changes, is tried in halves.
 An edit has the form that `rt help` describes, and changes only src/. The script works in a temporary folder, over the
 libraries that `rt ci` or `rt lib` left in crates/NAME/out/, or else builds them there. Whether the crates are proved as
 they are, `rt ci` says.
+
+What was refused is kept on this machine, as `rt ci` keeps what it proved: by the sum of all that the trial read, which is the kit, this
+script, the edit, and the sources of its crate and of those below. A later run tries the others, and with --anew all.
 Each run begins with a test of the script: an edit without a change is let through, and one whose text is gone is unusable.
 """
 import argparse
+import hashlib
 import os
 import re
 import shutil
@@ -90,12 +94,13 @@ class Function:
 
 @dataclass
 class Edit:
-    """A wrong body: the lines that it writes, by file and number, and the functions from its first line to its last."""
+    """A wrong body: the lines that it writes, by file and number, the functions from its first line to its last, and its text."""
 
     name: str
     lines: dict[tuple[str, int], str]
     owners: set[Function]
     is_inside: bool
+    text: str = ""
 
 
 @dataclass
@@ -152,10 +157,10 @@ def last_line(lines: list[str], at: int, indent: str) -> int:
 
 def read_edit(path: Path, crate: Path, functions: list[Function]) -> Edit:
     """Reads an edit and applies it to the crate's sources, or raises Unusable."""
-    file, old = "", ""
+    file, old, whole = "", "", path.read_text(encoding="utf-8")
     texts: dict[str, str] = {}
     places: set[tuple[str, int]] = set()
-    for line in path.read_text(encoding="utf-8").split("\n"):
+    for line in whole.split("\n"):
         if line.startswith("file: "):
             file = line.removeprefix("file: ").strip().removeprefix("src/")
             source = crate / "src" / file
@@ -178,7 +183,7 @@ def read_edit(path: Path, crate: Path, functions: list[Function]) -> Edit:
     # no text has the end of a line in it, so lines keep their numbers
     lines = {(file, at): texts[file].split("\n")[at - 1] for file, at in places}
     owners = {it for it in functions for place in between(places) if it.holds(*place)}
-    return Edit(path.stem, lines, owners, all(any(it.holds(*place) for it in functions) for place in places))
+    return Edit(path.stem, lines, owners, all(any(it.holds(*place) for it in functions) for place in places), whole)
 
 
 def between(places: set[tuple[str, int]]) -> Iterable[tuple[str, int]]:
@@ -201,11 +206,49 @@ def batches_of(edits: Iterable[Edit]) -> list[list[Edit]]:
     return batches
 
 
+class Refusals:
+    """What edits of one crate came to in earlier runs, where they were refused: a file for each, named by the sum of what its trial read."""
+
+    def __init__(self, crate: str, uses: Uses) -> None:
+        cache_home = os.environ.get("XDG_CACHE_HOME") or Path.home() / ".cache"
+        self.folder = Path(cache_home) / "scramotp" / "refusals"
+        self.sum = hashlib.sha256(kit_version().encode())
+        files = [Path(__file__), ROOT / "crates.txt", ROOT / "HANDLES"]
+        crates = [ROOT / "crates" / it for it in [*below(crate, uses), crate]]
+        files += [it for at in crates for part in PARTS for it in sorted((at / part).rglob("*")) if it.is_file()]
+        for it in files:
+            self.sum.update(repr((str(it.relative_to(ROOT)), it.read_bytes())).encode())
+
+    def place(self, edit: Edit) -> Path:
+        """Returns where the refusal of this edit is kept."""
+        whole = self.sum.copy()
+        whole.update(repr((edit.name, edit.text)).encode())
+        return self.folder / whole.hexdigest()
+
+    def kept(self, edit: Edit) -> Outcome | None:
+        """Returns how the edit was refused by an earlier run, or None."""
+        try:
+            return Outcome(True, self.place(edit).read_text(encoding="utf-8"))
+        except OSError:
+            return None
+
+    def keep(self, edit: Edit, outcome: Outcome) -> None:
+        """Keeps a refusal for later runs, where the folder can be written."""
+        try:
+            self.folder.mkdir(parents=True, exist_ok=True)
+            with tempfile.NamedTemporaryFile("w", encoding="utf-8", dir=self.folder, delete=False) as it:
+                it.write(outcome.text)
+            os.replace(it.name, self.place(edit))
+        except OSError as fault:
+            print(f"a refusal is not kept: {fault}", file=sys.stderr)
+
+
 class Room:
     """A copy of one crate that is edited and checked, on top of what its earlier checks proved."""
 
     def __init__(self, crate: str, uses: Uses, base: Path, at: Path) -> None:
         self.crate, self.source, self.folder = crate, ROOT / "crates" / crate, at
+        self.refusals = Refusals(crate, uses)
         self.functions = functions_of(self.source)
         for part in PARTS:
             if (self.source / part).is_dir():
@@ -296,33 +339,54 @@ def refused(edit: Edit, report: Report) -> Outcome:
     return Outcome(True, f"{owner or 'outside its functions'}: refused at {', '.join(dict.fromkeys(report.goals[owner]))}")
 
 
-def try_crate(room: Room, is_first: bool, is_whole: bool) -> tuple[int, int]:
-    """Tries the edits of a crate, and returns how many were refused and how many not; the first begins with the script's test."""
-    began, edits, tried = time.monotonic(), [], set()
-    counts = [0, 0]
+@dataclass
+class Count:
+    """How many edits were refused, how many of those by an earlier run, and how many were not."""
 
-    def tell(outcomes: dict[str, Outcome]) -> None:
-        for name, it in outcomes.items():
-            print(f"{room.crate}/{name}: {it.text}", flush=True)
-            counts[not it.is_refused] += 1
-            tried.add(name)
+    refused: int = 0
+    before: int = 0
+    failed: int = 0
+
+
+def try_crate(room: Room, is_first: bool, options: argparse.Namespace) -> Count:
+    """Tries the edits of a crate, and counts how that ends; the first crate begins with the script's test."""
+    began, edits, tried, count = time.monotonic(), [], set(), Count()
+
+    def tell(name: str, outcome: Outcome, when: str = "") -> None:
+        print(f"{room.crate}/{name}: {outcome.text}{when}", flush=True)
+        count.refused += outcome.is_refused
+        count.before += bool(when)
+        count.failed += not outcome.is_refused
+        tried.add(name)
 
     for path in edits_of(room.source):
         try:
             edits.append(read_edit(path, room.source, room.functions))
         except Unusable as fault:
-            tell({path.stem: Outcome(False, f"DOES NOT APPLY: {fault}")})
+            tell(path.stem, Outcome(False, f"DOES NOT APPLY: {fault}"))
     if is_first:
         self_test(room, edits)
-    batches = batches_of(it for it in edits if it.is_inside) if is_whole else []
+    if options.self_test:
+        return count
+    for edit in [] if options.anew else edits:
+        if outcome := room.refusals.kept(edit):
+            tell(edit.name, outcome, " before, with the same sources")
+    batches = batches_of(it for it in edits if it.is_inside and it.name not in tried)
     for batch in batches:
-        tell(try_together(room, batch))
-    alone = [it for it in edits if is_whole and it.name not in tried]
-    for it in alone:
-        tell({it.name: try_alone(room, it)})
+        outcomes = try_together(room, batch)
+        for edit in batch:
+            if edit.name in outcomes:
+                tell(edit.name, outcomes[edit.name])
+                room.refusals.keep(edit, outcomes[edit.name])
+    alone = [it for it in edits if it.name not in tried]
+    for edit in alone:
+        outcome = try_alone(room, edit)
+        tell(edit.name, outcome)
+        if outcome.is_refused:
+            room.refusals.keep(edit, outcome)
     said = f"{room.crate}: {len(edits)} edits, {len(batches)} batches, {len(alone)} alone, {time.monotonic() - began:.0f} s"
     print(said, file=sys.stderr, flush=True)
-    return counts[0], counts[1]
+    return count
 
 
 def self_test(room: Room, edits: list[Edit]) -> None:
@@ -401,6 +465,12 @@ def kit() -> Path:
     return Path(run(["rt", "doc"], ROOT).stdout.strip()).parent
 
 
+@cache
+def kit_version() -> str:
+    """Returns the line by which the kit tells itself from others."""
+    return run(["rt", "version"], ROOT).stdout
+
+
 def run(words: list[str], folder: Path) -> subprocess.CompletedProcess[str]:
     """Runs a command without input and returns all that it said."""
     ways = {"stdin": subprocess.DEVNULL, "stdout": subprocess.PIPE, "stderr": subprocess.STDOUT}
@@ -418,6 +488,7 @@ def main() -> int:
     """Tries the edits, prints a line for each, and returns the exit status."""
     parser = argparse.ArgumentParser(description="Tries the wrong bodies of each crate's must-fail/ and edits/.")
     parser.add_argument("--jobs", type=int, default=default_jobs(), metavar="N", help="checks side by side (%(default)s)")
+    parser.add_argument("--anew", action="store_true", help="also what an earlier run refused with the same sources")
     parser.add_argument("--self-test", action="store_true", help="only the test of this script, in the smallest crate")
     parser.add_argument("crates", nargs="*", metavar="CRATE", help="the edits of these crates (those of each that has a folder edits/)")
     options = parser.parse_args()
@@ -432,10 +503,12 @@ def main() -> int:
         base = Path(temp) / "base"
         build(base, list(dict.fromkeys(low for it in names for low in below(it, uses))), uses)
         rooms = [Room(it, uses, base, Path(temp) / it) for it in names]
-        tried = [pool.submit(try_crate, it, it.crate == first, not options.self_test) for it in rooms]
-        refusals, failures = (sum(it) for it in zip(*[it.result() for it in tried]))
-    print("the script's own test passed" if options.self_test else f"{refusals} refused, {failures} let through")
-    return 1 if failures else 0
+        tried = [pool.submit(try_crate, it, it.crate == first, options) for it in rooms]
+        counts = [it.result() for it in tried]
+    failed, before = sum(it.failed for it in counts), sum(it.before for it in counts)
+    said = f"{sum(it.refused for it in counts)} refused, {failed} let through" + f"; {before} of them before" * bool(before)
+    print("the script's own test passed" if options.self_test else said)
+    return 1 if failed else 0
 
 
 if __name__ == "__main__":
