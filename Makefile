@@ -74,7 +74,7 @@ install:
 
 test: kit
 	rt ci
-	python3 tests/edits.py
+	python3 tests/edits.py --built
 	$(MAKE) build
 	python3 tests/run.py $(PROGRAM)
 

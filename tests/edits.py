@@ -2,7 +2,7 @@
 """Tries the wrong bodies in crates/NAME/must-fail/ and crates/NAME/edits/: the contract of what each changes must refuse it.
 By default it takes the crates that have a folder edits/; rt ci tries those in must-fail/ one by one.
 
-Usage: edits.py [--jobs N] [--anew] [--self-test] [CRATE..]
+Usage: edits.py [--jobs N] [--anew] [--built] [--self-test] [CRATE..]
 
 A function is proved from its own body and the contracts of what it calls, so a wrong body fails its own function and no
 other. Edits of different functions are therefore put into one copy of their crate and judged by one check of these functions and of
@@ -11,8 +11,9 @@ that is not refused so is tried again alone, by a check of the whole crate. A ba
 fails that none of them changes, is tried in halves.
 
 An edit has the form that `rt help` describes, and changes only src/. The script works in a temporary folder, over the
-libraries that `rt ci` or `rt lib` left in crates/NAME/out/, or else builds them there. Whether the crates are proved as
-they are, `rt ci` says.
+libraries that `rt ci` or `rt lib` left in crates/NAME/out/, if they are newer than their sources, or else builds them there; with
+--built it takes them as they are, as after an `rt ci`, whose libraries may be older files that are kept. Whether the crates are
+proved as they are, `rt ci` says.
 
 What was refused is kept on this machine, as `rt ci` keeps what it proved: by the sum of all that the trial read, which is the kit, this
 script, the edit, and the sources of its crate and of those below. A later run tries the others, and with --anew all.
@@ -46,7 +47,7 @@ FITS_NOTHING = 2
 MEMORY = 3 << 30
 
 FUNCTION = re.compile(r"( *)(?:pub(?:\([a-z ]+\))? )?(?:(?:const|unsafe) )*fn (\w+)")
-IMPL = re.compile(r"impl(?:<.*?>)? (?:(?:\w+::)*(\w+)(?:<.*?>)? for )?(?:\w+::)*(\w+)")
+IMPL = re.compile(r"impl(?:<.*?>)? (?:(?:\w+::)*(\w+)(?:<(.*?)>)? for )?(?:\w+::)*(\w+)")
 # What a check says of a place: an error in a file, or a goal of a function that has no proof.
 ERROR = re.compile(r"(?:\./)?(src|specs|proofs)/([^\s:]+):(\d+):\d+: error: (.*)")
 GOAL = re.compile(r"note: (src)/([^\s:]+):(\d+):\d+: (it is not proved that .*)")
@@ -76,8 +77,8 @@ class Function:
         return "::".join([*self.module, *[self.of] * bool(self.of), self.name])
 
     def path(self) -> str:
-        """Returns the end of its name as a check prints it, in which the name of a trait follows the type's in one word. A method's
-        module is left out, since it is that of its type."""
+        """Returns the end of its name as a check prints it, in which the name of a trait and of its arguments follow the type's in one
+        word, as `FaultFromIoError`. A method's module is left out, since it is that of its type."""
         return f"{self.of}{self.trait}::{self.name}" if self.of else str(self)
 
     def holds(self, file: str, line: int) -> bool:
@@ -130,7 +131,8 @@ def functions_of(crate: Path) -> list[Function]:
         lines = path.read_text(encoding="utf-8").split("\n")
         for at, line in enumerate(lines):
             if line[:1].isalpha() and line != "where":
-                trait, of = (it[1] or "", it[2]) if (it := IMPL.match(line)) else ("", "")
+                trait, arguments, of = it.groups("") if (it := IMPL.match(line)) else ("", "", "")
+                trait += "".join(word[0].upper() + word[1:] for word in re.findall(r"\b[A-Za-z]\w*", arguments))
             if it := FUNCTION.match(line):
                 found.append(Function(module, of, trait, it[2], file, first_line(lines, at, it[1]), last_line(lines, at, it[1])))
     return found
@@ -428,8 +430,8 @@ def rlib_of(root: Path, name: str) -> Path:
     return root / "crates" / name / "out/rlib" / f"{name}.rlib"
 
 
-def build(base: Path, names: list[str], uses: Uses) -> None:
-    """Copies the sources of all crates, and these libraries where they are newer than their sources, or else builds them."""
+def build(base: Path, names: list[str], uses: Uses, are_built: bool) -> None:
+    """Copies the sources of all crates, and these libraries where they are built or newer than their sources, or else builds them."""
     for path in [ROOT / "crates.txt", ROOT / "HANDLES", *ROOT.glob("crates/*/*")]:
         to = base / path.relative_to(ROOT)
         to.parent.mkdir(parents=True, exist_ok=True)
@@ -441,7 +443,7 @@ def build(base: Path, names: list[str], uses: Uses) -> None:
         made = rlib_of(ROOT, name) / "format"
         crates = [ROOT / "crates" / it for it in [*below(name, uses), name]]
         sources = (it for crate in crates for part in PARTS for it in (crate / part).rglob("*") if it.is_file())
-        if made.is_file() and made.stat().st_mtime > max(it.stat().st_mtime for it in sources):
+        if made.is_file() and (are_built or made.stat().st_mtime > max(it.stat().st_mtime for it in sources)):
             shutil.copytree(made.parent, rlib_of(base, name), copy_function=linked)
     for name in names:
         if not rlib_of(base, name).is_dir():
@@ -489,6 +491,7 @@ def main() -> int:
     parser = argparse.ArgumentParser(description="Tries the wrong bodies of each crate's must-fail/ and edits/.")
     parser.add_argument("--jobs", type=int, default=default_jobs(), metavar="N", help="checks side by side (%(default)s)")
     parser.add_argument("--anew", action="store_true", help="also what an earlier run refused with the same sources")
+    parser.add_argument("--built", action="store_true", help="the libraries in out/ are those of these sources: rt ci has just left them")
     parser.add_argument("--self-test", action="store_true", help="only the test of this script, in the smallest crate")
     parser.add_argument("crates", nargs="*", metavar="CRATE", help="the edits of these crates (those of each that has a folder edits/)")
     options = parser.parse_args()
@@ -501,7 +504,7 @@ def main() -> int:
     names = [first] if options.self_test else sorted(functions, key=lambda it: (-len(below(it, uses)), -functions[it] * edits[it]))
     with tempfile.TemporaryDirectory(prefix="edits-") as temp, ThreadPoolExecutor(options.jobs) as pool:
         base = Path(temp) / "base"
-        build(base, list(dict.fromkeys(low for it in names for low in below(it, uses))), uses)
+        build(base, list(dict.fromkeys(low for it in names for low in below(it, uses))), uses, options.built)
         rooms = [Room(it, uses, base, Path(temp) / it) for it in names]
         tried = [pool.submit(try_crate, it, it.crate == first, options) for it in rooms]
         counts = [it.result() for it in tried]
