@@ -13,6 +13,7 @@ use scram_text::{
     read_client_first, read_server_first, write_client_final, write_server_final,
 };
 use std::alloc::Global;
+use std::fmt::{Debug, Display};
 use std::process::Abort;
 use std::test::Fail;
 
@@ -41,6 +42,16 @@ const SHA256: [&str; 4] = [
     "v=6rriTRBi23WpRR/wtup+mMhUZUn/dB5nLTJRsjl95G4=",
 ];
 
+// Asserts that the value is the one wanted, and says at what it is not.
+fn check<T: PartialEq + Debug>(rt: &impl Abort, got: &T, want: &T, at: &str) {
+    assert_eq!(rt; got, want, "{at}");
+}
+
+// Asserts that the bytes are those of the text, and says at what they are not.
+fn check_text(rt: &impl Abort, got: &[u8], want: &str, at: &str) {
+    assert_eq!(rt; got, want.as_bytes(), "{at}");
+}
+
 // The account of a password, with the salt and count of a challenge.
 fn view_of<'a>(
     mechanism: Mechanism,
@@ -65,6 +76,18 @@ fn pencil(act_as: &[PlainName]) -> Option<KeysView<'_>>
     ensures { IfSome result (λ view. 1 ≤ view.count) }
 {
     view_of(Mechanism::ScramSha1, b"pencil", SHA1[1].as_bytes(), act_as)
+}
+
+// Asserts what is printed of a fault.
+fn check_words(
+    rt: &impl Abort,
+    alloc: Global,
+    fault: &impl Display,
+    want: &str,
+) -> Result<(), Fail> {
+    let words = format!(in alloc; "{fault}")?;
+    check_text(rt, words.as_bytes(), want, want);
+    Ok(())
 }
 
 // The server's final message with this judgement.

@@ -16,22 +16,27 @@ fn check_both(rt: &impl Abort, alloc: Global, exchange: &Exchange, own: &str) ->
 
     let mut t1 = Vec::new(alloc);
     let client = Client::start(mechanism, &name, None, &nonce, Limits::usual(), &mut t1)?;
-    assert_eq!(rt; t1.as_slice(), first.as_bytes());
+    check_text(rt, t1.as_slice(), first, "the first");
     let mut t2 = Vec::new(alloc);
     let Ok(server) = server_first(mechanism, &view, t1.as_slice(), &own, &mut t2) else {
         return Err(Fail::from("no challenge"));
     };
-    assert_eq!(rt; t2.as_slice(), challenge.as_bytes());
+    check_text(rt, t2.as_slice(), challenge, "the challenge");
     let mut t3 = Vec::new(alloc);
     let Ok(client) = client.first(&password, t2.as_slice(), &mut t3) else {
         return Err(Fail::from("no answer"));
     };
-    assert_eq!(rt; t3.as_slice(), last.as_bytes());
+    check_text(rt, t3.as_slice(), last, "the last");
     let mut t4 = Vec::new(alloc);
     let verdict = server.finish(t3.as_slice(), &mut t4).ok();
-    assert_eq!(rt; verdict, Some(Verdict::Accepted));
-    assert_eq!(rt; t4.as_slice(), outcome.as_bytes());
-    assert_eq!(rt; client.last(t4.as_slice()), Ok(Authenticated));
+    check(rt, &verdict, &Some(Verdict::Accepted), "the verdict");
+    check_text(rt, t4.as_slice(), outcome, "the outcome");
+    check(
+        rt,
+        &client.last(t4.as_slice()),
+        &Ok(Authenticated),
+        "the end",
+    );
     Ok(())
 }
 

@@ -2,6 +2,7 @@
 ghost use Rattle.std.specs.Prelude.{◌≤◌};
 
 use crate::tests::logins::{Exchange, OTHERS, PUBLISHED};
+use crate::tests::{check, check_text};
 use linked_list_allocator::LocalHeap;
 use scram_ends::{
     Authenticated, Client, ClientFault, ClientOne, ClientTwo, Limits, Mechanism, OneRefused,
@@ -45,19 +46,24 @@ fn answered(exchange: &Exchange, alloc: Global) -> Option<ClientTwo> {
 }
 
 fn sends_the_messages(rt: &impl Abort, alloc: Global, exchange: &Exchange) {
+    let [first, challenge, reply, outcome] = exchange.messages;
     let mut out = Vec::new(alloc);
     let Some(Ok(client)) = start(exchange, None, Limits::usual(), &mut out) else {
-        panic!(rt; "{}", exchange.messages[0]);
+        panic!(rt; "{first}");
     };
-    assert_eq!(rt; out.as_slice(), exchange.messages[0].as_bytes());
+    check_text(rt, out.as_slice(), first, first);
     out.clear();
-    let Some(Ok(client)) = answer(client, exchange, exchange.messages[1], &mut out) else {
-        panic!(rt; "{}", exchange.messages[1]);
+    let Some(Ok(client)) = answer(client, exchange, challenge, &mut out) else {
+        panic!(rt; "{challenge}");
     };
-    assert_eq!(rt; out.as_slice(), exchange.messages[2].as_bytes());
-    let last = exchange.messages[3];
-    if !last.is_empty() {
-        assert_eq!(rt; client.last(last.as_bytes()), Ok(Authenticated), "{last}");
+    check_text(rt, out.as_slice(), reply, challenge);
+    if !outcome.is_empty() {
+        check(
+            rt,
+            &client.last(outcome.as_bytes()),
+            &Ok(Authenticated),
+            outcome,
+        );
     }
 }
 
@@ -126,11 +132,8 @@ fn faults_of_a_challenge(rt: HostRuntime) {
         ("a", "r=ab,s=QQ==,i=1000001", ClientFault::CountOutside),
         ("a", "r=ab,s=QQ==,i=4095", ClientFault::CountOutside),
     ] {
-        assert_eq!(rt;
-            refused(nonce, Limits::usual(), challenge, rt.alloc()),
-            Some(fault),
-            "{nonce} at {challenge}"
-        );
+        let refused = refused(nonce, Limits::usual(), challenge, rt.alloc());
+        check(&rt, &refused, &Some(fault), challenge);
     }
 }
 
@@ -146,10 +149,11 @@ fn counts_at_the_limits(rt: HostRuntime) {
         (narrow, "r=ab,s=QQ==,i=3", None),
         (narrow, "r=ab,s=QQ==,i=4", outside),
     ] {
-        assert_eq!(rt;
-            refused("a", limits, challenge, rt.alloc()),
-            fault,
-            "{challenge}"
+        check(
+            &rt,
+            &refused("a", limits, challenge, rt.alloc()),
+            &fault,
+            challenge,
         );
     }
 }
@@ -182,7 +186,7 @@ fn outcomes_at_the_client(rt: HostRuntime) {
         let Some(client) = answered(&PUBLISHED[0], rt.alloc()) else {
             panic!(rt; "no answer");
         };
-        assert_eq!(rt; client.last(text.as_bytes()), outcome, "{text}");
+        check(&rt, &client.last(text.as_bytes()), &outcome, text);
     }
 }
 
@@ -195,9 +199,11 @@ fn authorisation_name(rt: HostRuntime) {
     let Some(Ok(client)) = start(exchange, root.as_ref(), Limits::usual(), &mut out) else {
         panic!(rt; "not started");
     };
-    assert_eq!(rt;
+    check_text(
+        &rt,
         out.as_slice(),
-        b"n,a=root,n=user,r=fyko+d2lbbFgONRv9qkxdawL".as_slice()
+        "n,a=root,n=user,r=fyko+d2lbbFgONRv9qkxdawL",
+        "the first",
     );
     out.clear();
     let Some(Ok(_)) = answer(client, exchange, exchange.messages[1], &mut out) else {
@@ -207,31 +213,39 @@ fn authorisation_name(rt: HostRuntime) {
 }
 
 #[test]
-fn refused_growth(rt: HostRuntime) -> Result<(), Fail> {
-    let exchange = &PUBLISHED[0];
+fn refused_growth_of_a_first_message(rt: HostRuntime) -> Result<(), Fail> {
     let heap = LocalHeap::new(rt.alloc(), 16)?;
     let mut none = Vec::new(&heap);
-    let first = start(exchange, None, Limits::usual(), &mut none);
+    let first = start(&PUBLISHED[0], None, Limits::usual(), &mut none);
     assert!(rt; matches!(&first, Some(Err(WriteFault::NoMemory))));
     assert!(rt; none.is_empty());
+    Ok(())
+}
 
+#[test]
+fn refused_growth_of_an_answer(rt: HostRuntime) -> Result<(), Fail> {
+    let exchange = &PUBLISHED[0];
+    let [_, challenge, reply, outcome] = exchange.messages;
     let Some(client) = started(exchange, rt.alloc()) else {
         panic!(rt; "not started");
     };
-    let back = answer(client, exchange, exchange.messages[1], &mut none);
+    let heap = LocalHeap::new(rt.alloc(), 16)?;
+    let mut none = Vec::new(&heap);
+    let back = answer(client, exchange, challenge, &mut none);
     let Some(Err(OneRefused::Back(client, WriteFault::NoMemory))) = back else {
         panic!(rt; "not handed back");
     };
     assert!(rt; none.is_empty());
-
     let mut out = Vec::new(rt.alloc());
-    let Some(Ok(client)) = answer(client, exchange, exchange.messages[1], &mut out) else {
+    let Some(Ok(client)) = answer(client, exchange, challenge, &mut out) else {
         panic!(rt; "not answered");
     };
-    assert_eq!(rt; out.as_slice(), exchange.messages[2].as_bytes());
-    assert_eq!(rt;
-        client.last(exchange.messages[3].as_bytes()),
-        Ok(Authenticated)
+    check_text(&rt, out.as_slice(), reply, "the answer");
+    check(
+        &rt,
+        &client.last(outcome.as_bytes()),
+        &Ok(Authenticated),
+        "the end",
     );
     Ok(())
 }

@@ -30,18 +30,16 @@ fn texts_of_first_faults(rt: HostRuntime) -> Result<(), Fail> {
             "a name is not 1 to 255 bytes from space to tilde",
         ),
     ] {
-        assert_eq!(rt; format!(in alloc; "{fault}")?.as_str(), text);
-        let refused = FirstRefused::First(fault);
-        assert_eq!(rt; format!(in alloc; "{refused}")?.as_str(), text);
-        let recorded = RecordedFault::First(fault);
-        assert_eq!(rt; format!(in alloc; "{recorded}")?.as_str(), text);
+        check_words(&rt, alloc, &fault, text)?;
+        check_words(&rt, alloc, &FirstRefused::First(fault), text)?;
+        check_words(&rt, alloc, &RecordedFault::First(fault), text)?;
     }
-    let recorded = RecordedFault::NotThisChallenge;
-    assert_eq!(rt;
-        format!(in alloc; "{recorded}")?.as_str(),
-        "the second text is no challenge for this account and client-first message"
-    );
-    Ok(())
+    check_words(
+        &rt,
+        alloc,
+        &RecordedFault::NotThisChallenge,
+        "the second text is no challenge for this account and client-first message",
+    )
 }
 
 #[test]
@@ -74,7 +72,7 @@ fn texts_of_client_faults(rt: HostRuntime) -> Result<(), Fail> {
             "the signature is wrong: the other end does not have the account's keys",
         ),
     ] {
-        assert_eq!(rt; format!(in alloc; "{fault}")?.as_str(), text);
+        check_words(&rt, alloc, &fault, text)?;
     }
     Ok(())
 }

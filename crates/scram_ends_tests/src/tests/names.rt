@@ -3,9 +3,9 @@ use super::*;
 #[test]
 fn names_of_client_first(rt: HostRuntime) -> Result<(), Fail> {
     let name = first_name(b"n,,n=a=2Cb=3Dc,r=x").ok().ok_or("a name")?;
-    assert_eq!(rt; name.bytes(), b"a,b=c".as_slice());
+    check_text(&rt, name.bytes(), "a,b=c", "escapes");
     let name = first_name(b"y,a=root,n=user,r=x").ok().ok_or("a name")?;
-    assert_eq!(rt; name.bytes(), b"user".as_slice());
+    check_text(&rt, name.bytes(), "user", "a name to act as");
     Ok(())
 }
 
@@ -26,7 +26,7 @@ fn refused_client_first(rt: HostRuntime) {
         ("p=tls-unique,,m=x,n=a\x7F,r=x", FirstFault::Mandatory),
         ("p=tls-unique,,n=a\x7F,r=x", FirstFault::BindingAsked),
     ] {
-        assert_eq!(rt; first_name(text.as_bytes()).err(), Some(want), "{text}");
+        check(&rt, &first_name(text.as_bytes()).err(), &Some(want), text);
     }
 }
 

@@ -8,11 +8,7 @@ fn check_login(rt: &impl Abort, alloc: Global, login: &[&str; 6]) -> Result<(), 
     let view = view_of(mechanism, password.as_bytes(), challenge, &[]).ok_or("an account")?;
     let wait = ServerWait::recorded(mechanism, &view, first.as_bytes(), challenge)?;
     let judged = wait.judge(last.as_bytes());
-    assert_eq!(rt;
-        text_of(alloc, &judged)?.as_slice(),
-        want.as_bytes(),
-        "{first}"
-    );
+    check_text(rt, text_of(alloc, &judged)?.as_slice(), want, first);
     Ok(())
 }
 
@@ -57,7 +53,7 @@ fn refused_records(rt: HostRuntime) -> Result<(), Fail> {
             first.as_bytes(),
             challenge.as_bytes(),
         );
-        assert_eq!(rt; refused.err(), Some(want), "{challenge}");
+        check(&rt, &refused.err(), &Some(want), challenge);
     }
     Ok(())
 }
@@ -87,11 +83,21 @@ fn due_after(alloc: Global, challenge: &str) -> Result<Option<Refusal>, Fail> {
 fn other_challenges(rt: HostRuntime) -> Result<(), Fail> {
     let alloc = rt.alloc();
     let extended = format!(in alloc; "{},x=1", SHA1[1])?;
-    assert_eq!(rt; due_after(alloc, extended.as_str())?, None);
+    check(
+        &rt,
+        &due_after(alloc, extended.as_str())?,
+        &None,
+        "an extension",
+    );
     let own = "0123456789abcdef0123456789abcdef0123456789abcdef0123456789abcdef";
     let long = format!(in alloc;
         "r=fyko+d2lbbFgONRv9qkxdawL{own}{own}{own}{own}0,s=QSXCR+Q6sek8bf92,i=4096"
     )?;
-    assert_eq!(rt; due_after(alloc, long.as_str())?, None);
+    check(
+        &rt,
+        &due_after(alloc, long.as_str())?,
+        &None,
+        "a longer part",
+    );
     Ok(())
 }

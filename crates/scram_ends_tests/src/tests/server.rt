@@ -19,12 +19,12 @@ fn check_login(
     let Ok(wait) = server_first(mechanism, view, first.as_bytes(), &own, &mut out) else {
         return Err(Fail::from("no challenge"));
     };
-    assert_eq!(rt; out.as_slice(), challenge.as_bytes());
+    check_text(rt, out.as_slice(), challenge, first);
     out.clear();
     let verdict = wait.finish(last.as_bytes(), &mut out).ok();
-    assert_eq!(rt; out.as_slice(), outcome.as_bytes(), "{first}: {last}");
-    let is_accepted = verdict == Some(Verdict::Accepted);
-    assert_eq!(rt; is_accepted, outcome.starts_with("v="), "{first}: {last}");
+    check_text(rt, out.as_slice(), outcome, last);
+    let is_accepted = matches!(verdict, Some(Verdict::Accepted));
+    check(rt, &is_accepted, &outcome.starts_with("v="), last);
     Ok(())
 }
 
@@ -115,25 +115,39 @@ const LAST: [(&str, &str); 13] = [
     ),
 ];
 
+// A server that waits for the last message of RFC 5802's login.
+fn waiting(view: &KeysView<'_>) -> Result<ServerWait, Fail>
+    requires { 1 ≤ view.now.count }
+{
+    let [first, challenge, _, _] = SHA1;
+    let sha1 = Mechanism::ScramSha1;
+    Ok(ServerWait::recorded(sha1, view, first.as_bytes(), challenge.as_bytes())?)
+}
+
+// The refusal of this last message is appended to what was there.
+fn check_finish(
+    rt: &impl Abort,
+    alloc: Global,
+    wait: ServerWait,
+    last: &str,
+    want: &str,
+) -> Result<(), Fail> {
+    let mut out = Vec::from_slice(alloc, b"before ")?;
+    let verdict = wait.finish(last.as_bytes(), &mut out).ok();
+    assert!(rt; matches!(verdict, Some(Verdict::Refused(_))), "{last}");
+    let after = out.strip_prefix(b"before ").ok_or("what was there")?;
+    check_text(rt, after, want, last);
+    Ok(())
+}
+
 #[test]
 fn each_refusal(rt: HostRuntime) -> Result<(), Fail> {
     let alloc = rt.alloc();
     let view = pencil(&[]).ok_or("an account")?;
-    let [first, challenge, _, _] = SHA1;
     for (last, want) in LAST {
-        let sha1 = Mechanism::ScramSha1;
-        let wait = ServerWait::recorded(sha1, &view, first.as_bytes(), challenge.as_bytes())?;
-        let judged = wait.judge(last.as_bytes());
-        assert_eq!(rt;
-            text_of(alloc, &judged)?.as_slice(),
-            want.as_bytes(),
-            "{last}"
-        );
-        let wait = ServerWait::recorded(sha1, &view, first.as_bytes(), challenge.as_bytes())?;
-        let mut out = Vec::from_slice(alloc, b"before ")?;
-        let verdict = wait.finish(last.as_bytes(), &mut out).ok();
-        assert!(rt; matches!(verdict, Some(Verdict::Refused(_))), "{last}");
-        assert_eq!(rt; &out.as_slice()[7..], want.as_bytes(), "{last}");
+        let judged = waiting(&view)?.judge(last.as_bytes());
+        check_text(&rt, text_of(alloc, &judged)?.as_slice(), want, last);
+        check_finish(&rt, alloc, waiting(&view)?, last, want)?;
     }
     Ok(())
 }
@@ -154,11 +168,9 @@ fn decoy(rt: HostRuntime) -> Result<(), Fail> {
         let Ok(wait) = server_first(sha1, &view, SHA1[0].as_bytes(), &own, &mut out) else {
             return Err(Fail::from("no challenge"));
         };
-        assert_eq!(rt; out.as_slice(), SHA1[1].as_bytes());
-        assert_eq!(rt;
-            text_of(alloc, &wait.judge(last.as_bytes()))?.as_slice(),
-            want.as_bytes()
-        );
+        check_text(&rt, out.as_slice(), SHA1[1], "the challenge");
+        let judged = wait.judge(last.as_bytes());
+        check_text(&rt, text_of(alloc, &judged)?.as_slice(), want, last);
     }
     Ok(())
 }
@@ -190,40 +202,47 @@ fn due_to(
 
 const BARE: &str = "n=user,r=fyko+d2lbbFgONRv9qkxdawL";
 
+// The verdict due where the account may act as this name, if it is one.
+fn due_acting_as(
+    alloc: Global,
+    header: &str,
+    signed: &str,
+    act_as: &str,
+) -> Result<Option<Refusal>, Fail> {
+    match PlainName::new(act_as.as_bytes()) {
+        Some(name) => due_to(alloc, header, BARE, signed, &[name]),
+        None => due_to(alloc, header, BARE, signed, &[]),
+    }
+}
+
 #[test]
 fn headers_and_authorisation_names(rt: HostRuntime) -> Result<(), Fail> {
-    let alloc = rt.alloc();
-    let root = [PlainName::new(b"root").ok_or("a name")?];
-    let odd = [PlainName::new(b"a,b=c").ok_or("a name")?];
-    let accepted = None;
     let refused = Some(Refusal::NotAuthorised);
-    assert_eq!(rt; due_to(alloc, "n,,", BARE, BARE, &[])?, accepted);
-    assert_eq!(rt; due_to(alloc, "y,,", BARE, BARE, &[])?, accepted);
-    assert_eq!(rt; due_to(alloc, "n,a=user,", BARE, BARE, &[])?, accepted);
-    assert_eq!(rt; due_to(alloc, "n,a=root,", BARE, BARE, &[])?, refused);
-    assert_eq!(rt; due_to(alloc, "n,a=root,", BARE, BARE, &root)?, accepted);
-    assert_eq!(rt; due_to(alloc, "n,a=roo,", BARE, BARE, &root)?, refused);
-    assert_eq!(rt;
-        due_to(alloc, "n,a=a=2Cb=3Dc,", BARE, BARE, &odd)?,
-        accepted
-    );
     // A wrong proof counts before a name that is not allowed.
-    assert_eq!(rt;
-        due_to(alloc, "n,a=root,", BARE, "n=user,r=fyko", &[])?,
-        Some(Refusal::InvalidProof)
-    );
+    let wrong = "n=user,r=fyko";
+    for (header, signed, act_as, want) in [
+        ("n,,", BARE, "", None),
+        ("y,,", BARE, "", None),
+        ("n,a=user,", BARE, "", None),
+        ("n,a=root,", BARE, "", refused),
+        ("n,a=root,", BARE, "root", None),
+        ("n,a=roo,", BARE, "root", refused),
+        ("n,a=a=2Cb=3Dc,", BARE, "a,b=c", None),
+        ("n,a=root,", wrong, "", Some(Refusal::InvalidProof)),
+    ] {
+        let due = due_acting_as(rt.alloc(), header, signed, act_as)?;
+        check(&rt, &due, &want, header);
+    }
     Ok(())
 }
 
 #[test]
 fn the_proof_covers_extensions(rt: HostRuntime) -> Result<(), Fail> {
-    let alloc = rt.alloc();
     let extended = "n=user,r=fyko+d2lbbFgONRv9qkxdawL,x=1";
-    assert_eq!(rt; due_to(alloc, "n,,", extended, extended, &[])?, None);
-    assert_eq!(rt;
-        due_to(alloc, "n,,", extended, BARE, &[])?,
-        Some(Refusal::InvalidProof)
-    );
+    for (signed, want) in [(extended, None), (BARE, Some(Refusal::InvalidProof))] {
+        let due = due_to(rt.alloc(), "n,,", extended, signed, &[])?;
+        check(&rt, &due, &want, signed);
+    }
     Ok(())
 }
 
@@ -282,30 +301,34 @@ fn nonces_that_join_alike(rt: HostRuntime) -> Result<(), Fail> {
 }
 
 #[test]
-fn refused_memory(rt: HostRuntime) -> Result<(), Fail> {
-    let alloc = rt.alloc();
+fn refused_memory_for_a_challenge(rt: HostRuntime) -> Result<(), Fail> {
     let view = pencil(&[]).ok_or("an account")?;
     let own = NoncePart::new(b"3rfcNHYJY1ZVvWVs7j").ok_or("a nonce")?;
-    let [first, challenge, last, outcome] = SHA1;
-    let sha1 = Mechanism::ScramSha1;
-    let heap = LocalHeap::new(alloc, 16)?;
+    let heap = LocalHeap::new(rt.alloc(), 16)?;
     let mut none = Vec::new(&heap);
-    let refused = server_first(sha1, &view, first.as_bytes(), &own, &mut none);
-    assert_eq!(rt;
-        refused.err(),
-        Some(FirstRefused::Write(WriteFault::NoMemory))
-    );
-    assert_eq!(rt; none.len(), 0);
-    let wait = ServerWait::recorded(sha1, &view, first.as_bytes(), challenge.as_bytes())?;
-    let Err((wait, fault)) = wait.finish(last.as_bytes(), &mut none) else {
+    let sha1 = Mechanism::ScramSha1;
+    let refused = server_first(sha1, &view, SHA1[0].as_bytes(), &own, &mut none);
+    let no_memory = FirstRefused::Write(WriteFault::NoMemory);
+    check(&rt, &refused.err(), &Some(no_memory), "no memory");
+    check(&rt, &none.len(), &0, "nothing is written");
+    Ok(())
+}
+
+#[test]
+fn refused_memory_for_an_outcome(rt: HostRuntime) -> Result<(), Fail> {
+    let view = pencil(&[]).ok_or("an account")?;
+    let [_, _, last, outcome] = SHA1;
+    let heap = LocalHeap::new(rt.alloc(), 16)?;
+    let mut none = Vec::new(&heap);
+    let Err((wait, fault)) = waiting(&view)?.finish(last.as_bytes(), &mut none) else {
         return Err(Fail::from("memory was there"));
     };
-    assert_eq!(rt; fault, WriteFault::NoMemory);
-    assert_eq!(rt; none.len(), 0);
+    check(&rt, &fault, &WriteFault::NoMemory, "no memory");
+    check(&rt, &none.len(), &0, "nothing is written");
     // The call once more, with room.
-    let mut out = Vec::new(alloc);
+    let mut out = Vec::new(rt.alloc());
     let verdict = wait.finish(last.as_bytes(), &mut out).ok();
-    assert_eq!(rt; verdict, Some(Verdict::Accepted));
-    assert_eq!(rt; out.as_slice(), outcome.as_bytes());
+    check(&rt, &verdict, &Some(Verdict::Accepted), "with room");
+    check_text(&rt, out.as_slice(), outcome, "with room");
     Ok(())
 }
