@@ -419,4 +419,9 @@ TESTS = [
     moments_that_fall,
 ]
 
+# Under nohup, or in the background of a shell, some signals are ignored, also by what is started here.
+for number in SIGNALS:
+    if number != signal.SIGKILL:
+        signal.signal(number, signal.SIG_DFL)
+
 suite.run_all(TESTS)
