@@ -8,7 +8,7 @@ use Rattle.log_grammar.specs.Lines.{LogLine}
 use Rattle.log_grammar.specs.Sessions.{Told, told_of, session, Login, no_login, quits_login, with_first, without_first, login_told, Invitation, no_word, turned_away, invited, invitation_told, First, no_first, quits_first, begins, first_told, Answer, no_answer, refused, challenged, answer_told, Proof, no_proof, quits_proof, proves, proof_told, Judgement, unjudged, denied, granted, judgement_told, Codes, no_code, quits_codes, asked, replied, halted_at, codes_told}
 use Rattle.log_grammar.specs.Demands.{Demands, no_demands}
 use Rattle.log_grammar.specs.Places.{Place}
-use Rattle.log_grammar.specs.Numbered.{Numbered, numbered, own, Stay, stays, turned, lines_at, told_in, place_at, MeetsAt, SpellsNumbered}
+use Rattle.log_grammar.specs.Numbered.{Numbered, numbered, of_number, Stay, stays, turned, lines_at, told_in, place_at, MeetsAt, SpellsNumbered}
 use Rattle.log_grammar.proofs.Aside.{bare, bare_place, bare_login, bare_invitation, bare_first, bare_answer, session_same, session_bare, closing_bare, session_aside, no_demand}
 use Rattle.log_grammar.proofs.NumberedMarks.{numbers_of, values_of}
 
@@ -83,11 +83,11 @@ stay_meets (Some (turned closed)) = tt
 abbrev bare_marks : List (Numbered Told) → List (Numbered Told)
 bare_marks marks = map (λ (t : Numbered Told). numbered t.number (bare_told t.value)) marks
 
-own_bare : (n : ℕ) (marks : List (Numbered Told)) → own n (bare_marks marks) ≡ map bare_told (own n marks)
-own_bare n [] = refl
-own_bare n (t ∷ marks) = elim (eqb_tells n t.number) [
-  | inl same ↦ rw same.0 (ap (λ (l : List Told). bare_told t.value ∷ l) (own_bare n marks))
-  | inr other ↦ rw other.0 (own_bare n marks)
+of_number_bare : (n : ℕ) (marks : List (Numbered Told)) → of_number n (bare_marks marks) ≡ map bare_told (of_number n marks)
+of_number_bare n [] = refl
+of_number_bare n (t ∷ marks) = elim (eqb_tells n t.number) [
+  | inl same ↦ rw same.0 (ap (λ (l : List Told). bare_told t.value ∷ l) (of_number_bare n marks))
+  | inr other ↦ rw other.0 (of_number_bare n marks)
 ]
 
 numbers_bare : (marks : List (Numbered Told)) → numbers_of (bare_marks marks) ≡ numbers_of marks
@@ -105,7 +105,7 @@ aside_numbered limit d log places told s = (
     room = s.room;
     next = s.next;
     marks = bare_marks s.marks;
-    marked = λ n. own_bare n s.marks ∙ ap (map bare_told) (s.marked n) ∙ sym (stay_told (s.stay n));
+    marked = λ n. of_number_bare n s.marks ∙ ap (map bare_told) (s.marked n) ∙ sym (stay_told (s.stay n));
     order = numbers_bare s.marks ∙ s.order;
     tells = refl;
     replies = no_demand [] (values_of (bare_marks s.marks));

@@ -23,7 +23,7 @@ use Rattle.log_grammar.proofs.NumberedEnds.{not_begun}
 use Rattle.log_grammar.proofs.NumberedLogSteps.{given_first, numbered_on, no_line_yet}
 use Rattle.log_grammar.proofs.NumberedStandings.{after_last}
 use Rattle.log_grammar.proofs.OpenCounts.{given_or_not}
-use Rattle.log_grammar.proofs.Owns.{at_each, put_here, put_other, own_stands, no_element}
+use Rattle.log_grammar.proofs.Owns.{at_each, put_here, put_other, of_number_stands, no_element}
 use Rattle.log_grammar.proofs.Snoc.{with_last}
 
 -- where HALT and BUSY lead
@@ -116,7 +116,7 @@ ranged_of limit accounts texts log places told are s n is = elim (given_or_not (
   | inl none ↦ let wrong = sym (ap is_closed (s.after n ∙ ap place_at none)) ∙ is in absurd (cc wrong)
   | inr given ↦
       let first = given_first given.0 in
-      let found = own_stands n log first.0 first.1 (s.lines n ∙ ap lines_at given.1 ∙ first.2) in
+      let found = of_number_stands n log first.0 first.1 (s.lines n ∙ ap lines_at given.1 ∙ first.2) in
       let text = read_at texts found.0 (numbered n first.0) found.1 (subst (λ (l : List (Numbered LogLine)). AllZip IsNumberedLine texts l) found.2 are) in
       text.1.number
 ]

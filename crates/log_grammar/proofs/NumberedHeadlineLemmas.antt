@@ -11,7 +11,7 @@ use Rattle.log_grammar.specs.Sessions.{Told, closing_lines}
 use Rattle.log_grammar.specs.Demands.{Accounts, demands}
 use Rattle.log_grammar.specs.Histories.{IsHistory}
 use Rattle.log_grammar.specs.Places.{between, halted}
-use Rattle.log_grammar.specs.Numbered.{Numbered, own, Stay, stays, turned, lines_at, told_in, place_at, SpellsNumbered, MayEndNumbered}
+use Rattle.log_grammar.specs.Numbered.{Numbered, of_number, Stay, stays, turned, lines_at, told_in, place_at, SpellsNumbered, MayEndNumbered}
 use Rattle.log_grammar.specs.NumberedLines.{numbered_text, IsNumberedLine}
 use Rattle.log_grammar.specs.Kinds.{IsCleanOf}
 use Rattle.log_grammar.specs.KindTwo.{EndsTwo, two}
@@ -47,11 +47,11 @@ each_lacks [] all = tt
 each_lacks (x ∷ log) all = (numbered_lacks (numbered_text x) x all.0, each_lacks log all.1)
 
 -- the lines of a number are in their ranges
-own_ranged : (n : ℕ) (log : List (Numbered LogLine)) → AllByRecursion IsNumberedWritable log → Ranged (own n log)
-own_ranged n [] all = tt
-own_ranged n (x ∷ log) all = elim (eqb_tells n x.number) [
-  | inl same ↦ rw same.0 (all.0.line.ranges, own_ranged n log all.1)
-  | inr other ↦ rw other.0 (own_ranged n log all.1)
+of_number_ranged : (n : ℕ) (log : List (Numbered LogLine)) → AllByRecursion IsNumberedWritable log → Ranged (of_number n log)
+of_number_ranged n [] all = tt
+of_number_ranged n (x ∷ log) all = elim (eqb_tells n x.number) [
+  | inl same ↦ rw same.0 (all.0.line.ranges, of_number_ranged n log all.1)
+  | inr other ↦ rw other.0 (of_number_ranged n log all.1)
 ]
 
 -- so what was told under it was told at moments
@@ -61,27 +61,27 @@ timed_in (Some (stays s)) h = of_session s h
 timed_in (Some (turned closed)) h = tt
 
 -- what was told under a number without the first of all
-timed_rest : (n : ℕ) (t : Numbered Told) (marks : List (Numbered Told)) → Timed (own n (t ∷ marks)) → Timed (own n marks)
+timed_rest : (n : ℕ) (t : Numbered Told) (marks : List (Numbered Told)) → Timed (of_number n (t ∷ marks)) → Timed (of_number n marks)
 timed_rest n t marks h = elim (eqb_tells n t.number) [
   | inl same ↦ (rw same.0 at h).1
   | inr other ↦ rw other.0 at h
 ]
 
-timed_first : (t : Numbered Told) (marks : List (Numbered Told)) → Timed (own t.number (t ∷ marks)) → IsMoment t.value.moment
+timed_first : (t : Numbered Told) (marks : List (Numbered Told)) → Timed (of_number t.number (t ∷ marks)) → IsMoment t.value.moment
 timed_first t marks h = elim (eqb_tells t.number t.number) [
   | inl same ↦ (rw same.0 at h).0
   | inr other ↦ absurd (other.1 refl)
 ]
 
 -- what was told under all numbers
-timed_marks : (marks : List (Numbered Told)) → ((n : ℕ) → Timed (own n marks)) → Timed (map (λ t. t.value) marks)
+timed_marks : (marks : List (Numbered Told)) → ((n : ℕ) → Timed (of_number n marks)) → Timed (map (λ t. t.value) marks)
 timed_marks [] each = tt
 timed_marks (t ∷ marks) each = (timed_first t marks (each t.number), timed_marks marks (λ n. timed_rest n t marks (each n)))
 
 pub timed_numbers : (log : List (Numbered LogLine)) (stay : ℕ → Option Stay) (marks : List (Numbered Told)) → AllByRecursion IsNumberedWritable log
-    → ((n : ℕ) → own n log ≡ lines_at (stay n)) → ((n : ℕ) → own n marks ≡ told_in (stay n)) → Timed (map (λ t. t.value) marks)
+    → ((n : ℕ) → of_number n log ≡ lines_at (stay n)) → ((n : ℕ) → of_number n marks ≡ told_in (stay n)) → Timed (map (λ t. t.value) marks)
 timed_numbers log stay marks written lines marked =
-    timed_marks marks (λ n. subst Timed (sym (marked n)) (timed_in (stay n) (subst Ranged (lines n) (own_ranged n log written))))
+    timed_marks marks (λ n. subst Timed (sym (marked n)) (timed_in (stay n) (subst Ranged (lines n) (of_number_ranged n log written))))
 
 -- a number is at the place after `E` exactly where that is its last line
 no_end_yet : EndsWith (said busy ∷ []) (ended ∷ []) → ⊥

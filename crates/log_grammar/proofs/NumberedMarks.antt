@@ -8,9 +8,9 @@ use Rattle.log_grammar.specs.Sessions.{Told, told_of}
 use Rattle.log_grammar.specs.Demands.{Demands}
 use Rattle.log_grammar.specs.Places.{Place, got_code}
 use Rattle.log_grammar.specs.Steps.{Goes, told_at}
-use Rattle.log_grammar.specs.Numbered.{Numbered, numbered, own, is_reply, reply_numbers}
+use Rattle.log_grammar.specs.Numbered.{Numbered, numbered, of_number, is_reply, reply_numbers}
 use Rattle.log_grammar.specs.NumberedSteps.{GoesIn}
-use Rattle.log_grammar.proofs.Owns.{own_append, same_numbered}
+use Rattle.log_grammar.proofs.Owns.{of_number_append, same_numbered}
 use Rattle.log_grammar.proofs.Snoc.{some_last, last_same, with_last}
 
 -- a line tells of a code exactly where it is a reply
@@ -55,23 +55,23 @@ pub record Unmarked (n : ℕ) (marks : List (Numbered Told)) (numbers : List ℕ
   pub earlier : List (Numbered Told)
   pub same : marks ≡ earlier ++ marks_of n more
   pub order : numbers_of earlier ≡ numbers
-  pub mine : own n earlier ≡ before
+  pub mine : of_number n earlier ≡ before
 
 unmark_none : (n : ℕ) (marks : List (Numbered Told)) (numbers : List ℕ) (before : List Told) → numbers_of marks ≡ numbers ++ []
-    → own n marks ≡ before ++ [] → Unmarked n marks numbers before []
+    → of_number n marks ≡ before ++ [] → Unmarked n marks numbers before []
 unmark_none n marks numbers before order mine =
     record { earlier = marks; same = sym (append-nil marks); order = order ∙ append-nil numbers; mine = mine ∙ append-nil before }
 
-own_last : (n : ℕ) (m : Numbered Told) → m.number ≡ n → own n (m ∷ []) ≡ m.value ∷ []
-own_last n m same = rw (eq-eqb n m.number (sym same)) refl
+of_number_last : (n : ℕ) (m : Numbered Told) → m.number ≡ n → of_number n (m ∷ []) ≡ m.value ∷ []
+of_number_last n m same = rw (eq-eqb n m.number (sym same)) refl
 
 unmark_last : (n : ℕ) (t : Told) (front : List (Numbered Told)) (last : Numbered Told) (numbers : List ℕ) (before : List Told)
-    → numbers_of (front ++ last ∷ []) ≡ numbers ++ n ∷ [] → own n (front ++ last ∷ []) ≡ before ++ t ∷ []
+    → numbers_of (front ++ last ∷ []) ≡ numbers ++ n ∷ [] → of_number n (front ++ last ∷ []) ≡ before ++ t ∷ []
     → Unmarked n (front ++ last ∷ []) numbers before (t ∷ [])
 unmark_last n t front last numbers before order mine =
     let ends = last_same (numbers_of front) numbers last.number n (sym (map-append (λ (m : Numbered Told). m.number) front (last ∷ [])) ∙ order) in
-    let told = sym (own_append n front (last ∷ []) ∙ ap (λ (l : List Told). own n front ++ l) (own_last n last ends.1)) ∙ mine in
-    let also = last_same (own n front) before last.value t told in
+    let told = sym (of_number_append n front (last ∷ []) ∙ ap (λ (l : List Told). of_number n front ++ l) (of_number_last n last ends.1)) ∙ mine in
+    let also = last_same (of_number n front) before last.value t told in
     record {
       earlier = front;
       same = ap (λ (m : Numbered Told). front ++ m ∷ []) (same_numbered last.number n last.value t ends.1 also.1);
@@ -80,18 +80,18 @@ unmark_last n t front last numbers before order mine =
     }
 
 unmark_one : (n : ℕ) (t : Told) (marks : List (Numbered Told)) (numbers : List ℕ) (before : List Told) → numbers_of marks ≡ numbers ++ n ∷ []
-    → own n marks ≡ before ++ t ∷ [] → Unmarked n marks numbers before (t ∷ [])
+    → of_number n marks ≡ before ++ t ∷ [] → Unmarked n marks numbers before (t ∷ [])
 unmark_one n t [] numbers before order mine = absurd (some_last numbers n (sym order))
 unmark_one n t (m ∷ marks) numbers before order mine =
     let last = with_last m marks in
     let found = unmark_last n t last.0 last.1 numbers before
     (subst (λ (l : List (Numbered Told)). numbers_of l ≡ numbers ++ n ∷ []) last.2 order)
-    (subst (λ (l : List (Numbered Told)). own n l ≡ before ++ t ∷ []) last.2 mine) in
+    (subst (λ (l : List (Numbered Told)). of_number n l ≡ before ++ t ∷ []) last.2 mine) in
     subst (λ (l : List (Numbered Told)). Unmarked n l numbers before (t ∷ [])) (sym last.2) found
 
 -- the marks before a line, and those of what the line tells
 pub unmark : (n : ℕ) (place : Place) (line : LogLine) (marks : List (Numbered Told)) (numbers : List ℕ) (before : List Told) → Tells place line
-    → numbers_of marks ≡ numbers ++ reply_numbers (numbered n line ∷ []) → own n marks ≡ before ++ told_at place line
+    → numbers_of marks ≡ numbers ++ reply_numbers (numbered n line ∷ []) → of_number n marks ≡ before ++ told_at place line
     → Unmarked n marks numbers before (told_at place line)
 unmark n place line marks numbers before (inl none) order mine =
     let numbers_are = rw none.1 at order in

@@ -5,7 +5,7 @@ use Rattle.log_grammar.specs.Lines.{LogLine}
 use Rattle.log_grammar.specs.Sessions.{Told}
 use Rattle.log_grammar.specs.Demands.{Demands}
 use Rattle.log_grammar.specs.Places.{Place}
-use Rattle.log_grammar.specs.Numbered.{Numbered, Stay, own, lines_at, place_at, MeetsAt, SpellsNumbered}
+use Rattle.log_grammar.specs.Numbered.{Numbered, Stay, of_number, lines_at, place_at, MeetsAt, SpellsNumbered}
 use Rattle.log_grammar.specs.NumberedSteps.{GoesIn}
 use Rattle.log_grammar.proofs.NumberedReadings.{goes_in_once}
 use Rattle.log_grammar.proofs.Readings.{OneAccount}
@@ -39,6 +39,6 @@ stay_once d one (suc k) p q short meets also same = elim (number_cut d p meets) 
 ]
 
 pub own_place : (limit : ℕ) (d : Demands) → OneAccount d → (log other : List (Numbered LogLine)) (p q : ℕ → Place) (told also : List Told)
-    → SpellsNumbered limit d log p told → SpellsNumbered limit d other q also → (n m : ℕ) → own n log ≡ own m other → p n ≡ q m
+    → SpellsNumbered limit d log p told → SpellsNumbered limit d other q also → (n m : ℕ) → of_number n log ≡ of_number m other → p n ≡ q m
 own_place limit d one log other p q told also s r n m same =
     s.after n ∙ stay_once d one (length (lines_at (s.stay n))) (s.stay n) (r.stay m) (omega arith) (s.good n) (r.good m) (sym (s.lines n) ∙ same ∙ r.lines m) ∙ sym (r.after m)

@@ -8,7 +8,7 @@ use Rattle.log_grammar.specs.Bytes.{ended_by_lf}
 use Rattle.log_grammar.specs.Sessions.{Told}
 use Rattle.log_grammar.specs.Demands.{Accounts, demands}
 use Rattle.log_grammar.specs.Histories.{IsHistory}
-use Rattle.log_grammar.specs.Numbered.{Numbered, own, Stay, lines_at, told_in, MeetsAt, reply_numbers, HasRoom, MayFollow}
+use Rattle.log_grammar.specs.Numbered.{Numbered, of_number, Stay, lines_at, told_in, MeetsAt, reply_numbers, HasRoom, MayFollow}
 use Rattle.log_grammar.specs.NumberedLines.{numbered_text, IsNumberedLine}
 use Rattle.log_grammar.specs.Kinds.{IsCleanOf}
 use Rattle.log_grammar.specs.KindTwo.{two}
@@ -36,7 +36,7 @@ pub record IsNumberedLogOf (limit : ℕ) (accounts : Accounts) (bytes : List ℕ
   pub spelled : bytes ≡ ended_by_lf (log_text second_header ∷ map numbered_text log)
   pub written : AllByRecursion IsNumberedWritable log
   pub stay : ℕ → Option Stay
-  pub lines : (n : ℕ) → own n log ≡ lines_at (stay n)
+  pub lines : (n : ℕ) → of_number n log ≡ lines_at (stay n)
   pub good : (n : ℕ) → MeetsAt (demands accounts) (stay n)
   pub room : (before : List (Numbered LogLine)) (x : Numbered LogLine) (rest : List (Numbered LogLine))
       → log ≡ before ++ x ∷ rest → HasRoom limit before x.number x.value
@@ -44,7 +44,7 @@ pub record IsNumberedLogOf (limit : ℕ) (accounts : Accounts) (bytes : List ℕ
       → log ≡ before ++ x ∷ y ∷ rest → MayFollow x.number x.value y.number y.value
   pub over : ((n : ℕ) → IsClosedStay (stay n)) ⊎ ((n : ℕ) × IsHaltedStay (stay n))
   pub marks : List (Numbered Told)
-  pub marked : (n : ℕ) → own n marks ≡ told_in (stay n)
+  pub marked : (n : ℕ) → of_number n marks ≡ told_in (stay n)
   pub order : map (λ t. t.number) marks ≡ reply_numbers log
   pub histories : (account : List ℕ) → IsHistory (accounts.token account) account (map (λ t. t.value) marks)
 

@@ -8,7 +8,7 @@ use Rattle.log_grammar.specs.Demands.{Accounts, demands}
 use Rattle.log_grammar.specs.Places.{Place}
 use Rattle.log_grammar.specs.Steps.{told_at}
 use Rattle.log_grammar.specs.Why.{LineClass}
-use Rattle.log_grammar.specs.Numbered.{Numbered, numbered, own, begun, closed_in, SpellsNumbered}
+use Rattle.log_grammar.specs.Numbered.{Numbered, numbered, of_number, begun, closed_in, SpellsNumbered}
 use Rattle.log_grammar.specs.NumberedClasses.{IsNumberClassDue, IsNumberDueAt}
 use Rattle.log_grammar.specs.NumberedCounts.{is_closed, open_up_to}
 use Rattle.log_grammar.specs.NumberedSteps.{put, GoesNumbered, StoodNumbered}
@@ -52,7 +52,7 @@ FirstNumberedLinesAreLogs = (limit : ℕ) (accounts : Accounts) (log more : List
 abbrev pub SessionsStandAlone : Type 0
 SessionsStandAlone = (limit : ℕ) (accounts : Accounts) (log other : List (Numbered LogLine)) (places others : ℕ → Place) (told also : List Told)
     → SpellsNumbered limit (demands accounts) log places told → SpellsNumbered limit (demands accounts) other others also
-    → (n m : ℕ) → own n log ≡ own m other → places n ≡ others m
+    → (n m : ℕ) → of_number n log ≡ of_number m other → places n ≡ others m
 
 -- the sessions that are open and those that are closed are all that began, which have the numbers from 1
 abbrev pub OpenSessionsAreCounted : Type 0

@@ -1,6 +1,7 @@
 -- The laws of numbered lines: that a text is one or none, that a line without a number is none, and that a line is read
 -- from its text.
 use Rattle.std.specs.Prelude.{ℕ, ◌≡◌, ◌≤◌, ◌⊎◌, ◌↔◌, List, ◌∷◌, ◌++◌, length, decimal}
+use Rattle.std.specs.Str.{byte}
 use Rattle.log_grammar.specs.Bytes.{LacksLf}
 use Rattle.log_grammar.specs.Lines.{LogLine, log_text, IsLogLine}
 use Rattle.log_grammar.specs.Numbered.{Numbered, numbered}
@@ -26,5 +27,5 @@ WrittenNumberedLinesAreRead = (x : Numbered LogLine) → IsSessionNumber x.numbe
 -- they have this number
 abbrev pub NumbersGoBeforeLines : Type 0
 NumbersGoBeforeLines = (n : ℕ) (text : List ℕ) → IsSessionNumber n
-    → ((line : LogLine) → HasNumber line → IsLogLine text line ↔ IsNumberedLine (decimal n ++ (32 ∷ text)) (numbered n line))
-    × ((x : Numbered LogLine) → IsNumberedLine (decimal n ++ (32 ∷ text)) x → x.number ≡ n)
+    → ((line : LogLine) → HasNumber line → IsLogLine text line ↔ IsNumberedLine (decimal n ++ (byte " " ∷ text)) (numbered n line))
+    × ((x : Numbered LogLine) → IsNumberedLine (decimal n ++ (byte " " ∷ text)) x → x.number ≡ n)

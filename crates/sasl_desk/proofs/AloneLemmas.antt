@@ -30,8 +30,8 @@ use Rattle.sasl_desk.specs.Turns.{is_client_turn, is_due, heard_place, record_pl
 use Rattle.book_format.specs.Book.{BookFields}
 use Rattle.account_book.specs.Store.{StoreFacts}
 use Rattle.log_grammar.specs.Books.{accounts_in}
-use Rattle.log_grammar.specs.Numbered.{Numbered, own}
-use Rattle.sasl_desk.proofs.HallLaws.{own_lines}
+use Rattle.log_grammar.specs.Numbered.{Numbered, of_number}
+use Rattle.sasl_desk.proofs.HallLaws.{of_number_lines}
 use Rattle.sasl_desk.proofs.HeardLemmas.{line_inside}
 use Rattle.sasl_desk.proofs.TurnLemmas.{goes_due, goes_bad, goes_gone}
 
@@ -502,11 +502,11 @@ not_away accounts calls at let_in (inr (part, turned, is)) = absurd (let_in (ap 
 
 pub sessions_alone : Texts → {S : Type 0} (facts : S → StoreFacts) (start begun : BookFields) (calls others : List (Numbered Call)) (hall other : HallFields S) (n m : ℕ)
     → StandsHall facts start calls hall → StandsHall facts begun others other → HaveSameEntries (accounts_in start) (accounts_in begun)
-    → own n (hall_lines calls) ≢ busy_lines → own m (hall_lines others) ≢ busy_lines → AskTheSame (own n calls) (own m others)
-    → up_to_acceptance (own n (hall_lines calls)) ≡ up_to_acceptance (own m (hall_lines others))
+    → of_number n (hall_lines calls) ≢ busy_lines → of_number m (hall_lines others) ≢ busy_lines → AskTheSame (of_number n calls) (of_number m others)
+    → up_to_acceptance (of_number n (hall_lines calls)) ≡ up_to_acceptance (of_number m (hall_lines others))
 sessions_alone t facts start begun calls others hall other n m s r entries let_in let_in_too same =
-    let one = not_away (accounts_in start) (own n calls) (s.places n) (λ is. let_in (own_lines n calls ∙ is)) (s.stays n) in
-    let two = not_away (accounts_in begun) (own m others) (r.places m) (λ is. let_in_too (own_lines m others ∙ is)) (r.stays m) in
-    ap up_to_acceptance (own_lines n calls)
-    ∙ told_alone t (accounts_in start) (accounts_in begun) (own n calls) (own m others) (s.places n) (r.places m) entries one two same
-    ∙ ap up_to_acceptance (sym (own_lines m others))
+    let one = not_away (accounts_in start) (of_number n calls) (s.places n) (λ is. let_in (of_number_lines n calls ∙ is)) (s.stays n) in
+    let two = not_away (accounts_in begun) (of_number m others) (r.places m) (λ is. let_in_too (of_number_lines m others ∙ is)) (r.stays m) in
+    ap up_to_acceptance (of_number_lines n calls)
+    ∙ told_alone t (accounts_in start) (accounts_in begun) (of_number n calls) (of_number m others) (s.places n) (r.places m) entries one two same
+    ∙ ap up_to_acceptance (sym (of_number_lines m others))

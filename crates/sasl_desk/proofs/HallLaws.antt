@@ -18,22 +18,22 @@ use Rattle.log_grammar.specs.Lines.{LogLine, second_header, said, halt, log_text
 use Rattle.log_grammar.specs.Sessions.{Told}
 use Rattle.log_grammar.specs.Demands.{Accounts, demands}
 use Rattle.log_grammar.specs.Places.{Place, before_all, between, halted}
-use Rattle.log_grammar.specs.Numbered.{Numbered, numbered, own, SpellsNumbered, MayEndNumbered}
+use Rattle.log_grammar.specs.Numbered.{Numbered, numbered, of_number, SpellsNumbered, MayEndNumbered}
 use Rattle.log_grammar.specs.NumberedLines.{numbered_text, IsNumberedLine}
 use Rattle.log_grammar.specs.NumberedCounts.{is_closed}
 use Rattle.log_grammar.proofs.NumberedCuts.{numbered_before}
 use Rattle.log_grammar.proofs.NumberedLineLemmas.{numbered_lacks}
-use Rattle.log_grammar.proofs.Owns.{own_append, own_all, own_none}
+use Rattle.log_grammar.proofs.Owns.{of_number_append, of_number_all, of_number_none}
 use Rattle.sasl_log.specs.Numbered.{CanBeNumberedLine}
 use Rattle.sasl_desk.specs.Desks.{IsHeld, IsLostAfter, IsStoredAt, session_phase, all_spent}
 use Rattle.sasl_desk.specs.Guests.{is_of}
-use Rattle.sasl_desk.specs.Halls.{HallFields, hall_lines, hall_bytes, numbered_bytes, IsStay, IsSeated, IsStoredAfter, StandsHall, guest_phase, phase_in, IsPhaseAt, IsPhaseIn}
+use Rattle.sasl_desk.specs.Halls.{HallFields, hall_lines, hall_bytes, numbered_bytes, IsStay, IsSeated, IsStoredAfter, StandsHall, guest_phase, phase_in, IsPhaseOf, IsPhaseIn}
 use Rattle.sasl_desk.specs.Keeper.{IsTold}
 use Rattle.sasl_desk.specs.Records.{HasSessionRecords}
 use Rattle.sasl_desk.specs.Restarts.{HallRun, IsHallRunOf}
 use Rattle.sasl_desk.specs.Runs.{Asked, greets, hears, Call, IsAtRest, IsAnsweredBy, IsRun, wire_bytes, own_part}
 use Rattle.sasl_desk.specs.Serves.{call_lines}
-use Rattle.sasl_desk.specs.Spent.{IsSpent, SpentStaysSpent}
+use Rattle.sasl_desk.specs.Spent.{AreSpent, SpentStaysSpent}
 use Rattle.sasl_desk.specs.declared.hall.guest.Guest.{Guest}
 use Rattle.sasl_desk.proofs.GuestLemmas.{counted_none, found_holds, found_counted}
 use Rattle.sasl_desk.proofs.HallLemmas.{session_phase_at}
@@ -103,7 +103,7 @@ closed_between at is rests = absurd (cc is)
 none_between : {S : Type 0} (facts : S → StoreFacts) (start : BookFields) (calls : List (Numbered Call)) (hall : HallFields S)
     (s : StandsHall facts start calls hall) (n : ℕ) → find (is_of n) hall.guests ≡ None → s.places n ≡ between
 none_between facts start calls hall s n none = elim (cases_Bool (is_closed (s.places n))) [
-  | inl is ↦ closed_between (s.places n) is (stay_rests (accounts_in start) (own n calls) (s.places n) (s.stays n))
+  | inl is ↦ closed_between (s.places n) is (stay_rests (accounts_in start) (of_number n calls) (s.places n) (s.stays n))
   | inr is_open ↦ absurd (omega (arith, counted_none (is_of n) hall.guests none, s.guests n, opened (s.places n) is_open))
 ]
 
@@ -132,7 +132,7 @@ failed_ends : {S : Type 0} (facts : S → StoreFacts) (start : BookFields) (call
     (s : StandsHall facts start calls hall) → (facts hall.keeper.store).failed ≡ true → MayEndNumbered s.places
 failed_ends facts start [] hall s failed = absurd (cc (s.is_stored.working, failed))
 failed_ends facts start (c ∷ calls) hall s failed =
-    inr (c.number, lost_at (accounts_in start) (own c.number (c ∷ calls)) (s.places c.number) hall.keeper.book (facts hall.keeper.store) s.is_stored failed)
+    inr (c.number, lost_at (accounts_in start) (of_number c.number (c ∷ calls)) (s.places c.number) hall.keeper.book (facts hall.keeper.store) s.is_stored failed)
 
 pub failed_is_clean : {S : Type 0} (facts : S → StoreFacts) (start : BookFields) (calls : List (Numbered Call)) (hall : HallFields S)
     → StandsHall facts start calls hall → (facts hall.keeper.store).failed ≡ true → IsClean (accounts_in start) (hall_bytes calls)
@@ -156,7 +156,7 @@ phase_found facts start calls hall s n false same (Some guest) some =
     let found = found_holds (IsSeated (accounts_in start) calls s.places) (is_of n) hall.guests guest (s.seated (sym same)) some in
     let number = eqb-true guest.number n found.1 in (
       some_open facts start calls hall s n guest some,
-      subst (λ (m : ℕ). IsPhaseAt (s.places m) (session_phase guest.session)) number
+      subst (λ (m : ℕ). IsPhaseOf (s.places m) (session_phase guest.session)) number
           (session_phase_at (accounts_in start) (s.places guest.number) guest.session found.0.0),
     )
 
@@ -170,8 +170,8 @@ stay_records accounts calls at (inl run) = inl (record { offers = run_offers acc
 stay_records accounts calls at (inr (part, turned, is)) = inr (part, turned)
 
 pub session_records : {S : Type 0} (facts : S → StoreFacts) (start : BookFields) (calls : List (Numbered Call)) (hall : HallFields S)
-    → StandsHall facts start calls hall → (n : ℕ) → HasSessionRecords (accounts_in start) (own n calls)
-session_records facts start calls hall s n = stay_records (accounts_in start) (own n calls) (s.places n) (s.stays n)
+    → StandsHall facts start calls hall → (n : ℕ) → HasSessionRecords (accounts_in start) (of_number n calls)
+session_records facts start calls hall s n = stay_records (accounts_in start) (of_number n calls) (s.places n) (s.stays n)
 
 -- bytes
 pub hall_bytes_next : (c : Numbered Call) (before : List (Numbered Call))
@@ -184,17 +184,17 @@ hall_bytes_next c before =
     ap (λ (b : List ℕ). ended_by_lf (log_text second_header ∷ []) ++ b) whole
     ∙ sym (append_assoc (ended_by_lf (log_text second_header ∷ [])) (numbered_bytes (hall_lines before)) (numbered_bytes more))
 
-pub own_lines : (n : ℕ) (calls : List (Numbered Call)) → own n (hall_lines calls) ≡ call_lines (own n calls)
-own_lines n [] = refl
-own_lines n (c ∷ before) = elim (eqb_tells n c.number) [
+pub of_number_lines : (n : ℕ) (calls : List (Numbered Call)) → of_number n (hall_lines calls) ≡ call_lines (of_number n calls)
+of_number_lines n [] = refl
+of_number_lines n (c ∷ before) = elim (eqb_tells n c.number) [
   | inl same ↦
-      let here = subst (λ (m : ℕ). own n (map (numbered m) c.value.lines) ≡ c.value.lines) same.1 (own_all n c.value.lines) in
-      rw same.0 (own_append n (hall_lines before) (map (numbered c.number) c.value.lines)
-      ∙ ap (λ (l : List LogLine). own n (hall_lines before) ++ l) here ∙ ap (λ (l : List LogLine). l ++ c.value.lines) (own_lines n before))
+      let here = subst (λ (m : ℕ). of_number n (map (numbered m) c.value.lines) ≡ c.value.lines) same.1 (of_number_all n c.value.lines) in
+      rw same.0 (of_number_append n (hall_lines before) (map (numbered c.number) c.value.lines)
+      ∙ ap (λ (l : List LogLine). of_number n (hall_lines before) ++ l) here ∙ ap (λ (l : List LogLine). l ++ c.value.lines) (of_number_lines n before))
   | inr other ↦
-      rw other.0 (own_append n (hall_lines before) (map (numbered c.number) c.value.lines)
-      ∙ ap (λ (l : List LogLine). own n (hall_lines before) ++ l) (own_none c.number n c.value.lines (λ same. other.1 (sym same)))
-      ∙ append-nil (own n (hall_lines before)) ∙ own_lines n before)
+      rw other.0 (of_number_append n (hall_lines before) (map (numbered c.number) c.value.lines)
+      ∙ ap (λ (l : List LogLine). of_number n (hall_lines before) ++ l) (of_number_none c.number n c.value.lines (λ same. other.1 (sym same)))
+      ∙ append-nil (of_number n (hall_lines before)) ∙ of_number_lines n before)
 ]
 
 pub wire_bytes_next : (c : Call) (before : List Call) → wire_bytes (call_lines (c ∷ before)) ≡ wire_bytes (call_lines before) ++ wire_bytes c.lines
@@ -205,9 +205,9 @@ held_or_lost_after : (accounts : Accounts) (calls : List (Numbered Call)) (place
     → IsStoredAfter accounts calls places book store → IsHeld book store ⊎ ((own_calls : List Call) × IsLostAfter accounts own_calls book store)
 held_or_lost_after accounts [] places book store held = inl held
 held_or_lost_after accounts (c ∷ calls) places book store stored =
-    elim (held_or_lost accounts (own c.number (c ∷ calls)) (places c.number) book store stored) [
+    elim (held_or_lost accounts (of_number c.number (c ∷ calls)) (places c.number) book store stored) [
       | inl held ↦ inl held
-      | inr lost ↦ inr (own c.number (c ∷ calls), lost)
+      | inr lost ↦ inr (of_number c.number (c ∷ calls), lost)
     ]
 
 run_to : {S : Type 0} (facts : S → StoreFacts) (start : BookFields) (calls : List (Numbered Call)) (hall : HallFields S) (s : StandsHall facts start calls hall)
@@ -245,8 +245,8 @@ pub stopped_hall : {S : Type 0} (facts : S → StoreFacts) (start : BookFields) 
 stopped_hall facts start calls hall t next s one = run_to facts start calls hall s next (inr (t, one))
 
 pub saved_by_hall : BeginsWithItself → SpentStaysSpent → {S : Type 0} (facts : S → StoreFacts) (start : BookFields) (calls : List (Numbered Call)) (hall : HallFields S)
-    (s : StandsHall facts start calls hall) (ps : List (List ℕ × ℕ)) → IsSpent ps start
-    → (saved : BookFields) × IsBookText (facts hall.keeper.store).saved saved × IsSpent (all_spent (reverse s.told) ++ ps) saved
+    (s : StandsHall facts start calls hall) (ps : List (List ℕ × ℕ)) → AreSpent ps start
+    → (saved : BookFields) × IsBookText (facts hall.keeper.store).saved saved × AreSpent (all_spent (reverse s.told) ++ ps) saved
 saved_by_hall itself stays facts start calls hall s ps spent =
     let book = hall.keeper.book in
     let mine = s.spent ps spent in
@@ -259,7 +259,7 @@ saved_by_hall itself stays facts start calls hall s ps spent =
     ]
 
 pub stopped_by_hall : BeginsWithItself → SpentStaysSpent → {S : Type 0} (facts : S → StoreFacts) (start : BookFields) (calls : List (Numbered Call))
-    (hall : HallFields S) (s : StandsHall facts start calls hall) (ps : List (List ℕ × ℕ)) (t : Told) (next : BookFields) → IsSpent ps start
-    → IsTold hall.keeper.book t next → IsSpent (all_spent (reverse s.told) ++ ps) next
+    (hall : HallFields S) (s : StandsHall facts start calls hall) (ps : List (List ℕ × ℕ)) (t : Told) (next : BookFields) → AreSpent ps start
+    → IsTold hall.keeper.book t next → AreSpent (all_spent (reverse s.told) ++ ps) next
 stopped_by_hall itself stays facts start calls hall s ps t next spent one =
     told_spent itself stays hall.keeper.book next t (all_spent (reverse s.told) ++ ps) one (s.spent ps spent)

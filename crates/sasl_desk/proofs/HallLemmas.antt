@@ -18,7 +18,7 @@ use Rattle.log_grammar.specs.Lines.{LogLine, heard, asking, log_text}
 use Rattle.log_grammar.specs.Sessions.{Told, told_of}
 use Rattle.log_grammar.specs.Demands.{Accounts, demands}
 use Rattle.log_grammar.specs.Places.{Place, between, got_code, waits_code, halted}
-use Rattle.log_grammar.specs.Numbered.{Numbered, numbered, own}
+use Rattle.log_grammar.specs.Numbered.{Numbered, numbered, of_number}
 use Rattle.log_grammar.specs.NumberedLines.{numbered_text}
 use Rattle.log_grammar.specs.NumberedCounts.{is_closed}
 use Rattle.log_grammar.proofs.LineBytes.{reply_line}
@@ -27,14 +27,14 @@ use Rattle.log_grammar.proofs.Snoc.{same_cons}
 use Rattle.sasl_desk.specs.Desks.{IsHeld, IsAttemptOf, IsBookWith, all_spent, session_phase, is_saving}
 use Rattle.sasl_desk.specs.Events.{ClientEvent}
 use Rattle.sasl_desk.specs.Guests.{guest_of}
-use Rattle.sasl_desk.specs.Halls.{HallFields, hall_of, hall_lines, numbered_bytes, IsStay, IsPhaseAt, StandsHall, AnswersIn, IsSameHall}
+use Rattle.sasl_desk.specs.Halls.{HallFields, hall_of, hall_lines, numbered_bytes, IsStay, IsPhaseOf, StandsHall, AnswersIn, IsSameHall}
 use Rattle.otp_core.specs.Secret.{IsMoment}
 use Rattle.sasl_desk.specs.Keeper.{IsTold, IsJudged, IsJudgedInRange}
-use Rattle.sasl_desk.specs.Left.{left_of, judged_lines, judged_left, IsAnswered, AsksJudgement, IsTurnOf, IsTurnWritten}
+use Rattle.sasl_desk.specs.Left.{left_of, judged_lines, judged_left, SessionAnswers, AsksJudgement, IsTurnOf, IsTurnWritten}
 use Rattle.sasl_desk.specs.Marks.{mark, marked_bytes}
 use Rattle.sasl_desk.specs.Runs.{Asked, hears, Call, call_of, own_part, IsTurnTaken, IsRun}
-use Rattle.sasl_desk.specs.Sessions.{IsAt, IsLeftAt, IsRecord, turn_lines}
-use Rattle.sasl_desk.specs.Spent.{IsSpent, SpentStaysSpent}
+use Rattle.sasl_desk.specs.Sessions.{StandsAt, IsLeftAt, IsRecord, turn_lines}
+use Rattle.sasl_desk.specs.Spent.{AreSpent, SpentStaysSpent}
 use Rattle.sasl_desk.specs.Turns.{IsPath}
 use Rattle.sasl_desk.specs.declared.hall.guest.Guest.{Guest}
 use Rattle.sasl_desk.specs.declared.keeper.Keeper.{Keeper}
@@ -76,7 +76,7 @@ leaves_left accounts next ends None is same = (is, same)
 -- the session answered a turn
 step_by_answer : BeginsWithItself → {S : Type 0} (facts : S → StoreFacts) (start : BookFields) (calls : List (Numbered Call)) (keeper : Keeper S) (n : ℕ)
     (going : Session) (part : List ℕ) (others : List Guest) (given : ℕ) (event : ClientEvent) (moment : ℕ) (lines : List LogLine) (left : Left) (new : Keeper S)
-    (s : StandsHall facts start calls (hall_of keeper (guest_of n going part ∷ others) given false)) → IsAnswered keeper going part event lines left new
+    (s : StandsHall facts start calls (hall_of keeper (guest_of n going part ∷ others) given false)) → SessionAnswers keeper going part event lines left new
     → HallStep facts start calls s.places n event moment lines left new
 step_by_answer itself facts start calls keeper n going part others given event moment lines left new s t =
     let accounts = accounts_in start in
@@ -89,14 +89,14 @@ step_by_answer itself facts start calls keeper n going part others given event m
     rw (t.lines_are, t.is_left, t.same) (record {
       next = next;
       told = s.told;
-      taken = taken_by_turn accounts (own_part (own n calls)) part event moment (s.places n) going t.turn t.message is.1 is.0 turn;
+      taken = taken_by_turn accounts (own_part (of_number n calls)) part event moment (s.places n) going t.turn t.message is.1 is.0 turn;
       spelled = path_on 64 (demands accounts) (hall_lines calls) s.places s.told n (turn_lines t.turn t.message) next s.spelled (turn_of_turns t.turn t.message)
           (turn_no_reply accounts part event (s.places n) t.turn t.message turn) (λ line to goes. any_follows facts start calls hall s refl n line) path;
       turns = turn_of_turns t.turn t.message;
       written = rw t.lines_are at t.written;
       leaves = leaves_left accounts next _ t.turn.answer.session turn.is_answer.left (turn_closed n t.turn t.message);
       is_book = s.is_book;
-      stored = held_at_turn accounts (call_of (hears event moment) (turn_lines t.turn t.message) ∷ own n calls) next keeper.book (facts keeper.store)
+      stored = held_at_turn accounts (call_of (hears event moment) (turn_lines t.turn t.message) ∷ of_number n calls) next keeper.book (facts keeper.store)
           (left_rests accounts next t.turn.answer.session turn.is_answer.left) (left_going accounts next t.turn.answer.session turn.is_answer.left)
           (holds_book facts start calls hall s refl);
       spent = s.spent;
@@ -121,8 +121,8 @@ step_by_reply itself stays facts start calls old new n going part others given e
     record {
       next = waits_code name;
       told = s.told ++ t ∷ [];
-      taken = subst (λ (p : Place). IsTurnTaken accounts (own_part (own n calls)) event moment p lines (waits_code name)) (sym asks.place)
-          (taken_by_reply accounts (own_part (own n calls)) event moment name sent reply is_record);
+      taken = subst (λ (p : Place). IsTurnTaken accounts (own_part (of_number n calls)) event moment p lines (waits_code name)) (sym asks.place)
+          (taken_by_reply accounts (own_part (of_number n calls)) event moment name sent reply is_record);
       spelled = reply_on 64 (demands accounts) (hall_lines calls) s.places s.told n name sent moment reply s.spelled (any_follows facts start calls hall s refl n)
           asks.place (told_due old.book new.book t one accounts s.told after);
       turns = (tt, (tt, tt));
@@ -147,14 +147,14 @@ step_by_halt itself facts start calls old new n going part others given event mo
     let asks = asked.asks accounts (s.places n) after.entries seated.0 in
     let is_record = subst (λ (p : Place). IsRecord event p (heard (asking sent))) asks.place asks.is_record in
     let is_open = turn_is_open (s.places n) (client_turn accounts (s.places n) going seated.0) in
-    let run = subst (λ (p : Place). IsRun accounts (own n calls) p) asks.place (run_of accounts (own n calls) (s.places n) is_open (s.stays n)) in
+    let run = subst (λ (p : Place). IsRun accounts (of_number n calls) p) asks.place (run_of accounts (of_number n calls) (s.places n) is_open (s.stays n)) in
     let lines = judged_lines moment sent Lost in
     let path : IsPath (demands accounts) (waits_code name) lines halted = (got_code name sent, code_goes name sent, (halted, refl, refl)) in
     record {
       next = halted;
       told = s.told;
-      taken = subst (λ (p : Place). IsTurnTaken accounts (own_part (own n calls)) event moment p lines halted) (sym asks.place)
-          (taken_by_halt accounts (own_part (own n calls)) event moment name sent is_record);
+      taken = subst (λ (p : Place). IsTurnTaken accounts (own_part (of_number n calls)) event moment p lines halted) (sym asks.place)
+          (taken_by_halt accounts (own_part (of_number n calls)) event moment name sent is_record);
       spelled = path_on 64 (demands accounts) (hall_lines calls) s.places s.told n lines halted s.spelled (tt, (tt, tt)) (tt, (tt, tt))
           (λ line to goes. any_follows facts start calls hall s refl n line)
           (subst (λ (p : Place). IsPath (demands accounts) p lines halted) (sym asks.place) path);
@@ -162,9 +162,9 @@ step_by_halt itself facts start calls old new n going part others given event mo
       written = (asked.written, (halt_written, tt));
       leaves = (refl, refl);
       is_book = subst (λ (b : BookFields). IsBookWith start (reverse s.told) b) (sym judged.0) s.is_book;
-      stored = stored_by_halt accounts (own n calls) old.book new.book (facts old.store) (facts new.store) name event moment sent run
+      stored = stored_by_halt accounts (of_number n calls) old.book new.book (facts old.store) (facts new.store) name event moment sent run
           (holds_book facts start calls hall s refl) judged;
-      spent = λ ps spent. subst (λ (b : BookFields). IsSpent (all_spent (reverse s.told) ++ ps) b) (sym judged.0) (s.spent ps spent);
+      spent = λ ps spent. subst (λ (b : BookFields). AreSpent (all_spent (reverse s.told) ++ ps) b) (sym judged.0) (s.spent ps spent);
     }
 
 step_by_code : BeginsWithItself → SpentStaysSpent → {S : Type 0} (facts : S → StoreFacts) (start : BookFields) (calls : List (Numbered Call)) (old new : Keeper S)
@@ -194,13 +194,13 @@ phase_left (Going going) = session_phase going
 phase_left Over = phase.Closed
 phase_left (Halted going) = phase.Halted
 
-pub session_phase_at : (accounts : Accounts) (at : Place) (going : Session) → IsAt accounts at going → IsPhaseAt at (session_phase going)
+pub session_phase_at : (accounts : Accounts) (at : Place) (going : Session) → StandsAt accounts at going → IsPhaseOf at (session_phase going)
 session_phase_at accounts at Offered is = is
 session_phase_at accounts at (WaitsFirst mechanism) is = (_, is)
 session_phase_at accounts at (WaitsFinal waiting) (first, challenge, is, stands) = (_, _, first, challenge, is)
 session_phase_at accounts at (WaitsCode name) is = (name, is)
 
-phase_left_at : (accounts : Accounts) (at : Place) (ends : ℕ) (left : Left) → LeavesAt accounts at ends left → IsPhaseAt at (phase_left left)
+phase_left_at : (accounts : Accounts) (at : Place) (ends : ℕ) (left : Left) → LeavesAt accounts at ends left → IsPhaseOf at (phase_left left)
 phase_left_at accounts at ends (Going going) is = session_phase_at accounts at going is.0
 phase_left_at accounts at ends Over is = is.0
 phase_left_at accounts at ends (Halted going) is = tt
@@ -281,7 +281,7 @@ answers_by_taken_in itself stays facts old new n going part others given event m
       stands = λ start calls s.
           let step = step_by_turn itself stays facts start calls old new n going part others given event moment lines left s t in
           let after = stands_by_step facts start calls old new n going part others given event moment lines left s step in
-          (after.0, subst (λ (p : Place). IsPhaseAt p (phase_left left)) (sym after.1) (phase_left_at (accounts_in start) step.next _ left step.leaves));
+          (after.0, subst (λ (p : Place). IsPhaseOf p (phase_left left)) (sym after.1) (phase_left_at (accounts_in start) step.next _ left step.leaves));
       saves = λ start calls s. saves_by_turn facts old new going part event moment lines left t (holds_book facts start calls hall s refl);
       asks = λ start calls s some. asks_by_turn itself facts start calls old new n going part others given event moment lines left s t some;
       quiet = λ none. quiet_by_turn facts old new going part event moment lines left t none;

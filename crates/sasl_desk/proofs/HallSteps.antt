@@ -13,7 +13,7 @@ use Rattle.log_grammar.specs.Lines.{LogLine, said, busy, halt}
 use Rattle.log_grammar.specs.Sessions.{Told}
 use Rattle.log_grammar.specs.Demands.{Accounts, Demands, demands}
 use Rattle.log_grammar.specs.Places.{Place, before_all, between, over, halted}
-use Rattle.log_grammar.specs.Numbered.{Numbered, numbered, own, closed_in, MayFollow, SpellsNumbered}
+use Rattle.log_grammar.specs.Numbered.{Numbered, numbered, of_number, closed_in, MayFollow, SpellsNumbered}
 use Rattle.log_grammar.specs.NumberedLines.{IsSessionNumber}
 use Rattle.log_grammar.specs.NumberedCounts.{is_closed}
 use Rattle.log_grammar.specs.NumberedSteps.{put, GoesIn}
@@ -27,8 +27,8 @@ use Rattle.sasl_desk.specs.Events.{ClientEvent}
 use Rattle.sasl_desk.specs.Guests.{is_of, guest_of}
 use Rattle.sasl_desk.specs.Halls.{HallFields, hall_of, hall_lines, IsStay, open_at, IsSeated, StandsHall}
 use Rattle.sasl_desk.specs.Runs.{hears, Call, call_of, own_part, IsTurnTaken}
-use Rattle.sasl_desk.specs.Sessions.{IsAt, CanBeWritten}
-use Rattle.sasl_desk.specs.Spent.{IsSpent}
+use Rattle.sasl_desk.specs.Sessions.{StandsAt, CanBeWritten}
+use Rattle.sasl_desk.specs.Spent.{AreSpent}
 use Rattle.sasl_desk.specs.Turns.{is_client_turn}
 use Rattle.sasl_desk.specs.declared.hall.guest.Guest.{Guest}
 use Rattle.sasl_desk.specs.declared.keeper.Keeper.{Keeper}
@@ -41,11 +41,11 @@ use Rattle.sasl_desk.proofs.PathLemmas.{client_turn}
 use Rattle.sasl_desk.proofs.RunLemmas.{all-append}
 
 -- the calls of a number, with one more
-pub own_here : {X : Type 0} (n : ℕ) (x : X) (xs : List (Numbered X)) → own n (numbered n x ∷ xs) ≡ x ∷ own n xs
-own_here n x xs = rw (eq-eqb n n refl) refl
+pub of_number_here : {X : Type 0} (n : ℕ) (x : X) (xs : List (Numbered X)) → of_number n (numbered n x ∷ xs) ≡ x ∷ of_number n xs
+of_number_here n x xs = rw (eq-eqb n n refl) refl
 
-pub own_skip : {X : Type 0} (n m : ℕ) (x : X) (xs : List (Numbered X)) → (n ≡ m → ⊥) → own m (numbered n x ∷ xs) ≡ own m xs
-own_skip n m x xs other = elim (eqb_tells m n) [
+pub of_number_skip : {X : Type 0} (n m : ℕ) (x : X) (xs : List (Numbered X)) → (n ≡ m → ⊥) → of_number m (numbered n x ∷ xs) ≡ of_number m xs
+of_number_skip n m x xs other = elim (eqb_tells m n) [
   | inl same ↦ absurd (other (sym same.1))
   | inr differ ↦ rw differ.0 refl
 ]
@@ -124,7 +124,7 @@ pub holds_book : {S : Type 0} (facts : S → StoreFacts) (start : BookFields) (c
     (s : StandsHall facts start calls hall) → hall.is_halted ≡ false → IsHeld hall.keeper.book (facts hall.keeper.store)
 holds_book facts start [] hall s working = s.is_stored
 holds_book facts start (c ∷ calls) hall s working =
-    held_unless (accounts_in start) (own c.number (c ∷ calls)) (s.places c.number) hall.keeper.book (facts hall.keeper.store)
+    held_unless (accounts_in start) (of_number c.number (c ∷ calls)) (s.places c.number) hall.keeper.book (facts hall.keeper.store)
     (λ is. halted_stirs (s.places c.number) is (at_rest facts start (c ∷ calls) hall s working c.number)) s.is_stored
 
 -- the guests of a hall in another order
@@ -150,7 +150,7 @@ stands_reordered facts start calls keeper guests others given is_halted same s =
 
 -- a session is left at a place, and its turn has an `E` exactly where it ended
 abbrev pub LeavesAt : Accounts → Place → (ends : ℕ) → Left → Type 0
-LeavesAt accounts next ends (Going going) = IsAt accounts next going × (ends ≡ 0)
+LeavesAt accounts next ends (Going going) = StandsAt accounts next going × (ends ≡ 0)
 LeavesAt accounts next ends Over = (next ≡ between) × (ends ≡ 1)
 LeavesAt accounts next ends (Halted going) = (next ≡ halted) × (ends ≡ 0)
 
@@ -218,8 +218,8 @@ pub others_seated : (accounts : Accounts) (calls : List (Numbered Call)) (places
 others_seated accounts calls places n call next others seated differ =
     all_with (IsSeated accounts calls places) (λ guest. guest.number ≡ n → ⊥) (IsSeated accounts (numbered n call ∷ calls) (put n next places)) others seated differ
     (λ guest is apart. (
-      subst (λ (p : Place). IsAt accounts p guest.session) (sym (put_other n next places guest.number (λ same. apart (sym same)))) is.0,
-      is.1 ∙ ap own_part (sym (own_skip n guest.number call calls (λ same. apart (sym same)))),
+      subst (λ (p : Place). StandsAt accounts p guest.session) (sym (put_other n next places guest.number (λ same. apart (sym same)))) is.0,
+      is.1 ∙ ap own_part (sym (of_number_skip n guest.number call calls (λ same. apart (sym same)))),
     ))
 
 -- a turn of the session of a number, by which its hall stands on
@@ -227,17 +227,17 @@ pub record HallStep {S : Type 0} (facts : S → StoreFacts) (start : BookFields)
     (moment : ℕ) (lines : List LogLine) (left : Left) (keeper : Keeper S) : Type 0 where
   pub next : Place
   pub told : List Told
-  pub taken : IsTurnTaken (accounts_in start) (own_part (own n calls)) event moment (places n) lines next
+  pub taken : IsTurnTaken (accounts_in start) (own_part (of_number n calls)) event moment (places n) lines next
   pub spelled : SpellsNumbered 64 (demands (accounts_in start)) (hall_lines calls ++ map (numbered n) lines) (put n next places) told
   pub turns : AllByRecursion IsTurnLine lines
   pub written : CanBeWritten lines
   pub leaves : LeavesAt (accounts_in start) next (closed_in (map (numbered n) lines)) left
   pub is_book : IsBookWith start (reverse told) keeper.book
-  pub stored : IsStoredAt (accounts_in start) (call_of (hears event moment) lines ∷ own n calls) next keeper.book (facts keeper.store)
-  pub spent : (ps : List (List ℕ × ℕ)) → IsSpent ps start → IsSpent (all_spent (reverse told) ++ ps) keeper.book
+  pub stored : IsStoredAt (accounts_in start) (call_of (hears event moment) lines ∷ of_number n calls) next keeper.book (facts keeper.store)
+  pub spent : (ps : List (List ℕ × ℕ)) → AreSpent ps start → AreSpent (all_spent (reverse told) ++ ps) keeper.book
 
 seated_after : (accounts : Accounts) (calls : List (Numbered Call)) (places : ℕ → Place) (n : ℕ) (part : List ℕ) (left : Left) (others : List Guest) (ends : ℕ)
-    → LeavesAt accounts (places n) ends left → AllByRecursion (IsSeated accounts calls places) others → part ≡ own_part (own n calls)
+    → LeavesAt accounts (places n) ends left → AllByRecursion (IsSeated accounts calls places) others → part ≡ own_part (of_number n calls)
     → halted_after left ≡ false → AllByRecursion (IsSeated accounts calls places) (guests_after n part left others)
 seated_after accounts calls places n part (Going going) others ends is seated same working =
     all-append (IsSeated accounts calls places) others (guest_of n going part ∷ []) seated ((is.0, same), tt)
@@ -256,7 +256,7 @@ stands_by_step facts start calls old new n going part others given event moment 
     let guest = guest_of n going part in
     let places = put n step.next s.places in
     let here = put_here n step.next s.places in
-    let mine = own_here n call calls in
+    let mine = of_number_here n call calls in
     let is = s.seated refl in
     let is_open = turn_is_open (s.places n) (client_turn accounts (s.places n) going is.0.0) in
     let range = open_was_begun 64 (demands accounts) (hall_lines calls) s.places s.told s.spelled n is_open in
@@ -270,15 +270,15 @@ stands_by_step facts start calls old new n going part others given event moment 
       record {
         places = places;
         told = step.told;
-        stays = at_each (λ (m : ℕ). IsStay accounts (own m (numbered n call ∷ calls)) (places m)) n
+        stays = at_each (λ (m : ℕ). IsStay accounts (of_number m (numbered n call ∷ calls)) (places m)) n
             (subst (λ (l : List Call). IsStay accounts l (places n)) (sym mine)
-            (subst (λ (p : Place). IsStay accounts (call ∷ own n calls) p) (sym here) (elim (s.stays n) [
+            (subst (λ (p : Place). IsStay accounts (call ∷ of_number n calls) p) (sym here) (elim (s.stays n) [
               | inl run ↦ inl (s.places n, run, step.taken)
               | inr (part_was, turned, at) ↦ absurd (let same : is_closed between ≡ false = subst (λ (p : Place). is_closed p ≡ false) at is_open in cc same)
             ])))
-            (λ m other. subst (λ (l : List Call). IsStay accounts l (places m)) (sym (own_skip n m call calls other))
-            (subst (λ (p : Place). IsStay accounts (own m calls) p) (sym (put_other n step.next s.places m other)) (s.stays m)));
-        fresh = λ m more. own_skip n m call calls (λ same. omega (arith, same, more, range.1, none, all_begun))
+            (λ m other. subst (λ (l : List Call). IsStay accounts l (places m)) (sym (of_number_skip n m call calls other))
+            (subst (λ (p : Place). IsStay accounts (of_number m calls) p) (sym (put_other n step.next s.places m other)) (s.stays m)));
+        fresh = λ m more. of_number_skip n m call calls (λ same. omega (arith, same, more, range.1, none, all_begun))
             ∙ s.fresh m (omega (arith, more, none, all_begun));
         spelled = step.spelled;
         written = all-append CanBeNumberedLine (hall_lines calls) (map (numbered n) lines) s.written (turn_written n number lines step.turns step.written);
@@ -293,7 +293,7 @@ stands_by_step facts start calls old new n going part others given event moment 
             (others_seated accounts calls s.places n call step.next others is.1 (none_of n others alone)) (is.0.1 ∙ ap own_part (sym mine));
         is_book = step.is_book;
         is_stored = subst (λ (l : List Call). IsStoredAt accounts l (places n) new.book (facts new.store)) (sym mine)
-            (subst (λ (p : Place). IsStoredAt accounts (call ∷ own n calls) p new.book (facts new.store)) (sym here) step.stored);
+            (subst (λ (p : Place). IsStoredAt accounts (call ∷ of_number n calls) p new.book (facts new.store)) (sym here) step.stored);
         spent = step.spent;
       },
       here,

@@ -19,7 +19,7 @@ use Rattle.log_grammar.specs.Demands.{Accounts, IsReplyDue}
 use Rattle.log_grammar.specs.Sessions.{Told, told_of}
 use Rattle.sasl_log.proofs.TokenLemmas.{reply_by, book_after}
 use Rattle.sasl_log.specs.Tokens.{IsBookAfter}
-use Rattle.sasl_desk.specs.Keeper.{IsTold, NeedsSave, IsKept, HoldsText}
+use Rattle.sasl_desk.specs.Keeper.{IsTold, NeedsSave, IsKept, SavesText}
 
 -- a token judged what was sent, and leads on from where it was
 pub record IsStep (token : Fields) (moment : ℕ) (sent : CodeTexts) (reply : Reply) (now : Fields) : Type 0 where
@@ -73,7 +73,7 @@ told_locked old name token now moment sent reply is has step locked was =
     (told_by old old name token now moment sent reply is has step (is_changed old name (with_token now) old stays), rw locked (refl, refl))
 
 -- a reply that is not LOCKED is kept by a store that holds the book's text
-pub kept_by : (old new : BookFields) (was now : StoreFacts) (reply : Reply) → reply ≢ Locked → HoldsText was new now → IsKept (Some reply) old was new now
+pub kept_by : (old new : BookFields) (was now : StoreFacts) (reply : Reply) → reply ≢ Locked → SavesText was new now → IsKept (Some reply) old was new now
 kept_by old new was now (Pass counter) apart holds = holds
 kept_by old new was now Fail apart holds = holds
 kept_by old new was now Locked apart holds = absurd (apart refl)

@@ -12,7 +12,7 @@ use Rattle.log_grammar.specs.Steps.{Goes, told_at}
 use Rattle.log_grammar.specs.Clean.{Begins}
 use Rattle.sasl_desk.specs.Events.{ClientEvent, sends, goes_away}
 use Rattle.sasl_desk.specs.Turns.{is_client_turn, record_place, IsPath}
-use Rattle.sasl_desk.specs.Sessions.{IsAt, IsRecord, IsTurn, recorded_shown, turn_lines, said_lines, end_lines}
+use Rattle.sasl_desk.specs.Sessions.{StandsAt, IsRecord, IsTurn, recorded_shown, turn_lines, said_lines, end_lines}
 use Rattle.sasl_desk.specs.declared.session.Session.{Session}
 use Rattle.sasl_desk.specs.declared.session.Session.TheVariants.{Offered, WaitsFirst, WaitsFinal, WaitsCode}
 use Rattle.sasl_desk.specs.declared.session.turn.Saying.{Saying}
@@ -21,7 +21,7 @@ use Rattle.sasl_desk.specs.declared.session.turn.Turn.{Turn}
 use Rattle.sasl_desk.proofs.TurnLemmas.{due_goes, bad_goes, gone_goes}
 
 -- where a session stands it is the client's turn
-pub client_turn : (accounts : Accounts) (at : Place) (going : Session) → IsAt accounts at going → is_client_turn at ≡ true
+pub client_turn : (accounts : Accounts) (at : Place) (going : Session) → StandsAt accounts at going → is_client_turn at ≡ true
 client_turn accounts at Offered is = rw is refl
 client_turn accounts at (WaitsFirst mechanism) is = rw is refl
 client_turn accounts at (WaitsFinal waiting) (client_first, server_first, place, stands) = rw place refl
@@ -36,7 +36,7 @@ record_goes d at goes_away gone turn is = gone_goes d at turn
 record_goes d at event recorded turn is = absurd is
 
 -- the lines of a turn are a path
-pub turn_path : (accounts : Accounts) (own : List ℕ) (event : ClientEvent) (at : Place) (going : Session) (turn : Turn) (message : List ℕ) → IsAt accounts at going
+pub turn_path : (accounts : Accounts) (own : List ℕ) (event : ClientEvent) (at : Place) (going : Session) (turn : Turn) (message : List ℕ) → StandsAt accounts at going
     → (t : IsTurn accounts own event at turn message) → IsPath (demands accounts) at (turn_lines turn message) t.is_answer.next
 turn_path accounts own event at going turn message is t = (
   record_place at (recorded_shown turn.recorded),

@@ -9,11 +9,12 @@ use Rattle.log_grammar.specs.Books.{accounts_in}
 use Rattle.log_grammar.specs.Lines.{LogLine, header, second_header, said, heard, bad, gone, ended, mechs}
 use Rattle.log_grammar.specs.Demands.{Accounts}
 use Rattle.log_grammar.specs.Places.{Place}
+use Rattle.log_grammar.specs.Counts.{is_offer}
 use Rattle.sasl_desk.specs.Events.{ClientEvent, sends, goes_away}
 use Rattle.sasl_desk.specs.Sessions.{IsRecord}
 use Rattle.sasl_desk.specs.Runs.{Asked, greets, hears, Call, run_lines, own_part, IsAnswerLine, IsTurnTaken, IsAnsweredBy, IsRun}
 use Rattle.sasl_desk.specs.Desks.{Stands}
-use Rattle.sasl_desk.specs.Records.{is_offer, is_record, nonces_in, nonces_with, HasRecordOf, AreRecords, HasItsRecords}
+use Rattle.sasl_desk.specs.Records.{is_record, nonces_in, nonces_with, HasRecordOf, AreRecords, HasItsRecords}
 use Rattle.sasl_desk.specs.declared.desk.Desk.{Desk}
 
 -- what answers a client records nothing

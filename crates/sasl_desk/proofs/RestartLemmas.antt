@@ -17,14 +17,15 @@ use Rattle.log_grammar.specs.Clean.{Begins, AreLines}
 use Rattle.log_grammar.specs.Versions.{IsFront, IsClean}
 use Rattle.log_grammar.proofs.FaultLemmas.{lines_front, lines_clean}
 use Rattle.log_grammar.proofs.HeadlineLemmas.{are_lines, each_lacks}
+use Rattle.log_grammar.specs.Logins.{log_bytes}
 use Rattle.sasl_desk.specs.Keeper.{IsTold}
 use Rattle.sasl_desk.specs.Sessions.{CanBeWritten}
-use Rattle.sasl_desk.specs.Runs.{Call, run_lines, log_bytes}
-use Rattle.sasl_desk.specs.Spent.{AreDifferent, IsUsedUp, IsSpent, spent_by, SpentStaysSpent}
+use Rattle.sasl_desk.specs.Runs.{Call, run_lines}
+use Rattle.sasl_desk.specs.Spent.{AreDifferent, IsUsedUp, AreSpent, spent_by, SpentStaysSpent}
 use Rattle.sasl_desk.specs.Desks.{IsHeld, IsLostAfter, IsStoredAt, IsStateAt, all_spent, Stands, phase_of, session_phase}
 use Rattle.log_grammar.specs.NumberedLaws.{HasOneNumberedReading}
 use Rattle.sasl_desk.specs.Halls.{hall_lines}
-use Rattle.sasl_desk.specs.Restarts.{Run, IsRunOf, HallRun, IsHallRunOf, Change, ran, hosts, judged, unlocks, adds, IsChange, AreChanges, spent_by_change, spent_in}
+use Rattle.sasl_desk.specs.Restarts.{Run, IsDeskRunOf, HallRun, IsHallRunOf, Change, ran, hosts, judged, unlocks, adds, IsChange, AreChanges, spent_by_change, spent_in}
 use Rattle.sasl_desk.specs.declared.desk.Desk.{Desk}
 use Rattle.sasl_desk.specs.declared.desk.state.State.{State}
 use Rattle.sasl_desk.specs.declared.desk.state.State.TheVariants.{Closed, Open, Halted}
@@ -97,25 +98,25 @@ fewer_used : (book : BookFields) (ps qs : List (List ℕ × ℕ)) → AllByRecur
 fewer_used book [] qs all = all
 fewer_used book (p ∷ ps) qs all = fewer_used book ps qs all.1
 
-fewer_spent : (book : BookFields) (ps qs : List (List ℕ × ℕ)) → IsSpent (ps ++ qs) book → IsSpent qs book
+fewer_spent : (book : BookFields) (ps qs : List (List ℕ × ℕ)) → AreSpent (ps ++ qs) book → AreSpent qs book
 fewer_spent book ps qs spent = record { different = fewer_different ps qs spent.different; used = fewer_used book ps qs spent.used }
 
 -- what was spent after an attempt that the book's token judged
 spent_after_told : BeginsWithItself → SpentStaysSpent → (old new : BookFields) (t : Told) (ps : List (List ℕ × ℕ)) → IsTold old t new
-    → IsSpent ps old → IsSpent (spent_by t ++ ps) new
+    → AreSpent ps old → AreSpent (spent_by t ++ ps) new
 spent_after_told itself stays old new t ps one spent =
     let self = book_itself itself old in
     stays old new t ps one.is_moment (told_due old new t one (accounts_in old) [] self) (told_after old new t one (accounts_in old) [] self) spent
 
 -- what was spent after one run
 spent_after_run : BeginsWithItself → SpentStaysSpent → HasOneReading → {S : Type 0} (facts : S → StoreFacts) (r : Run) (ps : List (List ℕ × ℕ))
-    → IsRunOf facts r → IsSpent ps r.start → IsSpent (all_spent (reverse r.told) ++ ps) r.left
+    → IsDeskRunOf facts r → AreSpent ps r.start → AreSpent (all_spent (reverse r.told) ++ ps) r.left
 spent_after_run itself stays once facts r ps run spent =
     let s = run.stands in
     let same = once (accounts_in r.start) (run_lines r.calls) s.place r.place s.told r.told s.begins run.begins in
-    let own = subst (λ (t : List Told). IsSpent (all_spent (reverse t) ++ ps) run.desk.keeper.book) same.1 (s.spent ps spent) in
+    let own = subst (λ (t : List Told). AreSpent (all_spent (reverse t) ++ ps) run.desk.keeper.book) same.1 (s.spent ps spent) in
     elim run.leaves [
-      | inl left ↦ subst (λ (b : BookFields). IsSpent (all_spent (reverse r.told) ++ ps) b) (sym left) own
+      | inl left ↦ subst (λ (b : BookFields). AreSpent (all_spent (reverse r.told) ++ ps) b) (sym left) own
       | inr (t, one) ↦
           fewer_spent r.left (spent_by t) (all_spent (reverse r.told) ++ ps)
           (spent_after_told itself stays run.desk.keeper.book r.left t (all_spent (reverse r.told) ++ ps) one own)
@@ -123,13 +124,13 @@ spent_after_run itself stays once facts r ps run spent =
 
 -- what was spent after one run of a hall
 spent_after_hall : BeginsWithItself → SpentStaysSpent → HasOneNumberedReading → {S : Type 0} (facts : S → StoreFacts) (r : HallRun) (ps : List (List ℕ × ℕ))
-    → IsHallRunOf facts r → IsSpent ps r.start → IsSpent (all_spent (reverse r.told) ++ ps) r.left
+    → IsHallRunOf facts r → AreSpent ps r.start → AreSpent (all_spent (reverse r.told) ++ ps) r.left
 spent_after_hall itself stays once facts r ps run spent =
     let s = run.stands in
     let same = once 64 (accounts_in r.start) (hall_lines r.calls) s.places r.places s.told r.told s.spelled run.spelled in
-    let own = subst (λ (t : List Told). IsSpent (all_spent (reverse t) ++ ps) run.hall.keeper.book) same.1 (s.spent ps spent) in
+    let own = subst (λ (t : List Told). AreSpent (all_spent (reverse t) ++ ps) run.hall.keeper.book) same.1 (s.spent ps spent) in
     elim run.leaves [
-      | inl left ↦ subst (λ (b : BookFields). IsSpent (all_spent (reverse r.told) ++ ps) b) (sym left) own
+      | inl left ↦ subst (λ (b : BookFields). AreSpent (all_spent (reverse r.told) ++ ps) b) (sym left) own
       | inr (t, one) ↦
           fewer_spent r.left (spent_by t) (all_spent (reverse r.told) ++ ps)
           (spent_after_told itself stays run.hall.keeper.book r.left t (all_spent (reverse r.told) ++ ps) one own)
@@ -137,13 +138,13 @@ spent_after_hall itself stays once facts r ps run spent =
 
 -- what was spent after a change
 spent_after : BeginsWithItself → SpentStaysSpent → HasOneReading → HasOneNumberedReading → TokensAreApart → CandidatesAreNew → AddedIsApart → {S : Type 0} (facts : S → StoreFacts)
-    (c : Change) (old new : BookFields) (ps : List (List ℕ × ℕ)) → IsChange facts c old new → IsSpent ps old → IsSpent (spent_by_change c ++ ps) new
+    (c : Change) (old new : BookFields) (ps : List (List ℕ × ℕ)) → IsChange facts c old new → AreSpent ps old → AreSpent (spent_by_change c ++ ps) new
 spent_after itself stays once numbered_once apart fresh added facts (ran r) old new ps (run, start, left) spent =
-    subst (λ (b : BookFields). IsSpent (all_spent (reverse r.told) ++ ps) b) left
-    (spent_after_run itself stays once facts r ps run (subst (λ (b : BookFields). IsSpent ps b) (sym start) spent))
+    subst (λ (b : BookFields). AreSpent (all_spent (reverse r.told) ++ ps) b) left
+    (spent_after_run itself stays once facts r ps run (subst (λ (b : BookFields). AreSpent ps b) (sym start) spent))
 spent_after itself stays once numbered_once apart fresh added facts (hosts r) old new ps (run, start, left) spent =
-    subst (λ (b : BookFields). IsSpent (all_spent (reverse r.told) ++ ps) b) left
-    (spent_after_hall itself stays numbered_once facts r ps run (subst (λ (b : BookFields). IsSpent ps b) (sym start) spent))
+    subst (λ (b : BookFields). AreSpent (all_spent (reverse r.told) ++ ps) b) left
+    (spent_after_hall itself stays numbered_once facts r ps run (subst (λ (b : BookFields). AreSpent ps b) (sym start) spent))
 spent_after itself stays once numbered_once apart fresh added facts (judged t) old new ps one spent = spent_after_told itself stays old new t ps one spent
 spent_after itself stays once numbered_once apart fresh added facts (unlocks name) old new ps changed spent = unlocks_keep apart fresh old new name ps changed spent
 spent_after itself stays once numbered_once apart fresh added facts (adds name account) old new ps (free, is) spent =
@@ -151,11 +152,11 @@ spent_after itself stays once numbered_once apart fresh added facts (adds name a
 
 pub spent_over_changes : BeginsWithItself → SpentStaysSpent → HasOneReading → HasOneNumberedReading → TokensAreApart → CandidatesAreNew → AddedIsApart → {S : Type 0}
     (facts : S → StoreFacts) (first : BookFields) (changes : List Change) (last : BookFields) (ps : List (List ℕ × ℕ)) → AreChanges facts first changes last
-    → IsSpent ps first → IsSpent (spent_in changes ++ ps) last
-spent_over_changes itself stays once numbered_once apart fresh added facts first [] last ps same spent = subst (λ (b : BookFields). IsSpent ps b) (sym same) spent
+    → AreSpent ps first → AreSpent (spent_in changes ++ ps) last
+spent_over_changes itself stays once numbered_once apart fresh added facts first [] last ps same spent = subst (λ (b : BookFields). AreSpent ps b) (sym same) spent
 spent_over_changes itself stays once numbered_once apart fresh added facts first (c ∷ before) last ps (middle, earlier, change) spent =
     let until = spent_over_changes itself stays once numbered_once apart fresh added facts first before middle ps earlier spent in
-    subst (λ (l : List (List ℕ × ℕ)). IsSpent l last) (sym (append_assoc (spent_by_change c) (spent_in before) ps))
+    subst (λ (l : List (List ℕ × ℕ)). AreSpent l last) (sym (append_assoc (spent_by_change c) (spent_in before) ps))
     (spent_after itself stays once numbered_once apart fresh added facts c middle last (spent_in before ++ ps) change until)
 
 pub held_or_lost : (accounts : Accounts) (calls : List Call) (place : Place) (book : BookFields) (store : StoreFacts) → IsStoredAt accounts calls place book store
@@ -165,7 +166,7 @@ held_or_lost accounts calls place book store held = inl held
 
 -- the store holds the text of a book that the desk leaves
 pub left_book : {S : Type 0} (facts : S → StoreFacts) (start : BookFields) (calls : List Call) (desk : Desk S) (s : Stands facts start calls desk)
-    → (r : Run) × IsRunOf facts r × (r.start ≡ start) × (r.calls ≡ calls) × IsBookText (facts desk.keeper.store).saved r.left
+    → (r : Run) × IsDeskRunOf facts r × (r.start ≡ start) × (r.calls ≡ calls) × IsBookText (facts desk.keeper.store).saved r.left
 left_book facts start calls desk s =
     let run_to : BookFields → Run = λ left. record { start = start; calls = calls; place = s.place; told = s.told; left = left } in
     elim (held_or_lost (accounts_in start) calls s.place desk.keeper.book (facts desk.keeper.store) s.is_stored) [
@@ -179,7 +180,7 @@ left_book facts start calls desk s =
 
 -- a stop within a call leaves the book with the attempt that is judged
 pub stopped_run : {S : Type 0} (facts : S → StoreFacts) (start : BookFields) (calls : List Call) (desk : Desk S) (t : Told) (next : BookFields)
-    (s : Stands facts start calls desk) → IsTold desk.keeper.book t next → (r : Run) × IsRunOf facts r × (r.start ≡ start) × (r.calls ≡ calls) × (r.left ≡ next)
+    (s : Stands facts start calls desk) → IsTold desk.keeper.book t next → (r : Run) × IsDeskRunOf facts r × (r.start ≡ start) × (r.calls ≡ calls) × (r.left ≡ next)
 stopped_run facts start calls desk t next s one = (
   record { start = start; calls = calls; place = s.place; told = s.told; left = next },
   record { desk = desk; stands = s; begins = s.begins; leaves = inr (t, one) },
@@ -189,13 +190,13 @@ stopped_run facts start calls desk t next s one = (
 )
 
 -- what was spent is spent after one more attempt
-pub told_spent : BeginsWithItself → SpentStaysSpent → (old new : BookFields) (t : Told) (ps : List (List ℕ × ℕ)) → IsTold old t new → IsSpent ps old → IsSpent ps new
+pub told_spent : BeginsWithItself → SpentStaysSpent → (old new : BookFields) (t : Told) (ps : List (List ℕ × ℕ)) → IsTold old t new → AreSpent ps old → AreSpent ps new
 told_spent itself stays old new t ps one spent = fewer_spent new (spent_by t) ps (spent_after_told itself stays old new t ps one spent)
 
 -- each counter that was told is used in the book whose text the store holds
 pub saved_spent : BeginsWithItself → SpentStaysSpent → {S : Type 0} (facts : S → StoreFacts) (start : BookFields) (calls : List Call) (desk : Desk S)
-    (s : Stands facts start calls desk) (ps : List (List ℕ × ℕ)) → IsSpent ps start
-    → (saved : BookFields) × IsBookText (facts desk.keeper.store).saved saved × IsSpent (all_spent (reverse s.told) ++ ps) saved
+    (s : Stands facts start calls desk) (ps : List (List ℕ × ℕ)) → AreSpent ps start
+    → (saved : BookFields) × IsBookText (facts desk.keeper.store).saved saved × AreSpent (all_spent (reverse s.told) ++ ps) saved
 saved_spent itself stays facts start calls desk s ps spent =
     let book = desk.keeper.book in
     let own = s.spent ps spent in
@@ -209,7 +210,7 @@ saved_spent itself stays facts start calls desk s ps spent =
 
 -- and in the one that a stop within a call leaves
 pub stopped_spent : BeginsWithItself → SpentStaysSpent → {S : Type 0} (facts : S → StoreFacts) (start : BookFields) (calls : List Call) (desk : Desk S)
-    (s : Stands facts start calls desk) (ps : List (List ℕ × ℕ)) (t : Told) (next : BookFields) → IsSpent ps start → IsTold desk.keeper.book t next
-    → IsSpent (all_spent (reverse s.told) ++ ps) next
+    (s : Stands facts start calls desk) (ps : List (List ℕ × ℕ)) (t : Told) (next : BookFields) → AreSpent ps start → IsTold desk.keeper.book t next
+    → AreSpent (all_spent (reverse s.told) ++ ps) next
 stopped_spent itself stays facts start calls desk s ps t next spent one =
     told_spent itself stays desk.keeper.book next t (all_spent (reverse s.told) ++ ps) one (s.spent ps spent)

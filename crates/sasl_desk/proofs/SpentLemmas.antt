@@ -18,7 +18,7 @@ use Rattle.log_grammar.specs.Books.{accounts_in}
 use Rattle.log_grammar.specs.Sessions.{Told, told_of}
 use Rattle.log_grammar.specs.Demands.{IsReplyBy, attempts_of}
 use Rattle.sasl_log.specs.Tokens.{LeadsTo, IsBookAfter}
-use Rattle.sasl_desk.specs.Spent.{IsUsedUp, IsSpent, counters_by, with_name, SpentStaysSpent}
+use Rattle.sasl_desk.specs.Spent.{IsUsedUp, AreSpent, counters_by, with_name, SpentStaysSpent}
 
 -- a counter is below each that can pass with a token
 abbrev pub IsBelow : Fields → ℕ → Type 0
@@ -101,7 +101,7 @@ is_other old name start counter c moment has is can at (other, used) up same =
 
 -- what was spent is spent after what was told
 spent_stays : LegalHistoriesJoin → (old new : BookFields) (t : Told) (ps : List (List ℕ × ℕ)) → IsBookAfter (accounts_in old) (t ∷ []) new
-    → IsSpent ps old → IsSpent ps new
+    → AreSpent ps old → AreSpent ps new
 spent_stays join old new t ps after spent = record {
   different = spent.different;
   used = all_stay (λ p. IsUsedUp old p.0 p.1) (λ p. IsUsedUp new p.0 p.1) (λ p used. stays_used join old new t after p.0 p.1 used) ps spent.used;
@@ -123,7 +123,7 @@ after_pass_of join fresh old new name moment sent c start has after =
 
 spent_by_one : LegalHistoriesJoin → CandidatesAreNew → (old new : BookFields) (name : List ℕ) (moment : ℕ) (text : List ℕ) (c : ℕ) (start : Fields)
     (ps : List (List ℕ × ℕ)) → token_at old name ≡ Some start → IsMoment moment → IsFitting start [] moment (OneText text) c
-    → IsBookAfter (accounts_in old) (told_of name moment (OneText text) (Some (Pass c)) ∷ []) new → IsSpent ps old → IsSpent ((name, c) ∷ ps) new
+    → IsBookAfter (accounts_in old) (told_of name moment (OneText text) (Some (Pass c)) ∷ []) new → AreSpent ps old → AreSpent ((name, c) ∷ ps) new
 spent_by_one join fresh old new name moment text c start ps has is fits after spent =
     let token = after_pass_of join fresh old new name moment (OneText text) c start has after in
     let stays = spent_stays join old new (told_of name moment (OneText text) (Some (Pass c))) ps after spent in
@@ -135,8 +135,8 @@ spent_by_one join fresh old new name moment text c start ps has is fits after sp
 
 spent_by_two : LegalHistoriesJoin → CandidatesAreNew → (old new : BookFields) (name : List ℕ) (moment : ℕ) (first second : List ℕ) (c : ℕ)
     (start : Fields) (ps : List (List ℕ × ℕ)) → token_at old name ≡ Some start → IsMoment moment → IsFitting start [] moment (TwoTexts first second) c
-    → IsBookAfter (accounts_in old) (told_of name moment (TwoTexts first second) (Some (Pass c)) ∷ []) new → IsSpent ps old
-    → IsSpent ((name, c) ∷ (name, c - 1) ∷ ps) new
+    → IsBookAfter (accounts_in old) (told_of name moment (TwoTexts first second) (Some (Pass c)) ∷ []) new → AreSpent ps old
+    → AreSpent ((name, c) ∷ (name, c - 1) ∷ ps) new
 spent_by_two join fresh old new name moment first second c start ps has is (w, next, can, one, two) after spent =
     let token = after_pass_of join fresh old new name moment (TwoTexts first second) c start has after in
     let stays = spent_stays join old new (told_of name moment (TwoTexts first second) (Some (Pass c))) ps after spent in
@@ -160,7 +160,7 @@ none_due moment sent r same = cc
 
 spent_next : LegalHistoriesJoin → CandidatesAreNew → (old new : BookFields) (name : List ℕ) (moment : ℕ) (sent : CodeTexts) (reply : Option Reply)
     (ps : List (List ℕ × ℕ)) (o : Option Fields) → token_at old name ≡ o → IsReplyBy o [] moment sent reply → IsMoment moment
-    → IsBookAfter (accounts_in old) (told_of name moment sent reply ∷ []) new → IsSpent ps old → IsSpent (with_name name (counters_by sent reply) ++ ps) new
+    → IsBookAfter (accounts_in old) (told_of name moment sent reply ∷ []) new → AreSpent ps old → AreSpent (with_name name (counters_by sent reply) ++ ps) new
 spent_next join fresh old new name moment sent None ps o has due is after spent = spent_stays join old new _ ps after spent
 spent_next join fresh old new name moment sent (Some Fail) ps o has due is after spent = spent_stays join old new _ ps after spent
 spent_next join fresh old new name moment sent (Some Locked) ps o has due is after spent = spent_stays join old new _ ps after spent

@@ -25,16 +25,17 @@ use Rattle.log_grammar.specs.Clean.{Begins}
 use Rattle.log_grammar.proofs.ExampleLemmas.{is_sha_256, is_sha_1}
 use Rattle.log_grammar.proofs.LineBytes.{reply_line}
 use Rattle.log_grammar.proofs.Shortening.{code_goes}
+use Rattle.log_grammar.specs.Logins.{log_bytes}
 use Rattle.sasl_log.specs.Logins.{KeepsEntries}
 use Rattle.sasl_log.specs.Texts.{CanBeLogLine}
 use Rattle.sasl_log.specs.Tokens.{LeadsTo, IsBookAfter}
 use Rattle.sasl_desk.specs.Events.{ClientEvent}
 use Rattle.sasl_desk.specs.Turns.{is_client_turn, IsPath}
-use Rattle.sasl_desk.specs.Keeper.{IsTold, HoldsText, IsKept, IsJudged, IsJudgedInRange}
-use Rattle.sasl_desk.specs.Sessions.{IsAt, IsLeftAt, IsRecord, IsTurn, recorded_shown, said_lines, end_lines, answer_lines, turn_lines, CanBeWritten, IsOwnChallenge}
-use Rattle.sasl_desk.specs.Runs.{greets, hears, IsAtRest, IsTurnTaken, Call, call_of, run_lines, own_part, log_bytes, wire_bytes, IsRun}
-use Rattle.sasl_desk.specs.Spent.{IsSpent, spent_by, SpentStaysSpent}
-use Rattle.sasl_desk.specs.Left.{left_of, judged_lines, judged_left, IsAnswered, IsCodeJudged, AsksJudgement, AreSent, IsTurnWritten}
+use Rattle.sasl_desk.specs.Keeper.{IsTold, SavesText, IsKept, IsJudged, IsJudgedInRange}
+use Rattle.sasl_desk.specs.Sessions.{StandsAt, IsLeftAt, IsRecord, IsTurn, recorded_shown, said_lines, end_lines, lines_of_answer, turn_lines, CanBeWritten, IsOwnChallenge}
+use Rattle.sasl_desk.specs.Runs.{greets, hears, IsAtRest, IsTurnTaken, Call, call_of, run_lines, own_part, wire_bytes, IsRun}
+use Rattle.sasl_desk.specs.Spent.{AreSpent, spent_by, SpentStaysSpent}
+use Rattle.sasl_desk.specs.Left.{left_of, judged_lines, judged_left, SessionAnswers, IsCodeJudged, AsksJudgement, AreSent, IsTurnWritten}
 use Rattle.sasl_desk.specs.Marks.{marked_bytes}
 use Rattle.sasl_desk.specs.Desks.{IsStateAt, IsHeld, IsAttemptOf, IsStoredAt, IsBookWith, all_spent, Stands, Answers, phase_of, session_phase, desk_of, state_after, is_saving}
 use Rattle.sasl_desk.specs.declared.turn.Left.{Left}
@@ -105,7 +106,7 @@ pub header_written : CanBeLogLine header
 header_written = record { spelled = refl; ranges = tt; short = omega arith }
 
 stands_at_first : BeginsWithItself → GoesOnByALine → {S : Type 0} (facts : S → StoreFacts) (keeper : Keeper S) (was : StoreFacts)
-    → HoldsText was keeper.book (facts keeper.store) → Stands facts keeper.book [] (desk_of keeper Closed)
+    → SavesText was keeper.book (facts keeper.store) → Stands facts keeper.book [] (desk_of keeper Closed)
 stands_at_first itself law facts keeper was holds = record {
   place = between;
   told = [];
@@ -119,10 +120,10 @@ stands_at_first itself law facts keeper was holds = record {
 }
 
 pub stands_from : BeginsWithItself → GoesOnByALine → {S : Type 0} (facts : S → StoreFacts) (book : BookFields) (keeper : Keeper S) (was : StoreFacts)
-    → keeper.book ≡ book → HoldsText was book (facts keeper.store) → Stands facts book [] (desk_of keeper Closed)
+    → keeper.book ≡ book → SavesText was book (facts keeper.store) → Stands facts book [] (desk_of keeper Closed)
 stands_from itself law facts book keeper was same holds =
     subst (λ (b : BookFields). Stands facts b [] (desk_of keeper Closed)) same
-    (stands_at_first itself law facts keeper was (subst (λ (b : BookFields). HoldsText was b (facts keeper.store)) (sym same) holds))
+    (stands_at_first itself law facts keeper was (subst (λ (b : BookFields). SavesText was b (facts keeper.store)) (sym same) holds))
 
 -- a desk that greets
 pub mechs_written : CanBeLogLine (said (mechs offered_names))
@@ -151,11 +152,11 @@ stands_by_greeting law facts start calls keeper own s =
 
 -- the turn that a session took, in the words of a run
 pub taken_by_turn : (accounts : Accounts) (own part : List ℕ) (event : ClientEvent) (moment : ℕ) (at : Place) (going : Session) (turn : Turn) (message : List ℕ)
-    → part ≡ own → IsAt accounts at going → (t : IsTurn accounts part event at turn message)
+    → part ≡ own → StandsAt accounts at going → (t : IsTurn accounts part event at turn message)
     → IsTurnTaken accounts own event moment at (turn_lines turn message) t.is_answer.next
 taken_by_turn accounts own part event moment at going turn message same is t = record {
   recorded = recorded_shown turn.recorded;
-  answered = answer_lines turn.answer message;
+  answered = lines_of_answer turn.answer message;
   lines_are = refl;
   is_record = t.is_record;
   answers = answer_answers turn.answer.says turn.answer.session message;
@@ -202,7 +203,7 @@ taken_by_halt accounts own event moment name sent is_record = record {
 -- a desk whose session answers a turn
 stands_by_turn : BeginsWithItself → GoesOnByALine → {S : Type 0} (facts : S → StoreFacts) (start : BookFields) (calls : List Call) (keeper : Keeper S) (going : Session)
     (own : List ℕ) (event : ClientEvent) (moment : ℕ) (turn : Turn) (message : List ℕ) → Stands facts start calls (desk_of keeper (Open going own))
-    → ((accounts : Accounts) (at : Place) → KeepsEntries accounts keeper.book → IsAt accounts at going → IsTurn accounts own event at turn message)
+    → ((accounts : Accounts) (at : Place) → KeepsEntries accounts keeper.book → StandsAt accounts at going → IsTurn accounts own event at turn message)
     → CanBeWritten (turn_lines turn message)
     → Stands facts start (call_of (hears event moment) (turn_lines turn message) ∷ calls) (desk_of keeper (state_after (left_of turn.answer.session) own))
 stands_by_turn itself law facts start calls keeper going own event moment turn message s hears_it written =
@@ -250,7 +251,7 @@ answer_saves Refuses going message = ends_save going
 
 pub turn_saves : (turn : Turn) (message : List ℕ) → filter is_saving (turn_lines turn message) ≡ []
 turn_saves turn message =
-    recorded_saves turn.recorded (answer_lines turn.answer message) ∙ answer_saves turn.answer.says turn.answer.session message
+    recorded_saves turn.recorded (lines_of_answer turn.answer message) ∙ answer_saves turn.answer.says turn.answer.session message
 
 -- after a reply the store holds the text of the book, if it held that of the book before it
 pub kept_held : (reply : Option Reply) (old new : BookFields) (was now : StoreFacts) → IsKept reply old was new now → IsHeld old was → IsHeld new now
@@ -265,15 +266,15 @@ kept_held None old new was now (same, unasked) held =
 
 -- what was spent after one more reply
 pub spent_after : BeginsWithItself → SpentStaysSpent → (start old new : BookFields) (told : List Told) (t : Told) → IsTold old t new
-    → ((ps : List (List ℕ × ℕ)) → IsSpent ps start → IsSpent (all_spent (reverse told) ++ ps) old)
-    → (ps : List (List ℕ × ℕ)) → IsSpent ps start → IsSpent (all_spent (reverse (told ++ t ∷ [])) ++ ps) new
+    → ((ps : List (List ℕ × ℕ)) → AreSpent ps start → AreSpent (all_spent (reverse told) ++ ps) old)
+    → (ps : List (List ℕ × ℕ)) → AreSpent ps start → AreSpent (all_spent (reverse (told ++ t ∷ [])) ++ ps) new
 spent_after itself stays start old new told t one before ps spent =
     let own = book_itself itself old in
     let on =
     stays old new t (all_spent (reverse told) ++ ps) one.is_moment (told_due old new t one (accounts_in old) [] own) (told_after old new t one (accounts_in old) [] own)
     (before ps spent) in
-    subst (λ (l : List Told). IsSpent (all_spent l ++ ps) new) (sym (reverse-append told (t ∷ [])))
-    (subst (λ (l : List (List ℕ × ℕ)). IsSpent l new) (sym (append_assoc (spent_by t) (all_spent (reverse told)) ps)) on)
+    subst (λ (l : List Told). AreSpent (all_spent l ++ ps) new) (sym (reverse-append told (t ∷ [])))
+    (subst (λ (l : List (List ℕ × ℕ)). AreSpent l new) (sym (append_assoc (spent_by t) (all_spent (reverse told)) ps)) on)
 
 -- a log goes on by a code, or two in a row, and its reply
 begins_by_reply : GoesOnByALine → (accounts : Accounts) (log : List LogLine) (name : List ℕ) (told : List Told) (moment : ℕ) (sent : CodeTexts) (reply : Option Reply)
@@ -376,7 +377,7 @@ stands_by_halt law facts start calls old new name own event moment sent s is_rec
       is_state = tt;
       is_book = subst (λ (b : BookFields). IsBookWith start (reverse s.told) b) (sym same) s.is_book;
       is_stored = stored_by_halt accounts calls old.book new.book (facts old.store) (facts new.store) name event moment sent run held (same, (reply, next, needs, one, loses));
-      spent = λ ps spent. subst (λ (b : BookFields). IsSpent (all_spent (reverse s.told) ++ ps) b) (sym same) (s.spent ps spent);
+      spent = λ ps spent. subst (λ (b : BookFields). AreSpent (all_spent (reverse s.told) ++ ps) b) (sym same) (s.spent ps spent);
     }
 
 -- a desk whose keeper judged a code, or lost the save of one
@@ -486,7 +487,7 @@ answers_by_code itself stays law {S} facts old going own event moment lines left
       saves = λ start calls s.
           rw t.lines_are (saves_by_code moment sent name t.judged old.book new.keeper.book (facts old.store) (facts new.keeper.store) (held start calls s) t.is_judged);
       asks = λ start calls s some.
-          let here = subst (λ (g : Session). IsAt (accounts_in start) s.place g) asked.waits s.is_state.0 in
+          let here = subst (λ (g : Session). StandsAt (accounts_in start) s.place g) asked.waits s.is_state.0 in
           rw t.lines_are (asked_by_code event moment sent name s.place t.judged old.book new.keeper.book (facts old.store) (facts new.keeper.store) here
           (held start calls s) t.is_judged (rw t.lines_are at some));
       quiet = λ none. quiet_by_code moment sent name t.judged old.book new.keeper.book (facts old.store) (facts new.keeper.store) t.is_judged (rw t.lines_are at none);
@@ -496,7 +497,7 @@ answers_by_code itself stays law {S} facts old going own event moment lines left
 
 -- the session answered a turn
 answers_by_turn : BeginsWithItself → GoesOnByALine → {S : Type 0} (facts : S → StoreFacts) (keeper : Keeper S) (going : Session) (own : List ℕ) (event : ClientEvent)
-    (moment : ℕ) (lines : List LogLine) (left : Left) (wire wire' log log' : List ℕ) (new : Desk S) → IsAnswered keeper going own event lines left new.keeper
+    (moment : ℕ) (lines : List LogLine) (left : Left) (wire wire' log log' : List ℕ) (new : Desk S) → SessionAnswers keeper going own event lines left new.keeper
     → AreSent None lines wire wire' log log' → new.state ≡ state_after left own
     → Answers facts (desk_of keeper (Open going own)) (hears event moment) wire wire' log log' new
 answers_by_turn itself law facts keeper going own event moment lines left wire wire' log log' new t written is_state =

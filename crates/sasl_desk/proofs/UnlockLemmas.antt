@@ -21,7 +21,7 @@ use Rattle.book_format.specs.Book.{BookFields}
 use Rattle.account_book.specs.Accounts.{account_at, with_account, with_changed, IsAdded}
 use Rattle.account_book.specs.Laws.{TokensAreApart, AddedIsApart}
 use Rattle.account_book.specs.Tokens.{token_at, with_token, IsUnlocked}
-use Rattle.sasl_desk.specs.Spent.{IsUsedUp, IsSpent}
+use Rattle.sasl_desk.specs.Spent.{IsUsedUp, AreSpent}
 use Rattle.sasl_desk.proofs.SpentLemmas.{IsBelow, all_stay}
 
 -- a counter can pass after a history, alone or as the first of a pair
@@ -104,7 +104,7 @@ unlocked_as apart fresh old new name (Some token) has changed other counter used
     subst (λ (b : BookFields). IsUsedUp b other counter) (sym is.book) (used_unlocked apart fresh old name token has other counter used)
 
 pub unlocks_keep : TokensAreApart → CandidatesAreNew → (old new : BookFields) (name : List ℕ) (ps : List (List ℕ × ℕ)) → IsUnlocked old name new
-    → IsSpent ps old → IsSpent ps new
+    → AreSpent ps old → AreSpent ps new
 unlocks_keep apart fresh old new name ps changed spent = record {
   different = spent.different;
   used = all_stay (λ p. IsUsedUp old p.0 p.1) (λ p. IsUsedUp new p.0 p.1)
@@ -131,7 +131,7 @@ used_with apart old name account free other counter used =
     ]
 
 pub added_keeps : AddedIsApart → (old new : BookFields) (name : List ℕ) (account : AccountFields) (ps : List (List ℕ × ℕ)) → account_at old name ≡ None
-    → IsAdded old name account new → IsSpent ps old → IsSpent ps new
+    → IsAdded old name account new → AreSpent ps old → AreSpent ps new
 added_keeps apart old new name account ps free added spent = record {
   different = spent.different;
   used = all_stay (λ p. IsUsedUp old p.0 p.1) (λ p. IsUsedUp new p.0 p.1)

@@ -11,11 +11,12 @@ use Rattle.log_grammar.specs.Sessions.{Told}
 use Rattle.log_grammar.specs.Demands.{Accounts, demands}
 use Rattle.log_grammar.specs.Places.{Place, between, waits_code, halted}
 use Rattle.log_grammar.specs.Clean.{Begins}
+use Rattle.log_grammar.specs.Logins.{log_bytes}
 use Rattle.sasl_desk.specs.Events.{ClientEvent}
 use Rattle.sasl_desk.specs.Keeper.{IsTold, NeedsSave}
-use Rattle.sasl_desk.specs.Runs.{Asked, hears, Call, call_of, run_lines, own_part, log_bytes, wire_bytes, IsRun}
-use Rattle.sasl_desk.specs.Sessions.{IsAt, CanBeWritten}
-use Rattle.sasl_desk.specs.Spent.{IsSpent, spent_by}
+use Rattle.sasl_desk.specs.Runs.{Asked, hears, Call, call_of, run_lines, own_part, wire_bytes, IsRun}
+use Rattle.sasl_desk.specs.Sessions.{StandsAt, CanBeWritten}
+use Rattle.sasl_desk.specs.Spent.{AreSpent, spent_by}
 use Rattle.sasl_desk.specs.declared.session.Session.{Session}
 use Rattle.sasl_desk.specs.declared.session.Session.TheVariants.{Offered, WaitsFirst, WaitsFinal, WaitsCode}
 use Rattle.sasl_desk.specs.declared.keeper.Keeper.{Keeper}
@@ -44,7 +45,7 @@ phase_of Halted = phase.Halted
 -- the state of a desk whose log stands at this place. A desk that has halted may stand at any.
 abbrev pub IsStateAt : Accounts → (own : List ℕ) → Place → State → Type 0
 IsStateAt accounts own at Closed = at ≡ between
-IsStateAt accounts own at (Open going part) = IsAt accounts at going × (part ≡ own)
+IsStateAt accounts own at (Open going part) = StandsAt accounts at going × (part ≡ own)
 IsStateAt accounts own at Halted = Unit {0}
 
 -- the store has not failed, and holds the text of the book
@@ -109,7 +110,7 @@ pub record Stands {S : Type 0} (facts : S → StoreFacts) (start : BookFields) (
   pub is_book : IsBookWith start (reverse told) desk.keeper.book
   pub is_stored : IsStoredAt (accounts_in start) calls place desk.keeper.book (facts desk.keeper.store)
   -- what was spent before is spent, and each counter that a reply used
-  pub spent : (ps : List (List ℕ × ℕ)) → IsSpent ps start → IsSpent (all_spent (reverse told) ++ ps) desk.keeper.book
+  pub spent : (ps : List (List ℕ × ℕ)) → AreSpent ps start → AreSpent (all_spent (reverse told) ++ ps) desk.keeper.book
 
 -- the desk of this keeper, in this state
 abbrev pub desk_of : {S : Type 0} → Keeper S → State → Desk S

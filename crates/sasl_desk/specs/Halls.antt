@@ -13,16 +13,17 @@ use Rattle.log_grammar.specs.Lines.{LogLine, second_header, said, ended, busy}
 use Rattle.log_grammar.specs.Sessions.{Told}
 use Rattle.log_grammar.specs.Demands.{Accounts, demands}
 use Rattle.log_grammar.specs.Places.{Place, between, offered, waits_first, waits_final, waits_code}
-use Rattle.log_grammar.specs.Numbered.{Numbered, numbered, own, begun, closed_in, SpellsNumbered}
+use Rattle.log_grammar.specs.Numbered.{Numbered, numbered, of_number, begun, closed_in, SpellsNumbered}
 use Rattle.log_grammar.specs.NumberedLines.{numbered_text}
 use Rattle.log_grammar.specs.NumberedCounts.{is_closed}
+use Rattle.log_grammar.specs.Logins.{log_bytes}
 use Rattle.sasl_log.specs.Numbered.{CanBeNumberedLine}
 use Rattle.sasl_desk.specs.Desks.{session_phase, IsStoredAt, IsHeld, IsBookWith, IsAttemptOf, all_spent, is_saving}
 use Rattle.sasl_desk.specs.Guests.{is_of}
 use Rattle.sasl_desk.specs.Keeper.{IsTold}
-use Rattle.sasl_desk.specs.Runs.{Asked, greets, Call, call_of, own_part, log_bytes, wire_bytes, IsRun}
-use Rattle.sasl_desk.specs.Sessions.{IsAt}
-use Rattle.sasl_desk.specs.Spent.{IsSpent}
+use Rattle.sasl_desk.specs.Runs.{Asked, greets, Call, call_of, own_part, wire_bytes, IsRun}
+use Rattle.sasl_desk.specs.Sessions.{StandsAt}
+use Rattle.sasl_desk.specs.Spent.{AreSpent}
 use Rattle.sasl_desk.specs.declared.keeper.Keeper.{Keeper}
 use Rattle.sasl_desk.specs.declared.hall.Hall.{Hall}
 use Rattle.sasl_desk.specs.declared.hall.guest.Guest.{Guest}
@@ -75,12 +76,12 @@ open_at place = if is_closed place then 0 else 1
 -- a guest's session stands at the place of its number, with the server's part of the nonce with which it was greeted
 abbrev pub IsSeated : Accounts → List (Numbered Call) → (ℕ → Place) → Guest → Type 0
 IsSeated accounts calls places guest =
-    IsAt accounts (places guest.number) guest.session × (guest.own ≡ own_part (own guest.number calls))
+    StandsAt accounts (places guest.number) guest.session × (guest.own ≡ own_part (of_number guest.number calls))
 
 -- what the store holds after these calls: where the latest was answered by `S HALT`, its save has failed; else the book
 abbrev pub IsStoredAfter : Accounts → List (Numbered Call) → (ℕ → Place) → BookFields → StoreFacts → Type 0
 IsStoredAfter accounts [] places book store = IsHeld book store
-IsStoredAfter accounts (c ∷ before) places book store = IsStoredAt accounts (own c.number (c ∷ before)) (places c.number) book store
+IsStoredAfter accounts (c ∷ before) places book store = IsStoredAt accounts (of_number c.number (c ∷ before)) (places c.number) book store
 
 -- a hall that began with a book has answered these calls, the latest of which comes first, each of the session of its number
 pub record StandsHall {S : Type 0} (facts : S → StoreFacts) (start : BookFields) (calls : List (Numbered Call)) (hall : HallFields S) : Type 0 where
@@ -88,8 +89,8 @@ pub record StandsHall {S : Type 0} (facts : S → StoreFacts) (start : BookField
   pub places : ℕ → Place
   pub told : List Told
   -- what each session was asked is recorded and answered; nothing was asked of a number that was not given
-  pub stays : (n : ℕ) → IsStay (accounts_in start) (own n calls) (places n)
-  pub fresh : (n : ℕ) → begun (hall_lines calls) < n → own n calls ≡ []
+  pub stays : (n : ℕ) → IsStay (accounts_in start) (of_number n calls) (places n)
+  pub fresh : (n : ℕ) → begun (hall_lines calls) < n → of_number n calls ≡ []
   -- the lines are those of a log of version 2, at most 64 of whose sessions are open at once, and they can be written
   pub spelled : SpellsNumbered 64 (demands (accounts_in start)) (hall_lines calls) places told
   pub written : AllByRecursion CanBeNumberedLine (hall_lines calls)
@@ -105,18 +106,18 @@ pub record StandsHall {S : Type 0} (facts : S → StoreFacts) (start : BookField
   pub is_book : IsBookWith start (reverse told) hall.keeper.book
   pub is_stored : IsStoredAfter (accounts_in start) calls places hall.keeper.book (facts hall.keeper.store)
   -- what was spent before is spent, and each counter that a reply used
-  pub spent : (ps : List (List ℕ × ℕ)) → IsSpent ps start → IsSpent (all_spent (reverse told) ++ ps) hall.keeper.book
+  pub spent : (ps : List (List ℕ × ℕ)) → AreSpent ps start → AreSpent (all_spent (reverse told) ++ ps) hall.keeper.book
 
 -- the phase is that of this place: what the client may do there, and where no session is open, Closed. After a halt it is
 -- Halted, wherever a session stands.
-abbrev pub IsPhaseAt : Place → Phase → Type 0
-IsPhaseAt at phase.Closed = at ≡ between
-IsPhaseAt at phase.WaitAuth = at ≡ offered
-IsPhaseAt at phase.WaitFirst = (mechanism : List ℕ) × (at ≡ waits_first mechanism)
-IsPhaseAt at phase.WaitFinal =
+abbrev pub IsPhaseOf : Place → Phase → Type 0
+IsPhaseOf at phase.Closed = at ≡ between
+IsPhaseOf at phase.WaitAuth = at ≡ offered
+IsPhaseOf at phase.WaitFirst = (mechanism : List ℕ) × (at ≡ waits_first mechanism)
+IsPhaseOf at phase.WaitFinal =
     (mechanism : List ℕ) × (account : List ℕ) × (first : List ℕ) × (challenge : List ℕ) × (at ≡ waits_final mechanism account first challenge)
-IsPhaseAt at phase.WaitCode = (account : List ℕ) × (at ≡ waits_code account)
-IsPhaseAt at phase.Halted = Unit {0}
+IsPhaseOf at phase.WaitCode = (account : List ℕ) × (at ≡ waits_code account)
+IsPhaseOf at phase.Halted = Unit {0}
 
 -- the phase of a guest's session: after a halt it is Halted
 abbrev pub guest_phase : (is_halted : Bool) → Option Guest → Option Phase
@@ -144,7 +145,7 @@ pub record AnswersIn {S : Type 0} (facts : S → StoreFacts) (old : HallFields S
   pub sent : wire' ≡ wire ++ wire_bytes lines
   -- and the phase that is answered is that of the place where the session then stands
   pub stands : (start : BookFields) (calls : List (Numbered Call)) → StandsHall facts start calls old
-      → (after : StandsHall facts start (numbered n (call_of asked lines) ∷ calls) new) × IsPhaseAt (after.places n) answered
+      → (after : StandsHall facts start (numbered n (call_of asked lines) ∷ calls) new) × IsPhaseOf (after.places n) answered
   -- which is Halted exactly where the hall has halted
   pub tells : (answered ≡ phase.Halted) ↔ (new.is_halted ≡ true)
   pub saves : (start : BookFields) (calls : List (Numbered Call)) → StandsHall facts start calls old
@@ -161,4 +162,4 @@ pub record AnswersIn {S : Type 0} (facts : S → StoreFacts) (old : HallFields S
 -- the phase of the session of a number is that of its place, and there is none exactly where no session is open
 abbrev pub IsPhaseIn : Place → Option Phase → Type 0
 IsPhaseIn at None = at ≡ between
-IsPhaseIn at (Some phase) = (at ≢ between) × IsPhaseAt at phase
+IsPhaseIn at (Some phase) = (at ≢ between) × IsPhaseOf at phase

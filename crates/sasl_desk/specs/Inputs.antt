@@ -1,5 +1,6 @@
 -- What is read of a client in a turn.
 use Rattle.std.specs.Prelude.{ℕ, ◌≡◌, ◌⊎◌, true, false, List, [], ◌∷◌, ◌++◌, length}
+use Rattle.std.specs.Str.{byte}
 use Rattle.std.specs.Io.KnownBytes.{IsAtEnd}
 use Rattle.sasl_log.specs.Source.{SourceFacts}
 use Rattle.sasl_log.specs.TextRead.{IsTaken}
@@ -23,7 +24,7 @@ line_read text Over = over text
 -- this was read of a source, and nothing after it: a line of at most 6200 bytes and its LF; 6201 bytes without an LF; or at
 -- most 6200 bytes without an LF, after which the input ended or a read failed
 abbrev pub ReadsLine : SourceFacts → LineRead → SourceFacts → Type 0
-ReadsLine old (line text) new = IsTaken old text (text ++ 10 ∷ []) 6200 new × (new.failed ≡ false)
+ReadsLine old (line text) new = IsTaken old text (text ++ byte "\n" ∷ []) 6200 new × (new.failed ≡ false)
 ReadsLine old (too_long text) new = IsTaken old text text 6201 new × (new.failed ≡ false) × (length text ≡ 6201)
 ReadsLine old (over rest) new = IsTaken old rest rest 6200 new × (IsAtEnd new.left ⊎ (new.failed ≡ true))
 

@@ -38,7 +38,7 @@ NeedsSave (Some Locked) = ⊥
 NeedsSave None = ⊥
 
 -- the store takes one save, of the text of this book, and holds it
-pub record HoldsText (was : StoreFacts) (book : BookFields) (now : StoreFacts) : Type 0 where
+pub record SavesText (was : StoreFacts) (book : BookFields) (now : StoreFacts) : Type 0 where
   pub text : List ℕ
   pub is_text : IsBookText text book
   pub saved : IsSaved was text now
@@ -58,8 +58,8 @@ IsNotBegun was book NoNumber now = ⊥
 
 -- a reply that changes the token is saved; one that changes nothing asks nothing of the store
 abbrev pub IsKept : Option Reply → BookFields → StoreFacts → BookFields → StoreFacts → Type 0
-IsKept (Some (Pass counter)) old was new now = HoldsText was new now
-IsKept (Some Fail) old was new now = HoldsText was new now
+IsKept (Some (Pass counter)) old was new now = SavesText was new now
+IsKept (Some Fail) old was new now = SavesText was new now
 IsKept (Some Locked) old was new now = (new ≡ old) × (now ≡ was)
 IsKept None old was new now = (new ≡ old) × (now ≡ was)
 

@@ -1,17 +1,13 @@
 -- What the log of a run records: one offer of mechanisms for each client that was greeted, and one line for each thing that a
 -- client did.
 use Rattle.std.specs.Prelude.{ℕ, ◌≡◌, ◌⊎◌, Bool, true, false, List, [], ◌∷◌, ◌++◌, length, filter}
-use Rattle.log_grammar.specs.Lines.{LogLine, said, heard, bad, gone, mechs}
+use Rattle.log_grammar.specs.Lines.{LogLine, heard, bad, gone}
+use Rattle.log_grammar.specs.Counts.{is_offer}
 use Rattle.log_grammar.specs.Demands.{Accounts}
 use Rattle.log_grammar.specs.Places.{Place}
 use Rattle.sasl_desk.specs.Sessions.{IsRecord}
 use Rattle.sasl_desk.specs.Halls.{busy_lines}
 use Rattle.sasl_desk.specs.Runs.{Asked, greets, hears, Call, call_of, run_lines, IsRun}
-
--- the line offers mechanisms
-abbrev pub is_offer : LogLine → Bool
-is_offer (said (mechs names)) = true
-is_offer line = false
 
 -- the line records what a client did: one of its lines, `C BAD` or `C GONE`
 abbrev pub is_record : LogLine → Bool

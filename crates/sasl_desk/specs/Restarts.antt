@@ -30,7 +30,7 @@ pub record Run : Type 0 where
 -- a desk that began with the book has answered the calls, and its log tells this. Where it stops, between two calls or in
 -- the midst of one, the store holds the text of a book that it left: its own, or, as a save was under way or failed, that
 -- with one more attempt. A stop within `begin` leaves the text from before, or that of the same book, and is no run.
-pub record IsRunOf {S : Type 0} (facts : S → StoreFacts) (r : Run) : Type 0 where
+pub record IsDeskRunOf {S : Type 0} (facts : S → StoreFacts) (r : Run) : Type 0 where
   pub desk : Desk S
   pub stands : Stands facts r.start r.calls desk
   pub begins : Begins (demands (accounts_in r.start)) (run_lines r.calls) r.place r.told
@@ -64,7 +64,7 @@ pub data Change : Type 0 where
 
 -- the change makes the one book the other
 abbrev pub IsChange : {S : Type 0} → (S → StoreFacts) → Change → (old new : BookFields) → Type 0
-IsChange facts (ran r) old new = IsRunOf facts r × (r.start ≡ old) × (r.left ≡ new)
+IsChange facts (ran r) old new = IsDeskRunOf facts r × (r.start ≡ old) × (r.left ≡ new)
 IsChange facts (hosts r) old new = IsHallRunOf facts r × (r.start ≡ old) × (r.left ≡ new)
 IsChange facts (judged t) old new = IsTold old t new
 IsChange facts (unlocks name) old new = IsUnlocked old name new

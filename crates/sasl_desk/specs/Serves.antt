@@ -6,12 +6,13 @@ use Rattle.book_format.specs.Book.{BookFields}
 use Rattle.account_book.specs.Store.{StoreFacts}
 use Rattle.log_grammar.specs.Lines.{LogLine, bad}
 use Rattle.log_grammar.specs.Places.{Place}
+use Rattle.log_grammar.specs.Logins.{log_bytes}
 use Rattle.sasl_log.specs.Source.{SourceFacts}
 use Rattle.sasl_log.specs.Sink.{SinkFacts}
 use Rattle.sasl_desk.specs.Events.{sends, goes_away}
 use Rattle.sasl_desk.specs.Inputs.{LineRead, ReadsLine, ReadsLines, event_read}
 use Rattle.sasl_desk.specs.Sessions.{IsRecord}
-use Rattle.sasl_desk.specs.Runs.{Asked, greets, hears, Call, call_of, log_bytes}
+use Rattle.sasl_desk.specs.Runs.{Asked, greets, hears, Call, call_of}
 use Rattle.sasl_desk.specs.Desks.{Stands, IsSame, phase_of, is_saving}
 use Rattle.sasl_desk.specs.Outputs.{AreWritten}
 use Rattle.sasl_desk.specs.declared.desk.Desk.{Desk}
@@ -128,7 +129,7 @@ pub record IsServedToEnd {S : Type 0} (facts : S → StoreFacts) (own : List ℕ
   pub ended : (phase_of new.desk.state ≡ phase.Closed) ⊎ (phase_of new.desk.state ≡ phase.Halted)
 
 -- a session whose 10000 turns are used up. Nothing more was read of its client.
-pub record IsUsedUp {S : Type 0} (facts : S → StoreFacts) (own : List ℕ) (old middle new : Service S) : Type 0 where
+pub record HasUsedAllTurns {S : Type 0} (facts : S → StoreFacts) (own : List ℕ) (old middle new : Service S) : Type 0 where
   pub turns : List Exchange
   pub all : length turns ≡ 10000
   pub served : IsServedUpTo facts own turns old middle
@@ -137,7 +138,7 @@ pub record IsUsedUp {S : Type 0} (facts : S → StoreFacts) (own : List ℕ) (ol
 -- a session whose turns are used up, and whose client was then taken for gone
 pub record IsCutOff {S : Type 0} (facts : S → StoreFacts) (own : List ℕ) (old new : Service S) : Type 0 where
   pub middle : Service S
-  pub used_up : IsUsedUp facts own old middle new
+  pub used_up : HasUsedAllTurns facts own old middle new
   pub moment : ℕ
   pub done : IsDone facts (hears goes_away moment) middle.desk new.desk middle.wire new.wire middle.log new.log
 
@@ -162,7 +163,7 @@ pub record FailsInTurn {S : Type 0} (facts : S → StoreFacts) (own : List ℕ) 
 -- the turns were used up, and the client could not be taken for gone, for this reason
 pub record FailsAtEnd {S : Type 0} (facts : S → StoreFacts) (own : List ℕ) (old new : Service S) (fault : ServeFault) : Type 0 where
   pub middle : Service S
-  pub used_up : IsUsedUp facts own old middle new
+  pub used_up : HasUsedAllTurns facts own old middle new
   pub moment : ℕ
   pub undone : IsUndone facts (hears goes_away moment) middle.desk new.desk middle.wire new.wire middle.log new.log fault
 

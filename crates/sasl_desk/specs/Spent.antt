@@ -29,7 +29,7 @@ AreDifferent [] = Unit {0}
 AreDifferent (p ∷ ps) = AllByRecursion (λ q. p ≢ q) ps × AreDifferent ps
 
 -- counters, each with its account, that are different and all used up
-pub record IsSpent (ps : List (List ℕ × ℕ)) (book : BookFields) : Type 0 where
+pub record AreSpent (ps : List (List ℕ × ℕ)) (book : BookFields) : Type 0 where
   pub different : AreDifferent ps
   pub used : AllByRecursion (λ p. IsUsedUp book p.0 p.1) ps
 
@@ -52,4 +52,4 @@ spent_by t = with_name t.account (counters_by t.sent t.reply)
 abbrev pub SpentStaysSpent : Type 0
 SpentStaysSpent = (old new : BookFields) (t : Told) (ps : List (List ℕ × ℕ)) → IsMoment t.moment
     → IsReplyDue (accounts_in old) [] t → IsBookAfter (accounts_in old) (t ∷ []) new
-    → IsSpent ps old → IsSpent (spent_by t ++ ps) new
+    → AreSpent ps old → AreSpent (spent_by t ++ ps) new

@@ -8,7 +8,7 @@ ghost use Rattle.otp_core.specs.Secret.{IsMoment};
 ghost use Rattle.otp_core.specs.State.{advanced};
 ghost use Rattle.otp_core.specs.declared.token.kinds.Fields.{Fields};
 ghost use Rattle.log_grammar.specs.Lines.{IsReplyInRange};
-ghost use Rattle.sasl_desk.specs.Keeper.{HoldsText, IsNotBegun, IsJudged, IsJudgedInRange, IsToBeSaved, texts_of};
+ghost use Rattle.sasl_desk.specs.Keeper.{SavesText, IsNotBegun, IsJudged, IsJudgedInRange, IsToBeSaved, texts_of};
 
 use crate::fault::DeskFault;
 use crate::sent::Sent;
@@ -38,7 +38,7 @@ impl<S: BookStore> Keeper<S> {
     /// A keeper of this book, whose text the store then holds. Halted where the save fails, and NoMemory, before the
     /// store is asked; the book and the store are handed back.
     pub fn begin(alloc: Global, book: Book, mut store: S) -> Result<Keeper<S>, (Book, S, DeskFault)>
-        ensures ok { IfOk result (λ keeper. (keeper.book ≡ book) × HoldsText (S.facts store) book (S.facts keeper.store)) }
+        ensures ok { IfOk result (λ keeper. (keeper.book ≡ book) × SavesText (S.facts store) book (S.facts keeper.store)) }
         ensures err { IfErr result (λ r. (r.0 ≡ book) × IsNotBegun (S.facts store) book r.2 (S.facts r.1)) }
         ensures unasked { IfErr result (λ r. r.2 ≡ DeskFault.NoMemory → r.1 ≡ store) }
     {

@@ -6,13 +6,14 @@ ghost use Rattle.log_grammar.specs.Books.{accounts_in};
 ghost use Rattle.log_grammar.specs.Versions.{IsFront, IsClean};
 ghost use Rattle.log_grammar.specs.Lines.{LogLine, said, halt};
 ghost use Rattle.log_grammar.specs.Sessions.{Told};
+ghost use Rattle.log_grammar.specs.Logins.{log_bytes};
 ghost use Rattle.sasl_desk.specs.Desks.{Stands, phase_of, all_spent};
 ghost use Rattle.sasl_desk.specs.Keeper.{IsTold};
 ghost use Rattle.sasl_desk.specs.Records.{HasItsRecords};
-ghost use Rattle.sasl_desk.specs.Restarts.{Run, IsRunOf, Change, AreChanges, spent_in};
-ghost use Rattle.sasl_desk.specs.Runs.{Call, run_lines, log_bytes, wire_bytes};
+ghost use Rattle.sasl_desk.specs.Restarts.{Run, IsDeskRunOf, Change, AreChanges, spent_in};
+ghost use Rattle.sasl_desk.specs.Runs.{Call, run_lines, wire_bytes};
 ghost use Rattle.sasl_desk.specs.Serves.{LongTextsAreBad};
-ghost use Rattle.sasl_desk.specs.Spent.{SpentStaysSpent, IsSpent};
+ghost use Rattle.sasl_desk.specs.Spent.{SpentStaysSpent, AreSpent};
 ghost use Rattle.sasl_desk.specs.declared.desk.Desk.{Desk};
 ghost use Rattle.sasl_desk.specs.declared.desk.state.Phase.TheVariants as phase;
 ghost use Rattle.sasl_desk.specs.Turns.{DueLinesStand, BadLinesStand, GoneClientsStand};
@@ -76,24 +77,24 @@ pub fn bytes_are_those_of_calls()
 /// perhaps that with one more attempt.
 pub fn store_holds_a_book<S: BookStore>()
     ensures { (start : BookFields) (calls : List Call) (desk : Desk S) → Stands S.facts start calls desk
-        → (r : Run) × IsRunOf S.facts r × (r.start ≡ start) × (r.calls ≡ calls) × IsBookText (S.facts desk.keeper.store).saved r.left }
+        → (r : Run) × IsDeskRunOf S.facts r × (r.start ≡ start) × (r.calls ≡ calls) × IsBookText (S.facts desk.keeper.store).saved r.left }
 {}
 
 /// A stop within a call, as the store puts the new text in the place of the old, leaves what a run leaves: the desk's book with
 /// the attempt that is judged.
 pub fn stops_leave_runs<S: BookStore>()
     ensures { (start : BookFields) (calls : List Call) (desk : Desk S) (t : Told) (next : BookFields) → Stands S.facts start calls desk
-        → IsTold desk.keeper.book t next → (r : Run) × IsRunOf S.facts r × (r.start ≡ start) × (r.calls ≡ calls) × (r.left ≡ next) }
+        → IsTold desk.keeper.book t next → (r : Run) × IsDeskRunOf S.facts r × (r.start ≡ start) × (r.calls ≡ calls) × (r.left ≡ next) }
 {}
 
 /// At every moment of a run the store holds a book in which each counter that a client was told has passed is used, and each that
 /// was used before the run: after a call, and where the run stops within one, as the store puts the text with the attempt that is
 /// judged in the place of the old one.
 pub fn told_counters_are_saved<S: BookStore>()
-    ensures ended { (start : BookFields) (calls : List Call) (desk : Desk S) (s : Stands S.facts start calls desk) (ps : List (List ℕ × ℕ)) → IsSpent ps start
-        → (saved : BookFields) × IsBookText (S.facts desk.keeper.store).saved saved × IsSpent (all_spent (reverse s.told) ++ ps) saved }
+    ensures ended { (start : BookFields) (calls : List Call) (desk : Desk S) (s : Stands S.facts start calls desk) (ps : List (List ℕ × ℕ)) → AreSpent ps start
+        → (saved : BookFields) × IsBookText (S.facts desk.keeper.store).saved saved × AreSpent (all_spent (reverse s.told) ++ ps) saved }
     ensures within { (start : BookFields) (calls : List Call) (desk : Desk S) (s : Stands S.facts start calls desk) (ps : List (List ℕ × ℕ)) (t : Told)
-        (next : BookFields) → IsSpent ps start → IsTold desk.keeper.book t next → IsSpent (all_spent (reverse s.told) ++ ps) next }
+        (next : BookFields) → AreSpent ps start → IsTold desk.keeper.book t next → AreSpent (all_spent (reverse s.told) ++ ps) next }
 {
     begins_with_itself();
     spent_stays_spent();
@@ -104,7 +105,7 @@ pub fn told_counters_are_saved<S: BookStore>()
 /// use are different from each other and from those that were used before, and all are used in the book that is left.
 pub fn no_counter_passes_twice<S: BookStore>()
     ensures { (first : BookFields) (changes : List Change) (last : BookFields) (ps : List (List ℕ × ℕ)) → AreChanges S.facts first changes last
-        → IsSpent ps first → IsSpent (spent_in changes ++ ps) last }
+        → AreSpent ps first → AreSpent (spent_in changes ++ ps) last }
 {
     begins_with_itself();
     candidates_are_new();

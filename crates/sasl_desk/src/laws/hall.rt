@@ -4,7 +4,7 @@ ghost use Rattle.book_format.specs.Book.{BookFields};
 ghost use Rattle.book_format.specs.Trees.{IsBookText};
 ghost use Rattle.log_grammar.specs.Books.{accounts_in};
 ghost use Rattle.log_grammar.specs.Lines.{LogLine, said, halt};
-ghost use Rattle.log_grammar.specs.Numbered.{Numbered, numbered, own};
+ghost use Rattle.log_grammar.specs.Numbered.{Numbered, numbered, of_number};
 ghost use Rattle.log_grammar.specs.Sessions.{Told};
 ghost use Rattle.log_grammar.specs.Versions.{IsFront, IsClean};
 ghost use Rattle.sasl_desk.specs.Alone.{AskTheSame, HaveSameEntries, up_to_acceptance};
@@ -15,7 +15,7 @@ ghost use Rattle.sasl_desk.specs.Records.{HasSessionRecords};
 ghost use Rattle.sasl_desk.specs.Restarts.{HallRun, IsHallRunOf};
 ghost use Rattle.sasl_desk.specs.Runs.{Call, wire_bytes};
 ghost use Rattle.sasl_desk.specs.Serves.{call_lines};
-ghost use Rattle.sasl_desk.specs.Spent.{IsSpent};
+ghost use Rattle.sasl_desk.specs.Spent.{AreSpent};
 
 use crate::laws::spent_stays_spent;
 use account_book::BookStore;
@@ -52,7 +52,7 @@ pub fn phases_are_those_of_places<S: BookStore>()
 /// its order: nothing is left out, and nothing is invented; or it was turned away.
 pub fn sessions_have_their_records<S: BookStore>()
     ensures { (start : BookFields) (calls : List (Numbered Call)) (hall : HallFields S) → StandsHall S.facts start calls hall
-        → (n : ℕ) → HasSessionRecords (accounts_in start) (own n calls) }
+        → (n : ℕ) → HasSessionRecords (accounts_in start) (of_number n calls) }
 {}
 
 /// The bytes of a log are those of its calls, one after another, and the lines of a session are those of its own calls: so what
@@ -60,7 +60,7 @@ pub fn sessions_have_their_records<S: BookStore>()
 pub fn bytes_are_those_of_calls()
     ensures log { (c : Numbered Call) (before : List (Numbered Call))
         → hall_bytes (c ∷ before) ≡ hall_bytes before ++ numbered_bytes (map (numbered c.number) c.value.lines) }
-    ensures lines { (n : ℕ) (calls : List (Numbered Call)) → own n (hall_lines calls) ≡ call_lines (own n calls) }
+    ensures lines { (n : ℕ) (calls : List (Numbered Call)) → of_number n (hall_lines calls) ≡ call_lines (of_number n calls) }
     ensures wire { (c : Call) (before : List Call) → wire_bytes (call_lines (c ∷ before)) ≡ wire_bytes (call_lines before) ++ wire_bytes c.lines }
 {}
 
@@ -82,11 +82,11 @@ pub fn stops_leave_runs<S: BookStore>()
 /// was used before the run: after a call, and where the run stops within one.
 pub fn told_counters_are_saved<S: BookStore>()
     ensures ended { (start : BookFields) (calls : List (Numbered Call)) (hall : HallFields S) (s : StandsHall S.facts start calls hall)
-        (ps : List (List ℕ × ℕ)) → IsSpent ps start
-        → (saved : BookFields) × IsBookText (S.facts hall.keeper.store).saved saved × IsSpent (all_spent (reverse s.told) ++ ps) saved }
+        (ps : List (List ℕ × ℕ)) → AreSpent ps start
+        → (saved : BookFields) × IsBookText (S.facts hall.keeper.store).saved saved × AreSpent (all_spent (reverse s.told) ++ ps) saved }
     ensures within { (start : BookFields) (calls : List (Numbered Call)) (hall : HallFields S) (s : StandsHall S.facts start calls hall)
-        (ps : List (List ℕ × ℕ)) (t : Told) (next : BookFields) → IsSpent ps start → IsTold hall.keeper.book t next
-        → IsSpent (all_spent (reverse s.told) ++ ps) next }
+        (ps : List (List ℕ × ℕ)) (t : Told) (next : BookFields) → AreSpent ps start → IsTold hall.keeper.book t next
+        → AreSpent (all_spent (reverse s.told) ++ ps) next }
 {
     begins_with_itself();
     spent_stays_spent();
@@ -99,8 +99,8 @@ pub fn sessions_are_told_alone<S: BookStore>()
     ensures { (start begun : BookFields) (calls others : List (Numbered Call)) (hall other : HallFields S) (n m : ℕ)
         → StandsHall S.facts start calls hall → StandsHall S.facts begun others other
         → HaveSameEntries (accounts_in start) (accounts_in begun)
-        → own n (hall_lines calls) ≢ busy_lines → own m (hall_lines others) ≢ busy_lines → AskTheSame (own n calls) (own m others)
-        → up_to_acceptance (own n (hall_lines calls)) ≡ up_to_acceptance (own m (hall_lines others)) }
+        → of_number n (hall_lines calls) ≢ busy_lines → of_number m (hall_lines others) ≢ busy_lines → AskTheSame (of_number n calls) (of_number m others)
+        → up_to_acceptance (of_number n (hall_lines calls)) ≡ up_to_acceptance (of_number m (hall_lines others)) }
 {
     has_one_client_first();
     has_one_server_final();

@@ -2,7 +2,7 @@
 ghost use Rattle.std.specs.Prelude.{◌≡◌, ℕ, List, []};
 ghost use Rattle.log_grammar.specs.Demands.{Accounts};
 ghost use Rattle.log_grammar.specs.Places.{Place, asks_bare, over};
-ghost use Rattle.sasl_desk.specs.Sessions.{answer_lines, verdict_answer, CanBeWritten, IsTurnedAway, IsAnswer};
+ghost use Rattle.sasl_desk.specs.Sessions.{lines_of_answer, verdict_answer, CanBeWritten, IsTurnedAway, IsAnswer};
 
 use crate::session::Session;
 use crate::session::turn::{Answer, Saying};
@@ -13,7 +13,7 @@ use scram_text::PlainName;
 /// A bare `S NO`, after which the session is over.
 pub(crate) fn refusal() -> Answer
     ensures due { (accounts : Accounts) (own : List ℕ) (at : Place) → IsTurnedAway at → IsAnswer accounts own at result [] }
-    ensures lines { CanBeWritten (answer_lines result []) }
+    ensures lines { CanBeWritten (lines_of_answer result []) }
 {
     Answer {
         says: Saying::Refuses,
@@ -24,7 +24,7 @@ pub(crate) fn refusal() -> Answer
 /// Nothing is said to a client that has gone away, and the session is over.
 pub(crate) fn departure() -> Answer
     ensures due { (accounts : Accounts) (own : List ℕ) → IsAnswer accounts own over result [] }
-    ensures lines { CanBeWritten (answer_lines result []) }
+    ensures lines { CanBeWritten (lines_of_answer result []) }
 {
     Answer {
         says: Saying::Nothing,
@@ -36,7 +36,7 @@ pub(crate) fn departure() -> Answer
 /// `S NO` where it is not offered.
 pub(crate) fn invitation(name: &[u8]) -> Answer
     ensures due { (accounts : Accounts) (own : List ℕ) → IsAnswer accounts own (asks_bare name.now) result [] }
-    ensures lines { CanBeWritten (answer_lines result []) }
+    ensures lines { CanBeWritten (lines_of_answer result []) }
 {
     match Mechanism::of_name(name) {
         Some(mechanism) => Answer {

@@ -6,7 +6,7 @@ ghost use Rattle.scram_ends.specs.Opening.{IsTakenUp};
 ghost use Rattle.log_grammar.specs.Demands.{Accounts, NamesMechanism};
 ghost use Rattle.log_grammar.specs.Places.{got_first};
 ghost use Rattle.sasl_log.specs.Logins.{KeepsEntries};
-ghost use Rattle.sasl_desk.specs.Sessions.{answer_lines, CanBeWritten, IsAnswer};
+ghost use Rattle.sasl_desk.specs.Sessions.{lines_of_answer, CanBeWritten, IsAnswer};
 
 use crate::session::Session;
 use crate::session::answer::refusal;
@@ -35,7 +35,7 @@ pub(crate) fn opening<A: Allocator>(
     requires { message.old.items ≡ [] }
     ensures due { (accounts : Accounts) → KeepsEntries accounts book.now
         → IfOk result (λ answer. IsAnswer accounts own.now (got_first name.now client_first.now) answer message.new.items) }
-    ensures lines { IfOk result (λ answer. CanBeWritten (answer_lines answer message.new.items)) }
+    ensures lines { IfOk result (λ answer. CanBeWritten (lines_of_answer answer message.new.items)) }
     ensures err { OnErr result (message.new.items ≡ []) }
 {
     match Mechanism::of_name(name) {
@@ -56,7 +56,7 @@ pub(crate) fn first_answer<A: Allocator>(
     requires { message.old.items ≡ [] }
     ensures due { (accounts : Accounts) (name : List ℕ) → KeepsEntries accounts book.now → NamesMechanism name mechanism
         → IfOk result (λ answer. IsAnswer accounts own.now (got_first name client_first.now) answer message.new.items) }
-    ensures lines { IfOk result (λ answer. CanBeWritten (answer_lines answer message.new.items)) }
+    ensures lines { IfOk result (λ answer. CanBeWritten (lines_of_answer answer message.new.items)) }
     ensures err { OnErr result (message.new.items ≡ []) }
 {
     match client_first.bytes(alloc) {
@@ -76,7 +76,7 @@ fn taken_up<A: Allocator>(
     requires { message.old.items ≡ [] }
     ensures due { (accounts : Accounts) (name : List ℕ) → KeepsEntries accounts book.now → NamesMechanism name mechanism
         → IfOk result (λ answer. IsAnswer accounts own.now (got_first name client_first.now) answer message.new.items) }
-    ensures lines { IfOk result (λ answer. CanBeWritten (answer_lines answer message.new.items)) }
+    ensures lines { IfOk result (λ answer. CanBeWritten (lines_of_answer answer message.new.items)) }
     ensures err { OnErr result (message.new.items ≡ []) }
 {
     refused_is_not_taken_up();
@@ -100,7 +100,7 @@ fn challenge<A: Allocator>(
         × IsTakenUp first user authzid }
     ensures due { (accounts : Accounts) (name : List ℕ) → KeepsEntries accounts book.now → NamesMechanism name mechanism
         → IfOk result (λ answer. IsAnswer accounts own.now (got_first name client_first.now) answer message.new.items) }
-    ensures lines { IfOk result (λ answer. CanBeWritten (answer_lines answer message.new.items)) }
+    ensures lines { IfOk result (λ answer. CanBeWritten (lines_of_answer answer message.new.items)) }
     ensures err { OnErr result (message.new.items ≡ []) }
 {
     has_one_client_first();

@@ -33,7 +33,7 @@ impl Model for Waiting {
 }
 
 impl Waiting {
-    ghost use Rattle.sasl_desk.specs.Sessions.{answer_lines, CanBeWritten, IsAnswer};
+    ghost use Rattle.sasl_desk.specs.Sessions.{lines_of_answer, CanBeWritten, IsAnswer};
 
     /// The login of this account for which the server stands.
     pub(crate) fn new(wait: ServerWait, mechanism: Mechanism, name: PlainName) -> Waiting
@@ -60,7 +60,7 @@ impl Waiting {
             → StandsFor self.wait (login_of accounts self client_first server_first)
             → IfOk result (λ answer. IsAnswer accounts own
             (got_final (name_of self.mechanism) self.name client_first server_first client_final.now) answer message.new.items) }
-        ensures lines { IfOk result (λ answer. CanBeWritten (answer_lines answer message.new.items)) }
+        ensures lines { IfOk result (λ answer. CanBeWritten (lines_of_answer answer message.new.items)) }
         ensures err { IfErr result (λ back. (back ≡ self) × (message.new.items ≡ [])) }
     {
         match client_final.bytes(alloc) {
@@ -81,7 +81,7 @@ impl Waiting {
             → StandsFor self.wait (login_of accounts self client_first server_first)
             → IfOk result (λ answer. IsAnswer accounts own
             (got_final (name_of self.mechanism) self.name client_first server_first client_final.now) answer message.new.items) }
-        ensures lines { IfOk result (λ answer. CanBeWritten (answer_lines answer message.new.items)) }
+        ensures lines { IfOk result (λ answer. CanBeWritten (lines_of_answer answer message.new.items)) }
         ensures err { IfErr result (λ back. (back ≡ self) × (message.new.items ≡ [])) }
         ensures full { IfErr result (λ back. vec_capacity message.old < vec_len message.old + 2048) }
     {
