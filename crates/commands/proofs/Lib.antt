@@ -1,3 +1,4 @@
+pub mod ClientLines
 pub mod HallLogs
 pub mod Lines
 pub mod LoginLemmas

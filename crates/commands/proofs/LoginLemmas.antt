@@ -1,14 +1,18 @@
 -- The log of a login after one more call of its desk.
 use Rattle.std.proofs.Common.{◌≡◌, inl, inr, ℕ, List, [], ◌∷◌, ◌++◌, sym, ◌∙◌, ap, subst}
+use Rattle.std.specs.Prelude.{OnErr}
 use Rattle.std.specs.Io.KnownBytes.{Appends}
+use Rattle.std.specs.declared.result.Result.{Result}
+use Rattle.std.specs.declared.result.Result.TheVariants.{Ok, Err}
 use Rattle.std.proofs.KnownBytes.{Appends-trans}
 use Rattle.book_format.specs.Book.{BookFields}
 use Rattle.account_book.specs.Store.{StoreFacts}
 use Rattle.log_grammar.specs.Lines.{LogLine}
+use Rattle.log_grammar.specs.Logins.{log_bytes}
 use Rattle.sasl_log.specs.Source.{SourceFacts}
 use Rattle.sasl_log.specs.Sink.{SinkFacts}
 use Rattle.sasl_desk.specs.Inputs.{event_read}
-use Rattle.sasl_desk.specs.Runs.{Asked, hears, Call, call_of, run_lines, log_bytes}
+use Rattle.sasl_desk.specs.Runs.{Asked, hears, Call, call_of, run_lines}
 use Rattle.sasl_desk.specs.Desks.{Stands, Answers, IsSame}
 use Rattle.sasl_desk.specs.Serves.{IsUndone, Service, service_of, IsTurnServed, IsTurnFault}
 use Rattle.sasl_desk.specs.declared.desk.Desk.{Desk}
@@ -16,7 +20,7 @@ use Rattle.sasl_desk.specs.declared.desk.state.State.{State}
 use Rattle.sasl_desk.specs.declared.fault.ServeFault.{ServeFault}
 use Rattle.sasl_desk.specs.declared.fault.ServeFault.TheVariants.{Halted, Unwritable, NoMemory, WriteFault, LogFault}
 use Rattle.sasl_desk.proofs.RunLemmas.{log_bytes-append}
-use Rattle.commands.specs.Login.{IsLogOf, StaysItsLog, IsLogAfterFault}
+use Rattle.commands.specs.Login.{IsDeskLog, StaysItsLog, IsLogAfterFault}
 
 -- the log took the lines of one more call
 one_more : {S : Type 0} (facts : S → StoreFacts) (old new : Desk S) (asked : Asked) (lines : List LogLine) (log log' : SinkFacts)
@@ -46,8 +50,8 @@ same_log {S} facts old new log log' same unlogged start before l =
     let store = ap (λ (s : S). desk_with old.keeper.book s new.state) same.store in
     let state = ap (λ (s : State). desk_with old.keeper.book old.keeper.store s) same.state in
     let desk : new ≡ old = book ∙ (store ∙ state) in
-    let kept = subst (λ (d : Desk S). IsLogOf facts start before d log) (sym desk) l in
-    subst (λ (k : SinkFacts). IsLogOf facts start before new k) (sym unlogged) kept
+    let kept = subst (λ (d : Desk S). IsDeskLog facts start before d log) (sym desk) l in
+    subst (λ (k : SinkFacts). IsDeskLog facts start before new k) (sym unlogged) kept
 
 -- a turn was served
 pub served_log : {S : Type 0} (facts : S → StoreFacts) (moment : ℕ) (old new : Desk S) (input input' : SourceFacts) (wire wire' log log' : SinkFacts)
@@ -87,3 +91,8 @@ pub fails_then : {S : Type 0} (facts : S → StoreFacts) (old middle new : Desk 
     → IsLogAfterFault facts middle b new c → IsLogAfterFault facts old a new c
 fails_then facts old middle new a b c first (inl failed) = inl failed
 fails_then facts old middle new a b c first (inr second) = inr (stays_twice facts old middle new a b c first second)
+
+-- what holds in any case holds after a fault
+pub after_any_fault : {T E P : Type 0} (r : Result T E) → P → OnErr r P
+after_any_fault (Ok value) fact = tt
+after_any_fault (Err fault) fact = fact

@@ -1,5 +1,6 @@
 -- The input of the command `hall`, and the log that it prints.
 use Rattle.std.specs.Prelude.{ℕ, ◌≡◌, ◌⊎◌, List, [], ◌∷◌, ◌++◌, codes, decimal}
+use Rattle.std.specs.Str.{byte}
 use Rattle.std.specs.Io.KnownBytes.{Appends}
 use Rattle.std.specs.declared.option.Option.{Option}
 use Rattle.std.specs.declared.option.Option.TheVariants.{None}
@@ -25,8 +26,8 @@ pub data InputEvent : Type 0 where
 -- the input line for it
 abbrev pub event_text : InputEvent → List ℕ
 event_text (opens own) = codes "open " ++ own
-event_text (says session moment text) = codes "line " ++ (decimal session ++ (32 ∷ (decimal moment ++ (32 ∷ text))))
-event_text (leaves session moment) = codes "gone " ++ (decimal session ++ (32 ∷ decimal moment))
+event_text (says session moment text) = codes "line " ++ (decimal session ++ (byte " " ∷ (decimal moment ++ (byte " " ∷ text))))
+event_text (leaves session moment) = codes "gone " ++ (decimal session ++ (byte " " ∷ decimal moment))
 
 -- its nonce, its number and its moment are in their ranges
 abbrev pub IsEventInRange : InputEvent → Type 0

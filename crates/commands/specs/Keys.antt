@@ -1,5 +1,6 @@
 -- What the command `keys` prints.
 use Rattle.std.specs.Prelude.{ℕ, List, [], ◌∷◌, ◌++◌, codes}
+use Rattle.std.specs.Str.{byte}
 use Rattle.hex.specs.Hex.{encode_lower}
 use Rattle.mac_core.specs.declared.mechanism.Mechanism.{Mechanism}
 use Rattle.mac_core.specs.Mechanism.{hi_by, client_key_by, stored_key_by, server_key_by}
@@ -11,4 +12,4 @@ printed_keys mechanism password salt count =
     let salted = hi_by mechanism password salt count in
     let stored = stored_key_by mechanism (client_key_by mechanism salted) in
     let server = server_key_by mechanism salted in
-    codes "stored=" ++ (encode_lower stored ++ (10 ∷ codes "server=" ++ (encode_lower server ++ 10 ∷ [])))
+    codes "stored=" ++ (encode_lower stored ++ (byte "\n" ∷ codes "server=" ++ (encode_lower server ++ byte "\n" ∷ [])))

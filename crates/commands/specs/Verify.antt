@@ -1,5 +1,6 @@
 -- What the command `verify` prints, and what is saved before.
 use Rattle.std.specs.Prelude.{ℕ, ◌≡◌, ◌≢◌, Bool, true, false, List, [], ◌∷◌, ◌++◌, codes, is_some, IfSome}
+use Rattle.std.specs.Str.{byte}
 use Rattle.std.specs.Fmt.{decimal}
 use Rattle.otp_core.specs.Attempt.{CodeTexts}
 use Rattle.otp_core.specs.declared.token.answer.Reply.{Reply}
@@ -16,9 +17,9 @@ is_passed Locked = false
 
 -- the line of a reply to a code at a moment: PASS with moment and counter, FAIL or LOCKED with the moment
 abbrev pub printed_reply : Reply → ℕ → List ℕ
-printed_reply (Pass counter) moment = codes "PASS " ++ (decimal moment ++ (32 ∷ decimal counter ++ 10 ∷ []))
-printed_reply Fail moment = codes "FAIL " ++ (decimal moment ++ 10 ∷ [])
-printed_reply Locked moment = codes "LOCKED " ++ (decimal moment ++ 10 ∷ [])
+printed_reply (Pass counter) moment = codes "PASS " ++ (decimal moment ++ (byte " " ∷ decimal counter ++ byte "\n" ∷ []))
+printed_reply Fail moment = codes "FAIL " ++ (decimal moment ++ byte "\n" ∷ [])
+printed_reply Locked moment = codes "LOCKED " ++ (decimal moment ++ byte "\n" ∷ [])
 
 -- a reply to what was sent by the token of the account of this name, and where it is not LOCKED, the saved text is that of
 -- the book after it

@@ -1,5 +1,5 @@
 //! The command `enrol`: adds an account with a password to a book.
-ghost use Rattle.std.specs.Prelude.{◌≤◌};
+ghost use Rattle.std.specs.Prelude.{◌≡◌, ◌≤◌};
 
 use crate::held_book::HeldBook;
 use crate::progress::Watched;
@@ -120,7 +120,9 @@ where
 }
 
 // The salt of these bytes.
-fn salt(bytes: [u8; 16]) -> Salt {
+fn salt(bytes: [u8; 16]) -> Salt
+    ensures { result ≡ bytes }
+{
     let Some(salt) = Salt::new(&bytes) else {
         unreachable!()
     };

@@ -8,15 +8,15 @@ ghost use Rattle.account_book.specs.Accounts.{account_at, IsAdded, IsChanged};
 ghost use Rattle.account_book.specs.Enrolled.{enrolled};
 ghost use Rattle.account_book.specs.Tokens.{IsAnswered, IsAttempt, token_at, with_token};
 ghost use Rattle.book_file.specs.declared.file.TheConstants.{MOST_BOOK};
-ghost use Rattle.commands.specs.Sent.{said_by};
+ghost use Rattle.sasl_desk.specs.Keeper.{texts_of};
 ghost use Rattle.command_line.specs.Fault.{IsTokenFault, IsUnwritten, of_book};
 
-use crate::sent::Sent;
 use crate::shown::Shown;
 use account_book::{Book, BookStore, BookWhy, EnrolFault, Reply};
 use book_file::{BookFile, FileStore, HoldFault, Lockable, MOST_BOOK};
 use command_line::Fault;
 use otp_core::Moment;
+use sasl_desk::Sent;
 use scram_text::{Password, PlainName, Salt};
 use std::alloc::{AllocError, Global};
 use std::fs::Files;
@@ -270,7 +270,7 @@ impl<'a, S: BookStore> HeldBook<'a, S> {
         sent: Sent<'_>,
     ) -> Result<Reply, Fault>
         ensures due { IfOk result (λ reply. IfSome (token_at self.old.book name.now)
-            (λ token. IsAttempt self.old.book name.now token moment (said_by sent.entry) reply self.new.book)) }
+            (λ token. IsAttempt self.old.book name.now token moment (texts_of sent.entry) reply self.new.book)) }
         ensures there { OnOk result (is_some (token_at self.old.book name.now) ≡ true) }
         ensures err { IfErr result (IsTokenFault self.old.path.now (account_at self.old.book name.now)) }
         ensures unasked { IfErr result (λ fault. fault ≡ Fault.NoMemory → self.new.store ≡ self.old.store) }
@@ -326,7 +326,7 @@ impl<'a, S: BookStore> HeldBook<'a, S> {
 
 // Judges what was sent by the token of the account of this name, where it has one.
 fn judged(book: &mut Book, name: &PlainName, moment: Moment, sent: Sent<'_>) -> Option<Reply>
-    ensures { IsAnswered book.old name.now moment (said_by sent.entry) result book.new }
+    ensures { IsAnswered book.old name.now moment (texts_of sent.entry) result book.new }
 {
     match sent {
         Sent::One(text) => book.attempt(name, moment, text),

@@ -1,5 +1,6 @@
 //! Standard input, as lines.
 ghost use Rattle.std.specs.Prelude.{◌≡◌, ◌≤◌, ◌+◌, ◌⊎◌, [], length, vec_len, IfErr, IfOk, IfSome, MatchOption, OnOk};
+ghost use Rattle.std.specs.Str.{byte};
 ghost use Rattle.std.specs.Io.BufRead.{first_piece, strip_last, take_through};
 ghost use Rattle.commands.specs.declared.input.TheConstants.{MOST_INPUT};
 
@@ -12,7 +13,7 @@ const MOST_INPUT: usize = 16_777_216;
 
 // The line without its LF, where it has one.
 fn without_lf(mut line: Vec<u8>) -> Vec<u8>
-    ensures { result.items ≡ strip_last 10 line.items }
+    ensures { result.items ≡ strip_last (byte "\n") line.items }
 {
     if line.last() == Some(&b'\n') {
         line.pop();
@@ -24,7 +25,7 @@ fn without_lf(mut line: Vec<u8>) -> Vec<u8>
 // fails, and where they are more than `most`.
 fn read_line<I: BufRead>(alloc: Global, input: &mut I, most: usize) -> Result<Vec<u8>, Fault>
     requires { most ≤ MOST_INPUT }
-    ensures line { IfOk result (λ line. IfSome (I.remaining input.old) (λ bytes. line.items ≡ take_through 10 bytes)) }
+    ensures line { IfOk result (λ line. IfSome (I.remaining input.old) (λ bytes. line.items ≡ take_through (byte "\n") bytes)) }
     ensures most { IfOk result (λ line. vec_len line ≤ most) }
     ensures err { IfErr result (λ fault. (fault ≡ Fault.CannotReadInput) ⊎ (fault ≡ Fault.NoMemory)) }
 {
@@ -41,7 +42,7 @@ fn read_line<I: BufRead>(alloc: Global, input: &mut I, most: usize) -> Result<Ve
 /// is looked at. CannotReadInput where a read fails, and where the line and its LF have more than
 /// 16777216 bytes; NoMemory where memory runs out.
 pub fn first_line<I: BufRead>(alloc: Global, input: &mut I) -> Result<Vec<u8>, Fault>
-    ensures line { IfOk result (λ line. IfSome (I.remaining input.old) (λ bytes. line.items ≡ first_piece 10 bytes)) }
+    ensures line { IfOk result (λ line. IfSome (I.remaining input.old) (λ bytes. line.items ≡ first_piece (byte "\n") bytes)) }
     ensures most { IfOk result (λ line. vec_len line ≤ MOST_INPUT) }
     ensures err { IfErr result (λ fault. (fault ≡ Fault.CannotReadInput) ⊎ (fault ≡ Fault.NoMemory)) }
 {
@@ -71,9 +72,9 @@ impl<'a, I: BufRead> Lines<'a, I> {
     /// 16777216 bytes with their LFs; NoMemory where memory runs out.
     pub fn next(&mut self, alloc: Global) -> Result<Option<Vec<u8>>, Fault>
         ensures line { IfOk result (λ found. IfSome (I.remaining self.old.input.now)
-            (λ bytes. MatchOption found (bytes ≡ []) (λ line. line.items ≡ first_piece 10 bytes))) }
+            (λ bytes. MatchOption found (bytes ≡ []) (λ line. line.items ≡ first_piece (byte "\n") bytes))) }
         ensures left { OnOk result (IfSome (I.remaining self.old.input.now)
-            (λ bytes. self.new.left + length (take_through 10 bytes) ≡ self.old.left)) }
+            (λ bytes. self.new.left + length (take_through (byte "\n") bytes) ≡ self.old.left)) }
         ensures err { IfErr result (λ fault. (fault ≡ Fault.CannotReadInput) ⊎ (fault ≡ Fault.NoMemory)) }
     {
         let line = read_line(alloc, self.input, self.left)?;

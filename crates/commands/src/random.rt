@@ -1,4 +1,7 @@
 //! The file that random bytes come from.
+ghost use Rattle.std.specs.Prelude.{IfOk};
+ghost use Rattle.std.specs.Io.KnownBytes.{Consumes};
+
 use command_line::Fault;
 use std::alloc::Global;
 use std::fs;
@@ -28,7 +31,9 @@ impl<'a, F: Read + Drop> Random<'a, F> {
 
     /// The next `N` bytes of the file. CannotRead where it has fewer, and where a read fails; NoMemory
     /// where memory runs out.
-    pub fn bytes<const N: usize>(&mut self) -> Result<[u8; N], Fault> {
+    pub fn bytes<const N: usize>(&mut self) -> Result<[u8; N], Fault>
+        ensures next { IfOk result (λ bytes. Consumes (F.remaining self.old.file) (F.remaining self.new.file) bytes) }
+    {
         let mut bytes = [0u8; N];
         match self.file.read_exact(&mut bytes) {
             Ok(()) => Ok(bytes),

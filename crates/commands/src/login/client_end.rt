@@ -1,9 +1,12 @@
 //! The client's end of a login: what it says next, by what it was told.
-ghost use Rattle.std.specs.Prelude.{◌≡◌, ◌≢◌, IfOk, IfErr};
-ghost use Rattle.scram_ends.specs.Client.{IsExpecting};
+ghost use Rattle.std.specs.Prelude.{◌≡◌, ◌≢◌, ℕ, List, [], ◌∷◌, ◌++◌, IfOk, IfErr};
+ghost use Rattle.std.specs.Str.{byte};
+ghost use Rattle.log_grammar.specs.Payload.{escaped};
+ghost use Rattle.log_grammar.specs.Lines.{resp};
+ghost use Rattle.scram_ends.specs.Client.{IsStarted, IsExpecting};
 ghost use Rattle.scram_ends.specs.Login.{IsAuthentic};
-ghost use Rattle.scram_ends.specs.Stages.{Answered};
-ghost use Rattle.commands.specs.ClientEnd.{ShowsKeys};
+ghost use Rattle.scram_ends.specs.Stages.{Started, Answered, answered};
+ghost use Rattle.commands.specs.ClientEnd.{IfSays, said_line, WaitsForSignature, Begins, MaySay, ShowsKeys};
 
 use command_line::Fault;
 use mac_core::Mechanism;
@@ -79,6 +82,8 @@ impl ClientEnd {
     /// where its own end of the login finds a fault (RFC 5802, section 5). The only fault is NoMemory.
     pub fn hear(&mut self, alloc: Global, line: &[u8]) -> Result<Next, Fault>
         ensures is_in { IfOk result (λ next. next ≡ Next.IsIn → ShowsKeys self.old.stage line.now) }
+        ensures says { IfOk result (λ next. IfSays next (λ said. MaySay self.old.user.name self.old.user.act_as self.old.nonce
+            self.old.password self.old.stage line.now said self.new.stage)) }
         ensures err { IfErr result (λ fault. fault ≡ Fault.NoMemory) }
     {
         let Ok(Line::FromServer(told)) = read_line(line) else {
@@ -98,6 +103,8 @@ impl ClientEnd {
     // Says which of the mechanisms of these names the client takes, with its first message.
     fn ask(&mut self, alloc: Global, names: &[u8]) -> Result<Next, Fault>
         ensures not_in { IfOk result (λ next. next ≢ Next.IsIn) }
+        ensures says { IfOk result (λ next. IfSays next (λ said. Begins self.old.user.name self.old.user.act_as self.old.nonce
+            said self.new.stage)) }
         ensures err { IfErr result (λ fault. fault ≡ Fault.NoMemory) }
     {
         let user = &self.user;
@@ -118,6 +125,9 @@ impl ClientEnd {
     // Answers a challenge with the proof.
     fn prove(&mut self, alloc: Global, client: ClientOne, challenge: &[u8]) -> Result<Next, Fault>
         ensures not_in { IfOk result (λ next. next ≢ Next.IsIn) }
+        ensures says { IfOk result (λ next. IfSays next (λ said. (login : Started) → IsStarted client login
+            → (client_final : List ℕ) × (said ≡ said_line (resp client_final))
+            × WaitsForSignature self.new.stage (answered login self.old.password challenge.now client_final))) }
         ensures err { IfErr result (λ fault. fault ≡ Fault.NoMemory) }
     {
         let mut message = Vec::new(alloc);
@@ -135,6 +145,7 @@ impl ClientEnd {
 // Whether the client is in, by the message with which the service accepts it.
 fn check(alloc: Global, client: ClientTwo, message: Payload<'_>) -> Result<Next, Fault>
     ensures is_in { IfOk result (λ next. next ≡ Next.IsIn → (l : Answered) (x : IsExpecting client l) → IsAuthentic message.entry x.signature) }
+    ensures silent { IfOk result (λ next. IfSays next (λ said. ⊥)) }
     ensures err { IfErr result (λ fault. fault ≡ Fault.NoMemory) }
 {
     let Ok(last) = message.bytes(alloc) else {
@@ -148,6 +159,7 @@ fn check(alloc: Global, client: ClientTwo, message: Payload<'_>) -> Result<Next,
 
 // The line of this front and this message, with its LF. The only fault is NoMemory.
 fn line_of(alloc: Global, front: &[u8], message: &[u8]) -> Result<Vec<u8>, Fault>
+    ensures ok { IfOk result (λ line. line.items ≡ front.now ++ (escaped message.now ++ byte "\n" ∷ [])) }
     ensures err { IfErr result (λ fault. fault ≡ Fault.NoMemory) }
 {
     let mut line = Vec::new(alloc);

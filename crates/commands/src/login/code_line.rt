@@ -1,11 +1,13 @@
 //! The line that a client sends for an input line: one code, or two in a row.
 ghost use Rattle.std.specs.Prelude.{◌≡◌, [], ◌∷◌, ◌++◌, IfOk, IfErr, take};
+ghost use Rattle.std.specs.Str.{byte};
 ghost use Rattle.otp_core.specs.Attempt.{CodeTexts};
 ghost use Rattle.commands.specs.Login.{sent_for};
 ghost use Rattle.commands.specs.Sent.{Says};
 
-use crate::sent::{Sent, sent_by};
+use crate::sent::sent_by;
 use command_line::Fault;
+use sasl_desk::Sent;
 use std::alloc::Global;
 
 /// The line for this input line, with its LF: itself where it is a SYNC line of the protocol, else as the text of a CODE
@@ -23,7 +25,7 @@ pub fn code_line(alloc: Global, line: &[u8]) -> Result<Vec<u8>, Fault>
 // The line of this front and the first 6201 bytes of this text, with its LF. A line of the protocol has at most 6200, so
 // nothing more is ever read.
 fn line_of(alloc: Global, front: &[u8], text: &[u8]) -> Result<Vec<u8>, Fault>
-    ensures ok { IfOk result (λ line. line.items ≡ front.now ++ (take 6201 text.now ++ 10 ∷ [])) }
+    ensures ok { IfOk result (λ line. line.items ≡ front.now ++ (take 6201 text.now ++ byte "\n" ∷ [])) }
     ensures err { IfErr result (λ fault. fault ≡ Fault.NoMemory) }
 {
     let mut line = Vec::new(alloc);

@@ -1,5 +1,6 @@
 //! The nonces of a login: those that the words give, or fresh random ones.
-ghost use Rattle.std.specs.Prelude.{◌≡◌, IfOk, IfErr, IfSome, length};
+ghost use Rattle.std.specs.Prelude.{◌≡◌, ℕ, List, IfOk, IfErr, IfSome, IfNone, length};
+ghost use Rattle.std.specs.Io.KnownBytes.{Consumes};
 ghost use Rattle.scram_text.specs.Base64Field.{base64};
 
 use crate::random::Random;
@@ -39,6 +40,8 @@ fn given_or_random<F: Read + Drop>(
     random: &mut Random<'_, F>,
 ) -> Result<NoncePart, Fault>
     ensures given { IfSome given (λ it. IfOk result (λ nonce. nonce ≡ it)) }
+    ensures fresh { IfNone given (IfOk result (λ nonce. (bytes : List ℕ) × (length bytes ≡ 18) × (nonce ≡ base64 bytes)
+        × Consumes (F.remaining random.old.file) (F.remaining random.new.file) bytes)) }
 {
     match given {
         Some(nonce) => Ok(nonce),
