@@ -3,6 +3,8 @@
 use book_format::{Account, BookFault, BookWhy, Contents, MechKeys};
 use otp_core::{Fields, OtpHash};
 use std::alloc::{AllocError, Global};
+use std::fmt::Debug;
+use std::process::Abort;
 use std::test::Fail;
 
 mod accounts;
@@ -72,4 +74,37 @@ fn edited(alloc: Global, parts: [&str; 2], old: &str, new: &str) -> Result<Strin
 fn fault_of(alloc: Global, text: &[u8]) -> Option<(u16, Option<usize>)> {
     let fault = Contents::read(alloc, text).err()?;
     Some((fault.number(), fault.account))
+}
+
+// Asserts that the value is the one wanted, and says at what it is not.
+fn check<T: PartialEq + Debug>(rt: &impl Abort, got: &T, want: &T, at: &str) {
+    assert_eq!(rt; got, want, "{at}");
+}
+
+// Asserts that the bytes are those of the text, and says at what they are not.
+fn check_text(rt: &impl Abort, got: &[u8], want: &str, at: &str) {
+    assert_eq!(rt; got, want.as_bytes(), "{at}");
+}
+
+// Asserts the number and the account of the fault of the text, or None where there is none.
+fn check_fault(
+    rt: &(impl Abort + AllocGlobal),
+    text: &[u8],
+    want: Option<(u16, Option<usize>)>,
+    at: &str,
+) {
+    assert_eq!(rt; fault_of(rt.alloc(), text), want, "{at}");
+}
+
+// That of a book's text with an edit.
+fn check_edit(
+    rt: &(impl Abort + AllocGlobal),
+    parts: [&str; 2],
+    old: &str,
+    new: &str,
+    want: Option<(u16, Option<usize>)>,
+) -> Result<(), Fail> {
+    let text = edited(rt.alloc(), parts, old, new)?;
+    check_fault(rt, text.as_bytes(), want, new);
+    Ok(())
 }

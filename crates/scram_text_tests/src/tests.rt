@@ -7,6 +7,7 @@ use scram_text::{
     write_client_final, write_client_first, write_name, write_server_final, write_server_first,
 };
 use std::alloc::Global;
+use std::fmt::{Debug, Display};
 use std::process::Abort;
 use std::test::Fail;
 
@@ -31,6 +32,28 @@ const PUBLISHED: [[&str; 5]; 2] = [
         "v=6rriTRBi23WpRR/wtup+mMhUZUn/dB5nLTJRsjl95G4=",
     ],
 ];
+
+// Asserts that the value is the one wanted, and says at what it is not.
+fn check<T: PartialEq + Debug>(rt: &impl Abort, got: &T, want: &T, at: &str) {
+    assert_eq!(rt; got, want, "{at}");
+}
+
+// Asserts that the bytes are those wanted, and says at what they are not.
+fn check_bytes(rt: &impl Abort, got: &[u8], want: &[u8], at: &str) {
+    assert_eq!(rt; got, want, "{at}");
+}
+
+// Asserts what is printed of a fault.
+fn check_words(
+    rt: &impl Abort,
+    alloc: Global,
+    fault: &impl Display,
+    want: &str,
+) -> Result<(), Fail> {
+    let words = format!(in alloc; "{fault}")?;
+    check_bytes(rt, words.as_bytes(), want.as_bytes(), want);
+    Ok(())
+}
 
 // Reads the message and writes what was read.
 fn client_first_again(text: &[u8], name: &[u8], out: &mut Vec<u8>) -> bool {
@@ -112,23 +135,23 @@ fn reads_and_writes_again(rt: &impl Abort, alloc: Global, exchange: &[&str; 5]) 
         client_first_again(first.as_bytes(), name.as_bytes(), &mut out),
         "{first}"
     );
-    assert_eq!(rt; out.as_slice(), first.as_bytes());
+    check_bytes(rt, out.as_slice(), first.as_bytes(), first);
     out.clear();
     assert!(rt;
         server_first_again(challenge.as_bytes(), &mut out),
         "{challenge}"
     );
-    assert_eq!(rt; out.as_slice(), challenge.as_bytes());
+    check_bytes(rt, out.as_slice(), challenge.as_bytes(), challenge);
     out.clear();
     assert!(rt; client_final_again(last.as_bytes(), &mut out), "{last}");
-    assert_eq!(rt; out.as_slice(), last.as_bytes());
+    check_bytes(rt, out.as_slice(), last.as_bytes(), last);
     out.clear();
     if !outcome.is_empty() {
         assert!(rt;
             server_final_again(outcome.as_bytes(), &mut out),
             "{outcome}"
         );
-        assert_eq!(rt; out.as_slice(), outcome.as_bytes());
+        check_bytes(rt, out.as_slice(), outcome.as_bytes(), outcome);
     }
 }
 
@@ -174,11 +197,8 @@ fn faults_of_client_first(rt: HostRuntime) {
         ("n,,n=u,r=x,", 4, TextWhy::Extension),
         ("n,,m=1,n=u,r=x,a=1,bb", 6, TextWhy::Extension),
     ] {
-        assert_eq!(rt;
-            read_client_first(text.as_bytes()).err(),
-            Some(TextFault { part, why }),
-            "{text}"
-        );
+        let fault = read_client_first(text.as_bytes()).err();
+        check(&rt, &fault, &Some(TextFault { part, why }), text);
     }
 }
 
@@ -202,11 +222,8 @@ fn faults_of_server_first(rt: HostRuntime) {
         ("m=1,r=ab,s=QQ==,i=0", 3, TextWhy::Count),
         ("r=ab,s=QQ==,i=1,x", 3, TextWhy::Extension),
     ] {
-        assert_eq!(rt;
-            read_server_first(text.as_bytes()).err(),
-            Some(TextFault { part, why }),
-            "{text}"
-        );
+        let fault = read_server_first(text.as_bytes()).err();
+        check(&rt, &fault, &Some(TextFault { part, why }), text);
     }
     let Ok(message) = read_server_first(b"r=ab,s=QQ==,i=4294967295") else {
         panic!(rt; "the greatest count");
@@ -234,17 +251,14 @@ fn faults_of_client_final(rt: HostRuntime) {
         ("c=biws,r=a,p=AA==,", 3, TextWhy::Proof),
         ("c=biws,r=a,x=1,y=2,p=A", 4, TextWhy::Proof),
     ] {
-        assert_eq!(rt;
-            read_client_final(text.as_bytes()).err(),
-            Some(TextFault { part, why }),
-            "{text}"
-        );
+        let fault = read_client_final(text.as_bytes()).err();
+        check(&rt, &fault, &Some(TextFault { part, why }), text);
     }
     let Ok(message) = read_client_final(b"c=biws,r=abc,p=AA==,p=AA==") else {
         panic!(rt; "a proof after an extension that is named p");
     };
-    assert_eq!(rt; message.extensions, b"p=AA==".as_slice());
-    assert_eq!(rt; message.proof.as_slice(), [0].as_slice());
+    check_bytes(&rt, message.extensions, b"p=AA==", "the extension");
+    check_bytes(&rt, message.proof.as_slice(), &[0], "the proof");
 }
 
 #[test]
@@ -260,16 +274,13 @@ fn faults_of_server_final(rt: HostRuntime) {
         ("v=AA==,", 1, TextWhy::Extension),
         ("e=other-error,a=1,b", 2, TextWhy::Extension),
     ] {
-        assert_eq!(rt;
-            read_server_final(text.as_bytes()).err(),
-            Some(TextFault { part, why }),
-            "{text}"
-        );
+        let fault = read_server_final(text.as_bytes()).err();
+        check(&rt, &fault, &Some(TextFault { part, why }), text);
     }
 }
 
 #[test]
-fn mandatory_and_flags(rt: HostRuntime) {
+fn mandatory_extensions(rt: HostRuntime) {
     for (text, mandatory) in [
         ("n,,m=x,n=user,r=x", true),
         ("n,,n=user,r=x,m=x", true),
@@ -279,18 +290,26 @@ fn mandatory_and_flags(rt: HostRuntime) {
         let Ok(message) = read_client_first(text.as_bytes()) else {
             panic!(rt; "{text}");
         };
-        assert_eq!(rt; message.mandatory, mandatory, "{text}");
+        check(&rt, &message.mandatory, &mandatory, text);
     }
+}
+
+#[test]
+fn parts_of_client_first(rt: HostRuntime) {
     let Ok(message) = read_client_first(b"p=tls-unique,a=root,n=a=2Cb=3Dc,r=x,y=1,z=2") else {
         panic!(rt; "a message with every part");
     };
     let Flag::Binding(binding) = message.flag else {
         panic!(rt; "a flag with a binding");
     };
-    assert_eq!(rt; binding, b"tls-unique".as_slice());
-    assert_eq!(rt; message.header, b"p=tls-unique,a=root,".as_slice());
-    assert_eq!(rt; message.bare, b"n=a=2Cb=3Dc,r=x,y=1,z=2".as_slice());
-    assert_eq!(rt; message.extensions, b"y=1,z=2".as_slice());
+    for (got, want, at) in [
+        (binding, b"tls-unique".as_slice(), "the binding"),
+        (message.header, b"p=tls-unique,a=root,", "the header"),
+        (message.bare, b"n=a=2Cb=3Dc,r=x,y=1,z=2", "the bare message"),
+        (message.extensions, b"y=1,z=2", "the extensions"),
+    ] {
+        check_bytes(&rt, got, want, at);
+    }
 }
 
 #[test]
@@ -336,13 +355,13 @@ fn names(rt: HostRuntime) -> Result<(), Fail> {
     let name = PlainName::new(b"a,b=c").ok_or("a plain name")?;
     let mut out = Vec::new(rt.alloc());
     write_name(&name, &mut out)?;
-    assert_eq!(rt; out.as_slice(), b"a=2Cb=3Dc".as_slice());
+    check_bytes(&rt, out.as_slice(), b"a=2Cb=3Dc", "escapes");
 
     let message = read_client_first(b"n,,n=a\x7F,r=x")?;
     assert!(rt; message.name.plain().is_none());
     let message = read_client_first(b"n,,n==3D2C,r=x")?;
     let name = message.name.plain().ok_or("a plain name")?;
-    assert_eq!(rt; name.bytes(), b"=2C".as_slice());
+    check_bytes(&rt, name.bytes(), b"=2C", "an escaped sign");
     Ok(())
 }
 
@@ -361,22 +380,13 @@ fn limits(rt: HostRuntime) -> Result<(), Fail> {
     ] {
         let bytes = vec![in rt.alloc(); b'a'; length]?;
         let bytes = bytes.as_slice();
-        assert_eq!(rt;
+        let made = [
             PlainName::new(bytes).is_some(),
-            plain,
-            "a name of {length}"
-        );
-        assert_eq!(rt;
             Password::new(bytes).is_some(),
-            password,
-            "a password of {length}"
-        );
-        assert_eq!(rt;
             NoncePart::new(bytes).is_some(),
-            nonce,
-            "a nonce part of {length}"
-        );
-        assert_eq!(rt; Salt::new(bytes).is_some(), salt, "a salt of {length}");
+            Salt::new(bytes).is_some(),
+        ];
+        assert_eq!(rt; made, [plain, password, nonce, salt], "{length} bytes");
     }
     Ok(())
 }
@@ -408,29 +418,61 @@ fn long(alloc: Global, front: &[u8], letters: usize, back: &[u8]) -> Result<Vec<
     Ok(message)
 }
 
+#[derive(Clone, Copy)]
+enum Kind {
+    ClientFirst,
+    ServerFirst,
+    ClientFinal,
+}
+
+// The fault of a message with `front`, so many letters, and `back`.
+fn fault_of_long(
+    alloc: Global,
+    kind: Kind,
+    front: &[u8],
+    letters: usize,
+    back: &[u8],
+) -> Result<Option<TextFault>, Fail> {
+    let message = long(alloc, front, letters, back)?;
+    Ok(match kind {
+        Kind::ClientFirst => read_client_first(message.as_slice()).err(),
+        Kind::ServerFirst => read_server_first(message.as_slice()).err(),
+        Kind::ClientFinal => read_client_final(message.as_slice()).err(),
+    })
+}
+
 #[test]
 fn limits_of_messages(rt: HostRuntime) -> Result<(), Fail> {
-    let alloc = rt.alloc();
-    let too_long = Some(TextFault {
+    let rows: [(Kind, &[u8], usize, &[u8], bool); 10] = [
+        (Kind::ClientFirst, b"n,,n=user,r=x,x=", 2032, b"", true),
+        (Kind::ClientFirst, b"n,,n=u,r=", 256, b"", true),
+        (Kind::ClientFirst, b"n,,n=u,r=", 257, b"", false),
+        (Kind::ServerFirst, b"r=", 512, b",s=QQ==,i=1", true),
+        (Kind::ServerFirst, b"r=", 513, b",s=QQ==,i=1", false),
+        // 64 and 65 bytes of 0.
+        (Kind::ServerFirst, b"r=a,s=", 86, b"==,i=1", true),
+        (Kind::ServerFirst, b"r=a,s=", 87, b"=,i=1", false),
+        (Kind::ClientFinal, b"c=biws,r=a,p=", 86, b"==", true),
+        (Kind::ClientFinal, b"c=biws,r=a,p=", 87, b"=", false),
+        // 1500 bytes of 0; 1536 would leave no room for the other parts.
+        (Kind::ClientFinal, b"c=", 2000, b",r=a,p=AA==", true),
+    ];
+    for (kind, front, letters, back, is_read) in rows {
+        let fault = fault_of_long(rt.alloc(), kind, front, letters, back)?;
+        assert!(rt; fault.is_none() == is_read, "{letters} letters");
+    }
+    let fault = fault_of_long(
+        rt.alloc(),
+        Kind::ClientFirst,
+        b"n,,n=user,r=x,x=",
+        2033,
+        b"",
+    )?;
+    let too_long = TextFault {
         part: 0,
         why: TextWhy::TooLong,
-    });
-    assert!(rt; read_client_first(long(alloc, b"n,,n=user,r=x,x=", 2032, b"")?.as_slice()).is_ok());
-    assert_eq!(rt;
-        read_client_first(long(alloc, b"n,,n=user,r=x,x=", 2033, b"")?.as_slice()).err(),
-        too_long
-    );
-    assert!(rt; read_client_first(long(alloc, b"n,,n=u,r=", 256, b"")?.as_slice()).is_ok());
-    assert!(rt; read_client_first(long(alloc, b"n,,n=u,r=", 257, b"")?.as_slice()).is_err());
-    assert!(rt; read_server_first(long(alloc, b"r=", 512, b",s=QQ==,i=1")?.as_slice()).is_ok());
-    assert!(rt; read_server_first(long(alloc, b"r=", 513, b",s=QQ==,i=1")?.as_slice()).is_err());
-    // 64 and 65 bytes of 0.
-    assert!(rt; read_server_first(long(alloc, b"r=a,s=", 86, b"==,i=1")?.as_slice()).is_ok());
-    assert!(rt; read_server_first(long(alloc, b"r=a,s=", 87, b"=,i=1")?.as_slice()).is_err());
-    assert!(rt; read_client_final(long(alloc, b"c=biws,r=a,p=", 86, b"==")?.as_slice()).is_ok());
-    assert!(rt; read_client_final(long(alloc, b"c=biws,r=a,p=", 87, b"=")?.as_slice()).is_err());
-    // 1500 bytes of 0; 1536 would leave no room for the other parts.
-    assert!(rt; read_client_final(long(alloc, b"c=", 2000, b",r=a,p=AA==")?.as_slice()).is_ok());
+    };
+    check(&rt, &fault, &Some(too_long), "2049 bytes");
     Ok(())
 }
 
@@ -441,25 +483,21 @@ fn refused_writes(rt: HostRuntime) -> Result<(), Fail> {
     let name = PlainName::new(b"u").ok_or("a name")?;
     let nonce = NoncePart::new(b"x").ok_or("a nonce")?;
     let tag = Tag::try_from(b"A".as_slice())?;
-    let unwritable = Err(WriteFault::Unwritable);
     let mut out = Vec::from_slice(alloc, b"before")?;
-    let refused = write_server_first(b"", &salt, 1, b"", &mut out);
-    assert_eq!(rt; refused, unwritable);
-    let refused = write_server_first(b"a", &salt, 0, b"", &mut out);
-    assert_eq!(rt; refused, unwritable);
-    let refused = write_server_first(b"a", &salt, 1, b"x", &mut out);
-    assert_eq!(rt; refused, unwritable);
-    let refused = write_client_first(Flag::Binding(b""), None, &name, &nonce, b"", &mut out);
-    assert_eq!(rt; refused, unwritable);
-    let refused = write_client_first(Flag::NotOffered, None, &name, &nonce, b"x=\xFF", &mut out);
-    assert_eq!(rt; refused, unwritable);
-    let refused = write_client_final(b"", b"a", b"", &tag, &mut out);
-    assert_eq!(rt; refused, unwritable);
-    let refused = write_client_final(b"n,,", b"a", b"", &Tag::new(), &mut out);
-    assert_eq!(rt; refused, unwritable);
-    let refused = write_server_final(FinalResult::ErrorValue(b"a,b"), b"", &mut out);
-    assert_eq!(rt; refused, unwritable);
-    assert_eq!(rt; out.as_slice(), b"before".as_slice());
+    let refused = [
+        write_server_first(b"", &salt, 1, b"", &mut out),
+        write_server_first(b"a", &salt, 0, b"", &mut out),
+        write_server_first(b"a", &salt, 1, b"x", &mut out),
+        write_client_first(Flag::Binding(b""), None, &name, &nonce, b"", &mut out),
+        write_client_first(Flag::NotOffered, None, &name, &nonce, b"x=\xFF", &mut out),
+        write_client_final(b"", b"a", b"", &tag, &mut out),
+        write_client_final(b"n,,", b"a", b"", &Tag::new(), &mut out),
+        write_server_final(FinalResult::ErrorValue(b"a,b"), b"", &mut out),
+    ];
+    for (place, refused) in refused.iter().enumerate() {
+        assert!(rt; *refused == Err(WriteFault::Unwritable), "{place}");
+    }
+    check_bytes(&rt, out.as_slice(), b"before", "nothing is written");
     Ok(())
 }
 
@@ -468,17 +506,15 @@ fn longest_write(rt: HostRuntime) -> Result<(), Fail> {
     let alloc = rt.alloc();
     let salt = Salt::new(b"A").ok_or("a salt")?;
     let mut out = Vec::from_slice(alloc, b"before")?;
-    let extensions = long(alloc, b"x=", 2032, b"")?;
-    assert_eq!(rt;
-        write_server_first(b"a", &salt, 1, extensions.as_slice(), &mut out),
-        Err(WriteFault::OverLimit)
-    );
-    assert_eq!(rt; out.as_slice(), b"before".as_slice());
-    let extensions = long(alloc, b"x=", 2031, b"")?;
-    assert_eq!(rt;
-        write_server_first(b"a", &salt, 1, extensions.as_slice(), &mut out),
-        Ok(())
-    );
-    assert_eq!(rt; out.len(), 6 + 2048);
+    for (letters, want, length) in [
+        (2032, Err(WriteFault::OverLimit), 6),
+        (2031, Ok(()), 6 + 2048),
+    ] {
+        let extensions = long(alloc, b"x=", letters, b"")?;
+        let written = write_server_first(b"a", &salt, 1, extensions.as_slice(), &mut out);
+        check(&rt, &written, &want, "what is written");
+        check(&rt, &out.len(), &length, "the length");
+    }
+    assert!(rt; out.starts_with(b"before"));
     Ok(())
 }

@@ -54,13 +54,7 @@ const ACCOUNT_EDITS: [(&str, &str, u16); 35] = [
 #[test]
 fn faults_of_an_account(rt: HostRuntime) -> Result<(), Fail> {
     for (old, new, number) in ACCOUNT_EDITS {
-        let text = edited(rt.alloc(), [USER, ""], old, new)?;
-        let want = Some((number, Some(0)));
-        assert_eq!(rt;
-            fault_of(rt.alloc(), text.as_bytes()),
-            want,
-            "{old} to {new}"
-        );
+        check_edit(&rt, [USER, ""], old, new, Some((number, Some(0))))?;
     }
     Ok(())
 }
@@ -68,9 +62,8 @@ fn faults_of_an_account(rt: HostRuntime) -> Result<(), Fail> {
 // Keys of SCRAM-SHA-1 have another length than those of SCRAM-SHA-256.
 #[test]
 fn keys_of_the_other_length(rt: HostRuntime) -> Result<(), Fail> {
-    let text = edited(rt.alloc(), [USER, ""], "user.sha1", "user.sha256")?;
-    assert_eq!(rt; fault_of(rt.alloc(), text.as_bytes()), Some((66, Some(0))));
-    Ok(())
+    let want = Some((66, Some(0)));
+    check_edit(&rt, [USER, ""], "user.sha1", "user.sha256", want)
 }
 
 #[test]
@@ -100,8 +93,7 @@ fn faults_of_tables_of_accounts(rt: HostRuntime) -> Result<(), Fail> {
     ];
     for (accounts, number, index) in rows {
         let text = format!(in rt.alloc(); "{TOP}{accounts}")?;
-        let want = Some((number, Some(index)));
-        assert_eq!(rt; fault_of(rt.alloc(), text.as_bytes()), want, "{accounts}");
+        check_fault(&rt, text.as_bytes(), Some((number, Some(index))), accounts);
     }
     Ok(())
 }
@@ -120,8 +112,7 @@ fn names(alloc: Global, count: usize) -> Result<String, AllocError> {
 fn sixteen_names_at_most(rt: HostRuntime) -> Result<(), Fail> {
     for (count, want) in [(0, None), (16, None), (17, Some((63, Some(0))))] {
         let list = names(rt.alloc(), count)?;
-        let text = edited(rt.alloc(), [USER, ""], "[]", list.as_str())?;
-        assert_eq!(rt; fault_of(rt.alloc(), text.as_bytes()), want, "{count}");
+        check_edit(&rt, [USER, ""], "[]", list.as_str(), want)?;
     }
     Ok(())
 }
@@ -141,17 +132,12 @@ fn longest_texts(rt: HostRuntime) -> Result<(), Fail> {
     for (count, want) in [(255, None), (256, Some((63, Some(0))))] {
         let name = letters(rt.alloc(), count)?;
         let text = format!(in rt.alloc(); "{TOP}[accounts.{name}]\n")?;
-        assert_eq!(rt; fault_of(rt.alloc(), text.as_bytes()), want, "{count}");
+        check_fault(&rt, text.as_bytes(), want, name.as_str());
     }
     for (count, want) in [(128, None), (130, Some((64, Some(0))))] {
         let salt = letters(rt.alloc(), count)?;
-        let text = edited(
-            rt.alloc(),
-            [USER, ""],
-            "4125c247e43ab1e93c6dff76",
-            salt.as_str(),
-        )?;
-        assert_eq!(rt; fault_of(rt.alloc(), text.as_bytes()), want, "{count}");
+        let salt = salt.as_str();
+        check_edit(&rt, [USER, ""], "4125c247e43ab1e93c6dff76", salt, want)?;
     }
     Ok(())
 }

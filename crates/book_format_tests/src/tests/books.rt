@@ -32,8 +32,8 @@ fn book_without_accounts(rt: HostRuntime) -> Result<(), Fail> {
     for (index, byte) in book.decoy_key.iter().enumerate() {
         assert_eq!(rt; *byte as usize, index);
     }
-    assert_eq!(rt; book.decoy_count, 4096);
-    assert_eq!(rt; book.accounts.len(), 0);
+    check(&rt, &book.decoy_count, &4096, "the decoys' count");
+    check(&rt, &book.accounts.len(), &0, "no account");
     Ok(())
 }
 
@@ -42,7 +42,7 @@ fn account_with_keys(rt: HostRuntime) -> Result<(), Fail> {
     let text = format!(in rt.alloc(); "{TOP}{USER}")?;
     let book = book_of(rt.alloc(), text.as_str())?;
     let (name, account) = only_account(&book).ok_or("one account")?;
-    assert_eq!(rt; name, b"user".as_slice());
+    check_text(&rt, name, "user", "the name");
     let keys = account.sha1.as_ref().ok_or("its keys")?;
     assert!(rt; has_users_keys(keys, rt.alloc())?);
     assert!(rt; account.sha256.is_none());
@@ -60,7 +60,12 @@ fn account_with_a_hotp_token(rt: HostRuntime) -> Result<(), Fail> {
     let Fields::Hotp(fields) = token.fields() else {
         return Err("a HOTP token".into());
     };
-    assert_eq!(rt; fields.secret.bytes(), b"12345678901234567890".as_slice());
+    check_text(
+        &rt,
+        fields.secret.bytes(),
+        "12345678901234567890",
+        "the secret",
+    );
     let numbers = [
         fields.next,
         fields.look_ahead,
@@ -68,8 +73,8 @@ fn account_with_a_hotp_token(rt: HostRuntime) -> Result<(), Fail> {
         fields.limit,
         fields.failures,
     ];
-    assert_eq!(rt; numbers, [0, 3, 0, 3, 0]);
-    assert_eq!(rt; fields.digits.count(), 6);
+    check(&rt, &numbers, &[0, 3, 0, 3, 0], "the numbers");
+    check(&rt, &fields.digits.count(), &6, "the digits");
     Ok(())
 }
 
@@ -84,7 +89,12 @@ fn tokens_with_sync_ahead(rt: HostRuntime) -> Result<(), Fail> {
         let Fields::Hotp(fields) = token.fields() else {
             return Err("a HOTP token".into());
         };
-        assert_eq!(rt; [fields.look_ahead, fields.sync_ahead], [3, sync_ahead]);
+        check(
+            &rt,
+            &[fields.look_ahead, fields.sync_ahead],
+            &[3, sync_ahead],
+            line,
+        );
     }
     Ok(())
 }
@@ -103,15 +113,20 @@ fn account_with_a_totp_token(rt: HostRuntime) -> Result<(), Fail> {
     let Fields::Totp(fields) = token.fields() else {
         return Err("a TOTP token".into());
     };
-    assert_eq!(rt; fields.hash, OtpHash::Sha1);
-    assert_eq!(rt; fields.secret.bytes(), b"12345678901234567890".as_slice());
-    assert_eq!(rt; fields.digits.count(), 8);
-    assert_eq!(rt; fields.t0.seconds(), 0);
+    check(&rt, &fields.hash, &OtpHash::Sha1, "the hash");
+    check_text(
+        &rt,
+        fields.secret.bytes(),
+        "12345678901234567890",
+        "the secret",
+    );
+    check(&rt, &fields.digits.count(), &8, "the digits");
+    check(&rt, &fields.t0.seconds(), &0, "the first step");
     let numbers = [fields.step, fields.back, fields.ahead, fields.max_drift];
-    assert_eq!(rt; numbers, [30, 0, 1, 1]);
-    assert_eq!(rt; fields.last, Some(37037036));
-    assert_eq!(rt; fields.drift, -1);
-    assert_eq!(rt; [fields.limit, fields.failures], [3, 0]);
+    check(&rt, &numbers, &[30, 0, 1, 1], "the window");
+    check(&rt, &fields.last, &Some(37037036), "the last step");
+    check(&rt, &fields.drift, &-1, "the drift");
+    check(&rt, &[fields.limit, fields.failures], &[3, 0], "the limit");
     Ok(())
 }
 
@@ -153,13 +168,13 @@ fn keys_of_the_other_mechanism(rt: HostRuntime) -> Result<(), Fail> {
     let (_, account) = only_account(&book).ok_or("one account")?;
     assert!(rt; account.sha1.is_none());
     let keys = account.sha256.as_ref().ok_or("its keys")?;
-    assert_eq!(rt; keys.salt.bytes(), b"\xAB".as_slice());
-    assert_eq!(rt; keys.count, 4294967295);
+    check(&rt, &keys.salt.bytes(), &b"\xAB".as_slice(), "the salt");
+    check(&rt, &keys.count, &4294967295, "the count");
     for (index, byte) in keys.keys.stored.as_slice().iter().enumerate() {
         assert_eq!(rt; *byte as usize, index + 16);
     }
     assert!(rt; keys.keys.server.as_slice().starts_with(b"\x00\x11\x22"));
-    assert_eq!(rt; keys.keys.server.len(), 32);
+    check(&rt, &keys.keys.server.len(), &32, "the server's key");
     Ok(())
 }
 

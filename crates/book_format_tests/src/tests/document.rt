@@ -66,12 +66,7 @@ const DOCUMENT_EDITS: [(&str, &str, u16); 25] = [
 #[test]
 fn faults_of_the_document(rt: HostRuntime) -> Result<(), Fail> {
     for (old, new, number) in DOCUMENT_EDITS {
-        let text = edited(rt.alloc(), ["", ""], old, new)?;
-        assert_eq!(rt;
-            fault_of(rt.alloc(), text.as_bytes()),
-            Some((number, None)),
-            "{new}"
-        );
+        check_edit(&rt, ["", ""], old, new, Some((number, None)))?;
     }
     Ok(())
 }
@@ -85,14 +80,16 @@ fn faults_before_those_of_an_account(rt: HostRuntime) -> Result<(), Fail> {
         ("decoy_count = 4096", "decoy_count = 0", 65),
     ] {
         for token in ["", HOTP] {
-            let text = edited(rt.alloc(), [USER, token], old, new)?;
-            assert_eq!(rt;
-                fault_of(rt.alloc(), text.as_bytes()),
-                Some((number, None)),
-                "{new}"
-            );
+            check_edit(&rt, [USER, token], old, new, Some((number, None)))?;
         }
     }
+    Ok(())
+}
+
+// Asserts what is printed of a fault.
+fn check_words(rt: &(impl Abort + AllocGlobal), fault: BookFault, want: &str) -> Result<(), Fail> {
+    let words = format!(in rt.alloc(); "{fault}")?;
+    check_text(rt, words.as_bytes(), want, want);
     Ok(())
 }
 
@@ -126,14 +123,10 @@ fn texts_of_faults(rt: HostRuntime) -> Result<(), Fail> {
         (BookWhy::NoMemory, "no memory for the book"),
     ];
     for (why, want) in rows {
-        let fault = BookFault { why, account: None };
-        assert_eq!(rt; format!(in rt.alloc(); "{fault}")?.as_str(), want);
-        let fault = BookFault {
-            why,
-            account: Some(7),
-        };
+        check_words(&rt, BookFault { why, account: None }, want)?;
+        let account = Some(7);
         let place = format!(in rt.alloc(); "account 7: {want}")?;
-        assert_eq!(rt; format!(in rt.alloc(); "{fault}")?.as_str(), place.as_str());
+        check_words(&rt, BookFault { why, account }, place.as_str())?;
     }
     Ok(())
 }

@@ -47,13 +47,7 @@ const HOTP_EDITS: [(&str, &str, u16); 39] = [
 #[test]
 fn faults_of_a_hotp_token(rt: HostRuntime) -> Result<(), Fail> {
     for (old, new, number) in HOTP_EDITS {
-        let text = edited(rt.alloc(), [USER, HOTP], old, new)?;
-        let want = Some((number, Some(0)));
-        assert_eq!(rt;
-            fault_of(rt.alloc(), text.as_bytes()),
-            want,
-            "{old} to {new}"
-        );
+        check_edit(&rt, [USER, HOTP], old, new, Some((number, Some(0))))?;
     }
     Ok(())
 }
@@ -100,13 +94,7 @@ const TOTP_EDITS: [(&str, &str, u16); 36] = [
 #[test]
 fn faults_of_a_totp_token(rt: HostRuntime) -> Result<(), Fail> {
     for (old, new, number) in TOTP_EDITS {
-        let text = edited(rt.alloc(), [USER, TOTP], old, new)?;
-        let want = Some((number, Some(0)));
-        assert_eq!(rt;
-            fault_of(rt.alloc(), text.as_bytes()),
-            want,
-            "{old} to {new}"
-        );
+        check_edit(&rt, [USER, TOTP], old, new, Some((number, Some(0))))?;
     }
     Ok(())
 }
@@ -139,8 +127,7 @@ fn settings_at_their_ends(rt: HostRuntime) -> Result<(), Fail> {
         (TOTP, "hash = \"sha1\"", "hash = \"sha512\""),
     ];
     for (token, old, new) in rows {
-        let text = edited(rt.alloc(), [USER, token], old, new)?;
-        assert_eq!(rt; fault_of(rt.alloc(), text.as_bytes()), None, "{new}");
+        check_edit(&rt, [USER, token], old, new, None)?;
     }
     Ok(())
 }

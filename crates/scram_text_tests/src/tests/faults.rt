@@ -59,7 +59,7 @@ const TEXTS: [(TextWhy, &str); 15] = [
 #[test]
 fn texts_of_faults(rt: HostRuntime) -> Result<(), Fail> {
     for (why, want) in TEXTS {
-        assert_eq!(rt; format!(in rt.alloc(); "{why}")?.as_str(), want);
+        check_words(&rt, rt.alloc(), &why, want)?;
     }
     Ok(())
 }
@@ -68,11 +68,8 @@ fn texts_of_faults(rt: HostRuntime) -> Result<(), Fail> {
 #[test]
 fn text_of_a_part_at_fault(rt: HostRuntime) -> Result<(), Fail> {
     let fault = read_client_first(b"n,,n=user,r=x,").err().ok_or("a fault")?;
-    assert_eq!(rt;
-        format!(in rt.alloc(); "{fault}")?.as_str(),
-        "part 4: an extension is not a letter, `=` and a value"
-    );
-    Ok(())
+    let want = "part 4: an extension is not a letter, `=` and a value";
+    check_words(&rt, rt.alloc(), &fault, want)
 }
 
 #[test]
@@ -92,7 +89,7 @@ fn texts_of_refusals_to_write(rt: HostRuntime) -> Result<(), Fail> {
         ),
     ];
     for (fault, want) in rows {
-        assert_eq!(rt; format!(in rt.alloc(); "{fault}")?.as_str(), want);
+        check_words(&rt, rt.alloc(), &fault, want)?;
     }
     Ok(())
 }

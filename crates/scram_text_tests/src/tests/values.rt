@@ -30,11 +30,11 @@ fn copies_and_texts(rt: HostRuntime) -> Result<(), Fail> {
     for text in ASCENDING {
         let name = PlainName::new(text.as_bytes()).ok_or("in range")?;
         let copy = name.copy();
-        assert_eq!(rt; name.text(), text);
-        assert_eq!(rt; copy.text(), text);
+        check_bytes(&rt, name.text().as_bytes(), text.as_bytes(), "the name");
+        check_bytes(&rt, copy.text().as_bytes(), text.as_bytes(), "its copy");
         assert!(rt; copy == name, "{text}");
     }
     let salt = Salt::new(&[0, 255, 7]).ok_or("in range")?;
-    assert_eq!(rt; salt.copy().bytes(), [0u8, 255, 7].as_slice());
+    check_bytes(&rt, salt.copy().bytes(), &[0, 255, 7], "a copy of a salt");
     Ok(())
 }
