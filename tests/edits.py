@@ -209,7 +209,7 @@ def batches_of(edits: Iterable[Edit]) -> list[list[Edit]]:
 
 
 class Refusals:
-    """What edits of one crate came to in earlier runs, where they were refused: a file for each, named by the sum of what its trial read."""
+    """What edits of a crate came to in earlier runs, where they were refused: a file for each, named by the sum of what was read."""
 
     def __init__(self, crate: str, uses: Uses) -> None:
         cache_home = os.environ.get("XDG_CACHE_HOME") or Path.home() / ".cache"
@@ -264,15 +264,17 @@ class Room:
             self.words += ["-L", f"dependency={folder}"]
 
     def check(self, edits: list[Edit], is_whole: bool = False) -> Report:
-        """Checks the crate with these edits, which change different lines, and no others: what they change and what that calls, or
-        all of it, also where a path does not name one function."""
+        """Checks the crate with these edits, which change different lines, and no others: the functions that they change, or the file's
+        where they change none, and what these call; or all of it, also where a path does not name one function."""
         lines = {place: text for edit in edits for place, text in edit.lines.items()}
         for path in (self.source / "src").rglob("*.rt"):
             file = path.relative_to(self.source / "src").as_posix()
             text = path.read_text(encoding="utf-8").split("\n")
             text = [lines.get((file, at), line) for at, line in enumerate(text, 1)]
             (self.folder / "src" / file).write_text("\n".join(text), encoding="utf-8")
-        paths = sorted({it.path() for edit in edits for it in edit.owners})
+        files = {file for edit in edits if not edit.owners for file, _ in edit.lines}
+        changed = {it for edit in edits for it in edit.owners} | {it for it in self.functions if it.file in files}
+        paths = sorted({it.path() for it in changed})
         if paths and not is_whole:
             ran = run([f"{kit()}/bin/rattle", "check", *self.words, *(f"--only={it}" for it in paths)], self.folder)
             if ran.returncode != FITS_NOTHING:
@@ -394,7 +396,8 @@ def try_crate(room: Room, is_first: bool, options: argparse.Namespace) -> Count:
 def self_test(room: Room, edits: list[Edit]) -> None:
     """Ends the run unless an edit without a change is let through, and one whose text is gone is unusable."""
     wrong = next(it for it in edits if it.is_inside)
-    other = next(it for it in room.functions if it not in wrong.owners)
+    # a method of a type has a body, and a trait's need not
+    other = next(it for it in room.functions if it.of and it not in wrong.owners)
     nothing = Edit("nothing", {}, {other}, True)
     together, alone = try_together(room, [wrong, nothing]), try_alone(room, nothing)
     if [*together] != [wrong.name] or alone != Outcome(False, f"{other}: LET THROUGH"):
