@@ -158,7 +158,7 @@ def an_editor_and_a_command(folder):
 
 
 def an_edit_that_fails(folder):
-    """A text that is no book, and a command that fails, leave the book as it was."""
+    """A text that is no book, and a command or an editor that fails, leave the book as it was."""
     book = with_tools(folder, USER)
     real = os.path.realpath(book)
     status, output, faults = ran(folder, "./edit-book book.toml sed s/format/former/")
@@ -168,6 +168,8 @@ def an_edit_that_fails(folder):
     os.remove(found[1])
     found = ran(folder, "./edit-book book.toml false")
     assert found == (1, "", f"edit-book: {real} is as it was, since false failed\n"), found
+    found = ran(folder, "./edit-book book.toml", EDITOR="false")
+    assert found == (1, "", f"edit-book: {real} is as it was, since the editor failed\n"), found
     assert book.read_text() == USER
     assert len(os.listdir(folder)) == 4
 
@@ -290,6 +292,22 @@ def a_password(folder):
     assert not any(left.iterdir())
 
 
+def a_password_of_one_mechanism(folder):
+    """An account that has keys for one mechanism alone gets new ones for both."""
+    for kept, lost in [("sha1", "sha256"), ("sha256", "sha1")]:
+        enrolled(folder)
+        does(folder, f"./edit-book book.toml ./drop-tables '[accounts.\"{NAME}\".{lost}]'")
+        before = book_of(folder)
+        [change] = blocks("Change a password")
+        does(folder, change, "another one\n", f"enrolled {NAME}\n")
+        after = book_of(folder)
+        for mechanism in ("sha1", "sha256"):
+            keys = after["accounts"][NAME].pop(mechanism)
+            assert (keys["stored"], keys["server"]) == keys_of(mechanism, b"another one", bytes.fromhex(keys["salt"]), keys["count"])
+        del before["accounts"][NAME][kept]
+        assert after == before
+
+
 def a_password_that_is_refused(folder):
     """Where `enrol` refuses the password, or a later step fails, the book is as it was."""
     enrolled(folder)
@@ -299,7 +317,7 @@ def a_password_that_is_refused(folder):
         _, output, faults = ran(folder, change, password)
         assert (output, faults) == ("", "scramotp: bad password\n"), (password, output, faults)
         assert Path(folder, "book.toml").read_bytes() == before, password
-    for old, new in [("sed -n", "false"), ("sed -n '/\\.sha1]$/,$p'", "sed -n /none/p"), (".sha1]'", ".md5]'")]:
+    for old, new in [("sed -n", "false"), ("sed -n '/\\.sha1]$/,$p'", "sed -n /none/p"), ("'[accounts.", "'[none.")]:
         assert old in change, old
         status, output, _ = ran(folder, change.replace(old, new), "another one\n")
         assert output == f"enrolled {NAME}\n", (old, output)
@@ -318,6 +336,10 @@ def a_removed_account(folder):
     del before["accounts"][NAME]
     assert book_of(folder) == before
     does(folder, f"scramotp enrol --book book.toml --name {NAME}", "pencil\n", f"enrolled {NAME}\n")
+    does(folder, remove)
+    assert book_of(folder) == before
+    Path(folder, "keys.toml").write_text(f'\n[accounts."{NAME}".sha1]\ncount = 1\nsalt = "00"\nserver = "{"00" * 20}"\nstored = "{"00" * 20}"\n')
+    does(folder, "./edit-book book.toml cat - keys.toml")
     does(folder, remove)
     assert book_of(folder) == before
     assert ran(folder, remove)[0] == 1
@@ -452,13 +474,17 @@ def keys_at_fault(folder):
 
 
 def a_backup(folder):
-    """A copy has the book's text, and nobody else can read it."""
+    """A copy has the book's text, and nobody else can read it. The newest copy is put back."""
     book = with_tools(folder, USER)
-    [copy] = blocks("Backups")
+    copy, put_back = blocks("Backups")
     does(folder, copy)
     [found] = Path(folder, "backups").iterdir()
     assert found.read_bytes() == book.read_bytes()
     assert (found.stat().st_mode & 0o777, found.parent.stat().st_mode & 0o777) == (0o600, 0o700)
+    Path(folder, "backups", "book-20010203T040506.toml").write_text("older\n")
+    does(folder, "./edit-book book.toml sed s/4096/4097/")
+    does(folder, put_back)
+    assert book.read_text() == USER
 
 
 def units(folder):
@@ -501,6 +527,7 @@ TESTS = [
     a_hotp_token,
     a_fob_that_ran_ahead,
     a_password,
+    a_password_of_one_mechanism,
     a_password_that_is_refused,
     a_removed_account,
     decoys,
