@@ -1,14 +1,14 @@
 use Rattle.std.proofs.Common.{◌≢◌, ◌∷◌, ◌++◌, ℕ, List}
 use Rattle.std.specs.Prelude.{decimal}
 use Rattle.otp_core.specs.Secret.{IsMoment}
-use Rattle.log_grammar.proofs.WordLemmas.{moment_fits}
-use Rattle.commands.proofs.Spaces.{none_by, number_alone, number_first}
+use Rattle.sasl_log.proofs.Reading.{none_by}
+use Rattle.commands.proofs.EventWords.{moment_alone, moment_first}
 use Rattle.commands.proofs.hall.event.after_moment.Goals as goal
 
 pub returns-in_err-seconds-clause-none : goal.returns-in_err-seconds-clause-none
 returns-in_err-seconds-clause-none c =
     let none : (n : ℕ) (rest : List ℕ) → IsMoment n → c.args.text.now ≢ decimal n ++ 32 ∷ rest =
-    λ n rest is. number_alone c.args.text.now c.in_err-seconds.ensures n rest in
+    λ n rest is. moment_alone c.args.text.now c.in_err-seconds.ensures n rest in
     none_by _ none
 
 pub returns-in_err-moment-clause-none : goal.returns-in_err-moment-clause-none
@@ -16,5 +16,5 @@ returns-in_err-moment-clause-none c =
     let none : (n : ℕ) (rest : List ℕ) → IsMoment n → c.args.text.now ≢ decimal n ++ 32 ∷ rest =
     λ n rest is whole.
     c.in_err-moment.ensures.none n is
-    (number_first c.args.text.now c.in_ok-seconds.seconds.now c.in_ok-seconds.rest.now c.in_ok-seconds.ensures n (moment_fits n is) rest whole) in
+    (moment_first c.args.text.now c.in_ok-seconds.seconds.now c.in_ok-seconds.rest.now c.in_ok-seconds.ensures n is rest whole) in
     none_by _ none
