@@ -1,5 +1,5 @@
 -- The log of a hall after one more event.
-use Rattle.std.proofs.Common.{◌≡◌, ◌⊎◌, inl, inr, ℕ, true, Bool, List, [], ◌∷◌, ◌++◌, refl, sym, ◌∙◌, ap, subst, append_assoc}
+use Rattle.std.proofs.Common.{◌≡◌, ◌⊎◌, inl, inr, ℕ, Bool, List, [], ◌∷◌, ◌++◌, refl, sym, ◌∙◌, ap, subst, append_assoc}
 use Rattle.std.specs.Prelude.{map}
 use Rattle.std.specs.Io.KnownBytes.{Appends}
 use Rattle.std.proofs.KnownBytes.{Appends-trans}
@@ -12,17 +12,14 @@ use Rattle.log_grammar.specs.Lines.{LogLine}
 use Rattle.log_grammar.specs.Numbered.{Numbered, numbered}
 use Rattle.sasl_log.specs.Sink.{SinkFacts}
 use Rattle.sasl_desk.specs.Events.{ClientEvent, sends, goes_away}
-use Rattle.std.specs.Prelude.{OnErr}
 use Rattle.std.specs.declared.option.Option.TheVariants.{None}
-use Rattle.std.specs.declared.result.Result.{Result}
-use Rattle.std.specs.declared.result.Result.TheVariants.{Ok, Err}
 use Rattle.sasl_desk.specs.Halls.{phase_in, HallFields, hall_of, hall_shown, hall_bytes, numbered_bytes, StandsHall, AnswersIn, IsSameHall}
 use Rattle.sasl_desk.specs.Runs.{Asked, hears, Call, call_of}
 use Rattle.sasl_desk.specs.declared.desk.state.Phase.{Phase}
 use Rattle.sasl_desk.specs.declared.hall.Hall.{Hall}
 use Rattle.sasl_desk.proofs.HallLaws.{hall_bytes_next}
 use Rattle.sasl_desk.proofs.HallSteps.{stands_reordered}
-use Rattle.commands.specs.Hall.{InputEvent, opens, says, leaves, does_at, SaysEvent, SaysNothing, IsOfNobody, IsCallFor, IsHallLogOf, Hears, HearsLine, HearsSome}
+use Rattle.commands.specs.Hall.{InputEvent, opens, says, leaves, does_at, SaysEvent, SaysNothing, IsOfNobody, IsCallFor, IsHallLogOf, Hears}
 
 -- a call by which a hall heard an event added what was put into the log
 pub answered_in_log : {S : Type 0} (facts : S → StoreFacts) (old new : Hall S) (event : InputEvent) (n : ℕ) (asked : Asked) (phase : Phase)
@@ -69,26 +66,14 @@ same_in_log {S} facts old new log log' same unlogged start before earlier l = re
 }
 
 -- events one after another
-pub hears_nothing : {S : Type 0} (facts : S → StoreFacts) (hall : Hall S) (log : SinkFacts) → HearsSome facts hall log hall log
-hears_nothing facts hall log = ([], λ start before earlier l. l)
+pub hears_nothing : {S : Type 0} (facts : S → StoreFacts) (hall : Hall S) (log : SinkFacts) → Hears facts [] hall log hall log
+hears_nothing facts hall log start before earlier l = l
 
-hears_more : {S : Type 0} (facts : S → StoreFacts) (events more : List InputEvent) (old middle new : Hall S) (a b c : SinkFacts)
+pub hears_more : {S : Type 0} (facts : S → StoreFacts) (events more : List InputEvent) (old middle new : Hall S) (a b c : SinkFacts)
     → Hears facts events old a middle b → Hears facts more middle b new c → Hears facts (more ++ events) old a new c
 hears_more facts events more old middle new a b c first second start before earlier l =
     subst (λ (all : List InputEvent). IsHallLogOf facts start before all new c) (sym (append_assoc more events earlier))
     (second start before (events ++ earlier) (first start before earlier l))
-
-pub then_line : {S : Type 0} (facts : S → StoreFacts) (line : List ℕ) (old middle new : Hall S) (a b c : SinkFacts)
-    → HearsSome facts old a middle b → HearsLine facts line middle b new c → HearsSome facts old a new c
-then_line facts line old middle new a b c (events, first) (event, said, second) =
-    (event ∷ events, hears_more facts events (event ∷ []) old middle new a b c first second)
-
--- and then a fault
-pub then_fault : {S : Type 0} (facts : S → StoreFacts) (line : List ℕ) (old middle new : Hall S) (a b c : SinkFacts) → HearsSome facts old a middle b
-    → ((c.failed ≡ true) ⊎ (Hears facts [] middle b new c ⊎ HearsLine facts line middle b new c)) → (c.failed ≡ true) ⊎ HearsSome facts old a new c
-then_fault facts line old middle new a b c some (inl failed) = inl failed
-then_fault facts line old middle new a b c (events, first) (inr (inl none)) = inr (events, hears_more facts events [] old middle new a b c first none)
-then_fault facts line old middle new a b c some (inr (inr heard)) = inr (then_line facts line old middle new a b c some heard)
 
 -- such a fault is no bad event
 pub not_bad : (path : List ℕ) (fault : Fault) → (IsUnwritten path fault ⊎ (fault ≡ CannotWriteOutput)) → fault ≡ BadEvent → ⊥
@@ -117,7 +102,3 @@ pub heard_by : {P N H L : Type 0} → (H → L) → P ⊎ (N ⊎ H) → P ⊎ (N
 heard_by line (inl failed) = inl failed
 heard_by line (inr (inl none)) = inr (inl none)
 heard_by line (inr (inr heard)) = inr (inr (line heard))
-
-pub on_err_of : {T E P : Type 0} (r : Result T E) → P → OnErr r P
-on_err_of (Ok x) holds = tt
-on_err_of (Err e) holds = holds

@@ -1,5 +1,5 @@
 -- The input of the command `hall`, and the log that it prints.
-use Rattle.std.specs.Prelude.{ℕ, ◌≡◌, ◌⊎◌, List, [], ◌∷◌, ◌++◌, codes, decimal}
+use Rattle.std.specs.Prelude.{ℕ, ◌≡◌, ◌⊎◌, true, List, [], ◌∷◌, ◌++◌, codes, decimal, IfSome}
 use Rattle.std.specs.Str.{byte}
 use Rattle.std.specs.Io.KnownBytes.{Appends}
 use Rattle.std.specs.declared.option.Option.{Option}
@@ -15,6 +15,7 @@ use Rattle.sasl_desk.specs.Events.{ClientEvent, sends, goes_away}
 use Rattle.sasl_desk.specs.Halls.{HallFields, hall_shown, hall_bytes, phase_in, StandsHall}
 use Rattle.sasl_desk.specs.Runs.{greets, hears, Call}
 use Rattle.sasl_desk.specs.declared.hall.Hall.{Hall}
+use Rattle.commands.specs.Input.{AreLinesOf}
 
 -- what befalls a hall: a client comes, and this is the server's part of its nonce; or the client of the session of this number
 -- says a line at this moment; or it goes away
@@ -91,6 +92,37 @@ Hears facts events old log new log' =
 abbrev pub HearsLine : {S : Type 0} → (S → StoreFacts) → (line : List ℕ) → (old : Hall S) → (log : SinkFacts) → (new : Hall S) → (log' : SinkFacts) → Type 0
 HearsLine facts line old log new log' = (event : InputEvent) × SaysEvent line event × Hears facts (event ∷ []) old log new log'
 
--- the hall has heard some events
-abbrev pub HearsSome : {S : Type 0} → (S → StoreFacts) → (old : Hall S) → (log : SinkFacts) → (new : Hall S) → (log' : SinkFacts) → Type 0
-HearsSome facts old log new log' = (events : List InputEvent) × Hears facts events old log new log'
+-- these lines say these events, in their order
+abbrev pub AreSaid : List (List ℕ) → List InputEvent → Type 0
+AreSaid [] [] = Unit {0}
+AreSaid [] (event ∷ events) = ⊥
+AreSaid (line ∷ lines) [] = ⊥
+AreSaid (line ∷ lines) (event ∷ events) = SaysEvent line event × AreSaid lines events
+
+-- events with the latest of them first
+abbrev pub latest_first : List InputEvent → List InputEvent
+latest_first [] = []
+latest_first (event ∷ events) = latest_first events ++ event ∷ []
+
+-- the hall has heard what the lines of an input say, but for the last of them, which are these
+pub record HearsUpTo {S : Type 0} (facts : S → StoreFacts) (input : Option (List ℕ)) (last : List (List ℕ)) (old : Hall S) (log : SinkFacts) (new : Hall S)
+    (log' : SinkFacts) : Type 0 where
+  pub lines : List (List ℕ)
+  pub events : List InputEvent
+  pub are : IfSome input (λ bytes. AreLinesOf bytes (lines ++ last))
+  pub said : AreSaid lines events
+  pub heard : Hears facts (latest_first events) old log new log'
+
+-- the hall has heard what each line of the input says, in their order
+abbrev pub HearsAllLines : {S : Type 0} → (S → StoreFacts) → Option (List ℕ) → (old : Hall S) → (log : SinkFacts) → (new : Hall S) → (log' : SinkFacts) → Type 0
+HearsAllLines facts input old log new log' = HearsUpTo facts input [] old log new log'
+
+-- a fault came: the log has failed, or the hall has heard what the first lines of the input say, and its log has that
+abbrev pub HearsFirstLines : {S : Type 0} → (S → StoreFacts) → Option (List ℕ) → (old : Hall S) → (log : SinkFacts) → (new : Hall S) → (log' : SinkFacts) → Type 0
+HearsFirstLines facts input old log new log' =
+    (log'.failed ≡ true) ⊎ ((last : List (List ℕ)) × HearsUpTo facts input last old log new log')
+
+-- the next line of the input says no event to the hall as it is after the lines before it
+abbrev pub MeetsBadEvent : {S : Type 0} → (S → StoreFacts) → Option (List ℕ) → (old : Hall S) → (log : SinkFacts) → (new : Hall S) → (log' : SinkFacts) → Type 0
+MeetsBadEvent facts input old log new log' =
+    (line : List ℕ) × (last : List (List ℕ)) × HearsUpTo facts input (line ∷ last) old log new log' × IsBadEvent line (hall_shown new)
