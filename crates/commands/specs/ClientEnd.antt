@@ -2,11 +2,18 @@
 use Rattle.std.specs.Prelude.{ℕ, ◌≡◌, List, [], ◌∷◌, ◌++◌}
 use Rattle.std.specs.Str.{byte}
 use Rattle.std.specs.declared.option.Option.{Option}
-use Rattle.mac_core.specs.Mechanism.{name_of}
-use Rattle.log_grammar.specs.Lines.{IsLine, ClientLine, auth_with, resp, client_text, from_server, cont, accepts}
+use Rattle.std.specs.declared.option.Option.TheVariants.{None, Some}
+use Rattle.mac_core.specs.Mechanism.{name_of, IsOffered}
+use Rattle.mac_core.specs.declared.mechanism.Mechanism.{Mechanism}
+use Rattle.mac_core.specs.declared.mechanism.Mechanism.TheVariants.{ScramSha256}
+use Rattle.scram_text.specs.Messages.{ServerFirstParts}
 use Rattle.scram_ends.specs.Stages.{Started, Answered, answered}
-use Rattle.scram_ends.specs.Client.{IsStarted, IsExpecting}
+use Rattle.scram_ends.specs.Client.{IsStarted, IsAnswerable, IsExpecting}
 use Rattle.scram_ends.specs.Login.{IsAuthentic}
+use Rattle.scram_ends.specs.declared.client.Limits.{Limits}
+use Rattle.log_grammar.specs.Lines.{IsLine, ClientLine, auth_with, resp, client_text, from_server, mechs, cont, accepts}
+use Rattle.commands.specs.declared.login.client_end.ClientEnd.{ClientEnd}
+use Rattle.commands.specs.declared.login.client_end.User.{User}
 use Rattle.commands.specs.declared.login.client_end.Next.{Next}
 use Rattle.commands.specs.declared.login.client_end.Next.TheVariants.{Says, IsIn, Leaves}
 use Rattle.commands.specs.declared.login.client_end.Stage.{Stage}
@@ -32,30 +39,45 @@ abbrev pub WaitsForSignature : Stage → Answered → Type 0
 WaitsForSignature (Proved client) l = IsExpecting client l
 WaitsForSignature stage l = ⊥
 
--- the client begins a login of this user, with this nonce: it says a mechanism and the first message of that login
-pub record Begins (name : List ℕ) (act_as : Option (List ℕ)) (nonce said : List ℕ) (stage : Stage) : Type 0 where
+-- the mechanism that is taken: the one that the user asks for, else the best of those whose names the server offers
+-- (RFC 5802, section 4; RFC 7677 prefers SCRAM-SHA-256)
+abbrev pub IsChosen : (asked : Option Mechanism) → (names : List ℕ) → Mechanism → Type 0
+IsChosen (Some asked) names mechanism = mechanism ≡ asked
+IsChosen None names mechanism = IsOffered mechanism names × (IsOffered ScramSha256 names → mechanism ≡ ScramSha256)
+
+-- the iteration counts that a client accepts: 4096 to 1000000
+abbrev pub AreUsual : Limits → Type 0
+AreUsual limits = (limits.least ≡ 4096) × (limits.most ≡ 1000000)
+
+-- the client of this user begins a login with this nonce, where it is offered these mechanisms: it says one of them and the first
+-- message of the login
+pub record Begins (user : User) (nonce names said : List ℕ) (stage : Stage) : Type 0 where
   pub login : Started
-  pub is_name : login.name ≡ name
-  pub is_authzid : login.authzid ≡ act_as
+  pub is_mechanism : IsChosen user.mechanism names login.mechanism
+  pub are_limits : AreUsual login.limits
+  pub is_name : login.name ≡ user.name
+  pub is_authzid : login.authzid ≡ user.act_as
   pub is_nonce : login.nonce ≡ nonce
   pub waits : WaitsForChallenge stage login
   pub line : said ≡ said_line (auth_with (name_of login.mechanism) login.client_first)
 
--- the client answers the challenge that it was told in a login, by this password: it says the last message of that login
-pub record Answers (login : Started) (password told said : List ℕ) (stage : Stage) : Type 0 where
-  pub server_first : List ℕ
+-- the client answers the challenge of a login, which has nothing wrong, by this password: it says the last message of the login
+pub record Answers (login : Started) (password server_first said : List ℕ) (stage : Stage) : Type 0 where
+  pub challenge : ServerFirstParts
+  pub answerable : IsAnswerable login.limits login.nonce server_first challenge
   pub client_final : List ℕ
-  pub is_challenge : IsLine told (from_server (cont server_first))
   pub waits : WaitsForSignature stage (answered login password server_first client_final)
   pub line : said ≡ said_line (resp client_final)
 
--- what a client of this user may say, at the stage where it is: it begins a login, and in the login that it has begun it
--- answers the challenge. It says nothing else.
-abbrev pub MaySay : (name : List ℕ) → (act_as : Option (List ℕ)) → (nonce password : List ℕ) → Stage → (told said : List ℕ) → Stage → Type 0
-MaySay name act_as nonce password Silent told said new = Begins name act_as nonce said new
-MaySay name act_as nonce password (Asked client) told said new = (login : Started) → IsStarted client login → Answers login password told said new
-MaySay name act_as nonce password (Proved client) told said new = ⊥
-MaySay name act_as nonce password Over told said new = ⊥
+-- what a client may say when it is told a line, at the stage where it is: it begins a login by one of the mechanisms that
+-- it is told, and in the login that it has begun it answers the challenge that it is told. It says nothing else.
+abbrev pub MaySay : ClientEnd → Stage → (told said : List ℕ) → Stage → Type 0
+MaySay client Silent told said new = (names : List ℕ) × IsLine told (from_server (mechs names)) × Begins client.user client.nonce names said new
+MaySay client (Asked one) told said new =
+    (server_first : List ℕ) × IsLine told (from_server (cont server_first))
+    × ((login : Started) → IsStarted one login → Answers login client.password server_first said new)
+MaySay client (Proved two) told said new = ⊥
+MaySay client Over told said new = ⊥
 
 -- the client has sent its proof, and the line accepts it with the signature that the client expects: the service has the
 -- account's keys (RFC 5802, section 5)

@@ -1,12 +1,11 @@
 //! The client's end of a login: what it says next, by what it was told.
-ghost use Rattle.std.specs.Prelude.{◌≡◌, ◌≢◌, ℕ, List, [], ◌∷◌, ◌++◌, IfOk, IfErr};
+ghost use Rattle.std.specs.Prelude.{◌≡◌, ◌≢◌, [], ◌∷◌, ◌++◌, IfOk, IfErr};
 ghost use Rattle.std.specs.Str.{byte};
 ghost use Rattle.log_grammar.specs.Payload.{escaped};
-ghost use Rattle.log_grammar.specs.Lines.{resp};
 ghost use Rattle.scram_ends.specs.Client.{IsStarted, IsExpecting};
 ghost use Rattle.scram_ends.specs.Login.{IsAuthentic};
-ghost use Rattle.scram_ends.specs.Stages.{Started, Answered, answered};
-ghost use Rattle.commands.specs.ClientEnd.{IfSays, said_line, WaitsForSignature, Begins, MaySay, ShowsKeys};
+ghost use Rattle.scram_ends.specs.Stages.{Started, Answered};
+ghost use Rattle.commands.specs.ClientEnd.{IfSays, Begins, Answers, MaySay, ShowsKeys};
 
 use command_line::Fault;
 use mac_core::Mechanism;
@@ -82,8 +81,7 @@ impl ClientEnd {
     /// where its own end of the login finds a fault (RFC 5802, section 5). The only fault is NoMemory.
     pub fn hear(&mut self, alloc: Global, line: &[u8]) -> Result<Next, Fault>
         ensures is_in { IfOk result (λ next. next ≡ Next.IsIn → ShowsKeys self.old.stage line.now) }
-        ensures says { IfOk result (λ next. IfSays next (λ said. MaySay self.old.user.name self.old.user.act_as self.old.nonce
-            self.old.password self.old.stage line.now said self.new.stage)) }
+        ensures says { IfOk result (λ next. IfSays next (λ said. MaySay self.old self.old.stage line.now said self.new.stage)) }
         ensures err { IfErr result (λ fault. fault ≡ Fault.NoMemory) }
     {
         let Ok(Line::FromServer(told)) = read_line(line) else {
@@ -103,8 +101,7 @@ impl ClientEnd {
     // Says which of the mechanisms of these names the client takes, with its first message.
     fn ask(&mut self, alloc: Global, names: &[u8]) -> Result<Next, Fault>
         ensures not_in { IfOk result (λ next. next ≢ Next.IsIn) }
-        ensures says { IfOk result (λ next. IfSays next (λ said. Begins self.old.user.name self.old.user.act_as self.old.nonce
-            said self.new.stage)) }
+        ensures says { IfOk result (λ next. IfSays next (λ said. Begins self.old.user self.old.nonce names.now said self.new.stage)) }
         ensures err { IfErr result (λ fault. fault ≡ Fault.NoMemory) }
     {
         let user = &self.user;
@@ -126,8 +123,7 @@ impl ClientEnd {
     fn prove(&mut self, alloc: Global, client: ClientOne, challenge: &[u8]) -> Result<Next, Fault>
         ensures not_in { IfOk result (λ next. next ≢ Next.IsIn) }
         ensures says { IfOk result (λ next. IfSays next (λ said. (login : Started) → IsStarted client login
-            → (client_final : List ℕ) × (said ≡ said_line (resp client_final))
-            × WaitsForSignature self.new.stage (answered login self.old.password challenge.now client_final))) }
+            → Answers login self.old.password challenge.now said self.new.stage)) }
         ensures err { IfErr result (λ fault. fault ≡ Fault.NoMemory) }
     {
         let mut message = Vec::new(alloc);

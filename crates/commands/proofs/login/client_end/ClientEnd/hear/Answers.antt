@@ -1,10 +1,10 @@
 use Rattle.std.proofs.Common.{◌≡◌, sym, subst, rules, List, ℕ}
 use Rattle.std.proofs.lemmas.Result.{IfOk-weaker}
-use Rattle.log_grammar.specs.Lines.{IsLine, from_server, cont, accepts}
+use Rattle.log_grammar.specs.Lines.{IsLine, from_server, mechs, cont, accepts}
 use Rattle.commands.specs.ClientEnd.{ShowsKeys}
 use Rattle.commands.specs.declared.login.client_end.Stage.{Stage}
-use Rattle.commands.specs.declared.login.client_end.Stage.TheVariants.{Asked, Proved}
-use Rattle.commands.proofs.ClientLines.{answer_may_be_said, silence_may_be}
+use Rattle.commands.specs.declared.login.client_end.Stage.TheVariants.{Silent, Asked, Proved}
+use Rattle.commands.proofs.ClientLines.{beginning_may_be_said, answer_may_be_said, silence_may_be}
 use Rattle.commands.proofs.login.client_end.ClientEnd.hear.Goals as goal
 
 pub returns-in-Proved-Accepts-clause-is_in : goal.returns-in-Proved-Accepts-clause-is_in
@@ -18,8 +18,14 @@ returns-in-Proved-Accepts-clause-is_in c =
 
 pub returns-in-Proved-Accepts-clause-says : goal.returns-in-Proved-Accepts-clause-says
 returns-in-Proved-Accepts-clause-says c =
-    silence_may_be c.args.self.now.user.name c.args.self.now.user.act_as c.args.self.now.nonce c.args.self.now.password c.args.self.now.stage _
-    c.args.line.now c.check.result c.check.ensures.silent
+    silence_may_be c.args.self.now c.args.self.now.stage _ c.args.line.now c.check.result c.check.ensures.silent
+
+pub returns-in-Silent-Mechs-clause-says : goal.returns-in-Silent-Mechs-clause-says
+returns-in-Silent-Mechs-clause-says c =
+    let stage : c.args.self.now.stage ≡ Silent = search (rules, c.in-Silent-Mechs.is-0) in
+    let line : IsLine c.args.line.now (from_server (mechs c.in-Silent-Mechs.names.now)) =
+    rw (c.in-Ok-FromServer.field-0-is, c.in-Silent-Mechs.is-1) at c.in-Ok-FromServer.ensures.ok in
+    beginning_may_be_said c.args.self.now c.args.self.now.stage _ c.args.line.now c.in-Silent-Mechs.names.now c.ask.result stage line c.ask.ensures.says
 
 pub returns-in_ok-challenge-in-Asked-Cont-clause-says : goal.returns-in_ok-challenge-in-Asked-Cont-clause-says
 returns-in_ok-challenge-in-Asked-Cont-clause-says c =
@@ -27,6 +33,5 @@ returns-in_ok-challenge-in-Asked-Cont-clause-says c =
     let line : IsLine c.args.line.now (from_server (cont c.in-Asked-Cont.message)) =
     rw (c.in-Ok-FromServer.field-0-is, c.in-Asked-Cont.is-1) at c.in-Ok-FromServer.ensures.ok in
     let message : c.in-Asked-Cont.message ≡ c.as_slice.result.now = search rules in
-    answer_may_be_said c.args.self.now.user.name c.args.self.now.user.act_as c.args.self.now.nonce c.args.self.now.password c.in-Asked-Cont.client
-    c.args.self.now.stage _ c.args.line.now c.as_slice.result.now c.prove.result stage
+    answer_may_be_said c.args.self.now c.in-Asked-Cont.client c.args.self.now.stage _ c.args.line.now c.as_slice.result.now c.prove.result stage
     (subst (λ (text : List ℕ). IsLine c.args.line.now (from_server (cont text))) message line) c.prove.ensures.says

@@ -7,8 +7,12 @@ use Rattle.commands.proofs.login.client_end.ClientEnd.prove.Goals as goal
 pub returns-in-Ok-clause-says : goal.returns-in-Ok-clause-says
 returns-in-Ok-clause-says c = λ login started.
     let (client_final, is, waits) = c.in-Ok.ensures.ok login started in
-    let message : c.as_slice.result.now ≡ client_final = search (rules, is) in (
-      client_final,
-      subst (λ (text : List ℕ). c.in_ok-line_of-in-Ok.field-0.items ≡ codes "RESP :" ++ (escaped text ++ byte "\n" ∷ [])) message c.in_ok-line_of-in-Ok.ensures.ok,
-      waits,
-    )
+    let answerable = c.in-Ok.ensures.answerable tt login started in
+    let message : c.as_slice.result.now ≡ client_final = search (rules, is) in
+    record {
+      challenge = answerable.0;
+      answerable = answerable.1;
+      client_final = client_final;
+      waits = waits;
+      line = subst (λ (text : List ℕ). c.in_ok-line_of-in-Ok.field-0.items ≡ codes "RESP :" ++ (escaped text ++ byte "\n" ∷ [])) message c.in_ok-line_of-in-Ok.ensures.ok;
+    }
