@@ -1,8 +1,11 @@
 pub mod ClientLines
+pub mod EventWords
+pub mod Faults
 pub mod HallLogs
-pub mod Lines
+pub mod HeardLines
+pub mod InputLines
 pub mod LoginLemmas
 pub mod NonceLemmas
 pub mod OneEvent
-pub mod Spaces
+pub mod Replies
 pub mod Spellings

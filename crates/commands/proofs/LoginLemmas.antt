@@ -1,9 +1,6 @@
 -- The log of a login after one more call of its desk.
 use Rattle.std.proofs.Common.{◌≡◌, inl, inr, ℕ, List, [], ◌∷◌, ◌++◌, sym, ◌∙◌, ap, subst}
-use Rattle.std.specs.Prelude.{OnErr}
 use Rattle.std.specs.Io.KnownBytes.{Appends}
-use Rattle.std.specs.declared.result.Result.{Result}
-use Rattle.std.specs.declared.result.Result.TheVariants.{Ok, Err}
 use Rattle.std.proofs.KnownBytes.{Appends-trans}
 use Rattle.book_format.specs.Book.{BookFields}
 use Rattle.account_book.specs.Store.{StoreFacts}
@@ -91,8 +88,3 @@ pub fails_then : {S : Type 0} (facts : S → StoreFacts) (old middle new : Desk 
     → IsLogAfterFault facts middle b new c → IsLogAfterFault facts old a new c
 fails_then facts old middle new a b c first (inl failed) = inl failed
 fails_then facts old middle new a b c first (inr second) = inr (stays_twice facts old middle new a b c first second)
-
--- what holds in any case holds after a fault
-pub after_any_fault : {T E P : Type 0} (r : Result T E) → P → OnErr r P
-after_any_fault (Ok value) fact = tt
-after_any_fault (Err fault) fact = fact

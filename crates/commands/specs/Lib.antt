@@ -2,6 +2,8 @@ pub mod Audit
 pub mod ClientEnd
 pub mod Code
 pub mod Hall
+pub mod HeldBook
+pub mod Input
 pub mod Keys
 pub mod Login
 pub mod Sent

@@ -1,13 +1,17 @@
 -- What the command `verify` prints, and what is saved before.
-use Rattle.std.specs.Prelude.{ℕ, ◌≡◌, ◌≢◌, Bool, true, false, List, [], ◌∷◌, ◌++◌, codes, is_some, IfSome}
+use Rattle.std.specs.Prelude.{ℕ, ◌≡◌, ◌⊎◌, Bool, ◌&&◌, true, false, List, [], ◌∷◌, ◌++◌, codes, IfSome}
 use Rattle.std.specs.Str.{byte}
 use Rattle.std.specs.Fmt.{decimal}
+use Rattle.std.specs.Io.KnownBytes.{Appends}
+use Rattle.std.specs.declared.option.Option.{Option}
 use Rattle.otp_core.specs.Attempt.{CodeTexts}
 use Rattle.otp_core.specs.declared.token.answer.Reply.{Reply}
 use Rattle.otp_core.specs.declared.token.answer.Reply.TheVariants.{Pass, Fail, Locked}
-use Rattle.book_format.specs.Book.{BookFields}
-use Rattle.book_format.specs.Trees.{IsBookText}
-use Rattle.account_book.specs.Tokens.{IsAttempt, token_at}
+use Rattle.account_book.specs.Store.{StoreFacts}
+use Rattle.commands.specs.HeldBook.{Held, held_shown, IsReplySaved, IsReplyUnsaved}
+use Rattle.commands.specs.Input.{AreLinesOf}
+use Rattle.commands.specs.Sent.{Says}
+use Rattle.commands.specs.declared.held_book.HeldBook.{HeldBook}
 
 -- the reply says that the code is right
 abbrev pub is_passed : Reply → Bool
@@ -21,10 +25,49 @@ printed_reply (Pass counter) moment = codes "PASS " ++ (decimal moment ++ (byte 
 printed_reply Fail moment = codes "FAIL " ++ (decimal moment ++ byte "\n" ∷ [])
 printed_reply Locked moment = codes "LOCKED " ++ (decimal moment ++ byte "\n" ∷ [])
 
--- a reply to what was sent by the token of the account of this name, and where it is not LOCKED, the saved text is that of
--- the book after it
-pub record IsReplySaved (old : BookFields) (name : List ℕ) (moment : ℕ) (said : CodeTexts) (reply : Reply) (new : BookFields)
-    (saved : List ℕ) : Type 0 where
-  pub there : is_some (token_at old name) ≡ true
-  pub due : IfSome (token_at old name) (λ token. IsAttempt old name token moment said reply new)
-  pub kept : reply ≢ Locked → IsBookText saved new
+-- the book that a run of `verify` holds, and what it has printed, where that is known
+pub record Run : Type 0 where
+  pub held : Held
+  pub printed : Option (List ℕ)
+
+-- such a run, by its held book
+abbrev pub run_of : {S : Type 0} → (S → StoreFacts) → HeldBook S → Option (List ℕ) → Run
+run_of facts held printed = record { held = held_shown facts held; printed = printed }
+
+-- a line is answered: the reply is due to what it says, what the reply changes is saved, and then the reply is printed
+pub record IsLineAnswered (name : List ℕ) (moment : ℕ) (line : List ℕ) (old : Run) (reply : Reply) (new : Run) : Type 0 where
+  pub said : CodeTexts
+  pub says : Says line said
+  pub saved : IsReplySaved old.held name moment said reply new.held
+  pub printed : Appends old.printed new.printed (printed_reply reply moment)
+
+-- a fault at a line: nothing has changed or the change is not saved, and nothing is printed; or it is saved, and the
+-- reply could not be printed
+abbrev pub FailsAtLine : (name : List ℕ) → (moment : ℕ) → (line : List ℕ) → Run → Run → Type 0
+FailsAtLine name moment line old new =
+    (said : CodeTexts) × Says line said
+    × ((IsReplyUnsaved old.held name moment said new.held × (new.printed ≡ old.printed)) ⊎ ((reply : Reply) × IsReplySaved old.held name moment said reply new.held))
+
+-- these lines are answered one after another, and whether each code passed
+abbrev pub AnswersLines : (name : List ℕ) → (moment : ℕ) → List (List ℕ) → Run → (all_passed : Bool) → Run → Type 0
+AnswersLines name moment [] old all_passed new = (new ≡ old) × (all_passed ≡ true)
+AnswersLines name moment (line ∷ lines) old all_passed new =
+    (reply : Reply) × (next : Run) × (others : Bool) × IsLineAnswered name moment line old reply next
+    × AnswersLines name moment lines next others new × (all_passed ≡ (is_passed reply && others))
+
+-- the lines of an input but for the last of them, which are these, are answered
+pub record AnswersUpTo (name : List ℕ) (moment : ℕ) (input : Option (List ℕ)) (last : List (List ℕ)) (old : Run) (all_passed : Bool) (new : Run) : Type 0 where
+  pub lines : List (List ℕ)
+  pub are : IfSome input (λ bytes. AreLinesOf bytes (lines ++ last))
+  pub answered : AnswersLines name moment lines old all_passed new
+
+-- each line of the input is answered, in their order
+abbrev pub AnswersAllLines : (name : List ℕ) → (moment : ℕ) → Option (List ℕ) → Run → (all_passed : Bool) → Run → Type 0
+AnswersAllLines name moment input old all_passed new = AnswersUpTo name moment input [] old all_passed new
+
+-- the first lines of the input are answered, and then came a fault: between two lines, or at one
+abbrev pub AnswersFirstLines : (name : List ℕ) → (moment : ℕ) → Option (List ℕ) → Run → Run → Type 0
+AnswersFirstLines name moment input old new =
+    ((last : List (List ℕ)) × (all_passed : Bool) × AnswersUpTo name moment input last old all_passed new)
+    ⊎ ((line : List ℕ) × (last : List (List ℕ)) × (all_passed : Bool) × (there : Run) × AnswersUpTo name moment input (line ∷ last) old all_passed there
+    × FailsAtLine name moment line there new)

@@ -1,15 +1,15 @@
 //! A book that this run holds, and its store: each change is saved before it is reported.
-ghost use Rattle.std.specs.Prelude.{◌≡◌, ◌≢◌, ◌≤◌, ◌⊎◌, true, is_some, None, IfErr, IfOk, IfSome, MatchOption, OnOk, length, string_bytes};
+ghost use Rattle.std.specs.Prelude.{◌≡◌, ◌≢◌, ◌≤◌, ◌⊎◌, true, is_some, None, IfErr, IfOk, IfSome, MatchOption, OnOk, OnErr, string_bytes};
 ghost use Rattle.otp_core.specs.Settings.{unlocked};
 ghost use Rattle.book_format.specs.Reading.{IsFirstFault};
 ghost use Rattle.book_format.specs.Trees.{IsBookText};
 ghost use Rattle.book_format.specs.declared.fault.BookFault.{BookFault};
 ghost use Rattle.account_book.specs.Accounts.{account_at, IsAdded, IsChanged};
 ghost use Rattle.account_book.specs.Enrolled.{enrolled};
-ghost use Rattle.account_book.specs.Tokens.{IsAnswered, IsAttempt, token_at, with_token};
-ghost use Rattle.book_file.specs.declared.file.TheConstants.{MOST_BOOK};
+ghost use Rattle.account_book.specs.Tokens.{IsAnswered, token_at, with_token};
 ghost use Rattle.sasl_desk.specs.Keeper.{texts_of};
 ghost use Rattle.command_line.specs.Fault.{IsTokenFault, IsUnwritten, of_book};
+ghost use Rattle.commands.specs.HeldBook.{held_shown, IsBookSaved, IsBookUnsaved, IsReplyDue, IsReplyUnsaved};
 
 use crate::shown::Shown;
 use account_book::{Book, BookStore, BookWhy, EnrolFault, Reply};
@@ -238,7 +238,7 @@ impl<'a, S: BookStore> HeldBook<'a, S> {
         ensures err { IfErr result (λ fault. MatchOption (account_at self.old.book name.now)
             (IsUnwritten self.old.path.now fault) (λ account. fault ≡ Fault.NameTaken)) }
         ensures unasked { IfErr result (λ fault. fault ≡ Fault.NoMemory → self.new.store ≡ self.old.store) }
-        ensures saved { OnOk result (IsBookText (S.facts self.new.store).saved self.new.book) }
+        ensures saved { OnOk result (IsBookSaved (S.facts self.old.store) self.new.book (S.facts self.new.store)) }
     {
         match add(alloc, &mut self.book, name, password, salt1, salt256, count) {
             Ok(()) => self.save(alloc),
@@ -269,14 +269,14 @@ impl<'a, S: BookStore> HeldBook<'a, S> {
         moment: Moment,
         sent: Sent<'_>,
     ) -> Result<Reply, Fault>
-        ensures due { IfOk result (λ reply. IfSome (token_at self.old.book name.now)
-            (λ token. IsAttempt self.old.book name.now token moment (texts_of sent.entry) reply self.new.book)) }
-        ensures there { OnOk result (is_some (token_at self.old.book name.now) ≡ true) }
+        ensures due { IfOk result (λ reply. IsReplyDue self.old.book name.now moment (texts_of sent.entry) reply self.new.book) }
+        ensures saved { IfOk result (λ reply. reply ≢ Reply.Locked
+            → IsBookSaved (S.facts self.old.store) self.new.book (S.facts self.new.store)) }
+        ensures locked { IfOk result (λ reply. reply ≡ Reply.Locked → self.new.store ≡ self.old.store) }
         ensures err { IfErr result (IsTokenFault self.old.path.now (account_at self.old.book name.now)) }
         ensures unasked { IfErr result (λ fault. fault ≡ Fault.NoMemory → self.new.store ≡ self.old.store) }
-        ensures saved { IfOk result (λ reply. reply ≢ Reply.Locked
-            → IsBookText (S.facts self.new.store).saved self.new.book) }
-        ensures locked { IfOk result (λ reply. reply ≡ Reply.Locked → self.new.store ≡ self.old.store) }
+        ensures unsaved { OnErr result (IsReplyUnsaved (held_shown S.facts self.old) name.now moment (texts_of sent.entry)
+            (held_shown S.facts self.new)) }
     {
         self.check_token(name)?;
         let Some(reply) = judged(&mut self.book, name, moment, sent) else {
@@ -296,7 +296,7 @@ impl<'a, S: BookStore> HeldBook<'a, S> {
         ensures there { OnOk result (is_some (token_at self.old.book name.now) ≡ true) }
         ensures err { IfErr result (IsTokenFault self.old.path.now (account_at self.old.book name.now)) }
         ensures unasked { IfErr result (λ fault. fault ≡ Fault.NoMemory → self.new.store ≡ self.old.store) }
-        ensures saved { OnOk result (IsBookText (S.facts self.new.store).saved self.new.book) }
+        ensures saved { OnOk result (IsBookSaved (S.facts self.old.store) self.new.book (S.facts self.new.store)) }
     {
         self.check_token(name)?;
         self.book.unlock(name);
@@ -309,8 +309,8 @@ impl<'a, S: BookStore> HeldBook<'a, S> {
         ensures book { self.new.book ≡ self.old.book }
         ensures err { IfErr result (IsUnwritten self.old.path.now) }
         ensures unasked { IfErr result (λ fault. fault ≡ Fault.NoMemory → self.new.store ≡ self.old.store) }
-        ensures saved { OnOk result (IsBookText (S.facts self.new.store).saved self.new.book) }
-        ensures most { OnOk result (length (S.facts self.new.store).saved ≤ MOST_BOOK) }
+        ensures saved { OnOk result (IsBookSaved (S.facts self.old.store) self.old.book (S.facts self.new.store)) }
+        ensures unsaved { OnErr result (IsBookUnsaved (S.facts self.old.store) self.old.book (S.facts self.new.store)) }
     {
         let text = self.book.write(alloc)?;
         let file = String::from_str(alloc, self.path)?;

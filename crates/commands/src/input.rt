@@ -1,7 +1,7 @@
 //! Standard input, as lines.
-ghost use Rattle.std.specs.Prelude.{◌≡◌, ◌≤◌, ◌+◌, ◌⊎◌, [], length, vec_len, IfErr, IfOk, IfSome, MatchOption, OnOk};
-ghost use Rattle.std.specs.Str.{byte};
-ghost use Rattle.std.specs.Io.BufRead.{first_piece, strip_last, take_through};
+ghost use Rattle.std.specs.Prelude.{◌≡◌, ◌≤◌, ◌+◌, ◌⊎◌, Bool, [], ◌∷◌, length, IfErr, IfOk, IfSome, IfNone, MatchOption};
+ghost use Rattle.std.specs.Io.KnownBytes.{Consumes, IsAtEnd};
+ghost use Rattle.commands.specs.Input.{line_bytes, TakesLine, IsFirstLine};
 ghost use Rattle.commands.specs.declared.input.TheConstants.{MOST_INPUT};
 
 use command_line::Fault;
@@ -11,48 +11,67 @@ use std::io::{BufRead, ErrorKind, Read};
 /// The most bytes that a command reads of its input.
 const MOST_INPUT: usize = 16_777_216;
 
-// The line without its LF, where it has one.
-fn without_lf(mut line: Vec<u8>) -> Vec<u8>
-    ensures { result.items ≡ strip_last (byte "\n") line.items }
-{
-    if line.last() == Some(&b'\n') {
-        line.pop();
-    }
-    line
-}
-
-// The bytes of `input` through its first LF, or all where it has none. CannotReadInput where a read
-// fails, and where they are more than `most`.
-fn read_line<I: BufRead>(alloc: Global, input: &mut I, most: usize) -> Result<Vec<u8>, Fault>
-    requires { most ≤ MOST_INPUT }
-    ensures line { IfOk result (λ line. IfSome (I.remaining input.old) (λ bytes. line.items ≡ take_through (byte "\n") bytes)) }
-    ensures most { IfOk result (λ line. vec_len line ≤ most) }
+// The next byte of `input`, or None at its end. A read that a signal interrupts is tried again. CannotReadInput where a read
+// fails; NoMemory where it fails since memory ran out.
+fn next_byte<I: Read>(input: &mut I) -> Result<Option<u8>, Fault>
+    ensures some { IfOk result (λ found. IfSome found (λ byte. Consumes (I.remaining input.old) (I.remaining input.new) (byte ∷ []))) }
+    ensures none { IfOk result (λ found. IfNone found (Consumes (I.remaining input.old) (I.remaining input.new) [] × IsAtEnd (I.remaining input.new))) }
     ensures err { IfErr result (λ fault. (fault ≡ Fault.CannotReadInput) ⊎ (fault ≡ Fault.NoMemory)) }
 {
-    let mut limited = input.take(most as u64 + 1);
-    let mut line = Vec::new(alloc);
-    match limited.read_until(b'\n', &mut line) {
-        Ok(_) if line.len() <= most => Ok(line),
-        Err(error) if error.kind() == ErrorKind::OutOfMemory => Err(Fault::NoMemory),
-        _ => Err(Fault::CannotReadInput),
+    let mut byte = [0];
+    // Bounded only because every function has to return; what ends it is in its body.
+    for _ in 0..u64::MAX {
+        match input.read(&mut byte) {
+            Ok(0) => return Ok(None),
+            Ok(_) => return Ok(Some(byte[0])),
+            Err(error) if error.kind() == ErrorKind::Interrupted => {}
+            Err(error) if error.kind() == ErrorKind::OutOfMemory => return Err(Fault::NoMemory),
+            Err(_) => break,
+        }
     }
+    Err(Fault::CannotReadInput)
+}
+
+// The next line of `input` without its LF, and whether it had one; at the end a line of no byte that had none. CannotReadInput
+// where a read fails, and where the line and its LF have more than `most` bytes; NoMemory where memory runs out.
+fn read_line<I: Read>(alloc: Global, input: &mut I, most: usize) -> Result<(Vec<u8>, bool), Fault>
+    ensures line { IfOk result (λ line. TakesLine (I.remaining input.old) line.0.items line.1 (I.remaining input.new)) }
+    ensures most { IfOk result (λ line. length (line_bytes line.0.items line.1) ≤ most) }
+    ensures err { IfErr result (λ fault. (fault ≡ Fault.CannotReadInput) ⊎ (fault ≡ Fault.NoMemory)) }
+{
+    let mut line = Vec::new(alloc);
+    while let Some(byte) = next_byte(input)? {
+        if line.len() == most {
+            return Err(Fault::CannotReadInput);
+        }
+        if byte == b'\n' {
+            return Ok((line, true));
+        }
+        line.extend_from_slice(&[byte])?;
+    }
+    Ok((line, false))
 }
 
 /// The first line of `input` without its LF, or all of `input` where it has no LF. Nothing after the line
 /// is looked at. CannotReadInput where a read fails, and where the line and its LF have more than
 /// 16777216 bytes; NoMemory where memory runs out.
+#[tactic(auto, using(crate::proofs::InputLines::first_taken))]
 pub fn first_line<I: BufRead>(alloc: Global, input: &mut I) -> Result<Vec<u8>, Fault>
-    ensures line { IfOk result (λ line. IfSome (I.remaining input.old) (λ bytes. line.items ≡ first_piece (byte "\n") bytes)) }
-    ensures most { IfOk result (λ line. vec_len line ≤ MOST_INPUT) }
+    ensures first { IfOk result (λ line. IsFirstLine (I.remaining input.old) line.items) }
+    ensures taken { IfOk result (λ line. (has_lf : Bool) × TakesLine (I.remaining input.old) line.items has_lf (I.remaining input.new)) }
+    ensures most { IfOk result (λ line. length line.items ≤ MOST_INPUT) }
     ensures err { IfErr result (λ fault. (fault ≡ Fault.CannotReadInput) ⊎ (fault ≡ Fault.NoMemory)) }
 {
-    Ok(without_lf(read_line(alloc, input, MOST_INPUT)?))
+    let (line, _) = read_line(alloc, input, MOST_INPUT)?;
+    Ok(line)
 }
 
 /// The lines of an input, of which a command reads at most 16777216 bytes.
 #[derive(Drop)]
 pub struct Lines<'a, I> {
     input: &'a mut I,
+
+    // How many more bytes may be read.
     left: usize,
 
     ghost most: { left ≤ MOST_INPUT },
@@ -60,7 +79,10 @@ pub struct Lines<'a, I> {
 
 impl<'a, I: BufRead> Lines<'a, I> {
     /// The lines of `input`.
-    pub fn new(input: &'a mut I) -> Lines<'a, I> {
+    pub fn new(input: &'a mut I) -> Lines<'a, I>
+        ensures input { result.input ≡ input.entry }
+        ensures left { result.left ≡ MOST_INPUT }
+    {
         Lines {
             input,
             left: MOST_INPUT,
@@ -71,17 +93,20 @@ impl<'a, I: BufRead> Lines<'a, I> {
     /// where it has a byte. CannotReadInput where a read fails, and where the lines so far have more than
     /// 16777216 bytes with their LFs; NoMemory where memory runs out.
     pub fn next(&mut self, alloc: Global) -> Result<Option<Vec<u8>>, Fault>
-        ensures line { IfOk result (λ found. IfSome (I.remaining self.old.input.now)
-            (λ bytes. MatchOption found (bytes ≡ []) (λ line. line.items ≡ first_piece (byte "\n") bytes))) }
-        ensures left { OnOk result (IfSome (I.remaining self.old.input.now)
-            (λ bytes. self.new.left + length (take_through (byte "\n") bytes) ≡ self.old.left)) }
+        // The line is the input's next one, and its bytes, of which there is one at least, are counted.
+        ensures line { IfOk result (λ found. IfSome found (λ line. (has_lf : Bool)
+            × TakesLine (I.remaining self.old.input.now) line.items has_lf (I.remaining self.new.input.now)
+            × (1 ≤ length (line_bytes line.items has_lf))
+            × (self.new.left + length (line_bytes line.items has_lf) ≡ self.old.left))) }
+        ensures end { IfOk result (λ found. IfNone found (IsAtEnd (I.remaining self.old.input.now))) }
         ensures err { IfErr result (λ fault. (fault ≡ Fault.CannotReadInput) ⊎ (fault ≡ Fault.NoMemory)) }
     {
-        let line = read_line(alloc, self.input, self.left)?;
-        if line.is_empty() {
+        let (line, has_lf) = read_line(alloc, self.input, self.left)?;
+        let taken = if has_lf { line.len() + 1 } else { line.len() };
+        if taken == 0 {
             return Ok(None);
         }
-        self.left -= line.len();
-        Ok(Some(without_lf(line)))
+        self.left -= taken;
+        Ok(Some(line))
     }
 }

@@ -1,8 +1,8 @@
 //! The command `keys`: prints the two keys that a server stores of a password.
-ghost use Rattle.std.specs.Prelude.{◌≡◌, ◌≤◌, ◌↔◌, ◌⊎◌, ◌++◌, IsTrue, IfErr, IfOk, IfSome, OnOk, Some, string_bytes};
-ghost use Rattle.std.specs.Str.{byte};
-ghost use Rattle.std.specs.Io.BufRead.{first_piece};
+ghost use Rattle.std.specs.Prelude.{◌≡◌, ◌≤◌, ◌⊎◌, ℕ, List, IfErr, IfOk, OnOk, string_bytes};
+ghost use Rattle.std.specs.Io.KnownBytes.{Appends};
 ghost use Rattle.scram_text.specs.Class.{IsPassword};
+ghost use Rattle.commands.specs.Input.{IsFirstLine};
 ghost use Rattle.commands.specs.Keys.{printed_keys};
 
 use crate::input;
@@ -51,15 +51,14 @@ fn print_keys<I: BufRead, O: Write>(
 ) -> Result<(), Fault>
     requires { 1 ≤ count }
 
-    // Where the bytes of the streams are known, the keys of the first line follow what was there before.
-    ensures ok { OnOk result (IfSome (I.remaining input.old) (λ bytes. IsPassword (first_piece (byte "\n") bytes)
-        × IfSome (O.contents output.old) (λ before. O.contents output.new
-        ≡ Some (before ++ printed_keys mechanism (first_piece (byte "\n") bytes) salt.now count)))) }
+    // The first line is a password, and its keys are printed.
+    ensures ok { OnOk result ((password : List ℕ) × IsFirstLine (I.remaining input.old) password × IsPassword password
+        × Appends (O.contents output.old) (O.contents output.new) (printed_keys mechanism password salt.now count)) }
 
     // A stream failed, memory ran out, or the first line is no password.
     ensures err { IfErr result (λ fault. (fault ≡ Fault.CannotReadInput) ⊎ ((fault ≡ Fault.CannotWriteOutput)
         ⊎ ((fault ≡ Fault.NoMemory) ⊎ ((fault ≡ Fault.BadPassword)
-        × IfSome (I.remaining input.old) (λ bytes. IsPassword (first_piece (byte "\n") bytes) → ⊥))))) }
+        × ((line : List ℕ) × IsFirstLine (I.remaining input.old) line × (IsPassword line → ⊥)))))) }
 {
     let line = input::first_line(alloc, input)?;
     let text = answer(alloc, mechanism, salt, count, line.as_slice())?;

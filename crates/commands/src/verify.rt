@@ -1,9 +1,7 @@
 //! The command `verify`: judges each input line as a one-time code, or as two in a row.
-ghost use Rattle.std.specs.Prelude.{◌≡◌, ◌&&◌, ◌⊎◌, IfErr, IfOk, OnOk, string_bytes};
+ghost use Rattle.std.specs.Prelude.{◌≡◌, ◌&&◌, IfErr, IfOk, OnOk, OnErr, string_bytes};
 ghost use Rattle.std.specs.Io.KnownBytes.{Appends};
-ghost use Rattle.otp_core.specs.Attempt.{CodeTexts};
-ghost use Rattle.commands.specs.Sent.{Says};
-ghost use Rattle.commands.specs.Verify.{is_passed, printed_reply, IsReplySaved};
+ghost use Rattle.commands.specs.Verify.{is_passed, printed_reply, run_of, IsLineAnswered, FailsAtLine, AnswersAllLines, AnswersFirstLines};
 
 use crate::held_book;
 use crate::held_book::HeldBook;
@@ -51,7 +49,7 @@ where
     answer_lines(alloc, &mut held, &name, moment, input, output)
 }
 
-// Answers each line. What a line changes is saved before its reply is printed.
+// Answers each line, and returns whether each code passed. What a line changes is saved before its reply is printed.
 fn answer_lines<S: BookStore, I: BufRead, O: Write>(
     alloc: Global,
     held: &mut HeldBook<'_, S>,
@@ -59,14 +57,15 @@ fn answer_lines<S: BookStore, I: BufRead, O: Write>(
     moment: Moment,
     input: &mut I,
     output: &mut O,
-) -> Result<bool, Fault> {
+) -> Result<bool, Fault>
+    ensures ok { IfOk result (λ all_passed. AnswersAllLines name.now moment (I.remaining input.old)
+        (run_of S.facts held.old (O.contents output.old)) all_passed (run_of S.facts held.new (O.contents output.new))) }
+    ensures err { OnErr result (AnswersFirstLines name.now moment (I.remaining input.old)
+        (run_of S.facts held.old (O.contents output.old)) (run_of S.facts held.new (O.contents output.new))) }
+{
     let mut lines = Lines::new(input);
     let mut all_passed = true;
-    // Bounded only because every function has to return; what ends it is in its body.
-    for _ in 0..u64::MAX {
-        let Some(line) = lines.next(alloc)? else {
-            break;
-        };
+    while let Some(line) = lines.next(alloc)? {
         let reply = answer_line(alloc, held, name, moment, line.as_slice(), output)?;
         all_passed = and_passed(all_passed, reply);
     }
@@ -82,14 +81,10 @@ fn answer_line<S: BookStore, O: Write>(
     line: &[u8],
     output: &mut O,
 ) -> Result<Reply, Fault>
-    // The reply that is printed is the one that is due to the line, and what it changed is saved.
-    ensures printed { IfOk result (λ reply. Appends (O.contents output.old) (O.contents output.new) (printed_reply reply moment)
-        × ((said : CodeTexts) × Says line.now said
-        × IsReplySaved held.old.book name.now moment said reply held.new.book (S.facts held.new.store).saved)) }
-
-    // Where anything is printed before a fault too, a reply was due to the line, and what it changed is saved.
-    ensures saved_first { (O.contents output.new ≡ O.contents output.old) ⊎ ((said : CodeTexts) × (reply : Reply)
-        × Says line.now said × IsReplySaved held.old.book name.now moment said reply held.new.book (S.facts held.new.store).saved) }
+    ensures ok { IfOk result (λ reply. IsLineAnswered name.now moment line.now
+        (run_of S.facts held.old (O.contents output.old)) reply (run_of S.facts held.new (O.contents output.new))) }
+    ensures err { OnErr result (FailsAtLine name.now moment line.now
+        (run_of S.facts held.old (O.contents output.old)) (run_of S.facts held.new (O.contents output.new))) }
 {
     let reply = held.attempt(alloc, name, moment, sent_by(line))?;
     print_reply(alloc, moment, reply, output)?;

@@ -1,0 +1,42 @@
+use Rattle.commands.specs.Verify.{run_of}
+use Rattle.commands.proofs.Faults.{after_any_fault}
+use Rattle.commands.proofs.Replies.{after_line, at_end, before_line, at_line}
+use Rattle.commands.proofs.verify.answer_lines.Goals as goal
+
+pub returns-in_err-line-clause-err : goal.returns-in_err-line-clause-err
+returns-in_err-line-clause-err g c =
+    after_any_fault c.from_residual.result
+    (before_line c.args.name.now c.args.moment (g.I.Read.remaining c.args.input.now)
+    (run_of g.S.BookStore.facts c.args.held.now (g.O.Write.contents c.args.output.now)) c.loop-line.all_passed (g.I.Read.remaining c.loop-line.lines.input.now)
+    (run_of g.S.BookStore.facts c.loop-line.held (g.O.Write.contents c.loop-line.output))
+    c.loop-line.invariant)
+
+pub returns-in_err-reply-clause-err : goal.returns-in_err-reply-clause-err
+returns-in_err-reply-clause-err g c =
+    let (has_lf, takes, some, counted) = rw c.in-Some.is at c.in_ok-line.ensures.line in
+    let fault = rw c.as_slice.ensures.value at c.in_err-reply.ensures.err in
+    after_any_fault c.from_residual-in_err-reply.result
+    (at_line c.args.name.now c.args.moment (g.I.Read.remaining c.args.input.now)
+    (run_of g.S.BookStore.facts c.args.held.now (g.O.Write.contents c.args.output.now)) c.loop-line.all_passed (g.I.Read.remaining c.loop-line.lines.input.now)
+    (run_of g.S.BookStore.facts c.loop-line.held (g.O.Write.contents c.loop-line.output))
+    c.in-Some.line.items has_lf (g.I.Read.remaining c.next.new.self.input.now)
+    (run_of g.S.BookStore.facts c.answer_line.new.held (g.O.Write.contents c.answer_line.new.output)) c.loop-line.invariant takes some fault)
+
+pub loop-line-preserved : goal.loop-line-preserved
+loop-line-preserved g c =
+    let (has_lf, takes, some, counted) = rw c.in-Some.is at c.in_ok-line.ensures.line in
+    let answered = rw c.as_slice.ensures.value at c.in_ok-reply.ensures.ok in
+    rw c.and_passed-all_passed.ensures
+    (after_line c.args.name.now c.args.moment (g.I.Read.remaining c.args.input.now)
+    (run_of g.S.BookStore.facts c.args.held.now (g.O.Write.contents c.args.output.now)) c.loop-line.all_passed (g.I.Read.remaining c.loop-line.lines.input.now)
+    (run_of g.S.BookStore.facts c.loop-line.held (g.O.Write.contents c.loop-line.output))
+    c.in-Some.line.items has_lf (g.I.Read.remaining c.next.new.self.input.now) c.in_ok-reply.reply
+    (run_of g.S.BookStore.facts c.answer_line.new.held (g.O.Write.contents c.answer_line.new.output)) c.loop-line.invariant takes some answered)
+
+pub returns-clause-ok : goal.returns-clause-ok
+returns-clause-ok g c =
+    let end = rw c.in_default.is at c.in_ok-line.ensures.end in
+    at_end c.args.name.now c.args.moment (g.I.Read.remaining c.args.input.now)
+    (run_of g.S.BookStore.facts c.args.held.now (g.O.Write.contents c.args.output.now)) c.loop-line.all_passed (g.I.Read.remaining c.loop-line.lines.input.now)
+    (run_of g.S.BookStore.facts c.loop-line.held (g.O.Write.contents c.loop-line.output))
+    c.loop-line.invariant end
