@@ -270,6 +270,31 @@ def a_fob_that_ran_ahead(folder):
     does(folder, verify(NAME, code(bytes.fromhex(SECRET), 10)), printed="PASS 5 10\n")
 
 
+def an_account(folder):
+    """A name gets its account, in a new book too, and may act as another; a name that is there keeps what it has."""
+    [add] = blocks("Add an account")
+    with_tools(folder, "").unlink()
+    does(folder, add, "pencil\n", f"enrolled {NAME}\n")
+    before = book_of(folder)
+    for mechanism in ("sha1", "sha256"):
+        keys = before["accounts"][NAME][mechanism]
+        assert (keys["stored"], keys["server"]) == keys_of(mechanism, b"pencil", bytes.fromhex(keys["salt"]), 4096)
+    _, output, faults = ran(folder, add, "another one\n")
+    assert (output, faults) == ("", "scramotp: name is taken\n"), (output, faults)
+    assert book_of(folder) == before
+    other = add.replace(NAME, "other")
+    assert other != add
+    does(folder, other, "pencil\n", "enrolled other\n")
+    after = book_of(folder)
+    assert (after["accounts"][NAME], set(after["accounts"])) == (before["accounts"][NAME], {NAME, "other"})
+    line, acts = re.findall(r"`(act_as = \[.*\])`", DOCUMENT.read_text(encoding="utf-8"))
+    assert f"\n{line}\n" in Path(folder, "book.toml").read_text()
+    does(folder, f"./edit-book book.toml sed '/^.accounts.other.$/,$ s/^act_as = .*/{acts}/'")
+    assert book_of(folder)["accounts"]["other"]["act_as"] == ["postmaster", "list"]
+    audited = "printf 'SCRAMLOG 1\\n' | scramotp audit --book book.toml --log /dev/stdin"
+    does(folder, audited, printed="clean sessions=0 accepted=0 codes=0\n")
+
+
 def a_password(folder):
     """New keys take the place of the old ones, by the new password; all else stays."""
     enrolled(folder)
@@ -526,6 +551,7 @@ TESTS = [
     a_token,
     a_hotp_token,
     a_fob_that_ran_ahead,
+    an_account,
     a_password,
     a_password_of_one_mechanism,
     a_password_that_is_refused,
