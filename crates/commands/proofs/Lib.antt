@@ -4,6 +4,7 @@ pub mod Faults
 pub mod HallLogs
 pub mod HeardLines
 pub mod InputLines
+pub mod LoginGoesOn
 pub mod LoginLemmas
 pub mod NonceLemmas
 pub mod OneEvent

@@ -1,6 +1,7 @@
 -- What the client of the command `login` says, and when it is logged in (RFC 5802, sections 3 and 5).
 use Rattle.std.specs.Prelude.{ℕ, ◌≡◌, List, [], ◌∷◌, ◌++◌}
 use Rattle.std.specs.Str.{byte}
+use Rattle.std.specs.Io.KnownBytes.{Consumes}
 use Rattle.std.specs.declared.option.Option.{Option}
 use Rattle.std.specs.declared.option.Option.TheVariants.{None, Some}
 use Rattle.mac_core.specs.Mechanism.{name_of, IsOffered}
@@ -9,6 +10,7 @@ use Rattle.mac_core.specs.declared.mechanism.Mechanism.TheVariants.{ScramSha256}
 use Rattle.scram_text.specs.Messages.{ServerFirstParts}
 use Rattle.scram_ends.specs.Stages.{Started, Answered, answered}
 use Rattle.scram_ends.specs.Client.{IsStarted, IsAnswerable, IsExpecting}
+use Rattle.scram_ends.specs.Honest.{IsHonest, honest_signature}
 use Rattle.scram_ends.specs.Login.{IsAuthentic}
 use Rattle.scram_ends.specs.declared.client.Limits.{Limits}
 use Rattle.log_grammar.specs.Lines.{IsLine, ClientLine, auth_with, resp, client_text, from_server, mechs, cont, accepts}
@@ -85,3 +87,31 @@ abbrev pub ShowsKeys : Stage → (line : List ℕ) → Type 0
 ShowsKeys (Proved client) line = (message : List ℕ) × IsLine line (from_server (accepts message))
     × ((l : Answered) (x : IsExpecting client l) → IsAuthentic message x.signature)
 ShowsKeys stage line = ⊥
+
+-- the login is one of this user, by this nonce and this password
+pub record IsLoginOf (user : User) (nonce password : List ℕ) (login : Answered) : Type 0 where
+  pub is_name : login.name ≡ user.name
+  pub is_authzid : login.authzid ≡ user.act_as
+  pub is_nonce : login.nonce ≡ nonce
+  pub is_password : login.password ≡ password
+
+-- what the client waits for is of a login of this user
+abbrev pub StandsIn : User → (nonce password : List ℕ) → Stage → Type 0
+StandsIn user nonce password Silent = Unit {0}
+StandsIn user nonce password (Asked one) =
+    (login : Started) × IsStarted one login × (login.name ≡ user.name) × (login.authzid ≡ user.act_as) × (login.nonce ≡ nonce)
+StandsIn user nonce password (Proved two) = (login : Answered) × IsExpecting two login × IsLoginOf user nonce password login
+StandsIn user nonce password Over = Unit {0}
+
+-- the service has shown that it has the account's keys: of what a source gave, the last line accepts a login of this user, and
+-- bears the signature that only these keys make over the login's messages (RFC 5802, section 3)
+pub record IsAccepted (user : User) (nonce password : List ℕ) (old new : Option (List ℕ)) : Type 0 where
+  pub login : Answered
+  pub is_of : IsLoginOf user nonce password login
+  pub honest : IsHonest login
+  pub before : List ℕ
+  pub line : List ℕ
+  pub message : List ℕ
+  pub given : Consumes old new (before ++ (line ++ byte "\n" ∷ []))
+  pub is_acceptance : IsLine line (from_server (accepts message))
+  pub authentic : IsAuthentic message (honest_signature login honest)

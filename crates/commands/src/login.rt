@@ -1,7 +1,9 @@
 //! The command `login`: logs a user in to a service over a book, and prints the service's log.
-ghost use Rattle.std.specs.Prelude.{◌≡◌, OnOk, OnErr};
+ghost use Rattle.std.specs.Prelude.{◌≡◌, ℕ, true, List, Option, Ok, OnOk, OnErr};
 ghost use Rattle.sasl_desk.specs.Desks.{phase_of};
 ghost use Rattle.sasl_desk.specs.declared.desk.state.Phase.TheVariants as Phase;
+ghost use Rattle.commands.specs.ClientEnd.{IsAccepted};
+ghost use Rattle.commands.specs.declared.login.client_end.Stage.{Stage};
 ghost use Rattle.commands.specs.Login.{StaysItsLog, IsLogAfterFault};
 
 mod client_end;
@@ -97,7 +99,10 @@ where
     L: Sink + Drop,
     C: sasl_desk::Clock + Drop,
     I: BufRead,
-    requires { phase_of talk.old.desk.state ≡ Phase.Closed }
+    requires closed { phase_of talk.old.desk.state ≡ Phase.Closed }
+    requires silent { client.stage ≡ Stage.Silent }
+    ensures is_in { result ≡ Ok true → (there : Option (List ℕ)) × IsAccepted client.user client.nonce client.password
+        (R.facts talk.old.wires.of_client.reader).left there }
     ensures log { OnOk result (StaysItsLog S.facts talk.old.desk (L.facts talk.old.log) talk.new.desk (L.facts talk.new.log)) }
     ensures closed { OnOk result (phase_of talk.new.desk.state ≡ Phase.Closed) }
     ensures after_fault { OnErr result (IsLogAfterFault S.facts talk.old.desk (L.facts talk.old.log) talk.new.desk (L.facts talk.new.log)) }

@@ -68,7 +68,12 @@ pub struct ClientEnd {
 
 impl ClientEnd {
     /// A client of this user that has said nothing yet. The nonce is to be a fresh random one.
-    pub fn new(user: User, password: Password, nonce: NoncePart) -> ClientEnd {
+    pub fn new(user: User, password: Password, nonce: NoncePart) -> ClientEnd
+        ensures user { result.user ≡ user }
+        ensures nonce { result.nonce ≡ nonce }
+        ensures password { result.password ≡ password }
+        ensures silent { result.stage ≡ Stage.Silent }
+    {
         ClientEnd {
             user,
             password,
@@ -80,6 +85,7 @@ impl ClientEnd {
     /// What the client does next, where it was told this line, without its LF. It leaves at a line that is not due, and
     /// where its own end of the login finds a fault (RFC 5802, section 5). The only fault is NoMemory.
     pub fn hear(&mut self, alloc: Global, line: &[u8]) -> Result<Next, Fault>
+        ensures kept { (self.new.user ≡ self.old.user) × (self.new.nonce ≡ self.old.nonce) × (self.new.password ≡ self.old.password) }
         ensures is_in { IfOk result (λ next. next ≡ Next.IsIn → ShowsKeys self.old.stage line.now) }
         ensures says { IfOk result (λ next. IfSays next (λ said. MaySay self.old self.old.stage line.now said self.new.stage)) }
         ensures err { IfErr result (λ fault. fault ≡ Fault.NoMemory) }
@@ -100,6 +106,7 @@ impl ClientEnd {
 
     // Says which of the mechanisms of these names the client takes, with its first message.
     fn ask(&mut self, alloc: Global, names: &[u8]) -> Result<Next, Fault>
+        ensures kept { (self.new.user ≡ self.old.user) × (self.new.nonce ≡ self.old.nonce) × (self.new.password ≡ self.old.password) }
         ensures not_in { IfOk result (λ next. next ≢ Next.IsIn) }
         ensures says { IfOk result (λ next. IfSays next (λ said. Begins self.old.user self.old.nonce names.now said self.new.stage)) }
         ensures err { IfErr result (λ fault. fault ≡ Fault.NoMemory) }
@@ -121,6 +128,7 @@ impl ClientEnd {
 
     // Answers a challenge with the proof.
     fn prove(&mut self, alloc: Global, client: ClientOne, challenge: &[u8]) -> Result<Next, Fault>
+        ensures kept { (self.new.user ≡ self.old.user) × (self.new.nonce ≡ self.old.nonce) × (self.new.password ≡ self.old.password) }
         ensures not_in { IfOk result (λ next. next ≢ Next.IsIn) }
         ensures says { IfOk result (λ next. IfSays next (λ said. (login : Started) → IsStarted client login
             → Answers login self.old.password challenge.now said self.new.stage)) }
