@@ -12,10 +12,11 @@ use Rattle.scram_text.specs.Name.{name_spelling}
 use Rattle.scram_text.specs.Base64Field.{base64, IsField}
 use Rattle.scram_text.specs.Parts.{authzid_text}
 use Rattle.scram_text.specs.Messages.{ClientFirstParts, header_text, bare_text, client_first_text, IsClientFirst, ServerFirstParts, IsServerFirst, client_final_without_proof, ClientFinalParts, client_final_text, IsClientFinal}
-use Rattle.scram_text.specs.Written.{client_first_of, CanBeClientFirst, client_final_of, CanBeClientFinal}
+use Rattle.scram_text.specs.Written.{client_first_of, CanBeClientFirst, client_final_of, CanBeClientFinal, CanBeWithoutProof, IsWithoutProof}
 use Rattle.scram_text.specs.declared.fault.WriteFault.{WriteFault}
 use Rattle.scram_text.specs.declared.fault.WriteFault.TheVariants.{Unwritable, OverLimit, NoMemory}
 use Rattle.scram_text.specs.declared.client_first.Flag.TheVariants.{NoBinding}
+use Rattle.scram_text.specs.declared.client_final.ClientFinalWithoutProof.{ClientFinalWithoutProof}
 use Rattle.scram_text.proofs.PartLemmas.{rest_taken}
 use Rattle.scram_text.proofs.NameLemmas.{length-spelling}
 use Rattle.scram_text.proofs.Base64Lemmas.{length-base64, field_of_bytes}
@@ -132,6 +133,14 @@ header_fits name authzid nonce client_first header first honest same =
 
 -- client-final
 
+can_sign : (header nonce : List ℕ) → AreBytes header → 1 ≤ length header → length header ≤ 770 → IsNonce 512 nonce
+    → CanBeWithoutProof header nonce []
+can_sign header nonce bytes some short is_nonce = record {
+  channel_class = field_of_bytes 1536 header bytes some (omega (arith, short));
+  nonce_class = is_nonce;
+  extensions_class = record { is_text = text_nil; each = tt };
+}
+
 pub can_answer : (header nonce proof : List ℕ) → AreBytes header → AreBytes proof → 1 ≤ length header → length header ≤ 770
     → IsNonce 512 nonce → 1 ≤ length proof → length proof ≤ 64 → CanBeClientFinal header nonce [] proof
 can_answer header nonce proof bytes also some short is_nonce some_proof short_proof = record {
@@ -170,23 +179,22 @@ same_front header nonce proof = refl
 
 pub front_fails : {T : Type 0} (r : Result T WriteFault) (f : WriteFault) (header nonce : List ℕ) → r ≡ Err f
     → AreBytes header → 1 ≤ length header → length header ≤ 770 → IsNonce 512 nonce
-    → (r ≡ Err Unwritable → IsField 1536 header × IsNonce 512 nonce → ⊥)
-    → (r ≡ Err OverLimit → IsField 1536 header × IsNonce 512 nonce × (2048 < length (client_final_without_proof (client_final_of header nonce [] []))))
+    → (r ≡ Err Unwritable → CanBeWithoutProof header nonce [] → ⊥)
+    → (r ≡ Err OverLimit → CanBeWithoutProof header nonce [] × (2048 < length (client_final_without_proof (client_final_of header nonce [] []))))
     → (r ≡ Err NoMemory → ⊥) → ⊥
 front_fails r f header nonce failed bytes some short is_nonce unwritable over no_memory =
-    let field = field_of_bytes 1536 header bytes some (omega (arith, short)) in
-    let full : f ≡ NoMemory = only_memory r f failed (λ e. unwritable e (field, is_nonce))
-    (λ e. let long = over e in omega (arith, long.2, front_short header nonce short is_nonce.at_most)) in
+    let full : f ≡ NoMemory = only_memory r f failed (λ e. unwritable e (can_sign header nonce bytes some short is_nonce))
+    (λ e. let long = over e in omega (arith, long.1, front_short header nonce short is_nonce.at_most)) in
     no_memory (failed ∙ ap (λ (x : WriteFault). Err x) full)
 
-pub answer_fails : {T : Type 0} (r : Result T WriteFault) (f : WriteFault) (header nonce proof : List ℕ) → r ≡ Err f
-    → CanBeClientFinal header nonce [] proof → length header ≤ 770
-    → (r ≡ Err Unwritable → CanBeClientFinal header nonce [] proof → ⊥)
-    → (r ≡ Err OverLimit → CanBeClientFinal header nonce [] proof × (2048 < length (client_final_text (client_final_of header nonce [] proof))))
+pub answer_fails : {T : Type 0} (r : Result T WriteFault) (f : WriteFault) (w : ClientFinalWithoutProof) (header nonce proof : List ℕ) → r ≡ Err f
+    → length header ≤ 770 → IsNonce 512 nonce → IsField 64 proof → IsWithoutProof w (client_final_of header nonce [] proof)
+    → (r ≡ Err Unwritable → IsField 64 proof → ⊥)
+    → (r ≡ Err OverLimit → IsField 64 proof × ((p : ClientFinalParts) → IsWithoutProof w p → p.proof ≡ proof → 2048 < length (client_final_text p)))
     → f ≡ NoMemory
-answer_fails r f header nonce proof failed can short unwritable over =
-    only_memory r f failed (λ e. unwritable e can)
-    (λ e. let long = over e in omega (arith, long.1, answer_short header nonce proof short can.nonce_class.at_most can.proof_class.at_most))
+answer_fails r f w header nonce proof failed short is_nonce field is unwritable over =
+    only_memory r f failed (λ e. unwritable e field)
+    (λ e. let long = (over e).1 (client_final_of header nonce [] proof) is refl in omega (arith, long, answer_short header nonce proof short is_nonce.at_most field.at_most))
 
 -- the length of the client's own header
 pub header_range : (w : ClientOne) (l : Started) (header : List ℕ)
@@ -208,7 +216,7 @@ same_signature m n password salt other auth text count also e f g h = λ i. sign
 pub expecting : (w : ClientOne) (two : ClientTwo) (l : Started) (server_first password header nonce salt front proof : List ℕ) (count : ℕ) (p : ServerFirstParts)
     → (started : IsStarted w l) → IsServerFirst server_first p
     → header ≡ w.header.items → nonce ≡ p.nonce → salt ≡ p.salt → count ≡ p.count
-    → front ≡ client_final_without_proof (client_final_of header nonce [] [])
+    → front ≡ client_final_without_proof (client_final_of header nonce [] proof)
     → proof ≡ proof_of w.mechanism password salt count (auth_front started.first server_first ++ front)
     → two.expected.items ≡ signature_of w.mechanism password salt count (auth_front started.first server_first ++ front)
     → IsClientFinal (client_final_text (client_final_of header nonce [] proof)) (client_final_of header nonce [] proof)
@@ -216,7 +224,7 @@ pub expecting : (w : ClientOne) (two : ClientTwo) (l : Started) (server_first pa
 expecting w two l server_first password header nonce salt front proof count p started is_challenge is_header is_nonce is_salt is_count is_front is_proof is_signature is_final =
     let q : ClientFinalParts = client_final_of header nonce [] proof in
     let auth : auth_front started.first server_first ++ front ≡ auth_message started.first server_first q =
-    ap (λ (text : List ℕ). auth_front started.first server_first ++ text) (is_front ∙ same_front header nonce proof) in
+    ap (λ (text : List ℕ). auth_front started.first server_first ++ text) is_front in
     record {
       honest = record {
         first = started.first;

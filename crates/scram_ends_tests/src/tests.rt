@@ -9,8 +9,8 @@ use scram_ends::{
     Verdict, first_name, server_first,
 };
 use scram_text::{
-    FinalResult, NoncePart, PlainName, Salt, TextFault, TextWhy, WriteFault, compose_front,
-    read_client_first, read_server_first, write_client_final, write_server_final,
+    ClientFinalWithoutProof, FinalResult, NoncePart, PlainName, Salt, TextFault, TextWhy,
+    WriteFault, read_client_first, read_server_first, write_server_final,
 };
 use std::alloc::Global;
 use std::fmt::{Debug, Display};
@@ -113,20 +113,20 @@ fn answer(alloc: Global, header: &str, signed: &str, challenge: &str) -> Result<
     let Ok(read) = read_server_first(challenge.as_bytes()) else {
         return Err(Fail::from("a challenge"));
     };
-    let front = compose_front(header.as_bytes(), read.nonce)?;
+    let without_proof = ClientFinalWithoutProof::new(header.as_bytes(), read.nonce, b"")?;
     let client = sha1.client_key(&sha1.hi(b"pencil", read.salt.bytes(), read.count));
     let mut mac = ScramMac::new(sha1, sha1.stored_key(&client).as_slice());
     mac.add(signed.as_bytes());
     mac.add(b",");
     mac.add(challenge.as_bytes());
     mac.add(b",");
-    mac.add(front.as_slice());
+    mac.add(without_proof.as_slice());
     let signature = mac.done();
     if signature.len() != client.len() {
         return Err(Fail::from("a signature of another length"));
     }
     let proof = xor(&client, &signature);
     let mut out = Vec::new(alloc);
-    write_client_final(header.as_bytes(), read.nonce, b"", &proof, &mut out)?;
+    without_proof.write_with_proof(&proof, &mut out)?;
     Ok(out)
 }

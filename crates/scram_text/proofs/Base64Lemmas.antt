@@ -1,6 +1,6 @@
 -- The STANDARD engine's texts have their usual form: no comma, four bytes for each three begun, and each
 -- is decoded to the bytes that it is the text of, while no other text is.
-use Rattle.std.proofs.Common.{◌≡◌, ℕ, zero, suc, ◌+◌, ◌*◌, ◌/◌, ◌%◌, ◌≤◌, true, not, List, [], ◌∷◌, length, replicate, refl, sym, ◌∙◌, arith, length-append, subst}
+use Rattle.std.proofs.Common.{◌≡◌, ℕ, zero, suc, ◌+◌, ◌*◌, ◌/◌, ◌%◌, ◌≤◌, true, not, List, [], ◌∷◌, length, replicate, refl, sym, ◌∙◌, ap, arith, length-append, subst}
 use Rattle.std.specs.Prelude.{slice_index}
 use Rattle.std.specs.List.{list_all}
 use Rattle.std.specs.declared.result.Result.TheVariants.{Ok, Err}
@@ -109,6 +109,12 @@ unfolding reading
 field_error most text e read (spelt, spelled, field) =
     let also = subst (λ (t : List ℕ). reading t ≡ Ok spelt) (sym spelled) field.field.back in
     cc (also, read)
+
+-- the text of at most 64 bytes has at most 88 characters
+pub short_text : (text bytes : List ℕ) → text ≡ base64 bytes → IsField 64 bytes → length text ≤ 88
+short_text text bytes spelled field =
+    let whole : length text ≡ length (base64 bytes) = ap length spelled in
+    omega (arith, whole, length-base64 bytes, field.at_most)
 
 -- bytes of a length within the limits fit a field
 pub field_of_bytes : (most : ℕ) (bytes : List ℕ) → IsBytes bytes → 1 ≤ length bytes → length bytes ≤ most → IsField most bytes

@@ -1,5 +1,5 @@
 -- Messages as they are composed: each is the text of its parts, and is a text.
-use Rattle.std.proofs.Common.{◌≡◌, ℕ, ◌≤◌, List, [], ◌∷◌, ◌++◌, length, refl, sym, ◌∙◌, ap, arith, subst, append-nil, append_assoc, true}
+use Rattle.std.proofs.Common.{◌≡◌, ℕ, ◌≤◌, List, [], ◌∷◌, ◌++◌, length, length-append, refl, sym, ◌∙◌, ap, arith, subst, append-nil, append_assoc, true}
 use Rattle.std.specs.Prelude.{codes, decimal, option_map, IfSome}
 use Rattle.std.specs.declared.option.Option.{Option}
 use Rattle.std.specs.declared.option.Option.TheVariants.{None, Some}
@@ -7,13 +7,14 @@ use Rattle.std.proofs.lemmas.List.Splits.{join_with_byte-slice_split}
 use Rattle.base64.specs.GeneralPurpose.{IsBytes}
 use Rattle.scram_text.specs.Class.{IsText, IsPlainName, IsNoncePart}
 use Rattle.scram_text.specs.Name.{IsSaslName, name_spelling}
-use Rattle.scram_text.specs.Base64Field.{base64}
+use Rattle.scram_text.specs.Base64Field.{base64, IsField}
 use Rattle.scram_text.specs.Parts.{parts, joined, is_flag, authzid_text}
-use Rattle.scram_text.specs.Messages.{header_text, bare_text, client_first_text, IsClientFirst, server_first_text, IsServerFirst, client_final_without_proof, client_final_text, IsClientFinal, VerifierOrError, verified, failed, verifier_or_error_text, IsVerifierOrError, server_final_text, IsServerFinal}
+use Rattle.scram_text.specs.Messages.{header_text, bare_text, client_first_text, IsClientFirst, server_first_text, IsServerFirst, ClientFinalParts, client_final_without_proof, client_final_text, IsClientFinal, VerifierOrError, verified, failed, verifier_or_error_text, IsVerifierOrError, server_final_text, IsServerFinal}
 use Rattle.scram_text.specs.Shown.{flag_text}
 use Rattle.scram_text.specs.Draft.{after_comma}
-use Rattle.scram_text.specs.Written.{extension_parts, client_first_of, CanBeClientFirst, server_first_of, CanBeServerFirst, client_final_of, CanBeClientFinal, server_final_of, CanBeTold, CanBeServerFinal}
+use Rattle.scram_text.specs.Written.{extension_parts, client_first_of, CanBeClientFirst, server_first_of, CanBeServerFirst, client_final_of, CanBeClientFinal, CanBeWithoutProof, IsWithoutProof, server_final_of, CanBeTold, CanBeServerFinal}
 use Rattle.scram_text.specs.declared.client_first.Flag.{Flag}
+use Rattle.scram_text.specs.declared.client_final.ClientFinalWithoutProof.{ClientFinalWithoutProof}
 use Rattle.scram_text.specs.declared.client_first.Flag.TheVariants.{NoBinding, NotOffered, Binding}
 use Rattle.scram_text.proofs.PartLemmas.{parts_count}
 use Rattle.scram_text.proofs.NameLemmas.{spelling_saslname}
@@ -36,40 +37,75 @@ after_text (c ∷ text) is = text-append (44 ∷ []) (c ∷ text) (plain_text (4
 
 -- client-final
 
-flat_final : (a b c n e p q : List ℕ) → (((((a ++ b) ++ c) ++ n) ++ e) ++ p) ++ q ≡ ((a ++ b) ++ (c ++ (n ++ e))) ++ (p ++ q)
-flat_final a b c n e p q = simp append_assoc
+flat_without_proof : (a b c n e : List ℕ) → (((a ++ b) ++ c) ++ n) ++ e ≡ (a ++ b) ++ (c ++ (n ++ e))
+flat_without_proof a b c n e = simp append_assoc
 
-pub client_final_composed : (channel nonce extensions proof : List ℕ)
-    → (((((codes "c=" ++ base64 channel) ++ codes ",r=") ++ nonce) ++ after_comma extensions) ++ codes ",p=") ++ base64 proof
-    ≡ client_final_text (client_final_of channel nonce extensions proof)
+pub without_proof_composed : (channel nonce extensions proof : List ℕ)
+    → (((codes "c=" ++ base64 channel) ++ codes ",r=") ++ nonce) ++ after_comma extensions
+    ≡ client_final_without_proof (client_final_of channel nonce extensions proof)
+unfolding client_final_without_proof
+without_proof_composed channel nonce extensions proof =
+    flat_without_proof (codes "c=") (base64 channel) (codes ",r=") nonce (after_comma extensions)
+    ∙ ap (λ (t : List ℕ). (codes "c=" ++ base64 channel) ++ 44 ∷ t) (sym (joined_after (codes "r=" ++ nonce) extensions))
+
+pub without_proof_text : (channel nonce extensions proof : List ℕ) → IsBytes channel → CanBeWithoutProof channel nonce extensions
+    → IsText (client_final_without_proof (client_final_of channel nonce extensions proof))
+without_proof_text channel nonce extensions proof bytes can =
+    let lead = text-append (codes "c=") (base64 channel) (plain_text (codes "c=") refl) (base64_text channel bytes) in
+    let middle = text-append _ nonce (text-append _ (codes ",r=") lead (plain_text (codes ",r=") refl)) (nonce_text 512 nonce can.nonce_class) in
+    subst IsText (without_proof_composed channel nonce extensions proof)
+    (text-append _ (after_comma extensions) middle (after_text extensions can.extensions_class.is_text))
+
+-- the proof follows the text before it
+
+pub with_proof_composed : (p : ClientFinalParts) (front proof : List ℕ) → front ≡ client_final_without_proof p → p.proof ≡ proof
+    → (front ++ codes ",p=") ++ base64 proof ≡ client_final_text p
+unfolding client_final_text
+with_proof_composed p front proof held same =
+    append_assoc front (codes ",p=") (base64 proof) ∙ (λ i. held i ++ (codes ",p=" ++ base64 (sym same i)))
+
+with_proof_text : (p : ClientFinalParts) → IsText (client_final_without_proof p) → IsBytes p.proof → IsText (client_final_text p)
+unfolding client_final_text
+with_proof_text p front bytes =
+    text-append (client_final_without_proof p) (codes ",p=" ++ base64 p.proof) front
+    (text-append (codes ",p=") (base64 p.proof) (plain_text (codes ",p=") refl) (base64_text p.proof bytes))
+
+pub with_proof_related : (w : ClientFinalWithoutProof) (p : ClientFinalParts) (proof : List ℕ) → IsWithoutProof w p → p.proof ≡ proof
+    → IsBytes proof → IsField 64 proof → length (client_final_text p) ≤ 2048 → IsClientFinal (client_final_text p) p
+with_proof_related w p proof is same bytes field short = record {
+  spelled = refl;
+  channel = is.channel;
+  nonce = is.nonce;
+  extensions = is.extensions;
+  proof = subst (IsField 64) (sym same) field;
+  is_text = with_proof_text p is.is_text (subst IsBytes (sym same) bytes);
+  short = short;
+}
+
+-- the message is longer than the text before its proof
+pub with_proof_longer : (channel nonce extensions proof : List ℕ)
+    → length (client_final_without_proof (client_final_of channel nonce extensions [])) ≤ length (client_final_text (client_final_of channel nonce extensions proof))
 unfolding client_final_text client_final_without_proof
-client_final_composed channel nonce extensions proof =
-    flat_final (codes "c=") (base64 channel) (codes ",r=") nonce (after_comma extensions) (codes ",p=") (base64 proof)
-    ∙ ap (λ (t : List ℕ). ((codes "c=" ++ base64 channel) ++ 44 ∷ t) ++ 44 ∷ (codes "p=" ++ base64 proof))
-    (sym (joined_after (codes "r=" ++ nonce) extensions))
+with_proof_longer channel nonce extensions proof =
+    omega (arith, length-append (client_final_without_proof (client_final_of channel nonce extensions proof)) (44 ∷ (codes "p=" ++ base64 proof)))
 
 pub client_final_related : (channel nonce extensions proof : List ℕ) → IsBytes channel → IsBytes proof
     → CanBeClientFinal channel nonce extensions proof
     → length (client_final_text (client_final_of channel nonce extensions proof)) ≤ 2048
     → IsClientFinal (client_final_text (client_final_of channel nonce extensions proof)) (client_final_of channel nonce extensions proof)
-client_final_related channel nonce extensions proof channel_bytes proof_bytes can short =
-    let lead = text-append (codes "c=") (base64 channel) (plain_text (codes "c=") refl) (base64_text channel channel_bytes) in
-    let middle = text-append _ nonce (text-append _ (codes ",r=") lead (plain_text (codes ",r=") refl)) (nonce_text 512 nonce can.nonce_class) in
-    let front = text-append _ (after_comma extensions) middle (after_text extensions can.extensions_class.is_text) in
-    let whole = text-append _ (base64 proof) (text-append _ (codes ",p=") front (plain_text (codes ",p=") refl)) (base64_text proof proof_bytes) in record {
-      spelled = refl;
-      channel = can.channel_class;
-      nonce = can.nonce_class;
-      extensions = can.extensions_class.each;
-      proof = can.proof_class;
-      is_text = subst IsText (client_final_composed channel nonce extensions proof) whole;
-      short = short;
-    }
-
-pub client_final_without_proof_composed : (channel nonce proof : List ℕ)
-    → ((codes "c=" ++ base64 channel) ++ codes ",r=") ++ nonce ≡ client_final_without_proof (client_final_of channel nonce [] proof)
-unfolding client_final_without_proof
-client_final_without_proof_composed channel nonce proof = append_assoc (codes "c=" ++ base64 channel) (codes ",r=") nonce
+client_final_related channel nonce extensions proof channel_bytes proof_bytes can short = record {
+  spelled = refl;
+  channel = can.channel_class;
+  nonce = can.nonce_class;
+  extensions = can.extensions_class.each;
+  proof = can.proof_class;
+  is_text = with_proof_text (client_final_of channel nonce extensions proof) (without_proof_text channel nonce extensions proof channel_bytes (record {
+    channel_class = can.channel_class;
+    nonce_class = can.nonce_class;
+    extensions_class = can.extensions_class;
+  })) proof_bytes;
+  short = short;
+}
 
 -- server-first
 

@@ -8,21 +8,21 @@ use Rattle.std.specs.Str.{IsUtf8, byte}
 abbrev pub is_comma : ℕ → Bool
 is_comma c = c == byte ","
 
--- printable = %x21-2B / %x2D-7E, as in nonces: "fyko+d2lbbFgONRv9qkxdawL"
+-- printable = %x21-2B / %x2D-7E, from "!" to "~" without the comma, as in nonces: "fyko+d2lbbFgONRv9qkxdawL"
 abbrev pub is_printable : ℕ → Bool
-is_printable c = nat_le 0x21 c && nat_le c 0x7E && not (is_comma c)
+is_printable c = nat_le (byte "!") c && nat_le c (byte "~") && not (is_comma c)
 
--- a byte of a plain name or a password: %x20-7E, which SASLprep leaves as it is
+-- a byte of a plain name or a password: %x20-7E, from " " to "~", which SASLprep leaves as it is
 abbrev pub is_plain : ℕ → Bool
-is_plain c = nat_le 0x20 c && nat_le c 0x7E
+is_plain c = nat_le (byte " ") c && nat_le c (byte "~")
 
 -- ALPHA = %x41-5A / %x61-7A
 abbrev pub is_letter : ℕ → Bool
-is_letter c = nat_le 0x41 c && nat_le c 0x5A || nat_le 0x61 c && nat_le c 0x7A
+is_letter c = nat_le (byte "A") c && nat_le c (byte "Z") || nat_le (byte "a") c && nat_le c (byte "z")
 
 -- a character of a channel binding's name: ALPHA / DIGIT / "." / "-"
 abbrev pub is_cb_char : ℕ → Bool
-is_cb_char c = is_letter c || nat_le 0x30 c && nat_le c 0x39 || c == 46 || c == 45
+is_cb_char c = is_letter c || nat_le (byte "0") c && nat_le c (byte "9") || c == byte "." || c == byte "-"
 
 -- 1 to `most` bytes that pass a test
 pub record IsRunOf (test : ℕ → Bool) (most : ℕ) (bytes : List ℕ) : Type 0 where
@@ -55,4 +55,4 @@ pub record IsSalt (salt : List ℕ) : Type 0 where
 -- except the comma, and its value-safe-chars those except `=` too.
 pub record IsText (bytes : List ℕ) : Type 0 where
   pub utf8 : IsUtf8 bytes
-  pub no_nul : IsTrue (list_all (λ c. not (c == 0)) bytes)
+  pub no_nul : IsTrue (list_all (λ c. not (c == byte "\0")) bytes)

@@ -131,7 +131,7 @@ IsClientFinalFault text f = IsFault 512 (Channel ∷ Nonce ∷ []) (Proof ∷ []
 
 -- the place of a first part of server-final: one that begins with "e=" is an error
 abbrev pub result_place : List ℕ → TextWhy
-result_place part = if is_headed 101 part then ErrorValue else Verifier
+result_place part = if is_headed (byte "e") part then ErrorValue else Verifier
 
 -- the places of server-final
 abbrev pub server_final_places : List (List ℕ) → List TextWhy

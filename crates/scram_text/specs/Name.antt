@@ -12,7 +12,7 @@ LacksComma bytes = IsTrue (list_all (λ c. not (is_comma c)) bytes)
 abbrev pub ends_escape : List ℕ → Bool
 ends_escape [] = false
 ends_escape (a ∷ []) = false
-ends_escape (a ∷ b ∷ rest) = (a == 50) && (b == 67) || (a == 51) && (b == 68)
+ends_escape (a ∷ b ∷ rest) = (a == byte "2") && (b == byte "C") || (a == byte "3") && (b == byte "D")
 
 -- each `=` begins "=2C" or "=3D"
 abbrev pub is_escaped : List ℕ → Bool

@@ -27,7 +27,6 @@ pub record IsCutFinal (message : List ℕ) (pieces : Pieces) : Type 0 where
   pub count : pieces.count ≡ length (parts message)
   pub few : length (parts message) ≤ 2049
   pub channel_len : length pieces.channel.now ≤ 2048
-  pub proof_len : length pieces.proof.now ≤ 2048
 
 -- parts are a mandatory extension, where they begin with "m=", and the others
 pub record IsMarked (pieces rest : List (List ℕ)) (mext : Option (List ℕ)) : Type 0 where
@@ -49,7 +48,6 @@ pub record IsCutServer (message : List ℕ) (pieces : ServerPieces) : Type 0 whe
   pub is_marked : pieces.marked ≡ is_some mext
   pub index : pieces.index ≡ length (mext_parts mext)
   pub few : length (parts message) ≤ 2049
-  pub salt_len : length pieces.salt.now ≤ 2048
 
 -- the parts of a text that may be client-first
 pub record IsCutFirst (message : List ℕ) (pieces : FirstPieces) : Type 0 where

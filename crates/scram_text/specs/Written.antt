@@ -1,15 +1,16 @@
 -- What the writers write: the parts that their arguments make, and when the arguments are in their
 -- classes.
-use Rattle.std.specs.Prelude.{ℕ, List, [], ◌∷◌, IsTrue, option_map}
+use Rattle.std.specs.Prelude.{ℕ, ◌≡◌, List, [], ◌∷◌, IsTrue, option_map}
 use Rattle.std.specs.declared.option.Option.{Option}
 use Rattle.std.specs.declared.option.Option.TheVariants.{None}
 use Rattle.scram_text.specs.Class.{IsNonce, IsText}
 use Rattle.scram_text.specs.Name.{name_spelling}
 use Rattle.scram_text.specs.Base64Field.{IsField}
 use Rattle.scram_text.specs.Parts.{parts, is_flag, IsValue, IsCount, AreExtensions}
-use Rattle.scram_text.specs.Messages.{ClientFirstParts, ServerFirstParts, ClientFinalParts, VerifierOrError, verified, failed, ServerFinalParts}
+use Rattle.scram_text.specs.Messages.{ClientFirstParts, ServerFirstParts, ClientFinalParts, client_final_without_proof, VerifierOrError, verified, failed, ServerFinalParts}
 use Rattle.scram_text.specs.Shown.{flag_text}
 use Rattle.scram_text.specs.declared.client_first.Flag.{Flag}
+use Rattle.scram_text.specs.declared.client_final.ClientFinalWithoutProof.{ClientFinalWithoutProof}
 
 -- the attr-vals of a text of extensions: none where it is empty
 abbrev pub extension_parts : List ℕ → List (List ℕ)
@@ -69,6 +70,21 @@ pub record CanBeClientFinal (channel nonce extensions proof : List ℕ) : Type 0
   pub nonce_class : IsNonce 512 nonce
   pub extensions_class : IsExtensionText extensions
   pub proof_class : IsField 64 proof
+
+-- the arguments for client-final without its proof are in their classes
+pub record CanBeWithoutProof (channel nonce extensions : List ℕ) : Type 0 where
+  pub channel_class : IsField 1536 channel
+  pub nonce_class : IsNonce 512 nonce
+  pub extensions_class : IsExtensionText extensions
+
+-- the value is the text before the proof of client-final with these parts, which are in their classes. It is so whatever
+-- their proof.
+pub record IsWithoutProof (w : ClientFinalWithoutProof) (p : ClientFinalParts) : Type 0 where
+  pub held : w.text.items ≡ client_final_without_proof p
+  pub channel : IsField 1536 p.channel
+  pub nonce : IsNonce 512 p.nonce
+  pub extensions : AreExtensions p.extensions
+  pub is_text : IsText (client_final_without_proof p)
 
 -- the parts of the server-final message that is written
 abbrev pub server_final_of : VerifierOrError → List ℕ → ServerFinalParts

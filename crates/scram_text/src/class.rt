@@ -1,6 +1,7 @@
 //! The character classes of SCRAM messages (RFC 5802, section 7), as tests.
 ghost use Rattle.std.specs.Prelude.{◌≡◌, ◌==◌, ◌↔◌, IsTrue, not};
 ghost use Rattle.std.specs.List.{list_all};
+ghost use Rattle.std.specs.Str.{byte};
 ghost use Rattle.scram_text.specs.Class.{is_printable, is_plain, is_letter, is_cb_char, IsNonce, IsRunOf, IsText};
 ghost use Rattle.scram_text.specs.Parts.{is_cb_name};
 
@@ -78,7 +79,7 @@ pub(crate) fn is_text(bytes: &[u8]) -> bool
 }
 
 fn lacks_nul(bytes: &[u8]) -> bool
-    ensures { result ≡ list_all (λ c. not (c == 0)) bytes.now }
+    ensures { result ≡ list_all (λ c. not (c == byte "\0")) bytes.now }
 {
     bytes.iter().all(|byte| *byte != 0)
 }

@@ -7,12 +7,12 @@
 //!
 //! as `c=biws,r=abcdef,p=v0X8v3Bz2T0CJGbJQyF0X+HI4Ts=`. The last part is the proof, even where an
 //! extension is named `p`.
-ghost use Rattle.std.specs.Prelude.{◌≡◌, ◌≤◌, ◌<◌, ◌+◌, ◌↔◌, [], ◌++◌, length, codes, vec_len, vec_capacity, IsTrue, IfOk, IfErr, OnOk, OnErr, IsOkAnd, IsErrOf};
-ghost use Rattle.scram_text.specs.Class.{IsNonce};
-ghost use Rattle.scram_text.specs.Base64Field.{base64, IsField};
+ghost use Rattle.std.specs.Prelude.{◌≡◌, ◌≤◌, ◌<◌, ◌+◌, ◌↔◌, ℕ, List, [], ◌++◌, length, vec_len, vec_capacity, IsTrue, IfOk, IfErr, OnOk, OnErr, IsOkAnd, IsErrOf};
+ghost use Rattle.scram_text.specs.Class.{IsText};
+ghost use Rattle.scram_text.specs.Base64Field.{IsField};
 ghost use Rattle.scram_text.specs.Messages.{ClientFinalParts, client_final_without_proof, client_final_text, IsClientFinal};
 ghost use Rattle.scram_text.specs.Draft.{IsDraftOf};
-ghost use Rattle.scram_text.specs.Written.{client_final_of, CanBeClientFinal};
+ghost use Rattle.scram_text.specs.Written.{client_final_of, CanBeClientFinal, CanBeWithoutProof, IsWithoutProof};
 ghost use Rattle.scram_text.specs.Faults.{IsClientFinalFault};
 ghost use Rattle.scram_text.specs.Shown.{ShowsClientFinal};
 ghost use Rattle.scram_text.specs.Pieces.{IsCutFinal};
@@ -135,11 +135,125 @@ fn pieces_of(message: &[u8]) -> Result<Pieces<'_>, TextFault>
     })
 }
 
+/// A client-final message before its proof (RFC 5802, section 7): client-final-message-without-proof,
+/// for a client to sign and then to write with its proof.
+///
+/// It does not keep its parts, so its contracts say which ones it stands for.
+#[derive(Drop)]
+pub struct ClientFinalWithoutProof {
+    text: ArrayVec<u8, 2048>,
+}
+
+impl ClientFinalWithoutProof {
+    /// Composes the text: the channel field of 1 to 1536 bytes, the nonce of 1 to 512 printable
+    /// characters, and the extensions as attr-vals with commas between them or empty. Answers 16
+    /// Unwritable where an argument is outside its class, else 17 OverLimit where the text would have
+    /// more than 2048 bytes. It takes no memory.
+    pub fn new(
+        channel: &[u8],
+        nonce: &[u8],
+        extensions: &[u8],
+    ) -> Result<ClientFinalWithoutProof, WriteFault>
+        ensures ok { IfOk result (λ w. (proof : List ℕ)
+            → IsWithoutProof w (client_final_of channel.now nonce.now extensions.now proof)) }
+        ensures class { OnOk result (CanBeWithoutProof channel.now nonce.now extensions.now) }
+        ensures unwritable { IsErrOf result WriteFault.Unwritable
+            → CanBeWithoutProof channel.now nonce.now extensions.now → ⊥ }
+        ensures over_limit { IsErrOf result WriteFault.OverLimit
+            → CanBeWithoutProof channel.now nonce.now extensions.now
+            × (2048 < length (client_final_without_proof (client_final_of channel.now nonce.now extensions.now []))) }
+        ensures no_memory { IsErrOf result WriteFault.NoMemory → ⊥ }
+    {
+        if !is_writable(channel, nonce, extensions) {
+            return Err(WriteFault::Unwritable);
+        }
+        match draft_of(channel, nonce, extensions).finish() {
+            Ok(text) => Ok(ClientFinalWithoutProof { text }),
+            Err(fault) => Err(fault),
+        }
+    }
+
+    /// The text, which a client signs.
+    pub fn as_slice(&self) -> &[u8]
+        ensures { (p : ClientFinalParts) → IsWithoutProof self.now p
+            → result.now ≡ client_final_without_proof p }
+    {
+        self.text.as_slice()
+    }
+
+    /// Appends the client-final message to `out`: the text, and the proof of 1 to 64 bytes. Answers 16
+    /// Unwritable where the proof is outside its class, else 17 OverLimit where the message would have
+    /// more than 2048 bytes, else 99 NoMemory, only where `out` had no room reserved for the message;
+    /// `out` is then unchanged.
+    pub fn write_with_proof<A: Allocator>(
+        self,
+        proof: &Tag,
+        out: &mut Vec<u8, A>,
+    ) -> Result<(), WriteFault>
+        ensures ok { (p : ClientFinalParts) → IsWithoutProof self p → p.proof ≡ proof.now.items
+            → OnOk result (out.new.items ≡ out.old.items ++ client_final_text p) }
+        ensures related { (p : ClientFinalParts) → IsWithoutProof self p → p.proof ≡ proof.now.items
+            → OnOk result (IsClientFinal (client_final_text p) p) }
+        ensures err { OnErr result (out.new.items ≡ out.old.items) }
+        ensures capacity { vec_capacity out.old ≤ vec_capacity out.new }
+        ensures unwritable { IsErrOf result WriteFault.Unwritable → IsField 64 proof.now.items → ⊥ }
+        ensures over_limit { IsErrOf result WriteFault.OverLimit → IsField 64 proof.now.items
+            × ((p : ClientFinalParts) → IsWithoutProof self p → p.proof ≡ proof.now.items
+            → 2048 < length (client_final_text p)) }
+        ensures no_memory { IsErrOf result WriteFault.NoMemory
+            → (p : ClientFinalParts) → IsWithoutProof self p → p.proof ≡ proof.now.items
+            → IsClientFinal (client_final_text p) p
+            × (vec_capacity out.old < vec_len out.old + length (client_final_text p)) }
+    {
+        let proof = proof.as_slice();
+        if !field::is_field(proof, 64) {
+            return Err(WriteFault::Unwritable);
+        }
+        self.with_proof(proof).append_to(out)
+    }
+
+    fn with_proof(self, proof: &[u8]) -> Draft
+        requires { IsField 64 proof.now }
+        ensures draft { (p : ClientFinalParts) → IsWithoutProof self p → p.proof ≡ proof.now
+            → IsDraftOf result (client_final_text p) }
+        ensures related { (p : ClientFinalParts) → IsWithoutProof self p → p.proof ≡ proof.now
+            → length (client_final_text p) ≤ 2048 → IsClientFinal (client_final_text p) p }
+    {
+        let mut draft = Draft::of(self.text);
+        draft.add(b",p=");
+        draft.add_base64(proof);
+        draft
+    }
+}
+
+fn is_writable(channel: &[u8], nonce: &[u8], extensions: &[u8]) -> bool
+    ensures { IsTrue result ↔ CanBeWithoutProof channel.now nonce.now extensions.now }
+{
+    field::is_field(channel, 1536) && class::is_nonce(nonce, 512) && cut::are_extensions(extensions)
+}
+
+fn draft_of(channel: &[u8], nonce: &[u8], extensions: &[u8]) -> Draft
+    requires { CanBeWithoutProof channel.now nonce.now extensions.now }
+    ensures draft { (proof : List ℕ) → IsDraftOf result
+        (client_final_without_proof (client_final_of channel.now nonce.now extensions.now proof)) }
+    ensures is_text { (proof : List ℕ)
+        → IsText (client_final_without_proof (client_final_of channel.now nonce.now extensions.now proof)) }
+{
+    let mut draft = Draft::new();
+    draft.add(b"c=");
+    draft.add_base64(channel);
+    draft.add(b",r=");
+    draft.add(nonce);
+    draft.add_extensions(extensions);
+    draft
+}
+
 /// Appends a client-final message (RFC 5802, section 7) to `out`: the channel field of 1 to 1536
 /// bytes, the nonce of 1 to 512 printable characters, the extensions as attr-vals with commas
 /// between them or empty, and the proof of 1 to 64 bytes. Answers 16 Unwritable where an argument is
 /// outside its class, else 17 OverLimit where the message would have more than 2048 bytes, else 99
 /// NoMemory, only where `out` had no room reserved for the message; `out` is then unchanged.
+#[tactic(auto, using(crate::proofs::ComposeLemmas::with_proof_longer))]
 pub fn write_client_final<A: Allocator>(
     channel: &[u8],
     nonce: &[u8],
@@ -163,63 +277,11 @@ pub fn write_client_final<A: Allocator>(
         IsErrOf result WriteFault.NoMemory → IsClientFinal (client_final_text p) p
         × (vec_capacity out.old < vec_len out.old + length (client_final_text p)) }
 {
-    let proof = proof.as_slice();
-    if !is_writable(channel, nonce, extensions, proof) {
+    if !field::is_field(proof.as_slice(), 64) {
         return Err(WriteFault::Unwritable);
     }
-    draft_of(channel, nonce, extensions, proof).append_to(out)
-}
-
-fn is_writable(channel: &[u8], nonce: &[u8], extensions: &[u8], proof: &[u8]) -> bool
-    ensures { IsTrue result ↔ CanBeClientFinal channel.now nonce.now extensions.now proof.now }
-{
-    field::is_field(channel, 1536)
-        && class::is_nonce(nonce, 512)
-        && cut::are_extensions(extensions)
-        && field::is_field(proof, 64)
-}
-
-fn draft_of(channel: &[u8], nonce: &[u8], extensions: &[u8], proof: &[u8]) -> Draft
-    requires { CanBeClientFinal channel.now nonce.now extensions.now proof.now }
-    ensures draft { IsDraftOf result (client_final_text (client_final_of channel.now nonce.now extensions.now proof.now)) }
-    ensures related { let p = client_final_of channel.now nonce.now extensions.now proof.now in
-        length (client_final_text p) ≤ 2048 → IsClientFinal (client_final_text p) p }
-{
-    let mut draft = front_of(channel, nonce);
-    draft.add_extensions(extensions);
-    draft.add(b",p=");
-    draft.add_base64(proof);
-    draft
-}
-
-fn front_of(channel: &[u8], nonce: &[u8]) -> Draft
-    requires { length channel.now ≤ 1536 }
-    ensures { IsDraftOf result (((codes "c=" ++ base64 channel.now) ++ codes ",r=") ++ nonce.now) }
-{
-    let mut draft = Draft::new();
-    draft.add(b"c=");
-    draft.add_base64(channel);
-    draft.add(b",r=");
-    draft.add(nonce);
-    draft
-}
-
-/// The client-final message without its proof and with no extensions, for the client to sign: the
-/// channel field and the nonce are those of `write_client_final`. Answers 16 Unwritable where one is
-/// outside its class, else 17 OverLimit where the text would have more than 2048 bytes.
-pub fn compose_front(channel: &[u8], nonce: &[u8]) -> Result<ArrayVec<u8, 2048>, WriteFault>
-    ensures ok { IfOk result (λ without_proof. without_proof.items
-        ≡ client_final_without_proof (client_final_of channel.now nonce.now [] [])) }
-    ensures class { OnOk result (IsField 1536 channel.now × IsNonce 512 nonce.now) }
-    ensures unwritable { IsErrOf result WriteFault.Unwritable → IsField 1536 channel.now
-        × IsNonce 512 nonce.now → ⊥ }
-    ensures over_limit { IsErrOf result WriteFault.OverLimit → IsField 1536 channel.now
-        × IsNonce 512 nonce.now
-        × (2048 < length (client_final_without_proof (client_final_of channel.now nonce.now [] []))) }
-    ensures no_memory { IsErrOf result WriteFault.NoMemory → ⊥ }
-{
-    if !field::is_field(channel, 1536) || !class::is_nonce(nonce, 512) {
-        return Err(WriteFault::Unwritable);
+    match ClientFinalWithoutProof::new(channel, nonce, extensions) {
+        Ok(without_proof) => without_proof.write_with_proof(proof, out),
+        Err(fault) => Err(fault),
     }
-    front_of(channel, nonce).finish()
 }

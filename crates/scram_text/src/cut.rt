@@ -79,7 +79,6 @@ pub(crate) fn cut_last(text: &[u8]) -> Option<(&[u8], &[u8])>
         (λ cut. text.now ≡ cut.0.now ++ byte "," ∷ cut.1.now) }
     ensures no_comma { IfSome result (λ cut. LacksComma cut.1.now) }
     ensures front_len { IfSome result (λ cut. length cut.0.now ≤ length text.now) }
-    ensures back_len { IfSome result (λ cut. length cut.1.now ≤ length text.now) }
 {
     let mut at = text.len();
     while at > 0 {
@@ -176,7 +175,6 @@ pub(crate) fn two_of(text: &[u8]) -> (&[u8], &[u8], Option<&[u8]>)
     requires { 2 ≤ length (parts text.now) }
     ensures parts { parts text.now ≡ result.0.now ∷ result.1.now ∷ parts_of_some (option_copied result.2) }
     ensures first_len { length result.0.now ≤ length text.now }
-    ensures second_len { length result.1.now ≤ length text.now }
     ensures whole { IfSome result.2 (λ rest. text.now
         ≡ result.0.now ++ byte "," ∷ (result.1.now ++ byte "," ∷ rest.now)) }
     ensures no_comma { LacksComma result.0.now }

@@ -1,6 +1,7 @@
 //! Reads the parts whose values are decoded or have a class of their own, each by its letter.
 ghost use Rattle.std.specs.Prelude.{◌≡◌, ◌≤◌, ℕ, List, ◌∷◌, ◌++◌, length, take, decimal, codes, IfNone, IfSome, IsTrue, ◌↔◌};
 ghost use Rattle.std.specs.Str.{byte};
+ghost use Rattle.base64.specs.Decode.{decoded_estimate};
 ghost use Rattle.scram_text.specs.Class.{IsNonce};
 ghost use Rattle.scram_text.specs.Name.{IsSaslName, LacksComma};
 ghost use Rattle.scram_text.specs.Base64Field.{base64, IsField};
@@ -111,7 +112,6 @@ pub(crate) fn channel_of(part: &[u8]) -> Option<ArrayVec<u8, 1536>>
 
 /// The bytes of a part that is a letter, `=` and the base64 of 1 to 64 bytes.
 pub(crate) fn tag_of(part: &[u8], letter: u8) -> Option<Tag>
-    requires { length part.now ≤ 2048 }
     ensures none { IfNone result (IsHeaded letter (SpellsField 64) part.now → ⊥) }
     ensures spelled { IfSome result (λ tag. part.now ≡ letter ∷ byte "=" ∷ base64 tag.items) }
     ensures class { IfSome result (λ tag. IsField 64 tag.items) }
@@ -122,7 +122,6 @@ pub(crate) fn tag_of(part: &[u8], letter: u8) -> Option<Tag>
 
 /// The salt of a part that is `s=` and the base64 of 1 to 64 bytes.
 pub(crate) fn salt_of(part: &[u8]) -> Option<Salt>
-    requires { length part.now ≤ 2048 }
     ensures none { IfNone result (IsHeaded (byte "s") (SpellsField 64) part.now → ⊥) }
     ensures spelled { IfSome result (λ salt. part.now ≡ codes "s=" ++ base64 salt) }
     ensures class { IfSome result (λ salt. IsField 64 salt) }
@@ -145,13 +144,17 @@ fn long_field(text: &[u8]) -> Option<ArrayVec<u8, 1536>>
     Some(field)
 }
 
+// A text of more than 88 characters is the base64 of no field of 64 bytes.
+#[tactic(auto, using(crate::proofs::Base64Lemmas::short_text))]
 fn short_field(text: &[u8]) -> Option<Tag>
-    requires { length text.now ≤ 2048 }
     ensures none { IfNone result (SpellsField 64 text.now → ⊥) }
     ensures spelled { IfSome result (λ field. text.now ≡ base64 field.items) }
     ensures class { IfSome result (λ field. IsField 64 field.items) }
 {
-    let mut buffer = [0; 1536];
+    if text.len() > 88 {
+        return None;
+    }
+    let mut buffer = [0; 66];
     let size = decode(text, &mut buffer)?;
     let Ok(field) = Tag::try_from(&buffer[..size]) else {
         return None;
@@ -167,13 +170,13 @@ pub(crate) fn is_field(bytes: &[u8], most: usize) -> bool
 }
 
 // Decodes the base64 text to the front of `buffer`, and returns the number of bytes; None where the
-// text is not the base64 of 1 to 1536 bytes.
-fn decode(text: &[u8], buffer: &mut [u8; 1536]) -> Option<usize>
-    requires { length text.now ≤ 2048 }
-    ensures none { IfNone result (SpellsField 1536 text.now → ⊥) }
-    ensures field { IfSome result (λ size. IsField 1536 (take size buffer.new)) }
+// text is not the base64 of 1 to as many bytes as `buffer` has.
+fn decode(text: &[u8], buffer: &mut [u8]) -> Option<usize>
+    requires { decoded_estimate (length text.now) ≤ length buffer.old }
+    ensures none { IfNone result (SpellsField (length buffer.old) text.now → ⊥) }
+    ensures field { IfSome result (λ size. IsField (length buffer.old) (take size buffer.new)) }
     ensures text { IfSome result (λ size. text.now ≡ base64 (take size buffer.new)) }
-    ensures size { IfSome result (λ size. size ≤ 1536) }
+    ensures size { IfSome result (λ size. size ≤ length buffer.old) }
 {
     match STANDARD.decode_slice_unchecked(text, buffer) {
         Ok(0) => None,

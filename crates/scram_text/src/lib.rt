@@ -34,7 +34,9 @@ mod secret;
 mod server_final;
 mod server_first;
 
-pub use client_final::{ClientFinal, compose_front, read_client_final, write_client_final};
+pub use client_final::{
+    ClientFinal, ClientFinalWithoutProof, read_client_final, write_client_final,
+};
 pub use client_first::{ClientFirst, Flag, read_client_first, write_client_first};
 pub use fault::{TextFault, TextWhy, WriteFault};
 pub use name::{PlainName, SaslText, write_name};

@@ -6,6 +6,7 @@
 //!
 //! as `v=rmF9pqV8S7suAoZWja4dJRkFsKQ=` or `e=invalid-proof`.
 ghost use Rattle.std.specs.Prelude.{◌≡◌, ◌≤◌, ◌<◌, ◌+◌, ◌↔◌, ◌++◌, length, codes, vec_len, vec_capacity, IsTrue, IfOk, IfErr, OnOk, OnErr, IsOkAnd, IsErrOf};
+ghost use Rattle.std.specs.Str.{byte};
 ghost use Rattle.scram_text.specs.Class.{IsText};
 ghost use Rattle.scram_text.specs.Name.{LacksComma};
 ghost use Rattle.scram_text.specs.Base64Field.{base64};
@@ -80,8 +81,7 @@ fn read_parts(message: &[u8]) -> Result<ServerFinal<'_>, TextFault>
 
 // The first part: an error where it begins with `e=`, else a verifier.
 fn result_of(part: &[u8]) -> Result<FinalResult<'_>, TextFault>
-    requires short { length part.now ≤ 2048 }
-    requires no_comma { LacksComma part.now }
+    requires { LacksComma part.now }
     ensures spelled { IfOk result (λ r. part.now ≡ verifier_or_error_text (verifier_or_error_of r)) }
     ensures class { IfOk result (λ r. IsVerifierOrError (verifier_or_error_of r)) }
     ensures fault { IfErr result (λ f. (Fits 512 (result_place part.now) part.now → ⊥) × (f
@@ -107,7 +107,7 @@ fn result_of(part: &[u8]) -> Result<FinalResult<'_>, TextFault>
 }
 
 fn is_error(part: &[u8]) -> bool
-    ensures { result ≡ is_headed 101 part.now }
+    ensures { result ≡ is_headed (byte "e") part.now }
 {
     matches!(part, [b'e', b'=', ..])
 }

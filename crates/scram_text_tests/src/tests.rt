@@ -2,9 +2,10 @@
 //! other software, and that each call can succeed where there is memory.
 use mac_core::Tag;
 use scram_text::{
-    FinalResult, Flag, NoncePart, Password, PlainName, Salt, TextFault, TextWhy, WriteFault,
-    compose_front, read_client_final, read_client_first, read_server_final, read_server_first,
-    write_client_final, write_client_first, write_name, write_server_final, write_server_first,
+    ClientFinalWithoutProof, FinalResult, Flag, NoncePart, Password, PlainName, Salt, TextFault,
+    TextWhy, WriteFault, read_client_final, read_client_first, read_server_final,
+    read_server_first, write_client_final, write_client_first, write_name, write_server_final,
+    write_server_first,
 };
 use std::alloc::Global;
 use std::fmt::{Debug, Display};
@@ -99,18 +100,28 @@ fn client_final_again(text: &[u8], out: &mut Vec<u8>) -> bool {
     let Ok(message) = read_client_final(text) else {
         return false;
     };
-    let channel = message.channel.as_slice();
-    let Ok(front) = compose_front(channel, message.nonce) else {
-        return false;
-    };
-    let written = write_client_final(
-        channel,
+    write_client_final(
+        message.channel.as_slice(),
         message.nonce,
         message.extensions,
         &message.proof,
         out,
-    );
-    written.is_ok() && front.as_slice() == message.without_proof
+    )
+    .is_ok()
+}
+
+// As a client writes it, who signs the text before the proof.
+fn client_final_in_two(text: &[u8], out: &mut Vec<u8>) -> bool {
+    let Ok(message) = read_client_final(text) else {
+        return false;
+    };
+    let channel = message.channel.as_slice();
+    let Ok(without_proof) = ClientFinalWithoutProof::new(channel, message.nonce, message.extensions)
+    else {
+        return false;
+    };
+    without_proof.as_slice() == message.without_proof
+        && without_proof.write_with_proof(&message.proof, out).is_ok()
 }
 
 fn server_final_again(text: &[u8], out: &mut Vec<u8>) -> bool {
@@ -144,6 +155,9 @@ fn reads_and_writes_again(rt: &impl Abort, alloc: Global, exchange: &[&str; 5]) 
     check_bytes(rt, out.as_slice(), challenge.as_bytes(), challenge);
     out.clear();
     assert!(rt; client_final_again(last.as_bytes(), &mut out), "{last}");
+    check_bytes(rt, out.as_slice(), last.as_bytes(), last);
+    out.clear();
+    assert!(rt; client_final_in_two(last.as_bytes(), &mut out), "{last}");
     check_bytes(rt, out.as_slice(), last.as_bytes(), last);
     out.clear();
     if !outcome.is_empty() {
@@ -484,6 +498,7 @@ fn refused_writes(rt: HostRuntime) -> Result<(), Fail> {
     let nonce = NoncePart::new(b"x").ok_or("a nonce")?;
     let tag = Tag::try_from(b"A".as_slice())?;
     let mut out = Vec::from_slice(alloc, b"before")?;
+    let without_proof = ClientFinalWithoutProof::new(b"n,,", b"a", b"")?;
     let refused = [
         write_server_first(b"", &salt, 1, b"", &mut out),
         write_server_first(b"a", &salt, 0, b"", &mut out),
@@ -492,6 +507,7 @@ fn refused_writes(rt: HostRuntime) -> Result<(), Fail> {
         write_client_first(Flag::NotOffered, None, &name, &nonce, b"x=\xFF", &mut out),
         write_client_final(b"", b"a", b"", &tag, &mut out),
         write_client_final(b"n,,", b"a", b"", &Tag::new(), &mut out),
+        without_proof.write_with_proof(&Tag::new(), &mut out),
         write_server_final(FinalResult::ErrorValue(b"a,b"), b"", &mut out),
     ];
     for (place, refused) in refused.iter().enumerate() {

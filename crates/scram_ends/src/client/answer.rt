@@ -11,9 +11,7 @@ ghost use Rattle.scram_ends.specs.Client.{IsStarted, IsAnswerable, IsExpecting, 
 
 use crate::client::{ClientFault, ClientOne, ClientTwo, OneRefused};
 use mac_core::{ScramMac, Tag, xor};
-use scram_text::{
-    Password, ServerFirst, WriteFault, compose_front, read_server_first, write_client_final,
-};
+use scram_text::{ClientFinalWithoutProof, Password, ServerFirst, WriteFault, read_server_first};
 use std::alloc::Allocator;
 
 impl ClientOne {
@@ -106,14 +104,9 @@ impl ClientOne {
     {
         let header = self.header.as_slice();
         are_bytes(header);
-        let client_final_without_proof = compose_front(header, challenge.nonce)?;
-        let answer = self.prove(
-            password,
-            server_first,
-            challenge,
-            client_final_without_proof.as_slice(),
-        );
-        write_client_final(header, challenge.nonce, b"", &answer.proof, out)?;
+        let without_proof = ClientFinalWithoutProof::new(header, challenge.nonce, b"")?;
+        let answer = self.prove(password, server_first, challenge, without_proof.as_slice());
+        without_proof.write_with_proof(&answer.proof, out)?;
         Ok(ClientTwo {
             expected: answer.expected,
         })

@@ -1,17 +1,16 @@
 use Rattle.std.proofs.Common.{ℕ, List, subst, arith}
 use Rattle.base64.specs.GeneralPurpose.{IsBytes}
 use Rattle.scram_text.specs.Draft.{IsDraftOf}
-use Rattle.scram_text.proofs.ComposeLemmas.{client_final_composed, client_final_related}
+use Rattle.scram_text.proofs.ComposeLemmas.{without_proof_composed, without_proof_text}
 use Rattle.scram_text.proofs.client_final.draft_of.Goals as goal
 
 pub returns-clause-draft : goal.returns-clause-draft
-returns-clause-draft c =
-    subst (λ (text : List ℕ). IsDraftOf c.add_base64.new.self text)
-    (client_final_composed c.args.channel.now c.args.nonce.now c.args.extensions.now c.args.proof.now)
-    (c.add_base64.ensures _ (c.add.ensures _ (c.add_extensions.ensures _ c.front_of-draft.ensures)))
+returns-clause-draft c = λ proof.
+    subst (λ (text : List ℕ). IsDraftOf c.add_extensions.new.self text)
+    (without_proof_composed c.args.channel.now c.args.nonce.now c.args.extensions.now proof)
+    (c.add_extensions.ensures _ (c.add-3.ensures _ (c.add-2.ensures _ (c.add_base64.ensures _ (c.add.ensures _ c.new-draft.ensures)))))
 
-pub returns-clause-related : goal.returns-clause-related
-returns-clause-related c = λ short.
+pub returns-clause-is_text : goal.returns-clause-is_text
+returns-clause-is_text c = λ proof.
     let channel : IsBytes c.args.channel.now = λ i. omega (arith, c.type_inv.channel i) in
-    let proof : IsBytes c.args.proof.now = λ i. omega (arith, c.type_inv.proof i) in
-    client_final_related c.args.channel.now c.args.nonce.now c.args.extensions.now c.args.proof.now channel proof c.requires short
+    without_proof_text c.args.channel.now c.args.nonce.now c.args.extensions.now proof channel c.requires

@@ -21,5 +21,4 @@ returns-clause-cut c =
       count = c.in_ok-count.ensures.count;
       few = c.in_ok-count.ensures.few;
       channel_len = omega (arith, c.cut.ensures.first_len, c.in-Some.ensures.front_len, c.in_ok-count.ensures.short);
-      proof_len = omega (arith, c.in-Some.ensures.back_len, c.in_ok-count.ensures.short);
     }

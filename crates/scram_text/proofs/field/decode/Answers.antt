@@ -9,7 +9,7 @@ front_length size buffer room = omega (arith, length-take size buffer)
 
 pub returns-in-Ok-eq0-clause-none : goal.returns-in-Ok-eq0-clause-none
 returns-in-Ok-eq0-clause-none c = λ spells.
-    let field = field_read 1536 c.args.text.now _ c.in-Ok-eq0.ensures.ok.0 spells in
+    let field = field_read _ c.args.text.now _ c.in-Ok-eq0.ensures.ok.0 spells in
     omega (arith, field.at_least, length-take c.in-Ok-eq0.field-0 c.decode_slice_unchecked.new.output)
 
 pub returns-in-Ok-clause-field : goal.returns-in-Ok-clause-field
@@ -17,14 +17,14 @@ returns-in-Ok-clause-field c =
     let size : length (take c.in-Ok.size c.decode_slice_unchecked.new.output) ≡ c.in-Ok.size =
     front_length c.in-Ok.size c.decode_slice_unchecked.new.output (omega (arith, c.in-Ok.ensures.ok.2)) in
     let fits : IsBytes c.args.text.now = λ i. omega (arith, c.type_inv.text i) in
-    (read_field 1536 c.args.text.now _ fits c.in-Ok.ensures.ok.0 (omega arith) (omega (arith, c.in-Ok.ensures.ok.2))).0
+    (read_field (length c.args.buffer.now) c.args.text.now _ fits c.in-Ok.ensures.ok.0 (omega arith) (omega (arith, c.in-Ok.ensures.ok.2))).0
 
 pub returns-in-Ok-clause-text : goal.returns-in-Ok-clause-text
 returns-in-Ok-clause-text c =
     let size : length (take c.in-Ok.size c.decode_slice_unchecked.new.output) ≡ c.in-Ok.size =
     front_length c.in-Ok.size c.decode_slice_unchecked.new.output (omega (arith, c.in-Ok.ensures.ok.2)) in
     let fits : IsBytes c.args.text.now = λ i. omega (arith, c.type_inv.text i) in
-    (read_field 1536 c.args.text.now _ fits c.in-Ok.ensures.ok.0 (omega arith) (omega (arith, c.in-Ok.ensures.ok.2))).1
+    (read_field (length c.args.buffer.now) c.args.text.now _ fits c.in-Ok.ensures.ok.0 (omega arith) (omega (arith, c.in-Ok.ensures.ok.2))).1
 
 pub returns-in-Err-clause-none : goal.returns-in-Err-clause-none
-returns-in-Err-clause-none c = field_error 1536 c.args.text.now c.in-Err.field-0 c.in-Err.ensures.err
+returns-in-Err-clause-none c = field_error _ c.args.text.now c.in-Err.field-0 c.in-Err.ensures.err
