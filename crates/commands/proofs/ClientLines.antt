@@ -17,7 +17,7 @@ use Rattle.commands.specs.declared.login.client_end.ClientEnd.{ClientEnd}
 use Rattle.commands.specs.declared.login.client_end.Next.{Next}
 use Rattle.commands.specs.declared.login.client_end.Next.TheVariants.{Says, IsIn, Leaves}
 use Rattle.commands.specs.declared.login.client_end.Stage.{Stage}
-use Rattle.commands.specs.declared.login.client_end.Stage.TheVariants.{Silent, Asked}
+use Rattle.commands.specs.declared.login.client_end.Stage.TheVariants.{Silent, Begun}
 
 -- the mechanism that is taken
 pub chosen : (asked best : Option Mechanism) (names : List ℕ) (mechanism : Mechanism) → option_or asked best ≡ Some mechanism
@@ -49,12 +49,12 @@ beginning_may_be_said client old new told names result is line says =
     may_say client old Silent new told result _ is (λ said begins. (names, line, begins)) says
 
 -- a client that waits for the challenge may say its answer to the one that it was told
-pub answer_may_be_said : (client : ClientEnd) (one : ClientOne) (old new : Stage) (told server_first : List ℕ) (result : Result Next Fault) → old ≡ Asked one
+pub answer_may_be_said : (client : ClientEnd) (one : ClientOne) (old new : Stage) (told server_first : List ℕ) (result : Result Next Fault) → old ≡ Begun one
     → IsLine told (from_server (cont server_first))
     → IfOk result (λ next. IfSays next (λ said. (login : Started) → IsStarted one login → Answers login client.password server_first said new))
     → IfOk result (λ next. IfSays next (λ said. MaySay client old told said new))
 answer_may_be_said client one old new told server_first result is line says =
-    may_say client old (Asked one) new told result _ is (λ said answers. (server_first, line, answers)) says
+    may_say client old (Begun one) new told result _ is (λ said answers. (server_first, line, answers)) says
 
 -- who says nothing may do so
 pub silence_may_be : (client : ClientEnd) (old new : Stage) (told : List ℕ) (result : Result Next Fault)

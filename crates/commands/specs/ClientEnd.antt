@@ -19,7 +19,7 @@ use Rattle.commands.specs.declared.login.client_end.User.{User}
 use Rattle.commands.specs.declared.login.client_end.Next.{Next}
 use Rattle.commands.specs.declared.login.client_end.Next.TheVariants.{Says, IsIn, Leaves}
 use Rattle.commands.specs.declared.login.client_end.Stage.{Stage}
-use Rattle.commands.specs.declared.login.client_end.Stage.TheVariants.{Silent, Asked, Proved, Over}
+use Rattle.commands.specs.declared.login.client_end.Stage.TheVariants.{Silent, Begun, Proved, Over}
 
 -- a fact of what the client says, where it says anything
 abbrev pub IfSays : Next → (List ℕ → Type 0) → Type 0
@@ -33,7 +33,7 @@ said_line line = client_text line ++ byte "\n" ∷ []
 
 -- the client has sent the first message of this login, and waits for the challenge
 abbrev pub WaitsForChallenge : Stage → Started → Type 0
-WaitsForChallenge (Asked client) l = IsStarted client l
+WaitsForChallenge (Begun client) l = IsStarted client l
 WaitsForChallenge stage l = ⊥
 
 -- the client has sent its proof in this login, and waits for the server's signature
@@ -75,7 +75,7 @@ pub record Answers (login : Started) (password server_first said : List ℕ) (st
 -- it is told, and in the login that it has begun it answers the challenge that it is told. It says nothing else.
 abbrev pub MaySay : ClientEnd → Stage → (told said : List ℕ) → Stage → Type 0
 MaySay client Silent told said new = (names : List ℕ) × IsLine told (from_server (mechs names)) × Begins client.user client.nonce names said new
-MaySay client (Asked one) told said new =
+MaySay client (Begun one) told said new =
     (server_first : List ℕ) × IsLine told (from_server (cont server_first))
     × ((login : Started) → IsStarted one login → Answers login client.password server_first said new)
 MaySay client (Proved two) told said new = ⊥
@@ -98,7 +98,7 @@ pub record IsLoginOf (user : User) (nonce password : List ℕ) (login : Answered
 -- what the client waits for is of a login of this user
 abbrev pub StandsIn : User → (nonce password : List ℕ) → Stage → Type 0
 StandsIn user nonce password Silent = Unit {0}
-StandsIn user nonce password (Asked one) =
+StandsIn user nonce password (Begun one) =
     (login : Started) × IsStarted one login × (login.name ≡ user.name) × (login.authzid ≡ user.act_as) × (login.nonce ≡ nonce)
 StandsIn user nonce password (Proved two) = (login : Answered) × IsExpecting two login × IsLoginOf user nonce password login
 StandsIn user nonce password Over = Unit {0}

@@ -1,8 +1,8 @@
 //! The command `code`: prints the one-time code of a counter or a moment.
 ghost use Rattle.std.specs.Prelude.{◌≡◌, IfErr, IfOk};
-ghost use Rattle.commands.specs.Code.{IsAskedCode, IsTooEarly};
+ghost use Rattle.commands.specs.Code.{IsCodeFor, IsTooEarly};
 
-use crate::asked::{Asked, Steps};
+use crate::moving_factor::{MovingFactor, Steps};
 use crate::words::{given, optional};
 use clap::ArgMatches;
 use command_line::value::OptionName;
@@ -17,14 +17,14 @@ const MOST_COUNTER: u64 = 9_223_372_036_854_775_807 - 1;
 /// The longest step in seconds.
 const MOST_STEP: u64 = 3600;
 
-// The code that the words ask for, or BeforeFirstStep where the moment is before t0.
-fn answer(secret: &Secret, digits: Digits, asked: &Asked) -> Result<Code, Fault>
-    ensures ok { IfOk result (λ code. IsAskedCode asked.now digits secret.now code) }
-    ensures err { IfErr result (λ fault. (fault ≡ Fault.BeforeFirstStep) × IsTooEarly asked.now) }
+// The code of a secret, or BeforeFirstStep where the moment is before t0.
+fn answer(secret: &Secret, digits: Digits, factor: &MovingFactor) -> Result<Code, Fault>
+    ensures ok { IfOk result (λ code. IsCodeFor factor.now digits secret.now code) }
+    ensures err { IfErr result (λ fault. (fault ≡ Fault.BeforeFirstStep) × IsTooEarly factor.now) }
 {
-    match asked {
-        Asked::Hotp(counter) => Ok(OtpHash::Sha1.hotp(secret, *counter, digits)),
-        Asked::Totp(steps) => match step(steps.moment, steps.t0, steps.step) {
+    match factor {
+        MovingFactor::Counter(counter) => Ok(OtpHash::Sha1.hotp(secret, *counter, digits)),
+        MovingFactor::Time(steps) => match step(steps.moment, steps.t0, steps.step) {
             Some(counter) => Ok(steps.hash.hotp(secret, counter, digits)),
             None => Err(Fault::BeforeFirstStep),
         },
@@ -32,7 +32,7 @@ fn answer(secret: &Secret, digits: Digits, asked: &Asked) -> Result<Code, Fault>
 }
 
 // Judges the options that say which code is meant, in their order.
-fn judge(words: &ArgMatches<'_>) -> Result<Asked, Fault> {
+fn judge(words: &ArgMatches<'_>) -> Result<MovingFactor, Fault> {
     let counter = match optional(words, OptionName::Counter) {
         Some(text) => Some(value::within(OptionName::Counter, text, 0, MOST_COUNTER)?),
         None => None,
@@ -50,8 +50,8 @@ fn judge(words: &ArgMatches<'_>) -> Result<Asked, Fault> {
         MOST_STEP,
     )?;
     match (counter, moment) {
-        (Some(counter), _) => Ok(Asked::Hotp(counter)),
-        (None, Some(moment)) => Ok(Asked::Totp(Steps {
+        (Some(counter), _) => Ok(MovingFactor::Counter(counter)),
+        (None, Some(moment)) => Ok(MovingFactor::Time(Steps {
             hash,
             moment,
             t0,

@@ -5,7 +5,6 @@
 //! can hand in files and streams that fail.
 #![tactic(auto)]
 
-mod asked;
 mod audit;
 mod code;
 mod desk_fault;
@@ -15,6 +14,7 @@ mod held_book;
 mod input;
 mod keys;
 mod login;
+mod moving_factor;
 mod printed_log;
 mod program;
 mod progress;

@@ -37,9 +37,12 @@ use std::net::Net;
 use std::time::Clock;
 use talk::Talk;
 
+/// The most bytes of a line that are read, with its LF; a line of the protocol has at most 6200.
+const MOST_LINE: usize = 6201;
+
 // What the words say of a login.
 #[derive(Drop)]
-struct Asked {
+struct LoginOptions {
     who: User,
     client_nonce: Option<NoncePart>,
     service_nonce: Option<NoncePart>,
@@ -67,17 +70,17 @@ where
     E: Watched,
 {
     let alloc = rt.alloc();
-    let asked = judge(words)?;
+    let options = judge(words)?;
     ask(input, faults, LOGIN);
     let mut lines = Lines::new(input);
     let password = read_password(alloc, &mut lines)?;
     let held = held_book::open(rt, given(words, OptionName::Book), faults)?;
     let random = given(words, OptionName::Random);
-    let (nonce, own) = nonces::both(rt, random, asked.client_nonce, asked.service_nonce)?;
-    let client = ClientEnd::new(asked.who, password, nonce);
+    let (nonce, own) = nonces::both(rt, random, options.client_nonce, options.service_nonce)?;
+    let client = ClientEnd::new(options.who, password, nonce);
     let (ends, _file) = socket::open(rt, given(words, OptionName::Socket))?;
     let log = PrintedLog::new(output);
-    let clock = Moments::new(rt, asked.moment);
+    let clock = Moments::new(rt, options.moment);
     let mut talk = Talk::begin(alloc, held, ends.wires(), log, clock)?;
     converse(alloc, &mut talk, &ends, own, client, &mut lines)
 }
@@ -141,7 +144,7 @@ where
 }
 
 // Judges the options that are not taken as they are, in their order.
-fn judge(words: &ArgMatches<'_>) -> Result<Asked, Fault> {
+fn judge(words: &ArgMatches<'_>) -> Result<LoginOptions, Fault> {
     let name = value::name(given(words, OptionName::Name))?;
     let mechanism = match optional(words, OptionName::Mechanism) {
         Some(text) => Some(value::mechanism(text)?),
@@ -157,7 +160,7 @@ fn judge(words: &ArgMatches<'_>) -> Result<Asked, Fault> {
         Some(text) => Some(value::moment(OptionName::Moment, text)?),
         None => None,
     };
-    Ok(Asked {
+    Ok(LoginOptions {
         who: User {
             mechanism,
             name,

@@ -48,7 +48,7 @@ enum Stage {
     Silent,
 
     // It has sent its first message, and waits for the challenge.
-    Asked(ClientOne),
+    Begun(ClientOne),
 
     // It has sent its proof, and waits for the service's signature.
     Proved(ClientTwo),
@@ -95,7 +95,7 @@ impl ClientEnd {
         };
         match (mem::replace(&mut self.stage, Stage::Over), told) {
             (Stage::Silent, ServerLine::Mechs(names)) => self.ask(alloc, names),
-            (Stage::Asked(client), ServerLine::Cont(message)) => {
+            (Stage::Begun(client), ServerLine::Cont(message)) => {
                 let challenge = message.bytes(alloc).map_err(|_| Fault::NoMemory)?;
                 self.prove(alloc, client, challenge.as_slice())
             }
@@ -121,7 +121,7 @@ impl ClientEnd {
         let Ok(client) = Client::start(mechanism, name, act_as, nonce, limits, &mut message) else {
             return Err(Fault::NoMemory);
         };
-        self.stage = Stage::Asked(client);
+        self.stage = Stage::Begun(client);
         let word = format!(in alloc; "AUTH {} :", mechanism.name())?;
         Ok(Next::Says(line_of(alloc, word.as_bytes(), message.as_slice())?))
     }

@@ -5,6 +5,7 @@ ghost use Rattle.otp_core.specs.Attempt.{CodeTexts};
 ghost use Rattle.commands.specs.Login.{sent_for};
 ghost use Rattle.commands.specs.Sent.{Says};
 
+use crate::login::MOST_LINE;
 use crate::sent::sent_by;
 use command_line::Fault;
 use sasl_desk::Sent;
@@ -22,8 +23,7 @@ pub fn code_line(alloc: Global, line: &[u8]) -> Result<Vec<u8>, Fault>
     }
 }
 
-// The line of this front and the first 6201 bytes of this text, with its LF. A line of the protocol has at most 6200, so
-// nothing more is ever read.
+// The line of this front and the first 6201 bytes of this text, with its LF. Nothing more is ever read.
 fn line_of(alloc: Global, front: &[u8], text: &[u8]) -> Result<Vec<u8>, Fault>
     ensures ok { IfOk result (λ line. line.items ≡ front.now ++ (take 6201 text.now ++ byte "\n" ∷ [])) }
     ensures err { IfErr result (λ fault. fault ≡ Fault.NoMemory) }
@@ -39,7 +39,7 @@ fn line_of(alloc: Global, front: &[u8], text: &[u8]) -> Result<Vec<u8>, Fault>
 fn first_bytes(text: &[u8]) -> &[u8]
     ensures { result.now ≡ take 6201 text.now }
 {
-    match text.get(..6201) {
+    match text.get(..MOST_LINE) {
         Some(front) => front,
         None => text,
     }

@@ -15,8 +15,8 @@ const PASSWORD: &str = "Type the password and press Enter; it is shown as you ty
 
 const CODES: &str = "Type one code a line; it is shown as you type. Ctrl-D ends.\n";
 
-// Runs the words with the input, where the input and the faults are terminals or not, and compares output and faults.
-fn check<R>(rt: &R, words: &[&str], input: &str, are: (bool, bool), want: (&str, &str))
+// Runs the words with the input, where the input and the faults are terminals or not, and compares status, output and faults.
+fn check<R>(rt: &R, words: &[&str], input: &str, are: (bool, bool), want: (u8, &str, &str))
 where
     R: Abort + Files + Net + Clock + AllocGlobal,
     R::File: Lockable,
@@ -24,13 +24,14 @@ where
     let mut output = Vec::new(rt.alloc());
     let mut input = Input::new(input, are.0);
     let mut faults = Faults::new(rt.alloc(), are.1);
-    run(rt, words, &mut input, &mut output, &mut faults);
+    let status = run(rt, words, &mut input, &mut output, &mut faults);
+    assert!(rt; status == want.0, "status of {words:?}");
     assert!(rt;
-        output.as_slice() == want.0.as_bytes(),
+        output.as_slice() == want.1.as_bytes(),
         "output of {words:?}"
     );
     assert!(rt;
-        faults.bytes.as_slice() == want.1.as_bytes(),
+        faults.bytes.as_slice() == want.2.as_bytes(),
         "faults of {words:?}"
     );
 }
@@ -50,9 +51,21 @@ fn at_terminals_alone(rt: HostRuntime) -> Result<(), Fail> {
         let enrol = [
             "scramotp", "enrol", "--book", book, "--name", "other", "--count", "1",
         ];
-        check(&rt, &KEYS, "pencil\n", are, (PRINTED, password));
-        check(&rt, &enrol, "pencil\n", are, ("enrolled other\n", password));
-        check(&rt, &verify(book), "755224\n", are, ("PASS 5 0\n", codes));
+        check(&rt, &KEYS, "pencil\n", are, (0, PRINTED, password));
+        check(
+            &rt,
+            &enrol,
+            "pencil\n",
+            are,
+            (0, "enrolled other\n", password),
+        );
+        check(
+            &rt,
+            &verify(book),
+            "755224\n",
+            are,
+            (0, "PASS 5 0\n", codes),
+        );
     }
     remove(&rt, book)
 }
@@ -84,9 +97,15 @@ fn nothing_to_ask_for(rt: HostRuntime) -> Result<(), Fail> {
         &keys,
         "",
         both,
-        ("", "scramotp: bad value for --count\n"),
+        (2, "", "scramotp: bad value for --count\n"),
     );
-    check(&rt, &nobody, "", both, ("", "scramotp: no such account\n"));
-    check(&rt, &unlock, "", both, ("unlocked user\n", ""));
+    check(
+        &rt,
+        &nobody,
+        "",
+        both,
+        (1, "", "scramotp: no such account\n"),
+    );
+    check(&rt, &unlock, "", both, (0, "unlocked user\n", ""));
     remove(&rt, book)
 }

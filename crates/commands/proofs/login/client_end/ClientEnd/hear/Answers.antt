@@ -3,7 +3,7 @@ use Rattle.std.proofs.lemmas.Result.{IfOk-weaker}
 use Rattle.log_grammar.specs.Lines.{IsLine, from_server, mechs, cont, accepts}
 use Rattle.commands.specs.ClientEnd.{ShowsKeys}
 use Rattle.commands.specs.declared.login.client_end.Stage.{Stage}
-use Rattle.commands.specs.declared.login.client_end.Stage.TheVariants.{Silent, Asked, Proved}
+use Rattle.commands.specs.declared.login.client_end.Stage.TheVariants.{Silent, Begun, Proved}
 use Rattle.commands.proofs.ClientLines.{beginning_may_be_said, answer_may_be_said, silence_may_be}
 use Rattle.commands.proofs.login.client_end.ClientEnd.hear.Goals as goal
 
@@ -27,11 +27,11 @@ returns-in-Silent-Mechs-clause-says c =
     rw (c.in-Ok-FromServer.field-0-is, c.in-Silent-Mechs.is-1) at c.in-Ok-FromServer.ensures.ok in
     beginning_may_be_said c.args.self.now c.args.self.now.stage _ c.args.line.now c.in-Silent-Mechs.names.now c.ask.result stage line c.ask.ensures.says
 
-pub returns-in_ok-challenge-in-Asked-Cont-clause-says : goal.returns-in_ok-challenge-in-Asked-Cont-clause-says
-returns-in_ok-challenge-in-Asked-Cont-clause-says c =
-    let stage : c.args.self.now.stage ≡ Asked c.in-Asked-Cont.client = sym c.in-Asked-Cont.ensures.value in
-    let line : IsLine c.args.line.now (from_server (cont c.in-Asked-Cont.message)) =
-    rw (c.in-Ok-FromServer.field-0-is, c.in-Asked-Cont.is-1) at c.in-Ok-FromServer.ensures.ok in
-    let message : c.in-Asked-Cont.message ≡ c.as_slice.result.now = search rules in
-    answer_may_be_said c.args.self.now c.in-Asked-Cont.client c.args.self.now.stage _ c.args.line.now c.as_slice.result.now c.prove.result stage
+pub returns-in_ok-challenge-in-Begun-Cont-clause-says : goal.returns-in_ok-challenge-in-Begun-Cont-clause-says
+returns-in_ok-challenge-in-Begun-Cont-clause-says c =
+    let stage : c.args.self.now.stage ≡ Begun c.in-Begun-Cont.client = sym c.in-Begun-Cont.ensures.value in
+    let line : IsLine c.args.line.now (from_server (cont c.in-Begun-Cont.message)) =
+    rw (c.in-Ok-FromServer.field-0-is, c.in-Begun-Cont.is-1) at c.in-Ok-FromServer.ensures.ok in
+    let message : c.in-Begun-Cont.message ≡ c.as_slice.result.now = search rules in
+    answer_may_be_said c.args.self.now c.in-Begun-Cont.client c.args.self.now.stage _ c.args.line.now c.as_slice.result.now c.prove.result stage
     (subst (λ (text : List ℕ). IsLine c.args.line.now (from_server (cont text))) message line) c.prove.ensures.says

@@ -1,4 +1,4 @@
-//! Which one-time code the command words ask for.
+//! The moving factor of a one-time code: what its next code differs by (RFC 4226, section 5.1; RFC 6238, section 4).
 ghost use Rattle.std.specs.Prelude.{◌≤◌};
 
 use otp_core::{Moment, OtpHash};
@@ -22,12 +22,12 @@ pub struct Steps {
     ghost at_least: { 1 ≤ step },
 }
 
-/// The code that the words ask for.
+/// What a code is made for, besides its secret.
 #[derive(Drop)]
-pub enum Asked {
-    /// HOTP's of this counter.
-    Hotp(u64),
+pub enum MovingFactor {
+    /// The counter of a HOTP code.
+    Counter(u64),
 
-    /// TOTP's of this moment.
-    Totp(Steps),
+    /// The time of a TOTP code.
+    Time(Steps),
 }
