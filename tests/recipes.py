@@ -16,6 +16,7 @@ import hmac
 import os
 import re
 import shlex
+import signal
 import subprocess
 import sys
 import time
@@ -172,6 +173,18 @@ def an_edit_that_fails(folder):
     assert found == (1, "", f"edit-book: {real} is as it was, since the editor failed\n"), found
     assert book.read_text() == USER
     assert len(os.listdir(folder)) == 4
+
+
+def an_edit_that_is_stopped(folder):
+    """An edit whose processes are told to end leaves the book as it was, and no file beside it."""
+    book = with_tools(folder, USER)
+    edit = start(folder, "exec setsid ./edit-book book.toml sh -c 'sed s/4096/4097/; exec sleep 60'")
+    until(lambda: any(path.read_text() for path in Path(folder).glob("book.toml.*")))
+    os.killpg(edit.pid, signal.SIGTERM)
+    edit.communicate(timeout=30)
+    assert edit.returncode == 1, edit.returncode
+    assert book.read_text() == USER
+    assert not list(Path(folder).glob("book.toml.*"))
 
 
 def an_edit_waits(folder):
@@ -544,6 +557,7 @@ def every_block(folder):
 TESTS = [
     an_editor_and_a_command,
     an_edit_that_fails,
+    an_edit_that_is_stopped,
     an_edit_waits,
     a_run_waits,
     many_at_once,
