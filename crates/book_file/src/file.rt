@@ -6,7 +6,7 @@ use crate::hold::{Held, OpenBook, hold, is_named, next_of};
 use crate::lock::Lockable;
 use crate::place::Place;
 use crate::trust;
-use std::fs::{Files, OpenFile, Permissions};
+use std::fs::{Files, Metadata, OpenFile, Permissions};
 use std::io::{ErrorKind, Read, Seek, SeekFrom, Write};
 use std::os::unix::fs::{MetadataExt, PermissionsExt};
 use std::time::Clock;
@@ -50,6 +50,17 @@ impl<'a, R: Files> Drop for BookFile<'a, R> {
             book: _,
             next: _,
         } = self;
+    }
+}
+
+// Gives a file the owner and the group of the book. The system refuses a group that the user who runs is not in. It may do
+// nothing with the book, of whose mode the owner's bits alone stay; so it is left out then, if the file has the book's owner.
+fn give_owner<F: OpenFile + Lockable>(file: &F, book: &Metadata) -> io::Result<()> {
+    match file.set_owner(book.uid(), book.gid()) {
+        Err(error)
+            if error.kind() == ErrorKind::PermissionDenied
+                && file.metadata()?.uid() == book.uid() => { Ok(()) }
+        given => given,
     }
 }
 
@@ -116,8 +127,8 @@ where
     }
 
     /// Puts a file with this text in the place of the book, whole or not at all: a run that is stopped leaves the
-    /// old text or the new one. The owner and the group stay, and of the mode the owner's bits; a new book's mode
-    /// is 0600. NotFound where the file at the path is not the one that this run has read or put there last, or has
+    /// old text or the new one. The owner stays, the group where the user who runs may give it, and of the mode the owner's bits; a
+    /// new book's mode is 0600. NotFound where the file at the path is not the one that this run has read or put there last, or has
     /// changed since; AlreadyExists where there was none and there now is one; ResourceBusy where the next file
     /// can't be made; FileTooLarge where the text has more bytes than `read` takes; else the error of the call to the
     /// file system that failed.
@@ -143,7 +154,7 @@ where
             return Err(io::Error::from(ErrorKind::ResourceBusy));
         };
         if let Some(book) = &self.book {
-            next.set_owner(book.state.uid(), book.state.gid())?;
+            give_owner(next, &book.state)?;
             next.set_permissions(Permissions::from_mode(book.state.mode() & OWNER_BITS))?;
         }
         next.write_all(text.as_bytes())?;
