@@ -12,14 +12,17 @@ pub struct StoreFault;
 /// A store of one text, that of a book.
 ///
 /// Contracts know four facts of it: `saved`, the text that it holds; `asked`, the text that the last save
-/// was given; `failed`, whether it has failed; `saves`, how many saves it has taken up. A stop in the middle
-/// of a save leaves the text from before it or the new one, never another.
+/// was given; `failed`, whether it has failed; `saves`, how many saves it has taken up.
+///
+/// No contract says what a stop in the middle of a save leaves: a store that outlives its process is to have the
+/// text from before then, or the new one, and never another.
 pub trait BookStore {
     ghost facts: { Self → StoreFacts };
 
     /// Replaces the text that the store holds by `text`. After Ok it holds `text`. After Err it has failed,
     /// and holds `text` or the text from before; every later call is then Err and changes nothing. A store
-    /// fails only where it can't replace its text in that call, or where `saves` comes to 2^64 - 1.
+    /// is to fail only where it can't replace its text in that call, or where `saves` comes to 2^64 - 1; no contract
+    /// says so.
     fn save(&mut self, text: String) -> Result<(), StoreFault>
         ensures { Saves (facts self.old) (string_bytes text) result (facts self.new) };
 }

@@ -62,8 +62,8 @@ pub struct BookFault {
     /// What is wrong.
     pub why: BookWhy,
 
-    /// The index of the account at fault, from 0 in byte order of names; None where no account is at
-    /// fault.
+    /// The index of the account at fault, from 0 in byte order of names; None where no account is at fault. It means nothing
+    /// where memory ran out.
     pub account: Option<usize>,
 }
 

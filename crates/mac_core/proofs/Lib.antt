@@ -1,2 +1,3 @@
 pub mod AmongLemmas
 pub mod LengthLemmas
+pub mod Decided

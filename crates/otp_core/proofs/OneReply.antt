@@ -2,10 +2,9 @@
 -- bound, so there is a least one or none.
 use Rattle.std.proofs.Common.{◌≡◌, ◌+◌, ◌<◌, ◌≤◌, ◌^◌, ◌-◌, ◌⊎◌, ℕ, zero, suc, List, [], ◌∷◌, Option, None, Some, ℤ, arith, inl, inr, refl, subst}
 use Rattle.std.proofs.lemmas.Bool.{cases_Bool, cases_lt}
-use Rattle.std.proofs.lemmas.Slice.Eq.{bytes_eq-Decides}
-use Rattle.std.specs.Str.{bytes_eq}
 use Rattle.std.specs.Prelude.{◌≤ℤ◌, ◌+ℤ◌, ◌-ℤ◌, pos}
 use Rattle.std.specs.Option.{ForSome}
+use Rattle.mac_core.proofs.Decided.{Decided, decided_by, decided_both, decided_le, decided_lt, decided_same}
 use Rattle.otp_core.specs.Attempt.{Attempt, CodeTexts, passed}
 use Rattle.otp_core.specs.Window.{IsAbove, IsCandidate, IsPairCandidate, IsCounterDue, IsStepNear, first_due, drift_after, step_at}
 use Rattle.otp_core.specs.Reply.{IsDueReply, IsFitting, code_text, failures_after, limit_of}
@@ -16,37 +15,10 @@ use Rattle.otp_core.specs.declared.token.kinds.Fields.{Fields}
 use Rattle.otp_core.specs.declared.token.kinds.Fields.TheVariants.{Hotp, Totp}
 use lib.Signed.{le_z}
 
--- a fact holds, or it does not
-abbrev Decided : Type 0 → Type 0
-Decided P = P ⊎ (P → ⊥)
-
--- whether two facts hold is decided
-decided_both : (P Q : Type 0) → Decided P → Decided Q → Decided (P × Q)
-decided_both P Q (inl p) (inl q) = inl (p, q)
-decided_both P Q (inl p) (inr other) = inr (λ both. other both.1)
-decided_both P Q (inr other) q = inr (λ both. other both.0)
-
--- a fact that holds exactly where a decided one does is decided
-decided_by : (P Q : Type 0) → (P → Q) → (Q → P) → Decided P → Decided Q
-decided_by P Q to from (inl p) = inl (to p)
-decided_by P Q to from (inr other) = inr (λ q. other (from q))
-
-decided_le : (a b : ℕ) → Decided (a ≤ b)
-decided_le a b = elim (cases_lt b a) [ inl above ↦ inr (λ h. omega arith) | inr h ↦ inl h ]
-
-decided_lt : (a b : ℕ) → Decided (a < b)
-decided_lt a b = elim (cases_lt a b) [ inl h ↦ inl h | inr over ↦ inr (λ h. omega arith) ]
-
 decided_leℤ : (a b : ℤ) → Decided (a ≤ℤ b)
 decided_leℤ a b = elim (cases_Bool (le_z a b)) [
   | inl is ↦ inl (record { le = rw is tt })
   | inr other ↦ inr (λ h. rw other at h.le)
-]
-
-decided_text : (xs ys : List ℕ) → Decided (xs ≡ ys)
-decided_text xs ys = elim (cases_Bool (bytes_eq xs ys)) [
-  | inl is ↦ inl ((bytes_eq-Decides xs ys).0 is)
-  | inr other ↦ inr (λ e. let is = (bytes_eq-Decides xs ys).1 e in absurd (cc))
 ]
 
 decided_above : (counters : List ℕ) (w : ℕ) → Decided (IsAbove counters w)
@@ -98,14 +70,14 @@ decided_pair (Totp t) h w = inr (λ pair. pair)
 -- whether a counter fits what was said is decided
 decided_fitting : (s : Fields) (h : List Attempt) (m : ℕ) (said : CodeTexts) (c : ℕ) → Decided (IsFitting s h m said c)
 decided_fitting s h m (CodeTexts.OneText text) c =
-    decided_both _ _ (decided_candidate s h m c) (decided_text (code_text s c) text)
+    decided_both _ _ (decided_candidate s h m c) (decided_same (code_text s c) text)
 decided_fitting s h m (CodeTexts.TwoTexts first second) zero = inr (λ fits. let wrong : zero ≡ fits.0 + 1 = fits.1 in omega arith)
 decided_fitting s h m (CodeTexts.TwoTexts first second) (suc w) =
     decided_by (IsPairCandidate s h w × ((code_text s w ≡ first) × (code_text s (w + 1) ≡ second)))
     (IsFitting s h m (CodeTexts.TwoTexts first second) (suc w))
     (λ is. (w, omega arith, is.0, is.1.0, is.1.1))
     (λ fits. by_first fits.0 (omega (arith, fits.1)) (fits.2, (fits.3, fits.4)))
-    (decided_both _ _ (decided_pair s h w) (decided_both _ _ (decided_text (code_text s w) first) (decided_text (code_text s (w + 1)) second)))
+    (decided_both _ _ (decided_pair s h w) (decided_both _ _ (decided_same (code_text s w) first) (decided_same (code_text s (w + 1)) second)))
   where
     by_first : (v : ℕ) → v ≡ w → IsPairCandidate s h v × ((code_text s v ≡ first) × (code_text s (v + 1) ≡ second))
         → IsPairCandidate s h w × ((code_text s w ≡ first) × (code_text s (w + 1) ≡ second))

@@ -50,13 +50,13 @@ pub enum Setting {
     /// The length of a TOTP step in seconds.
     Step,
 
-    /// How many steps TOTP looks back from the step that is due.
+    /// How many steps TOTP looks back from the present step, moved by the drift.
     Back,
 
-    /// How many steps TOTP looks ahead of the step that is due.
+    /// How many steps TOTP looks ahead of the present step, moved by the drift.
     Ahead,
 
-    /// The most steps that a TOTP code may be away from the present one.
+    /// The most steps that a step that passes may be from the present one.
     MaxDrift,
 
     /// TOTP's last accepted step.

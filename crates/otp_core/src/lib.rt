@@ -25,4 +25,4 @@ pub use code::{Code, hotp, hotp_with, step, truncate};
 pub use fault::{OtpFault, Setting};
 pub use hash::OtpHash;
 pub use secret::{Digits, Moment, Secret};
-pub use token::{Fields, HotpFields, Reply, Token, TotpFields};
+pub use token::{Fields, HotpFields, MOST_COUNTER, MOST_STEP, Reply, Token, TotpFields};

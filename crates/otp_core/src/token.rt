@@ -17,7 +17,7 @@ use crate::fault::OtpFault;
 use crate::secret::Moment;
 pub use answer::Reply;
 use answer::{answer, answer_pair};
-pub use kinds::{Fields, HotpFields, TotpFields};
+pub use kinds::{Fields, HotpFields, MOST_COUNTER, MOST_STEP, TotpFields};
 use std::marker::Model;
 
 /// A token: settings and state of one kind, each within its range. Contracts see it as its
@@ -115,7 +115,7 @@ impl Token {
     /// Judges two texts as codes in a row at `moment`, so that a HOTP counter that ran far ahead is found again (RFC 4226,
     /// section 7.4): `Locked` where the failures have reached the limit; else `Pass` with the counter of the second text,
     /// where the texts are the codes of two counters in a row, the first of them among `next` and the `sync_ahead` counters
-    /// after it, by the least such pair; else `Fail`. No code of a TOTP token passes so. For every start and history that
+    /// after it, by the least such pair; else `Fail`. Two codes never pass a TOTP token. For every start and history that
     /// lead to this token, the reply is the one due after them, and with this attempt added they lead to the token as it is
     /// afterwards: both counters of a pair that passed are used.
     ///

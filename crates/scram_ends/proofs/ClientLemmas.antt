@@ -81,7 +81,7 @@ honest_first authzid name nonce client_first is_authzid is_name is_first = recor
   is_first = is_first;
   flag = refl;
   not_mandatory = refl;
-  plain = refl;
+  no_extensions = refl;
   is_name = record { plain = is_name; spelled = refl };
   is_authzid = authzid_of authzid is_authzid;
   own = refl;
@@ -236,7 +236,7 @@ expecting w two l server_first password header nonce salt front proof count p st
           is_final = is_final;
           channel = is_header ∙ started.header;
           sent_nonce = is_nonce;
-          plain = refl;
+          no_extensions = refl;
           proof = is_proof ∙ same_proof w.mechanism l.mechanism password salt p.salt _ _ count p.count started.mechanism is_salt is_count auth;
         };
       };

@@ -10,7 +10,7 @@ use Rattle.mac_core.specs.Keys.{xor_bytes}
 use Rattle.mac_core.specs.declared.mechanism.Mechanism.{Mechanism}
 use Rattle.mac_core.proofs.AmongLemmas.{any_among}
 use Rattle.scram_text.specs.Messages.{header_text, ClientFinalParts, client_final_mandatory}
-use Rattle.scram_text.proofs.DecisionLemmas.{Decided, decided_by, decided_both, decided_test, decided_nat, decided_same}
+use Rattle.mac_core.proofs.Decided.{Decided, decided_by, decided_both, decided_test, decided_nat, decided_same}
 use Rattle.scram_text.proofs.GrammarLemmas.{client_final_law}
 use Rattle.scram_ends.specs.Entry.{Keys, Entry}
 use Rattle.scram_ends.specs.Stages.{Challenged}

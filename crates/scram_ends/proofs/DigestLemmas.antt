@@ -8,11 +8,9 @@ use Rattle.sha1.specs.Sha1.{sha1}
 use Rattle.sha1.specs.Sha1 as short
 use Rattle.sha2.specs.Sha256.{sha256}
 use Rattle.sha2.specs.Sha256 as long
-use Rattle.sha2.proofs.Facts256.{length-sha256}
-use Rattle.mac_core.specs.Digest.{length-sha1}
 use Rattle.mac_core.specs.Hmac.{hmac}
 use Rattle.mac_core.specs.Keys.{xor_bytes}
-use Rattle.mac_core.specs.Mechanism.{hash_by, length_by, hmac_by}
+use Rattle.mac_core.specs.Mechanism.{hash_by, hmac_by}
 use Rattle.mac_core.specs.declared.mechanism.Mechanism.{Mechanism}
 use Rattle.mac_core.specs.declared.mechanism.Mechanism.TheVariants.{ScramSha1, ScramSha256}
 
@@ -51,17 +49,9 @@ unfolding sha1 sha256
 hash_bytes ScramSha1 text i = short_bytes _ 5 i
 hash_bytes ScramSha256 text i = long_bytes _ 8 i
 
-length-hash : (m : Mechanism) (text : List ℕ) → length (hash_by m text) ≡ length_by m
-length-hash ScramSha1 text = length-sha1 text
-length-hash ScramSha256 text = length-sha256 text
-
 pub mac_bytes : (m : Mechanism) (key text : List ℕ) → AreBytes (hmac_by m key text)
 unfolding hmac
 mac_bytes m key text i = hash_bytes m _ i
-
-pub length-mac : (m : Mechanism) (key text : List ℕ) → length (hmac_by m key text) ≡ length_by m
-unfolding hmac
-length-mac m key text = length-hash m _
 
 pub length-xor : (a b : List ℕ) → length a ≡ length b → length (xor_bytes a b) ≡ length a
 unfolding xor_bytes

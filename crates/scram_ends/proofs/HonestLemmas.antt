@@ -23,7 +23,8 @@ use Rattle.scram_ends.specs.First.{IsChallengeTo}
 use Rattle.scram_ends.specs.Honest.{IsHonest, honest_signature}
 use Rattle.scram_ends.specs.Laws.{HonestLogsIn}
 use Rattle.scram_ends.proofs.VerdictLemmas.{due_of_valid}
-use Rattle.scram_ends.proofs.DigestLemmas.{AreBytes, mac_bytes, length-mac, length-xor, xor_back}
+use Rattle.mac_core.proofs.LengthLemmas.{length-hmac_by}
+use Rattle.scram_ends.proofs.DigestLemmas.{AreBytes, mac_bytes, length-xor, xor_back}
 
 pub length_range : (m : Mechanism) → (1 ≤ length_by m) × (length_by m ≤ 32)
 length_range ScramSha1 = (omega arith, omega arith)
@@ -51,8 +52,8 @@ proved : (m : Mechanism) (password salt auth proof : List ℕ) (count : ℕ) →
 proved m password salt auth proof count is =
     let key = client_key_by m (hi_by m password salt count) in
     let signature = client_signature m (password_keys m password salt count) auth in
-    let key_length : length key ≡ length_by m = length-mac m (hi_by m password salt count) (codes "Client Key") in
-    let same : length key ≡ length signature = key_length ∙ sym (length-mac m (stored_key_by m key) auth) in
+    let key_length : length key ≡ length_by m = length-hmac_by m (hi_by m password salt count) (codes "Client Key") in
+    let same : length key ≡ length signature = key_length ∙ sym (length-hmac_by m (stored_key_by m key) auth) in
     record {
       len = ap length is ∙ (length-xor key signature same ∙ key_length);
       opens = ap (λ (p : List ℕ). stored_key_by m (xor_bytes p signature)) is ∙ ap (λ (k : List ℕ). stored_key_by m k) (xor_back key signature same);
@@ -96,7 +97,7 @@ honest_logs_in e own l has_keys allowed some challenge honest =
     let signature = honest_signature l honest in
     let is_opening = opened e own l some challenge honest in
     let same : signature ≡ server_signature m keys auth = same_signature m l.password _ e.salt auth _ e.count is_opening.salt is_opening.count in
-    let long : length signature ≡ length_by m = length-mac m _ auth in
+    let long : length signature ≡ length_by m = length-hmac_by m _ auth in
     let range = length_range m in
     let authentic : IsAuthentic (due_text (accept signature)) signature =
     shown signature (mac_bytes m _ auth) (omega (arith, long, range.0)) (omega (arith, long, range.1)) in
@@ -106,7 +107,7 @@ honest_logs_in e own l has_keys allowed some challenge honest =
       keys = keys;
       is_opening = is_opening;
       is_final = honest.is_final.is_final;
-      not_mandatory = ap (λ (xs : List (List ℕ)). have_mandatory xs) honest.is_final.plain;
+      not_mandatory = ap (λ (xs : List (List ℕ)). have_mandatory xs) honest.is_final.no_extensions;
       nonce = honest.is_final.sent_nonce;
       channel = honest.is_final.channel;
       has_keys = has_keys;

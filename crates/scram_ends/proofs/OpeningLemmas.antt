@@ -7,7 +7,6 @@ use Rattle.scram_text.proofs.NameLemmas.{name_once}
 use Rattle.scram_text.proofs.ClientFirstLemmas.{client_first_once}
 use Rattle.scram_text.proofs.ServerFirstLemmas.{server_first_once}
 use Rattle.scram_ends.specs.Entry.{Entry}
-use Rattle.scram_ends.specs.First.{IsRefusedWith}
 use Rattle.scram_ends.specs.Laws.{RefusedIsNotTakenUp}
 use Rattle.scram_ends.specs.Opening.{IsNameOf, IsAuthzidOf, IsUnbound, Opening, IsOpening}
 use Rattle.scram_ends.specs.declared.first.FirstFault.TheVariants.{Text, Mandatory, BindingAsked, OutsideProfile}

@@ -1,7 +1,7 @@
 -- Of the rows of a table all are met, or one is the first that is not, and it is one alone.
 use Rattle.std.proofs.Common.{◌≡◌, ◌⊎◌, inl, inr, List, [], ◌∷◌, ◌++◌, sym, ◌∙◌, ap, subst, refl}
 use Rattle.std.specs.List.{AllByRecursion}
-use Rattle.scram_text.proofs.DecisionLemmas.{Decided}
+use Rattle.mac_core.proofs.Decided.{Decided}
 use Rattle.scram_ends.specs.Rows.{IsFirstUnmet}
 
 -- the first row that is not met, as it is found from the top: the top row; or that is met, and it is found below

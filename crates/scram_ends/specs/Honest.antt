@@ -12,7 +12,7 @@ pub record IsHonestFirst (name : List ℕ) (authzid : Option (List ℕ)) (nonce 
   pub is_first : IsClientFirst client_first first
   pub flag : first.flag ≡ codes "n"
   pub not_mandatory : client_first_mandatory first ≡ false
-  pub plain : first.extensions ≡ []
+  pub no_extensions : first.extensions ≡ []
   pub is_name : IsNameOf name first.name
   pub is_authzid : IsAuthzidOf authzid first.authzid
   pub own : first.nonce ≡ nonce
@@ -23,7 +23,7 @@ pub record IsHonestFinal (l : Answered) (first : ClientFirstParts) (challenge : 
   pub is_final : IsClientFinal l.client_final final
   pub channel : final.channel ≡ header_text first
   pub sent_nonce : final.nonce ≡ challenge.nonce
-  pub plain : final.extensions ≡ []
+  pub no_extensions : final.extensions ≡ []
   pub proof : final.proof ≡ proof_of l.mechanism l.password challenge.salt challenge.count (auth_message first l.server_first final)
 
 -- both messages of the client, and the challenge between them

@@ -10,10 +10,11 @@
 //! The RFC lets a server name the fault of a client-first message in an `e=`. This one returns the fault to
 //! its caller alone, who need not name it. Of the RFC's error values it sends five; it refuses a name that
 //! has no keys as it refuses a wrong proof.
-ghost use Rattle.std.specs.Prelude.{◌≡◌, ◌≢◌, ◌≤◌, ◌<◌, ◌+◌, ◌↔◌, ℕ, List, ◌++◌, length, IsTrue, IfOk, IfErr, OnErr, IsErrAnd, vec_len, vec_capacity, Contains};
+ghost use Rattle.std.specs.Prelude.{◌≡◌, ◌≢◌, ◌≤◌, ◌<◌, ◌+◌, ◌↔◌, ℕ, List, ◌++◌, length, IsTrue, IfOk, IfErr, IsErrAnd, Contains};
 ghost use Rattle.std.specs.declared.option.Option.{Option};
-ghost use Rattle.scram_text.specs.Messages.{header_text, ClientFirstParts, bare_text, IsClientFirst, ClientFinalParts, IsServerFinal};
+ghost use Rattle.scram_text.specs.Messages.{ClientFirstParts, bare_text, IsClientFirst, ClientFinalParts, IsServerFinal};
 ghost use Rattle.scram_text.specs.Shown.{ShowsClientFinal};
+ghost use Rattle.scram_text.specs.Appended.{UnchangedOnErr, LacksRoom};
 ghost use Rattle.scram_ends.specs.Entry.{entry_of};
 ghost use Rattle.scram_ends.specs.Stages.{Challenged, challenged_login};
 ghost use Rattle.scram_ends.specs.Auth.{auth_front};
@@ -89,8 +90,7 @@ pub fn server_first<A: Allocator>(
         × (out.new.items ≡ out.old.items ++ server_first)
         × IsChallengeTo (entry_of view.now) client_first.now own.now server_first
         × StandsFor wait (challenged_login (entry_of view.now) mechanism client_first.now server_first)) }
-    ensures err { OnErr result (out.new.items ≡ out.old.items) }
-    ensures capacity { vec_capacity out.old ≤ vec_capacity out.new }
+    ensures unchanged { UnchangedOnErr result out.old out.new }
     ensures first { IfErr result (λ r. (f : FirstFault) → r ≡ FirstRefused.First f
         → IsRefusedWith client_first.now f) }
     // After a client-first message that is taken up, the only fault is that memory ran out.
@@ -99,7 +99,7 @@ pub fn server_first<A: Allocator>(
         × (authzid : Option (List ℕ)) × IsClientFirst client_first.now first × IsTakenUp first name authzid)) }
     ensures no_memory { IfErr result (λ r. r ≡ FirstRefused.Write WriteFault.NoMemory
         → (server_first : List ℕ) × IsChallengeTo (entry_of view.now) client_first.now own.now server_first
-        × (vec_capacity out.old < vec_len out.old + length server_first)) }
+        × LacksRoom out.old server_first) }
 {
     let taken = match take_up(client_first) {
         Ok(taken) => taken,
@@ -242,8 +242,7 @@ impl ServerWait {
         ensures valid { IfOk result (λ v. (l : Challenged) → StandsFor self l
             → (server_final : List ℕ) × (out.new.items ≡ out.old.items ++ server_final)
             × ((v ≡ Verdict.Accepted) ↔ IsValidLogin l client_final.now server_final)) }
-        ensures err { OnErr result (out.new.items ≡ out.old.items) }
-        ensures capacity { vec_capacity out.old ≤ vec_capacity out.new }
+        ensures unchanged { UnchangedOnErr result out.old out.new }
         ensures back { IfErr result (λ r. r.1 ≡ WriteFault.NoMemory → r.0 ≡ self) }
         ensures spent { IfErr result (λ r. r.1 ≢ WriteFault.NoMemory → IsSpent r.0 r.1) }
         ensures again { (fault : WriteFault) → IsSpent self fault
@@ -253,7 +252,7 @@ impl ServerWait {
             → r.1 ≡ WriteFault.NoMemory) }
         ensures no_memory { IfErr result (λ r. (l : Challenged) → StandsFor self l
             → (d : Due) × IsDue l client_final.now d × (length (due_text d) ≤ 2048)
-            × (vec_capacity out.old < vec_len out.old + length (due_text d))) }
+            × LacksRoom out.old (due_text d)) }
     {
         if let Some(fault) = self.spent {
             return Err((self, fault));

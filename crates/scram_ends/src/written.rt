@@ -1,10 +1,11 @@
 //! The server's two messages as they are written. Their fields are within the limits and base64 has its
 //! usual form, so the only fault is that memory runs out.
-ghost use Rattle.std.specs.Prelude.{◌≡◌, ◌≤◌, ◌<◌, ◌+◌, ℕ, List, [], ◌++◌, length, OnOk, OnErr, IsErrOf, vec_len, vec_capacity};
+ghost use Rattle.std.specs.Prelude.{◌≡◌, ◌≤◌, ◌<◌, ℕ, List, [], length, OnOk, IsErrOf};
 ghost use Rattle.scram_text.specs.Class.{IsNonce};
 ghost use Rattle.scram_text.specs.Base64Field.{IsField};
 ghost use Rattle.scram_text.specs.Messages.{server_first_text, IsServerFirst, IsServerFinal};
 ghost use Rattle.scram_text.specs.Written.{server_first_of};
+ghost use Rattle.scram_text.specs.Appended.{IsAppended, LacksRoom};
 ghost use Rattle.scram_ends.specs.Verdict.{accept, refuse, due_of, final_due, due_text};
 
 use crate::fixed::copy_of;
@@ -21,17 +22,14 @@ pub(crate) fn write_challenge<A: Allocator>(
 ) -> Result<(), WriteFault>
     requires nonce { IsNonce 512 nonce.now }
     requires count { 1 ≤ count }
-    ensures ok { OnOk result (out.new.items ≡ out.old.items
-        ++ server_first_text (server_first_of nonce.now salt.now count [])) }
+    ensures appended { IsAppended result out.old out.new (server_first_text (server_first_of nonce.now salt.now count [])) }
     ensures related { let p = server_first_of nonce.now salt.now count [] in
         OnOk result (IsServerFirst (server_first_text p) p) }
-    ensures err { OnErr result (out.new.items ≡ out.old.items) }
-    ensures capacity { vec_capacity out.old ≤ vec_capacity out.new }
     ensures unwritable { IsErrOf result WriteFault.Unwritable → ⊥ }
     ensures over_limit { IsErrOf result WriteFault.OverLimit → ⊥ }
     ensures no_memory { let p = server_first_of nonce.now salt.now count [] in
         IsErrOf result WriteFault.NoMemory → IsServerFirst (server_first_text p) p
-        × (vec_capacity out.old < vec_len out.old + length (server_first_text p)) }
+        × LacksRoom out.old (server_first_text p) }
 {
     fits_a_field(salt.bytes());
     write_server_first(nonce, salt, count, b"", out)
@@ -49,17 +47,15 @@ pub(crate) fn write_judgement<A: Allocator>(
     judged: &Judged,
     out: &mut Vec<u8, A>,
 ) -> Result<(), WriteFault>
-    ensures ok { OnOk result (out.new.items ≡ out.old.items ++ due_text (due_of judged.now)) }
+    ensures appended { IsAppended result out.old out.new (due_text (due_of judged.now)) }
     ensures related { let d = due_of judged.now in
         OnOk result (IsServerFinal (due_text d) (final_due d)) }
-    ensures err { OnErr result (out.new.items ≡ out.old.items) }
-    ensures capacity { vec_capacity out.old ≤ vec_capacity out.new }
     // An empty signature could not be written, but no key makes one.
     ensures unwritable { IsErrOf result WriteFault.Unwritable
         → (signature : List ℕ) × (due_of judged.now ≡ accept signature) × (length signature ≡ 0) }
     ensures over_limit { IsErrOf result WriteFault.OverLimit → ⊥ }
     ensures no_memory { let text = due_text (due_of judged.now) in IsErrOf result WriteFault.NoMemory
-        → (length text ≤ 2048) × (vec_capacity out.old < vec_len out.old + length text) }
+        → (length text ≤ 2048) × LacksRoom out.old text }
 {
     match judged {
         Judged::Accepted(signature) => write_signature(signature.as_slice(), out),
@@ -69,29 +65,25 @@ pub(crate) fn write_judgement<A: Allocator>(
 
 fn write_signature<A: Allocator>(signature: &[u8], out: &mut Vec<u8, A>) -> Result<(), WriteFault>
     requires { length signature.now ≤ 64 }
-    ensures ok { OnOk result (out.new.items ≡ out.old.items ++ due_text (accept signature.now)) }
+    ensures appended { IsAppended result out.old out.new (due_text (accept signature.now)) }
     ensures related { let d = accept signature.now in
         OnOk result (IsServerFinal (due_text d) (final_due d)) }
-    ensures err { OnErr result (out.new.items ≡ out.old.items) }
-    ensures capacity { vec_capacity out.old ≤ vec_capacity out.new }
     ensures unwritable { IsErrOf result WriteFault.Unwritable → length signature.now ≡ 0 }
     ensures over_limit { IsErrOf result WriteFault.OverLimit → ⊥ }
     ensures no_memory { let text = due_text (accept signature.now) in IsErrOf result WriteFault.NoMemory
-        → (length text ≤ 2048) × (vec_capacity out.old < vec_len out.old + length text) }
+        → (length text ≤ 2048) × LacksRoom out.old text }
 {
     write_server_final(FinalResult::Verifier(copy_of(signature)), b"", out)
 }
 
 fn write_refusal<A: Allocator>(refusal: Refusal, out: &mut Vec<u8, A>) -> Result<(), WriteFault>
-    ensures ok { OnOk result (out.new.items ≡ out.old.items ++ due_text (refuse refusal)) }
+    ensures appended { IsAppended result out.old out.new (due_text (refuse refusal)) }
     ensures related { let d = refuse refusal in
         OnOk result (IsServerFinal (due_text d) (final_due d)) }
-    ensures err { OnErr result (out.new.items ≡ out.old.items) }
-    ensures capacity { vec_capacity out.old ≤ vec_capacity out.new }
     ensures unwritable { IsErrOf result WriteFault.Unwritable → ⊥ }
     ensures over_limit { IsErrOf result WriteFault.OverLimit → ⊥ }
     ensures no_memory { let text = due_text (refuse refusal) in IsErrOf result WriteFault.NoMemory
-        → (length text ≤ 2048) × (vec_capacity out.old < vec_len out.old + length text) }
+        → (length text ≤ 2048) × LacksRoom out.old text }
 {
     let value = refusal.error_value().as_bytes();
     write_server_final(FinalResult::ErrorValue(value), b"", out)

@@ -123,8 +123,3 @@ field_of_bytes most bytes fits least within = record {
   at_most = within;
   field = record { spelled = refl; back = base64_back bytes fits; no_comma = base64_lacks bytes };
 }
-
--- bytes of a length within the limits fit a field, by the usual form of base64
-pub field_where_usual : HasUsualBase64 → (most : ℕ) (bytes : List ℕ) → most ≤ 1536 → IsBytes bytes → 1 ≤ length bytes → length bytes ≤ most → IsField most bytes
-field_where_usual usual most bytes limit fits least within =
-    record { at_least = least; at_most = within; field = (usual bytes fits least (omega (arith, limit, within))).0 }

@@ -1,5 +1,5 @@
 -- Each class of a part is decided, and so is whether all parts fit their places.
-use Rattle.std.proofs.Common.{◌≡◌, ◌⊎◌, inl, inr, ℕ, ◌≤◌, Bool, true, List, [], ◌∷◌, length, refl, sym, ◌∙◌, ap, arith, subst}
+use Rattle.std.proofs.Common.{◌≡◌, ◌⊎◌, inl, inr, ℕ, ◌≤◌, Bool, true, List, [], ◌∷◌, length, refl, sym, ◌∙◌, ap, subst}
 use Rattle.std.specs.Prelude.{decimal, not, ◌==◌, IsTrue}
 use Rattle.std.specs.List.{list_all}
 use Rattle.std.specs.Str.{is_utf8}
@@ -7,10 +7,9 @@ use Rattle.std.specs.Str.Parse.{digits_value}
 use Rattle.std.specs.declared.option.Option.TheVariants.{None, Some}
 use Rattle.std.specs.declared.result.Result.{Result}
 use Rattle.std.specs.declared.result.Result.TheVariants.{Ok, Err}
-use Rattle.std.proofs.lemmas.Bool.{cases_Bool, cases_lt, both_ways}
-use Rattle.std.proofs.lemmas.Bool.Decides.{eqb_tells}
 use Rattle.std.proofs.lemmas.Fmt.{decimal_is_IsNumeral}
 use Rattle.std.proofs.lemmas.Str.{IsUtf8-from_is_utf8, is_utf8-from_IsUtf8}
+use Rattle.mac_core.proofs.Decided.{Decided, decided_by, decided_both, decided_test, decided_le, decided_nat, decided_same}
 use Rattle.base64.specs.declared.decode.DecodeError.{DecodeError}
 use Rattle.scram_text.specs.Class.{is_printable, IsRunOf, IsNonce, IsText}
 use Rattle.scram_text.specs.Name.{LacksComma, is_escaped, IsSaslName}
@@ -23,46 +22,11 @@ use Rattle.scram_text.proofs.Base64Lemmas.{base64_lacks}
 use Rattle.scram_text.proofs.CountLemmas.{below_64}
 use Rattle.scram_text.proofs.PlaceLemmas.{AllFit}
 
--- a fact holds, or it does not
-abbrev pub Decided : Type 0 → Type 0
-Decided P = P ⊎ (P → ⊥)
-
--- a fact that holds exactly where another does is decided with it
-pub decided_by : (P Q : Type 0) → (P → Q) → (Q → P) → Decided P → Decided Q
-decided_by P Q there back d = elim d [ inl p ↦ inl (there p) | inr none ↦ inr (λ q. none (back q)) ]
-
-pub decided_both : (P Q : Type 0) → Decided P → Decided Q → Decided (P × Q)
-decided_both P Q d e = elim d [
-  | inl p ↦ elim e [ inl q ↦ inl (p, q) | inr none ↦ inr (λ both. none both.1) ]
-  | inr none ↦ inr (λ both. none both.0)
-]
-
-pub decided_test : (test : Bool) → Decided (test ≡ true)
-decided_test test = elim (cases_Bool test) [ inl passes ↦ inl passes | inr fails ↦ inr (λ passes. both_ways test fails passes) ]
-
-pub decided_le : (m n : ℕ) → Decided (m ≤ n)
-decided_le m n = elim (cases_lt n m) [ inl over ↦ inr (λ h. omega (arith, over, h)) | inr within ↦ inl within ]
-
-pub decided_nat : (m n : ℕ) → Decided (m ≡ n)
-decided_nat m n = elim (eqb_tells m n) [ inl same ↦ inl same.1 | inr other ↦ inr other.1 ]
-
 same_cons : (x y : ℕ) (xs ys : List ℕ) → x ≡ y → xs ≡ ys → x ∷ xs ≡ y ∷ ys
 same_cons x y xs ys head tail = cc
 
 heads_same : (x y : ℕ) (xs ys : List ℕ) → x ∷ xs ≡ y ∷ ys → (x ≡ y) × (xs ≡ ys)
 heads_same x y xs ys same = (cc, cc)
-
-pub decided_same : (xs ys : List ℕ) → Decided (xs ≡ ys)
-decided_same [] [] = inl refl
-decided_same [] (y ∷ ys) = inr (λ same. cc same)
-decided_same (x ∷ xs) [] = inr (λ same. cc same)
-decided_same (x ∷ xs) (y ∷ ys) = elim (eqb_tells x y) [
-  | inl head ↦ elim (decided_same xs ys) [
-    | inl tail ↦ inl (same_cons x y xs ys head.1 tail)
-    | inr other ↦ inr (λ same. other (heads_same x y xs ys same).1)
-  ]
-  | inr other ↦ inr (λ same. other.1 (heads_same x y xs ys same).0)
-]
 
 pub run_decided : (test : ℕ → Bool) (most : ℕ) (bytes : List ℕ) → Decided (IsRunOf test most bytes)
 run_decided test most bytes =

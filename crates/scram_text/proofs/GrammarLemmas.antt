@@ -18,7 +18,8 @@ use Rattle.scram_text.proofs.PartLemmas.{parts_count}
 use Rattle.scram_text.proofs.PlaceLemmas.{AllFit}
 use Rattle.scram_text.proofs.MarkedLemmas.{places-cons, marked_length, marked_some}
 use Rattle.scram_text.proofs.ComposeLemmas.{joined_cons}
-use Rattle.scram_text.proofs.DecisionLemmas.{Decided, decided_some, decided_by, decided_both, decided_le, text_decided, all_fit_decided}
+use Rattle.mac_core.proofs.Decided.{Decided, decided_by, decided_both, decided_le}
+use Rattle.scram_text.proofs.DecisionLemmas.{decided_some, text_decided, all_fit_decided}
 use Rattle.scram_text.proofs.ClientFirstLemmas.{later_places as first_later_places, parts_client_first, header_fit, header_places, bare_marked, bare_fit, regroup}
 use Rattle.scram_text.proofs.ServerFirstLemmas.{is_marked, server_first_fit, server_first_spelled, later_places}
 use Rattle.scram_text.proofs.ClientFinalLemmas.{final_parts, parts_final, client_final_fit, final_places}

@@ -12,7 +12,8 @@ use Rattle.scram_text.specs.Name.{SpellsName, escape, name_spelling}
 use Rattle.scram_text.specs.Parts.{parts}
 use Rattle.scram_text.proofs.NameLemmas.{escape_cases, other_than}
 use Rattle.scram_text.proofs.PartLemmas.{cut_none, cut_text, cut_at, parts_front}
-use Rattle.scram_text.proofs.DecisionLemmas.{Decided, decided_by, decided_both, decided_same, run_decided}
+use Rattle.mac_core.proofs.Decided.{Decided, decided_by, decided_both, decided_same}
+use Rattle.scram_text.proofs.DecisionLemmas.{run_decided}
 
 -- the bytes that a saslname may spell: from k = 1 on, the byte after `=` says which is meant
 decoded : ℕ → List ℕ → List ℕ

@@ -6,20 +6,20 @@ use Rattle.std.specs.Str.{IsUtf8}
 use Rattle.base64.specs.GeneralPurpose.{IsBytes}
 use Rattle.scram_text.specs.Class.{IsPlainName}
 use Rattle.scram_text.specs.Name.{SpellsName}
-use Rattle.scram_text.specs.Base64Field.{IsField, HasUsualBase64}
+use Rattle.scram_text.specs.Base64Field.{IsField}
 use Rattle.scram_text.specs.Parts.{parts}
 use Rattle.scram_text.specs.Messages.{ClientFirstParts, IsClientFirst, ServerFirstParts, IsServerFirst, ClientFinalParts, IsClientFinal, ServerFinalParts, IsServerFinal}
 
--- where base64 has its usual form, bytes within the limits fit a field
+-- bytes within the limits fit a field
 abbrev pub FieldsHoldBytes : Type 0
-FieldsHoldBytes = HasUsualBase64 → (most : ℕ) (bytes : List ℕ) → most ≤ 1536 → IsBytes bytes → 1 ≤ length bytes → length bytes ≤ most
+FieldsHoldBytes = (most : ℕ) (bytes : List ℕ) → most ≤ 1536 → IsBytes bytes → 1 ≤ length bytes → length bytes ≤ most
     → IsField most bytes
 
 -- the parts of a UTF-8 text are UTF-8
 abbrev pub PartsAreUtf8 : Type 0
 PartsAreUtf8 = (text : List ℕ) → IsUtf8 text → AllByRecursion IsUtf8 (parts text)
 
--- a saslname spells one name
+-- a saslname spells at most one name
 abbrev pub SpellsOneName : Type 0
 SpellsOneName = (one other spelled : List ℕ) → SpellsName one spelled → SpellsName other spelled → one ≡ other
 
@@ -28,7 +28,7 @@ abbrev pub NameIsDecided : Type 0
 NameIsDecided = (spelled : List ℕ) → ((name : List ℕ) × IsPlainName name × SpellsName name spelled)
     ⊎ ((name : List ℕ) → IsPlainName name → SpellsName name spelled → ⊥)
 
--- a text is a client-first message with one list of parts
+-- a text is a client-first message with at most one list of parts
 abbrev pub HasOneClientFirst : Type 0
 HasOneClientFirst = (text : List ℕ) (p q : ClientFirstParts) → IsClientFirst text p → IsClientFirst text q → p ≡ q
 
@@ -36,7 +36,7 @@ HasOneClientFirst = (text : List ℕ) (p q : ClientFirstParts) → IsClientFirst
 abbrev pub ClientFirstIsDecided : Type 0
 ClientFirstIsDecided = (text : List ℕ) → ((p : ClientFirstParts) × IsClientFirst text p) ⊎ ((p : ClientFirstParts) → IsClientFirst text p → ⊥)
 
--- a text is a server-first message with one list of parts
+-- a text is a server-first message with at most one list of parts
 abbrev pub HasOneServerFirst : Type 0
 HasOneServerFirst = (text : List ℕ) (p q : ServerFirstParts) → IsServerFirst text p → IsServerFirst text q → p ≡ q
 
@@ -44,7 +44,7 @@ HasOneServerFirst = (text : List ℕ) (p q : ServerFirstParts) → IsServerFirst
 abbrev pub ServerFirstIsDecided : Type 0
 ServerFirstIsDecided = (text : List ℕ) → ((p : ServerFirstParts) × IsServerFirst text p) ⊎ ((p : ServerFirstParts) → IsServerFirst text p → ⊥)
 
--- a text is a client-final message with one list of parts
+-- a text is a client-final message with at most one list of parts
 abbrev pub HasOneClientFinal : Type 0
 HasOneClientFinal = (text : List ℕ) (p q : ClientFinalParts) → IsClientFinal text p → IsClientFinal text q → p ≡ q
 
@@ -52,7 +52,7 @@ HasOneClientFinal = (text : List ℕ) (p q : ClientFinalParts) → IsClientFinal
 abbrev pub ClientFinalIsDecided : Type 0
 ClientFinalIsDecided = (text : List ℕ) → ((p : ClientFinalParts) × IsClientFinal text p) ⊎ ((p : ClientFinalParts) → IsClientFinal text p → ⊥)
 
--- a text is a server-final message with one list of parts
+-- a text is a server-final message with at most one list of parts
 abbrev pub HasOneServerFinal : Type 0
 HasOneServerFinal = (text : List ℕ) (p q : ServerFinalParts) → IsServerFinal text p → IsServerFinal text q → p ≡ q
 

@@ -7,5 +7,6 @@ pub mod Faults
 pub mod Shown
 pub mod Pieces
 pub mod Draft
+pub mod Appended
 pub mod Written
 pub mod Laws

@@ -7,7 +7,7 @@
 //!
 //! as `c=biws,r=abcdef,p=v0X8v3Bz2T0CJGbJQyF0X+HI4Ts=`. The last part is the proof, even where an
 //! extension is named `p`.
-ghost use Rattle.std.specs.Prelude.{◌≡◌, ◌≤◌, ◌<◌, ◌+◌, ◌↔◌, ℕ, List, [], ◌++◌, length, vec_len, vec_capacity, IsTrue, IfOk, IfErr, OnOk, OnErr, IsOkAnd, IsErrOf};
+ghost use Rattle.std.specs.Prelude.{◌≡◌, ◌≤◌, ◌<◌, ◌+◌, ◌↔◌, ℕ, List, [], ◌++◌, length, IsTrue, IfOk, IfErr, OnOk, IsOkAnd, IsErrOf};
 ghost use Rattle.scram_text.specs.Class.{IsText};
 ghost use Rattle.scram_text.specs.Base64Field.{IsField};
 ghost use Rattle.scram_text.specs.Messages.{ClientFinalParts, client_final_without_proof, client_final_text, IsClientFinal};
@@ -16,6 +16,7 @@ ghost use Rattle.scram_text.specs.Written.{client_final_of, CanBeClientFinal, Ca
 ghost use Rattle.scram_text.specs.Faults.{IsClientFinalFault};
 ghost use Rattle.scram_text.specs.Shown.{ShowsClientFinal};
 ghost use Rattle.scram_text.specs.Pieces.{IsCutFinal};
+ghost use Rattle.scram_text.specs.Appended.{UnchangedOnErr, IsAppended, LacksRoom};
 
 use crate::draft::Draft;
 use crate::fault::{TextFault, TextWhy, WriteFault};
@@ -194,8 +195,7 @@ impl ClientFinalWithoutProof {
             → OnOk result (out.new.items ≡ out.old.items ++ client_final_text p) }
         ensures related { (p : ClientFinalParts) → IsWithoutProof self p → p.proof ≡ proof.now.items
             → OnOk result (IsClientFinal (client_final_text p) p) }
-        ensures err { OnErr result (out.new.items ≡ out.old.items) }
-        ensures capacity { vec_capacity out.old ≤ vec_capacity out.new }
+        ensures unchanged { UnchangedOnErr result out.old out.new }
         ensures unwritable { IsErrOf result WriteFault.Unwritable → IsField 64 proof.now.items → ⊥ }
         ensures over_limit { IsErrOf result WriteFault.OverLimit → IsField 64 proof.now.items
             × ((p : ClientFinalParts) → IsWithoutProof self p → p.proof ≡ proof.now.items
@@ -203,7 +203,7 @@ impl ClientFinalWithoutProof {
         ensures no_memory { IsErrOf result WriteFault.NoMemory
             → (p : ClientFinalParts) → IsWithoutProof self p → p.proof ≡ proof.now.items
             → IsClientFinal (client_final_text p) p
-            × (vec_capacity out.old < vec_len out.old + length (client_final_text p)) }
+            × LacksRoom out.old (client_final_text p) }
     {
         let proof = proof.as_slice();
         if !field::is_field(proof, 64) {
@@ -261,13 +261,10 @@ pub fn write_client_final<A: Allocator>(
     proof: &Tag,
     out: &mut Vec<u8, A>,
 ) -> Result<(), WriteFault>
-    ensures ok { OnOk result (out.new.items ≡ out.old.items
-        ++ client_final_text (client_final_of channel.now nonce.now extensions.now proof.now.items)) }
+    ensures appended { IsAppended result out.old out.new
+        (client_final_text (client_final_of channel.now nonce.now extensions.now proof.now.items)) }
     ensures related { let p = client_final_of channel.now nonce.now extensions.now proof.now.items in
         OnOk result (IsClientFinal (client_final_text p) p) }
-    ensures err { OnErr result (out.new.items ≡ out.old.items) }
-    ensures capacity { vec_capacity out.old ≤ vec_capacity out.new }
-
     ensures unwritable { IsErrOf result WriteFault.Unwritable
         → CanBeClientFinal channel.now nonce.now extensions.now proof.now.items → ⊥ }
     ensures over_limit { IsErrOf result WriteFault.OverLimit
@@ -275,7 +272,7 @@ pub fn write_client_final<A: Allocator>(
         × (2048 < length (client_final_text (client_final_of channel.now nonce.now extensions.now proof.now.items))) }
     ensures no_memory { let p = client_final_of channel.now nonce.now extensions.now proof.now.items in
         IsErrOf result WriteFault.NoMemory → IsClientFinal (client_final_text p) p
-        × (vec_capacity out.old < vec_len out.old + length (client_final_text p)) }
+        × LacksRoom out.old (client_final_text p) }
 {
     if !field::is_field(proof.as_slice(), 64) {
         return Err(WriteFault::Unwritable);

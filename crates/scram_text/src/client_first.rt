@@ -7,7 +7,7 @@
 //! ```
 //!
 //! as `n,,n=user,r=abc`.
-ghost use Rattle.std.specs.Prelude.{◌≡◌, ◌≤◌, ◌<◌, ◌+◌, [], ◌++◌, length, vec_len, vec_capacity, IfOk, IfErr, IfSome, OnOk, OnErr, IsTrue, IsOkAnd, IsErrOf, false, MatchOption};
+ghost use Rattle.std.specs.Prelude.{◌≡◌, ◌≤◌, ◌<◌, ◌+◌, [], length, IfOk, IfErr, IfSome, OnOk, IsTrue, IsOkAnd, IsErrOf, false, MatchOption};
 ghost use Rattle.std.specs.Option.{option_copied};
 ghost use Rattle.scram_text.specs.Name.{IsSaslName};
 ghost use Rattle.scram_text.specs.Parts.{parts, is_flag, authzid_text};
@@ -17,6 +17,7 @@ ghost use Rattle.scram_text.specs.Shown.{ShowsClientFirst, flag_text};
 ghost use Rattle.scram_text.specs.Draft.{IsDraftOf};
 ghost use Rattle.scram_text.specs.Written.{client_first_of, CanBeClientFirst};
 ghost use Rattle.scram_text.specs.Pieces.{IsCutFirst, IsCutBare, IsBare, ShowsBare, IsBareMisfit};
+ghost use Rattle.scram_text.specs.Appended.{IsAppended, LacksRoom};
 
 use crate::draft::Draft;
 use crate::fault::{TextFault, TextWhy, WriteFault};
@@ -253,13 +254,10 @@ pub fn write_client_first<A: Allocator>(
     extensions: &[u8],
     out: &mut Vec<u8, A>,
 ) -> Result<(), WriteFault>
-    ensures ok { OnOk result (out.new.items ≡ out.old.items ++ client_first_text
+    ensures appended { IsAppended result out.old out.new (client_first_text
         (client_first_of flag.entry (option_copied authzid.entry) name.now nonce.now extensions.now)) }
     ensures related { let p = client_first_of flag.entry (option_copied authzid.entry) name.now nonce.now extensions.now in
         OnOk result (IsClientFirst (client_first_text p) p) }
-    ensures err { OnErr result (out.new.items ≡ out.old.items) }
-    ensures capacity { vec_capacity out.old ≤ vec_capacity out.new }
-
     ensures unwritable { IsErrOf result WriteFault.Unwritable
         → CanBeClientFirst flag.entry extensions.now → ⊥ }
     ensures over_limit { IsErrOf result WriteFault.OverLimit
@@ -268,7 +266,7 @@ pub fn write_client_first<A: Allocator>(
         (client_first_of flag.entry (option_copied authzid.entry) name.now nonce.now extensions.now))) }
     ensures no_memory { let p = client_first_of flag.entry (option_copied authzid.entry) name.now nonce.now extensions.now in
         IsErrOf result WriteFault.NoMemory → IsClientFirst (client_first_text p) p
-        × (vec_capacity out.old < vec_len out.old + length (client_first_text p)) }
+        × LacksRoom out.old (client_first_text p) }
 {
     if !is_flag(&flag) || !cut::are_extensions(extensions) {
         return Err(WriteFault::Unwritable);

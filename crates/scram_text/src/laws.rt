@@ -9,8 +9,7 @@ pub fn base64_is_usual()
     ensures { HasUsualBase64 }
 {}
 
-/// Where base64 has its usual form, a field may hold any bytes within its limits: a writer refuses an
-/// argument only where it is outside its class.
+/// A field may hold any bytes within its limits: a writer refuses an argument only where it is outside its class.
 pub fn fields_hold_bytes()
     ensures { FieldsHoldBytes }
 {}
@@ -20,7 +19,7 @@ pub fn parts_are_utf8()
     ensures { PartsAreUtf8 }
 {}
 
-/// A saslname spells one name (RFC 5802, section 5.1).
+/// A saslname spells at most one name (RFC 5802, section 5.1).
 pub fn spells_one_name()
     ensures { SpellsOneName }
 {}

@@ -1,9 +1,10 @@
 //! User names: in plain bytes, and as a message spells them (RFC 5802, section 5.1).
-ghost use Rattle.std.specs.Prelude.{◌≡◌, ◌≤◌, ℕ, List, [], ◌++◌, length, ◌↔◌, IsTrue, not, vec_len, vec_capacity, ◌<◌, ◌+◌, IfSome, IfNone, IfErr, OnOk, OnErr, MatchOption};
+ghost use Rattle.std.specs.Prelude.{◌≡◌, ◌≤◌, ℕ, List, [], ◌++◌, length, ◌↔◌, IsTrue, not, ◌<◌, ◌+◌, IfSome, IfNone, IfErr, MatchOption};
 ghost use Rattle.std.specs.Option.{SomeIff};
 ghost use Rattle.std.specs.List.{list_all};
 ghost use Rattle.scram_text.specs.Class.{IsPlainName, is_comma};
 ghost use Rattle.scram_text.specs.Name.{IsSaslName, LacksComma, SpellsName, escape, name_spelling, is_escaped, ends_escape};
+ghost use Rattle.scram_text.specs.Appended.{IsAppended, LacksRoom};
 
 use crate::class;
 use crate::draft::Draft;
@@ -193,12 +194,10 @@ fn ends_escape(text: &[u8]) -> bool
 /// (RFC 5802, section 5.1). Answers no fault but 99 NoMemory, and only where `out` had no room
 /// reserved for the spelling; `out` is then unchanged.
 pub fn write_name<A: Allocator>(name: &PlainName, out: &mut Vec<u8, A>) -> Result<(), WriteFault>
-    ensures ok { OnOk result (out.new.items ≡ out.old.items ++ name_spelling name.now) }
+    ensures appended { IsAppended result out.old out.new (name_spelling name.now) }
     ensures related { IsSaslName (name_spelling name.now) }
-    ensures err { OnErr result (out.new.items ≡ out.old.items) }
-    ensures capacity { vec_capacity out.old ≤ vec_capacity out.new }
     ensures no_memory { IfErr result (λ f. (f ≡ WriteFault.NoMemory)
-        × (vec_capacity out.old < vec_len out.old + length (name_spelling name.now))) }
+        × LacksRoom out.old (name_spelling name.now)) }
 {
     let mut draft = Draft::new();
     draft.add_name(name);

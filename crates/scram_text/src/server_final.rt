@@ -5,7 +5,7 @@
 //! ```
 //!
 //! as `v=rmF9pqV8S7suAoZWja4dJRkFsKQ=` or `e=invalid-proof`.
-ghost use Rattle.std.specs.Prelude.{◌≡◌, ◌≤◌, ◌<◌, ◌+◌, ◌↔◌, ◌++◌, length, codes, vec_len, vec_capacity, IsTrue, IfOk, IfErr, OnOk, OnErr, IsOkAnd, IsErrOf};
+ghost use Rattle.std.specs.Prelude.{◌≡◌, ◌≤◌, ◌<◌, ◌+◌, ◌↔◌, ◌++◌, length, codes, IsTrue, IfOk, IfErr, OnOk, IsOkAnd, IsErrOf};
 ghost use Rattle.std.specs.Str.{byte};
 ghost use Rattle.scram_text.specs.Class.{IsText};
 ghost use Rattle.scram_text.specs.Name.{LacksComma};
@@ -16,6 +16,7 @@ ghost use Rattle.scram_text.specs.Faults.{IsServerFinalFault, Fits, fault, resul
 ghost use Rattle.scram_text.specs.Shown.{ShowsServerFinal, verifier_or_error_of};
 ghost use Rattle.scram_text.specs.Draft.{IsDraftOf};
 ghost use Rattle.scram_text.specs.Written.{server_final_of, CanBeTold, CanBeServerFinal};
+ghost use Rattle.scram_text.specs.Appended.{IsAppended, LacksRoom};
 
 use crate::draft::Draft;
 use crate::fault::{TextFault, TextWhy, WriteFault};
@@ -122,13 +123,10 @@ pub fn write_server_final<A: Allocator>(
     extensions: &[u8],
     out: &mut Vec<u8, A>,
 ) -> Result<(), WriteFault>
-    ensures ok { OnOk result (out.new.items ≡ out.old.items
-        ++ server_final_text (server_final_of (verifier_or_error_of outcome.entry) extensions.now)) }
+    ensures appended { IsAppended result out.old out.new
+        (server_final_text (server_final_of (verifier_or_error_of outcome.entry) extensions.now)) }
     ensures related { let p = server_final_of (verifier_or_error_of outcome.entry) extensions.now in
         OnOk result (IsServerFinal (server_final_text p) p) }
-    ensures err { OnErr result (out.new.items ≡ out.old.items) }
-    ensures capacity { vec_capacity out.old ≤ vec_capacity out.new }
-
     ensures unwritable { IsErrOf result WriteFault.Unwritable
         → CanBeServerFinal (verifier_or_error_of outcome.entry) extensions.now → ⊥ }
     ensures over_limit { IsErrOf result WriteFault.OverLimit
@@ -136,7 +134,7 @@ pub fn write_server_final<A: Allocator>(
         × (2048 < length (server_final_text (server_final_of (verifier_or_error_of outcome.entry) extensions.now))) }
     ensures no_memory { let p = server_final_of (verifier_or_error_of outcome.entry) extensions.now in
         IsErrOf result WriteFault.NoMemory → IsServerFinal (server_final_text p) p
-        × (vec_capacity out.old < vec_len out.old + length (server_final_text p)) }
+        × LacksRoom out.old (server_final_text p) }
 {
     if !is_tellable(&outcome) || !cut::are_extensions(extensions) {
         return Err(WriteFault::Unwritable);

@@ -5,13 +5,14 @@
 //! ```
 //!
 //! as `r=abcdef,s=QSXCR+Q6sek8bf92,i=4096`.
-ghost use Rattle.std.specs.Prelude.{◌≡◌, ◌≤◌, ◌<◌, ◌+◌, ◌↔◌, ◌++◌, length, vec_len, vec_capacity, IsTrue, IfOk, IfErr, OnOk, OnErr, IsOkAnd, IsErrOf};
+ghost use Rattle.std.specs.Prelude.{◌≤◌, ◌<◌, ◌+◌, ◌↔◌, length, IsTrue, IfOk, IfErr, OnOk, IsOkAnd, IsErrOf};
 ghost use Rattle.scram_text.specs.Messages.{ServerFirstParts, server_first_text, IsServerFirst};
 ghost use Rattle.scram_text.specs.Draft.{IsDraftOf};
 ghost use Rattle.scram_text.specs.Written.{server_first_of, CanBeServerFirst};
 ghost use Rattle.scram_text.specs.Faults.{IsServerFirstFault};
 ghost use Rattle.scram_text.specs.Shown.{ShowsServerFirst};
 ghost use Rattle.scram_text.specs.Pieces.{IsCutServer};
+ghost use Rattle.scram_text.specs.Appended.{IsAppended, LacksRoom};
 
 use crate::draft::Draft;
 use crate::fault::{TextFault, TextWhy, WriteFault};
@@ -136,13 +137,10 @@ pub fn write_server_first<A: Allocator>(
     extensions: &[u8],
     out: &mut Vec<u8, A>,
 ) -> Result<(), WriteFault>
-    ensures ok { OnOk result (out.new.items ≡ out.old.items
-        ++ server_first_text (server_first_of nonce.now salt.now count extensions.now)) }
+    ensures appended { IsAppended result out.old out.new
+        (server_first_text (server_first_of nonce.now salt.now count extensions.now)) }
     ensures related { let p = server_first_of nonce.now salt.now count extensions.now in
         OnOk result (IsServerFirst (server_first_text p) p) }
-    ensures err { OnErr result (out.new.items ≡ out.old.items) }
-    ensures capacity { vec_capacity out.old ≤ vec_capacity out.new }
-
     ensures unwritable { IsErrOf result WriteFault.Unwritable
         → CanBeServerFirst nonce.now salt.now count extensions.now → ⊥ }
     ensures over_limit { IsErrOf result WriteFault.OverLimit
@@ -150,7 +148,7 @@ pub fn write_server_first<A: Allocator>(
         × (2048 < length (server_first_text (server_first_of nonce.now salt.now count extensions.now))) }
     ensures no_memory { let p = server_first_of nonce.now salt.now count extensions.now in
         IsErrOf result WriteFault.NoMemory → IsServerFirst (server_first_text p) p
-        × (vec_capacity out.old < vec_len out.old + length (server_first_text p)) }
+        × LacksRoom out.old (server_first_text p) }
 {
     let salt = salt.bytes();
     if !is_writable(nonce, salt, count, extensions) {

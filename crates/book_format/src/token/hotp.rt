@@ -7,8 +7,8 @@ ghost use Rattle.book_format.specs.Reading.{hotp_of};
 
 use crate::fault::BookWhy;
 use crate::field::{bytes_of, known_keys, number_of, number_or_zero};
-use crate::token::setting::{MOST_COUNTER, digits_of, secret_of};
-use otp_core::{HotpFields, Token};
+use crate::token::setting::{digits_of, secret_of};
+use otp_core::{HotpFields, MOST_COUNTER, Token};
 use toml::Table;
 
 /// Reads the settings and the state of a HOTP token, from a table whose `kind`

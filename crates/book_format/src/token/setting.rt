@@ -5,9 +5,6 @@ ghost use Rattle.otp_core.specs.Secret.{IsDigitCount, IsMoment};
 use mac_core::Tag;
 use otp_core::{Digits, Moment, Secret};
 
-/// The greatest counter that can pass.
-pub(super) const MOST_COUNTER: u64 = 0x7fff_ffff_ffff_fffe;
-
 /// The secret of 10 bytes or more.
 pub(super) fn secret_of(bytes: &Tag) -> Secret
     requires { 10 ≤ length bytes.now.items }

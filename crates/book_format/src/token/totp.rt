@@ -11,8 +11,8 @@ ghost use Rattle.book_format.specs.Reading.{optional, known_keys, hash_named, ha
 
 use crate::fault::BookWhy;
 use crate::field::{at, bytes_of, integer_of, known_keys, number_of, number_within, text_of};
-use crate::token::setting::{MOST_COUNTER, digits_of, moment_of, secret_of};
-use otp_core::{OtpHash, Token, TotpFields};
+use crate::token::setting::{digits_of, moment_of, secret_of};
+use otp_core::{MOST_COUNTER, MOST_STEP, OtpHash, Token, TotpFields};
 use toml::{Table, Value};
 
 /// Reads the settings and the state of a TOTP token, from a table whose `kind` says that it is one.
@@ -26,7 +26,7 @@ pub(super) fn totp_of(table: &Table) -> Result<TotpFields, BookWhy>
     let secret = bytes_of(table, "secret", 10, 64, BookWhy::Token)?;
     let digits = number_of(table, "digits", 6, 8, BookWhy::Token)?;
     let t0 = number_of(table, "t0", 0, 253_402_300_799, BookWhy::Token)?;
-    let step = number_of(table, "step", 1, 3600, BookWhy::Token)?;
+    let step = number_of(table, "step", 1, MOST_STEP, BookWhy::Token)?;
     let back = number_of(table, "back", 0, 10, BookWhy::Token)?;
     let ahead = number_of(table, "ahead", 0, 10, BookWhy::Token)?;
     let max_drift = number_of(table, "max_drift", 0, 100, BookWhy::Token)?;

@@ -9,8 +9,11 @@ use crate::secret::{Digits, Moment, Secret};
 // The greatest `limit` of a token.
 const MOST_LIMIT: u64 = 100;
 
-// The greatest counter that can pass.
-pub(crate) const MOST_COUNTER: u64 = 0x7fff_ffff_ffff_fffe;
+/// The greatest counter that can pass, 2^63-2: the one after it is still a number that a book's text can have.
+pub const MOST_COUNTER: u64 = 9_223_372_036_854_775_806;
+
+/// The longest step of a TOTP token, in seconds.
+pub const MOST_STEP: u64 = 3600;
 
 /// The settings and the state of a HOTP token (RFC 4226, section 7).
 #[derive(Drop)]
@@ -92,10 +95,10 @@ pub struct TotpFields {
     /// The length of a step in seconds, 1 to 3600.
     pub step: u64,
 
-    /// How many steps before the step that is due can pass, at most 10.
+    /// How many steps before the present one, moved by `drift`, can pass, at most 10.
     pub back: u64,
 
-    /// How many steps after the step that is due can pass, at most 10.
+    /// How many steps after the present one, moved by `drift`, can pass, at most 10.
     pub ahead: u64,
 
     /// How far a step that passes may be from the present one, at most 100 steps.
@@ -121,7 +124,7 @@ impl TotpFields {
         ensures value { result ≡ first_outside (totp_settings self.now) }
         ensures none { IfNone result (IsTotpInRange self.now) }
     {
-        if self.step < 1 || self.step > 3600 {
+        if self.step < 1 || self.step > MOST_STEP {
             Some(Setting::Step)
         } else if self.back > 10 {
             Some(Setting::Back)

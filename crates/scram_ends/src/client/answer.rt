@@ -1,9 +1,10 @@
 //! The client's answer to a challenge: client-final with the proof, as
 //! `c=biws,r=fyko+d2lbbFgONRv9qkxdawL3rfcNHYJY1ZVvWVs7j,p=v0X8v3Bz2T0CJGbJQyF0X+HI4Ts=`.
-ghost use Rattle.std.specs.Prelude.{◌≡◌, ◌≤◌, ◌<◌, ◌+◌, ℕ, List, ◌++◌, length, slice_index, vec_len, vec_capacity, IfOk, IfErr, OnErr};
+ghost use Rattle.std.specs.Prelude.{◌≡◌, ◌≤◌, ◌<◌, ◌+◌, ℕ, List, ◌++◌, length, slice_index, IfOk, IfErr};
 ghost use Rattle.mac_core.specs.Mechanism.{hmac_by, length_by};
 ghost use Rattle.scram_text.specs.Messages.{ClientFirstParts, bare_text, ServerFirstParts, IsServerFirst};
 ghost use Rattle.scram_text.specs.Shown.{ShowsServerFirst};
+ghost use Rattle.scram_text.specs.Appended.{UnchangedOnErr, LacksRoom};
 ghost use Rattle.scram_ends.specs.Stages.{Started, answered};
 ghost use Rattle.scram_ends.specs.Auth.{auth_front, proof_of, signature_of};
 ghost use Rattle.scram_ends.specs.Honest.{IsHonest};
@@ -32,8 +33,7 @@ impl ClientOne {
         ensures ok { IfOk result (λ two. (l : Started) → IsStarted self l
             → (client_final : List ℕ) × (out.new.items ≡ out.old.items ++ client_final)
             × IsExpecting two (answered l password.now server_first.now client_final)) }
-        ensures err { OnErr result (out.new.items ≡ out.old.items) }
-        ensures capacity { vec_capacity out.old ≤ vec_capacity out.new }
+        ensures unchanged { UnchangedOnErr result out.old out.new }
         // Where it is answered, or would have been, it is a challenge to this client with nothing wrong.
         ensures answerable { HasAnswered result → (l : Started) → IsStarted self l
             → (challenge : ServerFirstParts) × IsAnswerable l.limits l.nonce server_first.now challenge }
@@ -46,7 +46,7 @@ impl ClientOne {
         ensures no_memory { IfBack result (λ _ fault. (l : Started) → IsStarted self l
             → (fault ≡ WriteFault.NoMemory) × ((client_final : List ℕ)
             × IsHonest (answered l password.now server_first.now client_final)
-            × (vec_capacity out.old < vec_len out.old + length client_final))) }
+            × LacksRoom out.old client_final)) }
     {
         let challenge = match self.take_up(server_first) {
             Ok(challenge) => challenge,
@@ -94,13 +94,12 @@ impl ClientOne {
             → IsServerFirst server_first.now p → ShowsServerFirst challenge.now p
             → (client_final : List ℕ) × (out.new.items ≡ out.old.items ++ client_final)
             × IsExpecting two (answered l password.now server_first.now client_final)) }
-        ensures err { OnErr result (out.new.items ≡ out.old.items) }
-        ensures capacity { vec_capacity out.old ≤ vec_capacity out.new }
+        ensures unchanged { UnchangedOnErr result out.old out.new }
         ensures no_memory { IfErr result (λ fault. (l : Started) (p : ServerFirstParts) → IsStarted self.now l
             → IsServerFirst server_first.now p → ShowsServerFirst challenge.now p
             → (fault ≡ WriteFault.NoMemory) × ((client_final : List ℕ)
             × IsHonest (answered l password.now server_first.now client_final)
-            × (vec_capacity out.old < vec_len out.old + length client_final))) }
+            × LacksRoom out.old client_final)) }
     {
         let header = self.header.as_slice();
         are_bytes(header);

@@ -1,8 +1,9 @@
 //! The client's first message, as `n,,n=user,r=fyko+d2lbbFgONRv9qkxdawL`.
-ghost use Rattle.std.specs.Prelude.{◌≡◌, ◌≤◌, ◌<◌, ◌+◌, ℕ, List, [], ◌++◌, length, vec_len, vec_capacity, IfSome, IfOk, IfErr, OnErr};
+ghost use Rattle.std.specs.Prelude.{◌≡◌, ◌≤◌, ◌<◌, ◌+◌, ℕ, List, ◌++◌, IfSome, IfOk, IfErr};
 ghost use Rattle.std.specs.Option.{option_copied};
 ghost use Rattle.scram_text.specs.Class.{IsPlainName, IsNoncePart};
 ghost use Rattle.scram_text.specs.Messages.{ClientFirstParts};
+ghost use Rattle.scram_text.specs.Appended.{UnchangedOnErr, LacksRoom};
 ghost use Rattle.scram_ends.specs.Stages.{started};
 ghost use Rattle.scram_ends.specs.Honest.{IsHonestFirst};
 ghost use Rattle.scram_ends.specs.Client.{IsStarted};
@@ -31,12 +32,11 @@ impl Client {
             × (out.new.items ≡ out.old.items ++ client_first)
             × IsStarted client (started mechanism limits name.now (option_copied authzid.entry)
             nonce.now client_first)) }
-        ensures err { OnErr result (out.new.items ≡ out.old.items) }
-        ensures capacity { vec_capacity out.old ≤ vec_capacity out.new }
+        ensures unchanged { UnchangedOnErr result out.old out.new }
         ensures no_memory { IfErr result (λ fault. (fault ≡ WriteFault.NoMemory)
             × ((client_first : List ℕ) × (first : ClientFirstParts)
             × IsHonestFirst name.now (option_copied authzid.entry) nonce.now client_first first
-            × (vec_capacity out.old < vec_len out.old + length client_first))) }
+            × LacksRoom out.old client_first)) }
     {
         let start = out.len();
         are_in_class(name, authzid, nonce);

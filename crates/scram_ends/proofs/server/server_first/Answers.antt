@@ -17,7 +17,7 @@ returns-in-Ok-write_challenge-clause-ok g c =
     subst (λ (n : List ℕ). IsServerFirst (server_first_text (server_first_of n e.salt e.count [])) (server_first_of n e.salt e.count [])) nonce c.in-Ok-write_challenge.ensures.related in
     let opens = challenge_opens e c.args.client_first.now c.args.own.now server_first (c.in-Ok.taken.nonce.now ++ c.args.own.now) taken.0 c.in-Ok.taken taken.1 taken.2 refl c.bytes.ensures.fits.at_least is_challenge in
     let written : c.write_challenge.new.out.items ≡ c.args.out.now.items ++ server_first =
-    c.in-Ok-write_challenge.ensures.ok ∙ ap (λ (n : List ℕ). c.args.out.now.items ++ server_first_text (server_first_of n e.salt e.count [])) nonce in
+    c.in-Ok-write_challenge.ensures.appended.0 ∙ ap (λ (n : List ℕ). c.args.out.now.items ++ server_first_text (server_first_of n e.salt e.count [])) nonce in
     let start : c.len-start.result ≡ length c.args.out.now.items = search rules in
     let whole : c.as_slice.result.now ≡ c.args.out.now.items ++ server_first = c.as_slice.ensures.value ∙ written in
     let slice : take (length c.as_slice.result.now - c.len-start.result) (drop c.len-start.result c.as_slice.result.now) ≡ server_first =

@@ -39,7 +39,7 @@ copy_of-requires-2 g c =
     let first = client_first_of NoBinding authzid c.args.name.now c.args.nonce.now [] in
     let start : c.len-start.result ≡ length c.args.out.now.items = search rules in
     let written = appended c.deref.result.now c.write_client_first.new.out.items c.args.out.now.items (client_first_text first) c.len-start.result
-    c.deref.ensures.value c.in_ok-write_client_first.ensures.ok start in
+    c.deref.ensures.value c.in_ok-write_client_first.ensures.appended.0 start in
     let shows = c.in-Ok.ensures.only first
     (subst (λ (client_first : List ℕ). IsClientFirst client_first first) (sym written) c.in_ok-write_client_first.ensures.related) in (
       omega arith,

@@ -10,7 +10,7 @@ pub returns-in-Ok-clause-valid : goal.returns-in-Ok-clause-valid
 returns-in-Ok-clause-valid g c = λ l stands.
     let d = due_of c.verdict_on-judged.result in (
       due_text d,
-      c.in-Ok.ensures.ok,
+      c.in-Ok.ensures.appended.0,
       rw c.verdict.ensures (valid_iff l c.args.client_final.now d (c.verdict_on-judged.ensures l stands) c.in-Ok.ensures.related),
     )
 
