@@ -3,7 +3,8 @@ use Rattle.std.proofs.Common.{◌≡◌, ◌⊎◌, inl, inr, ℕ, suc, ◌≤�
 use Rattle.std.specs.List.{AllByRecursion, slice_split}
 use Rattle.std.specs.declared.option.Option.{Option}
 use Rattle.std.specs.declared.option.Option.TheVariants.{None, Some}
-use Rattle.scram_text.proofs.DecisionLemmas.{Decided, decided_by, decided_both, decided_le, decided_same, run_decided}
+use Rattle.mac_core.proofs.Decided.{Decided, decided_by, decided_both, decided_le, decided_same}
+use Rattle.scram_text.proofs.DecisionLemmas.{run_decided}
 use Rattle.otp_core.specs.declared.token.answer.Reply.{Reply}
 use Rattle.otp_core.specs.declared.token.answer.Reply.TheVariants.{Pass, Fail, Locked}
 use Rattle.log_grammar.specs.Payload.{IsMessage}

@@ -1,6 +1,6 @@
 -- Logs of two kinds that begin with different lines are one sound kind.
 use Rattle.std.proofs.Common.{◌≡◌, ◌⊎◌, inl, inr, ℕ, List, [], ◌∷◌, ◌++◌, refl, sym, ◌∙◌, subst}
-use Rattle.scram_text.proofs.DecisionLemmas.{Decided, decided_same}
+use Rattle.mac_core.proofs.Decided.{Decided, decided_same}
 use Rattle.log_grammar.specs.Why.{Why, no_line}
 use Rattle.log_grammar.specs.Kinds.{Kind, either}
 use Rattle.log_grammar.proofs.KindLemmas.{IsShortened, EndsStand, IsWrongOnce, NextIsJudged, IsSound, first_stand}

@@ -1,7 +1,7 @@
 -- How a line stands at a place: it goes on from there; no line of its class does; or one does, and this one is wrong.
 use Rattle.std.proofs.Common.{◌≡◌, ◌⊎◌, inl, inr, ℕ, List, [], reverse, refl}
 use Rattle.std.specs.Prelude.{codes}
-use Rattle.scram_text.proofs.DecisionLemmas.{Decided, decided_both, decided_same}
+use Rattle.mac_core.proofs.Decided.{Decided, decided_both, decided_same}
 use Rattle.scram_ends.specs.Verdict.{Due}
 use Rattle.otp_core.specs.Attempt.{CodeTexts, OneText, TwoTexts}
 use Rattle.log_grammar.specs.Lines.{LogLine, header, said, heard, bad, gone, ended, mechs, cont, accepts, refuses, replies, halt, auth, auth_with, resp, abort, code, sync}

@@ -27,4 +27,4 @@ WrongOne accounts before text why = (lines : List LogLine) × AllZip IsLogLine b
 
 -- logs of version 1. A line has at most 6202 bytes.
 abbrev pub one : Accounts → Kind
-one accounts = record { Stands = StandsOne accounts; Ends = EndsOne accounts; Wrong = WrongOne accounts; limit = λ before. 6202 }
+one accounts = record { Stands = StandsOne accounts; Ends = EndsOne accounts; Wrong = WrongOne accounts; most_line = λ before. 6202 }

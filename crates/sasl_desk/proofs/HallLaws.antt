@@ -24,7 +24,7 @@ use Rattle.log_grammar.specs.NumberedCounts.{is_closed}
 use Rattle.log_grammar.proofs.NumberedCuts.{numbered_before}
 use Rattle.log_grammar.proofs.NumberedLineLemmas.{numbered_lacks}
 use Rattle.log_grammar.proofs.Owns.{of_number_append, of_number_all, of_number_none}
-use Rattle.sasl_log.specs.Numbered.{CanBeNumberedLine}
+use Rattle.log_grammar.specs.NumberedHeadline.{IsNumberedWritable}
 use Rattle.sasl_desk.specs.Desks.{IsHeld, IsLostAfter, IsStoredAt, session_phase, all_spent}
 use Rattle.sasl_desk.specs.Guests.{is_of}
 use Rattle.sasl_desk.specs.Halls.{HallFields, hall_lines, hall_bytes, numbered_bytes, IsStay, IsSeated, IsStoredAfter, StandsHall, guest_phase, phase_in, IsPhaseOf, IsPhaseIn}
@@ -43,11 +43,11 @@ use Rattle.sasl_desk.proofs.RestartLemmas.{held_or_lost, told_spent}
 use Rattle.sasl_desk.proofs.RunLemmas.{wire_bytes-append}
 
 -- numbered lines that can be written are read as they are
-each_numbered : (lines : List (Numbered LogLine)) → AllByRecursion CanBeNumberedLine lines → AllZip IsNumberedLine (map numbered_text lines) lines
+each_numbered : (lines : List (Numbered LogLine)) → AllByRecursion IsNumberedWritable lines → AllZip IsNumberedLine (map numbered_text lines) lines
 each_numbered [] all = tt
 each_numbered (x ∷ lines) all = (all.0, each_numbered lines all.1)
 
-each_lacks : (lines : List (Numbered LogLine)) → AllByRecursion CanBeNumberedLine lines → AllByRecursion LacksLf (map numbered_text lines)
+each_lacks : (lines : List (Numbered LogLine)) → AllByRecursion IsNumberedWritable lines → AllByRecursion LacksLf (map numbered_text lines)
 each_lacks [] all = tt
 each_lacks (x ∷ lines) all = (numbered_lacks (numbered_text x) x all.0, each_lacks lines all.1)
 
@@ -55,7 +55,7 @@ each_lacks (x ∷ lines) all = (numbered_lacks (numbered_text x) x all.0, each_l
 hall_texts : List (Numbered Call) → List (List ℕ)
 hall_texts calls = log_text second_header ∷ map numbered_text (hall_lines calls)
 
-hall_cut : (calls : List (Numbered Call)) → AllByRecursion CanBeNumberedLine (hall_lines calls)
+hall_cut : (calls : List (Numbered Call)) → AllByRecursion IsNumberedWritable (hall_lines calls)
     → IsCut (hall_bytes calls) (log_text second_header ∷ map numbered_text (hall_lines calls)) []
 hall_cut calls written = record {
   bytes_are = sym (append-nil (ended_by_lf (log_text second_header ∷ map numbered_text (hall_lines calls)))

@@ -20,7 +20,7 @@ use Rattle.log_grammar.specs.NumberedSteps.{put, GoesIn}
 use Rattle.log_grammar.proofs.NumberedCuts.{numbered_before}
 use Rattle.log_grammar.proofs.OpenCounts.{open_was_begun}
 use Rattle.log_grammar.proofs.Owns.{at_each, put_here, put_other, begun_append, closed_append}
-use Rattle.sasl_log.specs.Numbered.{CanBeNumberedLine}
+use Rattle.log_grammar.specs.NumberedHeadline.{IsNumberedWritable}
 use Rattle.sasl_log.proofs.PermutedSlots.{all_permuted, count_permuted}
 use Rattle.sasl_desk.specs.Desks.{IsHeld, IsStoredAt, IsBookWith, all_spent}
 use Rattle.sasl_desk.specs.Events.{ClientEvent}
@@ -206,7 +206,7 @@ count_after_other n m part (Halted going) others other = count_last (is_of m) ot
 
 -- numbered lines of a turn can be written
 pub turn_written : (n : ℕ) → IsSessionNumber n → (lines : List LogLine) → AllByRecursion IsTurnLine lines → CanBeWritten lines
-    → AllByRecursion CanBeNumberedLine (map (numbered n) lines)
+    → AllByRecursion IsNumberedWritable (map (numbered n) lines)
 turn_written n number [] turns written = tt
 turn_written n number (line ∷ lines) turns written =
     (record { spelled = refl; number = number; has_number = turn_number line turns.0; line = written.0 }, turn_written n number lines turns.1 written.1)
@@ -281,7 +281,7 @@ stands_by_step facts start calls old new n going part others given event moment 
         fresh = λ m more. of_number_skip n m call calls (λ same. omega (arith, same, more, range.1, none, all_begun))
             ∙ s.fresh m (omega (arith, more, none, all_begun));
         spelled = step.spelled;
-        written = all-append CanBeNumberedLine (hall_lines calls) (map (numbered n) lines) s.written (turn_written n number lines step.turns step.written);
+        written = all-append IsNumberedWritable (hall_lines calls) (map (numbered n) lines) s.written (turn_written n number lines step.turns step.written);
         given = omega (arith, s.given, none, all_begun);
         last_number = s.last_number;
         guests = at_each (λ (m : ℕ). count_by (is_of m) (guests_after n part left others) ≡ open_at (places m)) n

@@ -27,7 +27,7 @@ use Rattle.log_grammar.proofs.LineBytes.{reply_line}
 use Rattle.log_grammar.proofs.Shortening.{code_goes}
 use Rattle.log_grammar.specs.Logins.{log_bytes}
 use Rattle.sasl_log.specs.Logins.{KeepsEntries}
-use Rattle.sasl_log.specs.Texts.{CanBeLogLine}
+use Rattle.log_grammar.specs.Headline.{IsWritable}
 use Rattle.sasl_log.specs.Tokens.{LeadsTo, IsBookAfter}
 use Rattle.sasl_desk.specs.Events.{ClientEvent}
 use Rattle.sasl_desk.specs.Turns.{is_client_turn, IsPath}
@@ -102,7 +102,7 @@ left_state accounts own part at (Some going) same is = (is, same)
 left_state accounts own part at None same is = is
 
 -- a desk that begins
-pub header_written : CanBeLogLine header
+pub header_written : IsWritable header
 header_written = record { spelled = refl; ranges = tt; short = omega arith }
 
 stands_at_first : BeginsWithItself → GoesOnByALine → {S : Type 0} (facts : S → StoreFacts) (keeper : Keeper S) (was : StoreFacts)
@@ -126,7 +126,7 @@ stands_from itself law facts book keeper was same holds =
     (stands_at_first itself law facts keeper was (subst (λ (b : BookFields). SavesText was b (facts keeper.store)) (sym same) holds))
 
 -- a desk that greets
-pub mechs_written : CanBeLogLine (said (mechs offered_names))
+pub mechs_written : IsWritable (said (mechs offered_names))
 mechs_written = record { spelled = refl; ranges = (is_sha_256, (is_sha_1, tt)); short = omega arith }
 
 pub stands_by_greeting : GoesOnByALine → {S : Type 0} (facts : S → StoreFacts) (start : BookFields) (calls : List Call) (keeper : Keeper S) (own : List ℕ)
@@ -143,7 +143,7 @@ stands_by_greeting law facts start calls keeper own s =
       told = s.told;
       is_run = (s.place, s.is_run, record { from = s.is_state; says = refl; waits = refl });
       begins = subst (λ (t : List Told). Begins (demands accounts) (run_lines calls ++ line ∷ []) offered t) (append-nil s.told) on;
-      written = all-append CanBeLogLine (run_lines calls) (line ∷ []) s.written (mechs_written, tt);
+      written = all-append IsWritable (run_lines calls) (line ∷ []) s.written (mechs_written, tt);
       is_state = (refl, refl);
       is_book = s.is_book;
       is_stored = stored;
@@ -224,7 +224,7 @@ stands_by_turn itself law facts start calls keeper going own event moment turn m
       );
       begins = goes_on_by_path law accounts (run_lines calls) s.place s.told lines t.is_answer.next s.begins path
           (turn_no_reply accounts own event s.place turn message t);
-      written = all-append CanBeLogLine (run_lines calls) lines s.written written;
+      written = all-append IsWritable (run_lines calls) lines s.written written;
       is_state = left_state accounts (own_part calls) own t.is_answer.next turn.answer.session same t.is_answer.left;
       is_book = s.is_book;
       is_stored = held_at_turn accounts (call_of (hears event moment) lines ∷ calls) t.is_answer.next keeper.book (facts keeper.store) (left_rests accounts t.is_answer.next turn.answer.session t.is_answer.left)
@@ -292,7 +292,7 @@ begins_by_reply law accounts log name told moment sent reply begins due =
 pub stands_by_reply : BeginsWithItself → SpentStaysSpent → GoesOnByALine → {S : Type 0} (facts : S → StoreFacts) (start : BookFields) (calls : List Call)
     (old new : Keeper S) (name own : List ℕ) (event : ClientEvent) (moment : ℕ) (sent : CodeTexts) (reply : Option Reply)
     → Stands facts start calls (desk_of old (Open (WaitsCode name) own)) → IsRecord event (waits_code name) (heard (asking sent))
-    → CanBeLogLine (heard (asking sent)) → IsMoment moment → IsJudged old.book (facts old.store) name moment sent (Replied reply) new.book (facts new.store)
+    → IsWritable (heard (asking sent)) → IsMoment moment → IsJudged old.book (facts old.store) name moment sent (Replied reply) new.book (facts new.store)
     → IsJudgedInRange (Replied reply)
     → Stands facts start (call_of (hears event moment) (judged_lines moment sent (Replied reply)) ∷ calls) (desk_of new (state_after (judged_left name (Replied reply)) own))
 stands_by_reply itself stays law facts start calls old new name own event moment sent reply s is_record written is (one, kept) range =
@@ -312,14 +312,14 @@ stands_by_reply itself stays law facts start calls old new name own event moment
         taken_by_reply accounts (own_part calls) event moment name sent reply is_record,
       );
       begins = begins_by_reply law accounts (run_lines calls) name s.told moment sent reply begins (told_due old.book new.book t one accounts s.told after);
-      written = all-append CanBeLogLine (run_lines calls) (judged_lines moment sent (Replied reply)) s.written (written, (reply_line moment reply is range, tt));
+      written = all-append IsWritable (run_lines calls) (judged_lines moment sent (Replied reply)) s.written (written, (reply_line moment reply is range, tt));
       is_state = (refl, s.is_state.1);
       is_book = subst (λ (l : List Told). IsBookWith start l new.book) (sym (reverse-append s.told (t ∷ []))) (old.book, s.is_book, one);
       is_stored = kept_held reply old.book new.book (facts old.store) (facts new.store) kept held;
       spent = spent_after itself stays start old.book new.book s.told t one s.spent;
     }
 
-pub halt_written : CanBeLogLine (said halt)
+pub halt_written : IsWritable (said halt)
 halt_written = record { spelled = refl; ranges = tt; short = omega arith }
 
 -- the store failed in a save, and not before it
@@ -354,7 +354,7 @@ stored_by_halt accounts calls old new was now name event moment sent run held (s
 pub stands_by_halt : GoesOnByALine → {S : Type 0} (facts : S → StoreFacts) (start : BookFields) (calls : List Call)
     (old new : Keeper S) (name own : List ℕ) (event : ClientEvent) (moment : ℕ) (sent : CodeTexts)
     → Stands facts start calls (desk_of old (Open (WaitsCode name) own)) → IsRecord event (waits_code name) (heard (asking sent))
-    → CanBeLogLine (heard (asking sent)) → IsMoment moment → IsJudged old.book (facts old.store) name moment sent Lost new.book (facts new.store)
+    → IsWritable (heard (asking sent)) → IsMoment moment → IsJudged old.book (facts old.store) name moment sent Lost new.book (facts new.store)
     → Stands facts start (call_of (hears event moment) (judged_lines moment sent Lost) ∷ calls) (desk_of new (state_after (judged_left name Lost) own))
 stands_by_halt law facts start calls old new name own event moment sent s is_record written is (same, (reply, next, needs, one, loses)) =
     let accounts = accounts_in start in
@@ -373,7 +373,7 @@ stands_by_halt law facts start calls old new name own event moment sent s is_rec
         taken_by_halt accounts (own_part calls) event moment name sent is_record,
       );
       begins = goes_on_by_path law accounts (run_lines calls) (waits_code name) s.told lines halted begins path (tt, (tt, tt));
-      written = all-append CanBeLogLine (run_lines calls) lines s.written (written, (halt_written, tt));
+      written = all-append IsWritable (run_lines calls) lines s.written (written, (halt_written, tt));
       is_state = tt;
       is_book = subst (λ (b : BookFields). IsBookWith start (reverse s.told) b) (sym same) s.is_book;
       is_stored = stored_by_halt accounts calls old.book new.book (facts old.store) (facts new.store) name event moment sent run held (same, (reply, next, needs, one, loses));
@@ -384,7 +384,7 @@ stands_by_halt law facts start calls old new name own event moment sent s is_rec
 stands_by_code : BeginsWithItself → SpentStaysSpent → GoesOnByALine → {S : Type 0} (facts : S → StoreFacts) (start : BookFields) (calls : List Call)
     (old new : Keeper S) (name own : List ℕ) (event : ClientEvent) (moment : ℕ) (sent : CodeTexts) (judged : Judged)
     → Stands facts start calls (desk_of old (Open (WaitsCode name) own)) → IsRecord event (waits_code name) (heard (asking sent))
-    → CanBeLogLine (heard (asking sent)) → IsMoment moment → IsJudged old.book (facts old.store) name moment sent judged new.book (facts new.store)
+    → IsWritable (heard (asking sent)) → IsMoment moment → IsJudged old.book (facts old.store) name moment sent judged new.book (facts new.store)
     → IsJudgedInRange judged
     → Stands facts start (call_of (hears event moment) (judged_lines moment sent judged) ∷ calls) (desk_of new (state_after (judged_left name judged) own))
 stands_by_code itself stays law facts start calls old new name own event moment sent (Replied reply) s is_record written is judged range =

@@ -17,7 +17,7 @@ use Rattle.log_grammar.specs.Numbered.{Numbered, numbered, of_number, begun, clo
 use Rattle.log_grammar.specs.NumberedLines.{numbered_text}
 use Rattle.log_grammar.specs.NumberedCounts.{is_closed}
 use Rattle.log_grammar.specs.Logins.{log_bytes}
-use Rattle.sasl_log.specs.Numbered.{CanBeNumberedLine}
+use Rattle.log_grammar.specs.NumberedHeadline.{IsNumberedWritable}
 use Rattle.sasl_desk.specs.Desks.{session_phase, IsStoredAt, IsHeld, IsBookWith, IsAttemptOf, all_spent, is_saving}
 use Rattle.sasl_desk.specs.Guests.{is_of}
 use Rattle.sasl_desk.specs.Keeper.{IsTold}
@@ -93,7 +93,7 @@ pub record StandsHall {S : Type 0} (facts : S → StoreFacts) (start : BookField
   pub fresh : (n : ℕ) → begun (hall_lines calls) < n → of_number n calls ≡ []
   -- the lines are those of a log of version 2, at most 64 of whose sessions are open at once, and they can be written
   pub spelled : SpellsNumbered 64 (demands (accounts_in start)) (hall_lines calls) places told
-  pub written : AllByRecursion CanBeNumberedLine (hall_lines calls)
+  pub written : AllByRecursion IsNumberedWritable (hall_lines calls)
   -- the numbers that were given are 1, 2, and so on
   pub given : hall.given ≡ begun (hall_lines calls)
   pub last_number : hall.given ≤ 9223372036854775806

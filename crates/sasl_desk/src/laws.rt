@@ -48,7 +48,7 @@ pub fn log_is_a_front<S: BookStore>()
         → IsFront (accounts_in start) (log_bytes (run_lines calls)) }
 {}
 
-/// Where no session is open, and after `S HALT`, a desk's log is clean. It ends so where the store has failed.
+/// A desk's log is clean where no session is open, where the store has failed, and where it ends with `S HALT`.
 pub fn log_is_clean<S: BookStore>()
     ensures closed { (start : BookFields) (calls : List Call) (desk : Desk S) → Stands S.facts start calls desk
         → (phase_of desk.state ≡ phase.Closed) ⊎ ((S.facts desk.keeper.store).failed ≡ true)

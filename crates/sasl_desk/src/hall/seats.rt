@@ -4,13 +4,10 @@ ghost use Rattle.sasl_desk.specs.declared.hall.guest.Guest.{Guest};
 
 use crate::hall::guest::Guest;
 use crate::session::Session;
-use sasl_log::NoMemory;
+use sasl_log::{MOST_OPEN, NoMemory};
 use scram_text::NoncePart;
 use std::alloc::Global;
 use std::marker::Model;
-
-/// The most sessions that are open at a time.
-pub(crate) const MOST_OPEN: usize = 64;
 
 /// Places for 64 sessions, reserved once, so that none of them takes memory.
 #[derive(Drop)]
@@ -71,7 +68,7 @@ impl Seats {
     /// Lets the guest of this number leave its place, or answers None where there is none.
     pub(crate) fn leave(&mut self, number: u64) -> Option<Guest>
         ensures some { IfSome result (λ guest. IsPermutation self.old (guest ∷ self.new) × (guest.number ≡ number) × (length self.new < 64)) }
-        ensures none { IfNone result (find (is_of number) self.old ≡ None) }
+        ensures none { IfNone result ((find (is_of number) self.old ≡ None) × (self.new ≡ self.old)) }
     {
         match self.place_of(number) {
             Some(place) => Some(self.guests.swap_remove(place)),

@@ -30,7 +30,7 @@ pub fn log_is_a_front<S: BookStore>()
         → IsFront (accounts_in start) (hall_bytes calls) }
 {}
 
-/// Where no session is open, and after `S HALT`, a hall's log is clean. It ends so where the store has failed.
+/// A hall's log is clean where no session is open, where the store has failed, and where it ends with `S HALT`.
 pub fn log_is_clean<S: BookStore>()
     ensures closed { (start : BookFields) (calls : List (Numbered Call)) (hall : HallFields S) → StandsHall S.facts start calls hall
         → ((n : ℕ) → phase_in hall n ≡ None) → IsClean (accounts_in start) (hall_bytes calls) }

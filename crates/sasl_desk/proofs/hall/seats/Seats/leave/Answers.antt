@@ -1,4 +1,4 @@
-use Rattle.std.proofs.Common.{sym, ◌∙◌, arith}
+use Rattle.std.proofs.Common.{sym, ◌∙◌, refl, arith}
 use Rattle.std.proofs.lemmas.Bool.{eqb-true}
 use Rattle.std.proofs.lemmas.List.Quantifiers.{position-Some}
 use Rattle.std.proofs.lemmas.List.Sorted.{IsPermutation-swap_remove}
@@ -16,4 +16,4 @@ returns-in-Some-clause-some c =
     )
 
 pub returns-in-None-clause-none : goal.returns-in-None-clause-none
-returns-in-None-clause-none c = found_nowhere (is_of c.args.number) c.args.self.now (sym c.place_of.ensures ∙ c.in-None.is)
+returns-in-None-clause-none c = (found_nowhere (is_of c.args.number) c.args.self.now (sym c.place_of.ensures ∙ c.in-None.is), refl)

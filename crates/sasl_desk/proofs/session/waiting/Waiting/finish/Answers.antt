@@ -35,7 +35,7 @@ returns-in-Err-clause-err g c =
     let (entry, client_first, server_first, stands) = c.self.invariant in
     let memory = c.in-Err.ensures.memory (challenged_login entry c.self.inside.mechanism client_first server_first) stands in (
       ap (λ (w : ServerWait). waiting_of w c.self.inside.mechanism c.self.inside.name) (c.in-Err.ensures.back memory) ∙ c.self.view_is,
-      c.in-Err.ensures.err ∙ c.requires,
+      c.in-Err.ensures.unchanged.0 ∙ c.requires,
     )
 
 pub returns-in-Err-clause-full : goal.returns-in-Err-clause-full
