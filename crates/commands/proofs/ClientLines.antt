@@ -12,7 +12,7 @@ use Rattle.log_grammar.specs.Lines.{IsLine, from_server, mechs, cont}
 use Rattle.scram_ends.specs.Stages.{Started}
 use Rattle.scram_ends.specs.Client.{IsStarted}
 use Rattle.scram_ends.specs.declared.client.ClientOne.{ClientOne}
-use Rattle.commands.specs.ClientEnd.{IfSays, IsChosen, Begins, Answers, MaySay}
+use Rattle.commands.specs.ClientEnd.{IfSays, IsChosen, BeginsLogin, AnswersChallenge, MaySay}
 use Rattle.commands.specs.declared.login.client_end.ClientEnd.{ClientEnd}
 use Rattle.commands.specs.declared.login.client_end.Next.{Next}
 use Rattle.commands.specs.declared.login.client_end.Next.TheVariants.{Says, IsIn, Leaves}
@@ -43,7 +43,7 @@ may_say client old stage new told result fact is follows says =
 
 -- a client that has said nothing may begin a login, by the mechanisms that it was told
 pub beginning_may_be_said : (client : ClientEnd) (old new : Stage) (told names : List ℕ) (result : Result Next Fault) → old ≡ Silent
-    → IsLine told (from_server (mechs names)) → IfOk result (λ next. IfSays next (λ said. Begins client.user client.nonce names said new))
+    → IsLine told (from_server (mechs names)) → IfOk result (λ next. IfSays next (λ said. BeginsLogin client.user client.nonce names said new))
     → IfOk result (λ next. IfSays next (λ said. MaySay client old told said new))
 beginning_may_be_said client old new told names result is line says =
     may_say client old Silent new told result _ is (λ said begins. (names, line, begins)) says
@@ -51,7 +51,7 @@ beginning_may_be_said client old new told names result is line says =
 -- a client that waits for the challenge may say its answer to the one that it was told
 pub answer_may_be_said : (client : ClientEnd) (one : ClientOne) (old new : Stage) (told server_first : List ℕ) (result : Result Next Fault) → old ≡ Begun one
     → IsLine told (from_server (cont server_first))
-    → IfOk result (λ next. IfSays next (λ said. (login : Started) → IsStarted one login → Answers login client.password server_first said new))
+    → IfOk result (λ next. IfSays next (λ said. (login : Started) → IsStarted one login → AnswersChallenge login client.password server_first said new))
     → IfOk result (λ next. IfSays next (λ said. MaySay client old told said new))
 answer_may_be_said client one old new told server_first result is line says =
     may_say client old (Begun one) new told result _ is (λ said answers. (server_first, line, answers)) says

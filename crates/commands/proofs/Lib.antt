@@ -4,9 +4,9 @@ pub mod Faults
 pub mod HallLogs
 pub mod HeardLines
 pub mod InputLines
+pub mod LinesInTurn
 pub mod LoginGoesOn
 pub mod LoginLemmas
 pub mod NonceLemmas
 pub mod OneEvent
-pub mod Replies
 pub mod Spellings

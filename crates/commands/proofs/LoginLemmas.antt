@@ -1,5 +1,5 @@
 -- The log of a login after one more call of its desk.
-use Rattle.std.proofs.Common.{◌≡◌, inl, inr, ℕ, List, [], ◌∷◌, ◌++◌, sym, ◌∙◌, ap, subst}
+use Rattle.std.proofs.Common.{◌≡◌, inl, inr, ℕ, List, [], ◌∷◌, ◌++◌, refl, sym, ◌∙◌, ap, subst}
 use Rattle.std.specs.Io.KnownBytes.{Appends}
 use Rattle.std.proofs.KnownBytes.{Appends-trans}
 use Rattle.book_format.specs.Book.{BookFields}
@@ -17,7 +17,10 @@ use Rattle.sasl_desk.specs.declared.desk.state.State.{State}
 use Rattle.sasl_desk.specs.declared.fault.ServeFault.{ServeFault}
 use Rattle.sasl_desk.specs.declared.fault.ServeFault.TheVariants.{Halted, Unwritable, NoMemory, WriteFault, LogFault}
 use Rattle.sasl_desk.proofs.RunLemmas.{log_bytes-append}
-use Rattle.commands.specs.Login.{IsDeskLog, StaysItsLog, IsLogAfterFault}
+use Rattle.command_line.specs.Fault.{IsUnwritten}
+use Rattle.command_line.specs.declared.fault.Fault.{Fault}
+use Rattle.command_line.specs.declared.fault.Fault.TheVariants.{NoMemory as OutOfMemory}
+use Rattle.commands.specs.Login.{IsDeskLog, StaysItsLog, IsLogAfterFault, IsFaultOf, IsFaultInTurn}
 
 -- the log took the lines of one more call
 one_more : {S : Type 0} (facts : S → StoreFacts) (old new : Desk S) (asked : Asked) (lines : List LogLine) (log log' : SinkFacts)
@@ -88,3 +91,15 @@ pub fails_then : {S : Type 0} (facts : S → StoreFacts) (old middle new : Desk 
     → IsLogAfterFault facts middle b new c → IsLogAfterFault facts old a new c
 fails_then facts old middle new a b c first (inl failed) = inl failed
 fails_then facts old middle new a b c first (inr second) = inr (stays_twice facts old middle new a b c first second)
+
+-- being out of memory is a fault of any file
+unwritten : (path : List ℕ) (fault : Fault) → fault ≡ OutOfMemory → IsUnwritten path fault
+unwritten path fault is = subst (λ (f : Fault). IsUnwritten path f) (sym is) refl
+
+-- a fault of serving is one of a turn
+pub turn_fault : (path : List ℕ) (fault : ServeFault) (result : Fault) → IsFaultOf path fault result → IsFaultInTurn path result
+turn_fault path Halted result is = inl is
+turn_fault path Unwritable result is = inl is
+turn_fault path NoMemory result is = inl (unwritten path result is)
+turn_fault path WriteFault result is = inr (inl is)
+turn_fault path LogFault result is = inr (inr is)

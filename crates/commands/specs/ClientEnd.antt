@@ -53,7 +53,7 @@ AreUsual limits = (limits.least ≡ 4096) × (limits.most ≡ 1000000)
 
 -- the client of this user begins a login with this nonce, where it is offered these mechanisms: it says one of them and the first
 -- message of the login
-pub record Begins (user : User) (nonce names said : List ℕ) (stage : Stage) : Type 0 where
+pub record BeginsLogin (user : User) (nonce names said : List ℕ) (stage : Stage) : Type 0 where
   pub login : Started
   pub is_mechanism : IsChosen user.mechanism names login.mechanism
   pub are_limits : AreUsual login.limits
@@ -64,7 +64,7 @@ pub record Begins (user : User) (nonce names said : List ℕ) (stage : Stage) : 
   pub line : said ≡ said_line (auth_with (name_of login.mechanism) login.client_first)
 
 -- the client answers the challenge of a login, which has nothing wrong, by this password: it says the last message of the login
-pub record Answers (login : Started) (password server_first said : List ℕ) (stage : Stage) : Type 0 where
+pub record AnswersChallenge (login : Started) (password server_first said : List ℕ) (stage : Stage) : Type 0 where
   pub challenge : ServerFirstParts
   pub answerable : IsAnswerable login.limits login.nonce server_first challenge
   pub client_final : List ℕ
@@ -74,10 +74,10 @@ pub record Answers (login : Started) (password server_first said : List ℕ) (st
 -- what a client may say when it is told a line, at the stage where it is: it begins a login by one of the mechanisms that
 -- it is told, and in the login that it has begun it answers the challenge that it is told. It says nothing else.
 abbrev pub MaySay : ClientEnd → Stage → (told said : List ℕ) → Stage → Type 0
-MaySay client Silent told said new = (names : List ℕ) × IsLine told (from_server (mechs names)) × Begins client.user client.nonce names said new
+MaySay client Silent told said new = (names : List ℕ) × IsLine told (from_server (mechs names)) × BeginsLogin client.user client.nonce names said new
 MaySay client (Begun one) told said new =
     (server_first : List ℕ) × IsLine told (from_server (cont server_first))
-    × ((login : Started) → IsStarted one login → Answers login client.password server_first said new)
+    × ((login : Started) → IsStarted one login → AnswersChallenge login client.password server_first said new)
 MaySay client (Proved two) told said new = ⊥
 MaySay client Over told said new = ⊥
 
@@ -89,7 +89,7 @@ ShowsKeys (Proved client) line = (message : List ℕ) × IsLine line (from_serve
 ShowsKeys stage line = ⊥
 
 -- the login is one of this user, by this nonce and this password
-pub record IsLoginOf (user : User) (nonce password : List ℕ) (login : Answered) : Type 0 where
+pub record IsOfUser (user : User) (nonce password : List ℕ) (login : Answered) : Type 0 where
   pub is_name : login.name ≡ user.name
   pub is_authzid : login.authzid ≡ user.act_as
   pub is_nonce : login.nonce ≡ nonce
@@ -100,14 +100,14 @@ abbrev pub StandsIn : User → (nonce password : List ℕ) → Stage → Type 0
 StandsIn user nonce password Silent = Unit {0}
 StandsIn user nonce password (Begun one) =
     (login : Started) × IsStarted one login × (login.name ≡ user.name) × (login.authzid ≡ user.act_as) × (login.nonce ≡ nonce)
-StandsIn user nonce password (Proved two) = (login : Answered) × IsExpecting two login × IsLoginOf user nonce password login
+StandsIn user nonce password (Proved two) = (login : Answered) × IsExpecting two login × IsOfUser user nonce password login
 StandsIn user nonce password Over = Unit {0}
 
 -- the service has shown that it has the account's keys: of what a source gave, the last line accepts a login of this user, and
 -- bears the signature that only these keys make over the login's messages (RFC 5802, section 3)
-pub record IsAccepted (user : User) (nonce password : List ℕ) (old new : Option (List ℕ)) : Type 0 where
+pub record IsLoggedIn (user : User) (nonce password : List ℕ) (old new : Option (List ℕ)) : Type 0 where
   pub login : Answered
-  pub is_of : IsLoginOf user nonce password login
+  pub is_of : IsOfUser user nonce password login
   pub honest : IsHonest login
   pub before : List ℕ
   pub line : List ℕ

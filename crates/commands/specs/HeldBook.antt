@@ -1,12 +1,15 @@
 -- What becomes of a held book and of its store.
-use Rattle.std.specs.Prelude.{ℕ, ◌≡◌, ◌≢◌, ◌≤◌, ◌⊎◌, true, List, length, is_some, IfSome}
+use Rattle.std.specs.Prelude.{ℕ, ◌≡◌, ◌≢◌, ◌≤◌, ◌<◌, ◌⊎◌, true, List, length, is_some, None, IfSome}
 use Rattle.otp_core.specs.Attempt.{CodeTexts}
+use Rattle.otp_core.specs.Settings.{unlocked}
 use Rattle.otp_core.specs.declared.token.answer.Reply.{Reply}
 use Rattle.otp_core.specs.declared.token.answer.Reply.TheVariants.{Locked}
 use Rattle.book_format.specs.Book.{BookFields}
 use Rattle.book_format.specs.Trees.{IsBookText}
+use Rattle.account_book.specs.Accounts.{account_at, IsAdded, IsChanged}
+use Rattle.account_book.specs.Enrolled.{enrolled}
 use Rattle.account_book.specs.Store.{StoreFacts, IsSaved, IsLost}
-use Rattle.account_book.specs.Tokens.{IsAttempt, token_at}
+use Rattle.account_book.specs.Tokens.{IsAttempt, token_at, with_token}
 use Rattle.book_file.specs.declared.file.TheConstants.{MOST_BOOK}
 use Rattle.commands.specs.declared.held_book.HeldBook.{HeldBook}
 
@@ -30,18 +33,36 @@ pub record IsBookSaved (old : StoreFacts) (book : BookFields) (new : StoreFacts)
 abbrev pub IsBookUnsaved : StoreFacts → BookFields → StoreFacts → Type 0
 IsBookUnsaved old book new = (new ≡ old) ⊎ ((text : List ℕ) × IsBookText text book × IsLost old text new)
 
+-- a change of the book that is not saved: nothing has changed, or the book is changed and that is not saved
+abbrev pub IsChangeUnsaved : Held → (Changes : BookFields → BookFields → Type 0) → Held → Type 0
+IsChangeUnsaved old Changes new = (new ≡ old) ⊎ (Changes old.book new.book × IsBookUnsaved old.store new.book new.store)
+
+-- no book of this text can be saved: it is too long, or the store has failed
+abbrev pub CannotBeSaved : (text : List ℕ) → StoreFacts → Type 0
+CannotBeSaved text store = (MOST_BOOK < length text) ⊎ (store.failed ≡ true)
+
+-- the account with this name has a token, whose failures are 0 after the change; nothing else is changed
+abbrev pub IsUnlocked : (name : List ℕ) → BookFields → BookFields → Type 0
+IsUnlocked name old new =
+    (is_some (token_at old name) ≡ true) × IfSome (token_at old name) (λ token. IsChanged old name (with_token (unlocked token)) new)
+
+-- an account with the keys of a password, under a name that had none, is added
+abbrev pub IsEnrolled : (name password salt1 salt256 : List ℕ) → (count : ℕ) → BookFields → BookFields → Type 0
+IsEnrolled name password salt1 salt256 count old new =
+    (account_at old name ≡ None) × IsAdded old name (enrolled password salt1 salt256 count) new
+
 -- the reply is due to what was sent at a moment by the token of the account of this name, and the book is this one after it
-pub record IsReplyDue (old : BookFields) (name : List ℕ) (moment : ℕ) (said : CodeTexts) (reply : Reply) (new : BookFields) : Type 0 where
+pub record IsAttemptAnswered (old : BookFields) (name : List ℕ) (moment : ℕ) (said : CodeTexts) (reply : Reply) (new : BookFields) : Type 0 where
   pub there : is_some (token_at old name) ≡ true
   pub due : IfSome (token_at old name) (λ token. IsAttempt old name token moment said reply new)
 
 -- the reply is due, and the book after it is saved; a token that is locked changes nothing, and nothing is saved
 pub record IsReplySaved (old : Held) (name : List ℕ) (moment : ℕ) (said : CodeTexts) (reply : Reply) (new : Held) : Type 0 where
-  pub due : IsReplyDue old.book name moment said reply new.book
+  pub due : IsAttemptAnswered old.book name moment said reply new.book
   pub saved : reply ≢ Locked → IsBookSaved old.store new.book new.store
   pub unsaved : reply ≡ Locked → new.store ≡ old.store
 
 -- nothing has changed, or a reply was due and the book after it is not saved
 abbrev pub IsReplyUnsaved : Held → (name : List ℕ) → (moment : ℕ) → CodeTexts → Held → Type 0
 IsReplyUnsaved old name moment said new =
-    (new ≡ old) ⊎ ((reply : Reply) × IsReplyDue old.book name moment said reply new.book × IsBookUnsaved old.store new.book new.store)
+    (new ≡ old) ⊎ ((reply : Reply) × IsAttemptAnswered old.book name moment said reply new.book × IsBookUnsaved old.store new.book new.store)

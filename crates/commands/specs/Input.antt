@@ -1,5 +1,5 @@
--- How an input is cut into lines.
-use Rattle.std.specs.Prelude.{ℕ, ◌≡◌, ◌⊎◌, Bool, true, false, List, [], ◌∷◌, ◌++◌, IfSome}
+-- How an input is cut into lines, and what it is to work through them.
+use Rattle.std.specs.Prelude.{ℕ, ◌≡◌, ◌⊎◌, Bool, ◌&&◌, true, false, List, [], ◌∷◌, ◌++◌, IfSome}
 use Rattle.std.specs.Str.{byte}
 use Rattle.std.specs.Io.KnownBytes.{Consumes, IsAtEnd}
 use Rattle.std.specs.declared.option.Option.{Option}
@@ -31,3 +31,17 @@ pub record AreLinesOf (bytes : List ℕ) (lines : List (List ℕ)) : Type 0 wher
   pub rest : List ℕ
   pub cut : IsCut bytes texts rest
   pub are : lines ≡ texts ++ last_line rest
+
+-- each of these lines is worked on in turn, by a step that says whether the line passed; and whether each passed
+abbrev pub EachInTurn : {State : Type 0} → (Step : List ℕ → State → (passed : Bool) → State → Type 0) → List (List ℕ) → State → (all_passed : Bool) → State → Type 0
+EachInTurn Step [] old all_passed new = (new ≡ old) × (all_passed ≡ true)
+EachInTurn {State} Step (line ∷ lines) old all_passed new =
+    (passed : Bool) × (next : State) × (others : Bool) × Step line old passed next × EachInTurn Step lines next others new
+    × (all_passed ≡ (passed && others))
+
+-- the lines of an input, where its bytes are known, but for these last ones: each is worked on in turn
+pub record LinesInTurn {State : Type 0} (Step : List ℕ → State → (passed : Bool) → State → Type 0) (input : Option (List ℕ)) (last : List (List ℕ))
+    (old : State) (all_passed : Bool) (new : State) : Type 0 where
+  pub lines : List (List ℕ)
+  pub are : IfSome input (λ bytes. AreLinesOf bytes (lines ++ last))
+  pub in_turn : EachInTurn Step lines old all_passed new

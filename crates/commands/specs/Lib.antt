@@ -6,5 +6,6 @@ pub mod HeldBook
 pub mod Input
 pub mod Keys
 pub mod Login
+pub mod Nonces
 pub mod Sent
 pub mod Verify

@@ -1,17 +1,32 @@
--- What the log of the command `login` is.
-use Rattle.std.specs.Prelude.{ℕ, ◌≡◌, ◌⊎◌, true, List, [], ◌∷◌, ◌++◌, codes, take}
+-- What the command `login` logs, what its client sends for the lines of its input, and when these pass.
+use Rattle.std.specs.Prelude.{ℕ, ◌≡◌, ◌⊎◌, ◌↔◌, Bool, true, List, [], ◌∷◌, ◌++◌, codes, take, IsTrue, IfSome}
 use Rattle.std.specs.Str.{byte}
-use Rattle.std.specs.Io.KnownBytes.{Appends}
+use Rattle.std.specs.Io.KnownBytes.{Appends, Consumes}
 use Rattle.std.specs.declared.option.Option.{Option}
+use Rattle.std.specs.declared.option.Option.TheVariants.{Some}
 use Rattle.otp_core.specs.Attempt.{CodeTexts}
 use Rattle.otp_core.specs.Attempt.CodeTexts.{OneText, TwoTexts}
+use Rattle.otp_core.specs.declared.token.answer.Reply.TheVariants.{Pass}
 use Rattle.book_format.specs.Book.{BookFields}
 use Rattle.account_book.specs.Store.{StoreFacts}
+use Rattle.command_line.specs.Fault.{IsUnwritten}
+use Rattle.command_line.specs.declared.fault.Fault.{Fault}
+use Rattle.command_line.specs.declared.fault.Fault.TheVariants.{Socket, CannotWriteOutput, NoMemory}
+use Rattle.log_grammar.specs.Bytes.{LacksLf}
+use Rattle.log_grammar.specs.Lines.{IsLine, from_server, replies}
 use Rattle.log_grammar.specs.Logins.{log_bytes}
 use Rattle.sasl_log.specs.Sink.{SinkFacts}
+use Rattle.sasl_log.specs.Source.{SourceFacts}
 use Rattle.sasl_desk.specs.Desks.{Stands}
 use Rattle.sasl_desk.specs.Runs.{Call, run_lines}
 use Rattle.sasl_desk.specs.declared.desk.Desk.{Desk}
+use Rattle.sasl_desk.specs.declared.fault.ServeFault.{ServeFault}
+use Rattle.sasl_desk.specs.declared.fault.ServeFault.TheVariants as serve
+use Rattle.commands.specs.ClientEnd.{IsLoggedIn}
+use Rattle.commands.specs.Input.{AreLinesOf, LinesInTurn}
+use Rattle.commands.specs.Sent.{Says}
+use Rattle.commands.specs.declared.login.client_end.User.{User}
+use Rattle.commands.specs.declared.login.socket.Wire.{Wire}
 
 -- a desk that began with this book has answered some calls, and the log took their lines after what it had before
 pub record IsDeskLog {S : Type 0} (facts : S → StoreFacts) (start : BookFields) (before : Option (List ℕ)) (desk : Desk S) (log : SinkFacts) : Type 0 where
@@ -28,8 +43,56 @@ StaysItsLog facts old log new log' =
 abbrev pub IsLogAfterFault : {S : Type 0} → (S → StoreFacts) → (old : Desk S) → (log : SinkFacts) → (new : Desk S) → (log' : SinkFacts) → Type 0
 IsLogAfterFault facts old log new log' = (log'.failed ≡ true) ⊎ StaysItsLog facts old log new log'
 
+-- why a client is not served, as the command says it: the book, whose file has this path, can't be saved, the socket or the log
+-- has failed, or memory ran out
+abbrev pub IsFaultOf : (path : List ℕ) → ServeFault → Fault → Type 0
+IsFaultOf path serve.Halted fault = IsUnwritten path fault
+IsFaultOf path serve.Unwritable fault = IsUnwritten path fault
+IsFaultOf path serve.NoMemory fault = fault ≡ NoMemory
+IsFaultOf path serve.WriteFault fault = fault ≡ Socket
+IsFaultOf path serve.LogFault fault = fault ≡ CannotWriteOutput
+
+-- a turn's fault is one of these
+abbrev pub IsFaultInTurn : (path : List ℕ) → Fault → Type 0
+IsFaultInTurn path fault = IsUnwritten path fault ⊎ ((fault ≡ Socket) ⊎ (fault ≡ CannotWriteOutput))
+
 -- what is sent for an input line, by what the line says: the line itself where it is two codes in a row, else `CODE ` and the
 -- line. No more than 6201 of its bytes are sent, and a line of the protocol has at most 6200.
 abbrev pub sent_for : List ℕ → CodeTexts → List ℕ
 sent_for line (TwoTexts first second) = take 6201 line ++ byte "\n" ∷ []
 sent_for line (OneText text) = codes "CODE " ++ (take 6201 line ++ byte "\n" ∷ [])
+
+-- what a client has said to the service, and what it is still to be told, where these are known
+pub record Talked : Type 0 where
+  pub said : Option (List ℕ)
+  pub untold : Option (List ℕ)
+
+-- such a client, by its end of the connection
+abbrev pub talked_by : {R W : Type 0} → (R → SourceFacts) → (W → SinkFacts) → Wire R W → Talked
+talked_by source sink wire = record { said = (sink wire.writer).given; untold = (source wire.reader).left }
+
+-- the service says that a code has passed
+abbrev pub IsPassLine : List ℕ → Type 0
+IsPassLine line = (moment counter : ℕ) × IsLine line (from_server (replies moment (Some (Pass counter))))
+
+-- the client sends what an input line says, one code or two in a row, and is told one line; and whether that is PASS
+pub record SendsLine (line : List ℕ) (old : Talked) (passed : Bool) (new : Talked) : Type 0 where
+  pub texts : CodeTexts
+  pub says : Says line texts
+  pub sent : Appends old.said new.said (sent_for line texts)
+  pub reply : List ℕ
+  pub is_line : LacksLf reply
+  pub told : Consumes old.untold new.untold (reply ++ byte "\n" ∷ [])
+  pub is_pass : IsTrue passed ↔ IsPassLine reply
+
+-- the client sends the lines of its input in turn, but for those that are left; and whether each passed
+pub record SendsLines (input left : Option (List ℕ)) (old : Talked) (all_passed : Bool) (new : Talked) : Type 0 where
+  pub last : List (List ℕ)
+  pub are_left : IfSome left (λ bytes. AreLinesOf bytes last)
+  pub sent : LinesInTurn SendsLine input last old all_passed new
+
+-- the client is logged in, and then each line of its input that it sends passes
+pub record IsInAndPasses (user : User) (nonce password : List ℕ) (input left : Option (List ℕ)) (old new : Talked) : Type 0 where
+  pub there : Talked
+  pub is_in : IsLoggedIn user nonce password old.untold there.untold
+  pub passes : SendsLines input left there true new

@@ -1,5 +1,5 @@
 -- What the command `verify` prints, and what is saved before.
-use Rattle.std.specs.Prelude.{ℕ, ◌≡◌, ◌⊎◌, Bool, ◌&&◌, true, false, List, [], ◌∷◌, ◌++◌, codes, IfSome}
+use Rattle.std.specs.Prelude.{ℕ, ◌≡◌, ◌⊎◌, Bool, true, false, List, [], ◌∷◌, ◌++◌, codes}
 use Rattle.std.specs.Str.{byte}
 use Rattle.std.specs.Fmt.{decimal}
 use Rattle.std.specs.Io.KnownBytes.{Appends}
@@ -9,7 +9,7 @@ use Rattle.otp_core.specs.declared.token.answer.Reply.{Reply}
 use Rattle.otp_core.specs.declared.token.answer.Reply.TheVariants.{Pass, Fail, Locked}
 use Rattle.account_book.specs.Store.{StoreFacts}
 use Rattle.commands.specs.HeldBook.{Held, held_shown, IsReplySaved, IsReplyUnsaved}
-use Rattle.commands.specs.Input.{AreLinesOf}
+use Rattle.commands.specs.Input.{LinesInTurn}
 use Rattle.commands.specs.Sent.{Says}
 use Rattle.commands.specs.declared.held_book.HeldBook.{HeldBook}
 
@@ -26,16 +26,16 @@ printed_reply Fail moment = codes "FAIL " ++ (decimal moment ++ byte "\n" ∷ []
 printed_reply Locked moment = codes "LOCKED " ++ (decimal moment ++ byte "\n" ∷ [])
 
 -- the book that a run of `verify` holds, and what it has printed, where that is known
-pub record Run : Type 0 where
+pub record VerifyRun : Type 0 where
   pub held : Held
   pub printed : Option (List ℕ)
 
 -- such a run, by its held book
-abbrev pub run_of : {S : Type 0} → (S → StoreFacts) → HeldBook S → Option (List ℕ) → Run
+abbrev pub run_of : {S : Type 0} → (S → StoreFacts) → HeldBook S → Option (List ℕ) → VerifyRun
 run_of facts held printed = record { held = held_shown facts held; printed = printed }
 
 -- a line is answered: the reply is due to what it says, what the reply changes is saved, and then the reply is printed
-pub record IsLineAnswered (name : List ℕ) (moment : ℕ) (line : List ℕ) (old : Run) (reply : Reply) (new : Run) : Type 0 where
+pub record IsLineAnswered (name : List ℕ) (moment : ℕ) (line : List ℕ) (old : VerifyRun) (reply : Reply) (new : VerifyRun) : Type 0 where
   pub said : CodeTexts
   pub says : Says line said
   pub saved : IsReplySaved old.held name moment said reply new.held
@@ -43,31 +43,22 @@ pub record IsLineAnswered (name : List ℕ) (moment : ℕ) (line : List ℕ) (ol
 
 -- a fault at a line: nothing has changed or the change is not saved, and nothing is printed; or it is saved, and the
 -- reply could not be printed
-abbrev pub FailsAtLine : (name : List ℕ) → (moment : ℕ) → (line : List ℕ) → Run → Run → Type 0
+abbrev pub FailsAtLine : (name : List ℕ) → (moment : ℕ) → (line : List ℕ) → VerifyRun → VerifyRun → Type 0
 FailsAtLine name moment line old new =
     (said : CodeTexts) × Says line said
     × ((IsReplyUnsaved old.held name moment said new.held × (new.printed ≡ old.printed)) ⊎ ((reply : Reply) × IsReplySaved old.held name moment said reply new.held))
 
--- these lines are answered one after another, and whether each code passed
-abbrev pub AnswersLines : (name : List ℕ) → (moment : ℕ) → List (List ℕ) → Run → (all_passed : Bool) → Run → Type 0
-AnswersLines name moment [] old all_passed new = (new ≡ old) × (all_passed ≡ true)
-AnswersLines name moment (line ∷ lines) old all_passed new =
-    (reply : Reply) × (next : Run) × (others : Bool) × IsLineAnswered name moment line old reply next
-    × AnswersLines name moment lines next others new × (all_passed ≡ (is_passed reply && others))
-
--- the lines of an input but for the last of them, which are these, are answered
-pub record AnswersUpTo (name : List ℕ) (moment : ℕ) (input : Option (List ℕ)) (last : List (List ℕ)) (old : Run) (all_passed : Bool) (new : Run) : Type 0 where
-  pub lines : List (List ℕ)
-  pub are : IfSome input (λ bytes. AreLinesOf bytes (lines ++ last))
-  pub answered : AnswersLines name moment lines old all_passed new
+-- a line is answered, and whether its code passed
+abbrev pub AnswersLine : (name : List ℕ) → (moment : ℕ) → (line : List ℕ) → VerifyRun → (passed : Bool) → VerifyRun → Type 0
+AnswersLine name moment line old passed new = (reply : Reply) × IsLineAnswered name moment line old reply new × (passed ≡ is_passed reply)
 
 -- each line of the input is answered, in their order
-abbrev pub AnswersAllLines : (name : List ℕ) → (moment : ℕ) → Option (List ℕ) → Run → (all_passed : Bool) → Run → Type 0
-AnswersAllLines name moment input old all_passed new = AnswersUpTo name moment input [] old all_passed new
+abbrev pub AnswersAllLines : (name : List ℕ) → (moment : ℕ) → Option (List ℕ) → VerifyRun → (all_passed : Bool) → VerifyRun → Type 0
+AnswersAllLines name moment input old all_passed new = LinesInTurn (AnswersLine name moment) input [] old all_passed new
 
 -- the first lines of the input are answered, and then came a fault: between two lines, or at one
-abbrev pub AnswersFirstLines : (name : List ℕ) → (moment : ℕ) → Option (List ℕ) → Run → Run → Type 0
+abbrev pub AnswersFirstLines : (name : List ℕ) → (moment : ℕ) → Option (List ℕ) → VerifyRun → VerifyRun → Type 0
 AnswersFirstLines name moment input old new =
-    ((last : List (List ℕ)) × (all_passed : Bool) × AnswersUpTo name moment input last old all_passed new)
-    ⊎ ((line : List ℕ) × (last : List (List ℕ)) × (all_passed : Bool) × (there : Run) × AnswersUpTo name moment input (line ∷ last) old all_passed there
-    × FailsAtLine name moment line there new)
+    ((last : List (List ℕ)) × (all_passed : Bool) × LinesInTurn (AnswersLine name moment) input last old all_passed new)
+    ⊎ ((line : List ℕ) × (last : List (List ℕ)) × (all_passed : Bool) × (there : VerifyRun)
+    × LinesInTurn (AnswersLine name moment) input (line ∷ last) old all_passed there × FailsAtLine name moment line there new)

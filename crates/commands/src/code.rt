@@ -7,15 +7,9 @@ use crate::words::{given, optional};
 use clap::ArgMatches;
 use command_line::value::OptionName;
 use command_line::{Fault, value};
-use otp_core::{Code, Digits, OtpHash, Secret, step};
+use otp_core::{Code, Digits, MOST_COUNTER, MOST_STEP, OtpHash, Secret, step};
 use std::alloc::Global;
 use std::io::Write;
-
-/// The greatest counter of a code.
-const MOST_COUNTER: u64 = 9_223_372_036_854_775_807 - 1;
-
-/// The longest step in seconds.
-const MOST_STEP: u64 = 3600;
 
 // The code of a secret, or BeforeFirstStep where the moment is before t0.
 fn answer(secret: &Secret, digits: Digits, factor: &MovingFactor) -> Result<Code, Fault>

@@ -1,15 +1,13 @@
 //! A book that this run holds, and its store: each change is saved before it is reported.
-ghost use Rattle.std.specs.Prelude.{◌≡◌, ◌≢◌, ◌≤◌, ◌⊎◌, true, is_some, None, IfErr, IfOk, IfSome, MatchOption, OnOk, OnErr, string_bytes};
-ghost use Rattle.otp_core.specs.Settings.{unlocked};
+ghost use Rattle.std.specs.Prelude.{◌≡◌, ◌≢◌, ◌≤◌, ◌⊎◌, ℕ, List, true, is_some, None, IfErr, IfOk, MatchOption, OnOk, OnErr, string_bytes};
 ghost use Rattle.book_format.specs.Reading.{IsFirstFault};
 ghost use Rattle.book_format.specs.Trees.{IsBookText};
 ghost use Rattle.book_format.specs.declared.fault.BookFault.{BookFault};
-ghost use Rattle.account_book.specs.Accounts.{account_at, IsAdded, IsChanged};
-ghost use Rattle.account_book.specs.Enrolled.{enrolled};
-ghost use Rattle.account_book.specs.Tokens.{IsAnswered, token_at, with_token};
+ghost use Rattle.account_book.specs.Accounts.{account_at};
+ghost use Rattle.account_book.specs.Tokens.{IsAnswered, token_at};
 ghost use Rattle.sasl_desk.specs.Keeper.{texts_of};
 ghost use Rattle.command_line.specs.Fault.{IsTokenFault, IsUnwritten, of_book};
-ghost use Rattle.commands.specs.HeldBook.{held_shown, IsBookSaved, IsBookUnsaved, IsReplyDue, IsReplyUnsaved};
+ghost use Rattle.commands.specs.HeldBook.{held_shown, CannotBeSaved, IsBookSaved, IsBookUnsaved, IsChangeUnsaved, IsEnrolled, IsAttemptAnswered, IsReplyUnsaved, IsUnlocked};
 
 use crate::shown::Shown;
 use account_book::{Book, BookStore, BookWhy, EnrolFault, Reply};
@@ -168,6 +166,7 @@ where
     R: Files + Clock + AllocGlobal,
     R::File: Lockable,
     ensures text { IfOk result (λ held. IsBookText (⟦<FileStore<'r, R> as BookStore>⟧.facts held.store).saved held.book) }
+    ensures saved { IfOk result (λ held. (⟦<FileStore<'r, R> as BookStore>⟧.facts held.store).saved ≡ string_bytes text) }
     ensures path { IfOk result (λ held. held.path.now ≡ path.now) }
     ensures err { IfErr result (λ fault. (fault ≡ Fault.NoMemory)
         ⊎ ((found : BookFault) × (fault ≡ of_book found) × IsFirstFault (string_bytes text) found)) }
@@ -177,7 +176,7 @@ where
     Ok(HeldBook::new(book, store, path))
 }
 
-/// Adds an account with the keys of a password to a book. Faults: NameTaken and NoMemory.
+/// Adds an account with the keys of a password to a book. Faults: NameTaken and NoMemory; the book is then unchanged.
 pub fn add(
     alloc: Global,
     book: &mut Book,
@@ -188,9 +187,8 @@ pub fn add(
     count: u32,
 ) -> Result<(), Fault>
     requires { 1 ≤ count }
-    ensures added { OnOk result (IsAdded book.old name.now
-        (enrolled password.now salt1.now salt256.now count) book.new) }
-    ensures free { OnOk result (account_at book.old name.now ≡ None) }
+    ensures added { OnOk result (IsEnrolled name.now password.now salt1.now salt256.now count book.old book.new) }
+    ensures unchanged { OnErr result (book.new ≡ book.old) }
     ensures err { IfErr result (λ fault. MatchOption (account_at book.old name.now)
         (fault ≡ Fault.NoMemory) (λ account. fault ≡ Fault.NameTaken)) }
 {
@@ -221,7 +219,7 @@ impl<'a, S: BookStore> HeldBook<'a, S> {
     }
 
     /// Adds an account with the keys of a password for both mechanisms, and saves the book. Faults: NameTaken,
-    /// CannotWrite and NoMemory.
+    /// CannotWrite and NoMemory; after the first the store was not asked.
     pub fn enrol(
         &mut self,
         alloc: Global,
@@ -232,12 +230,12 @@ impl<'a, S: BookStore> HeldBook<'a, S> {
         count: u32,
     ) -> Result<(), Fault>
         requires { 1 ≤ count }
-        ensures added { OnOk result (IsAdded self.old.book name.now
-            (enrolled password.now salt1.now salt256.now count) self.new.book) }
-        ensures free { OnOk result (account_at self.old.book name.now ≡ None) }
+        ensures added { OnOk result (IsEnrolled name.now password.now salt1.now salt256.now count self.old.book self.new.book) }
         ensures err { IfErr result (λ fault. MatchOption (account_at self.old.book name.now)
             (IsUnwritten self.old.path.now fault) (λ account. fault ≡ Fault.NameTaken)) }
         ensures unasked { IfErr result (λ fault. fault ≡ Fault.NoMemory → self.new.store ≡ self.old.store) }
+        ensures unsaved { OnErr result (IsChangeUnsaved (held_shown S.facts self.old)
+            (IsEnrolled name.now password.now salt1.now salt256.now count) (held_shown S.facts self.new)) }
         ensures saved { OnOk result (IsBookSaved (S.facts self.old.store) self.new.book (S.facts self.new.store)) }
     {
         match add(alloc, &mut self.book, name, password, salt1, salt256, count) {
@@ -269,7 +267,7 @@ impl<'a, S: BookStore> HeldBook<'a, S> {
         moment: Moment,
         sent: Sent<'_>,
     ) -> Result<Reply, Fault>
-        ensures due { IfOk result (λ reply. IsReplyDue self.old.book name.now moment (texts_of sent.entry) reply self.new.book) }
+        ensures due { IfOk result (λ reply. IsAttemptAnswered self.old.book name.now moment (texts_of sent.entry) reply self.new.book) }
         ensures saved { IfOk result (λ reply. reply ≢ Reply.Locked
             → IsBookSaved (S.facts self.old.store) self.new.book (S.facts self.new.store)) }
         ensures locked { IfOk result (λ reply. reply ≡ Reply.Locked → self.new.store ≡ self.old.store) }
@@ -291,11 +289,11 @@ impl<'a, S: BookStore> HeldBook<'a, S> {
     /// Sets the failures of the account's token to 0, and saves the book. Faults: NoSuchAccount, NoToken,
     /// CannotWrite and NoMemory.
     pub fn unlock(&mut self, alloc: Global, name: &PlainName) -> Result<(), Fault>
-        ensures unlocked { OnOk result (IfSome (token_at self.old.book name.now)
-            (λ token. IsChanged self.old.book name.now (with_token (unlocked token)) self.new.book)) }
-        ensures there { OnOk result (is_some (token_at self.old.book name.now) ≡ true) }
+        ensures unlocked { OnOk result (IsUnlocked name.now self.old.book self.new.book) }
         ensures err { IfErr result (IsTokenFault self.old.path.now (account_at self.old.book name.now)) }
         ensures unasked { IfErr result (λ fault. fault ≡ Fault.NoMemory → self.new.store ≡ self.old.store) }
+        ensures unsaved { OnErr result (IsChangeUnsaved (held_shown S.facts self.old) (IsUnlocked name.now)
+            (held_shown S.facts self.new)) }
         ensures saved { OnOk result (IsBookSaved (S.facts self.old.store) self.new.book (S.facts self.new.store)) }
     {
         self.check_token(name)?;
@@ -308,6 +306,8 @@ impl<'a, S: BookStore> HeldBook<'a, S> {
     pub fn save(&mut self, alloc: Global) -> Result<(), Fault>
         ensures book { self.new.book ≡ self.old.book }
         ensures err { IfErr result (IsUnwritten self.old.path.now) }
+        ensures why { IfErr result (λ fault. fault ≢ Fault.NoMemory
+            → (text : List ℕ) × IsBookText text self.old.book × CannotBeSaved text (S.facts self.new.store)) }
         ensures unasked { IfErr result (λ fault. fault ≡ Fault.NoMemory → self.new.store ≡ self.old.store) }
         ensures saved { OnOk result (IsBookSaved (S.facts self.old.store) self.old.book (S.facts self.new.store)) }
         ensures unsaved { OnErr result (IsBookUnsaved (S.facts self.old.store) self.old.book (S.facts self.new.store)) }

@@ -99,6 +99,7 @@ impl<'a, I: BufRead> Lines<'a, I> {
             × (1 ≤ length (line_bytes line.items has_lf))
             × (self.new.left + length (line_bytes line.items has_lf) ≡ self.old.left))) }
         ensures end { IfOk result (λ found. IfNone found (IsAtEnd (I.remaining self.old.input.now))) }
+        ensures ended { IfOk result (λ found. IfNone found (IsAtEnd (I.remaining self.new.input.now))) }
         ensures err { IfErr result (λ fault. (fault ≡ Fault.CannotReadInput) ⊎ (fault ≡ Fault.NoMemory)) }
     {
         let (line, has_lf) = read_line(alloc, self.input, self.left)?;

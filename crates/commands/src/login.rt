@@ -1,10 +1,9 @@
 //! The command `login`: logs a user in to a service over a book, and prints the service's log.
-ghost use Rattle.std.specs.Prelude.{◌≡◌, ℕ, true, List, Option, Ok, OnOk, OnErr};
+ghost use Rattle.std.specs.Prelude.{◌≡◌, true, Ok, OnOk, OnErr};
 ghost use Rattle.sasl_desk.specs.Desks.{phase_of};
 ghost use Rattle.sasl_desk.specs.declared.desk.state.Phase.TheVariants as Phase;
-ghost use Rattle.commands.specs.ClientEnd.{IsAccepted};
 ghost use Rattle.commands.specs.declared.login.client_end.Stage.{Stage};
-ghost use Rattle.commands.specs.Login.{StaysItsLog, IsLogAfterFault};
+ghost use Rattle.commands.specs.Login.{StaysItsLog, IsLogAfterFault, talked_by, IsInAndPasses};
 
 mod client_end;
 mod code_line;
@@ -85,8 +84,8 @@ where
     converse(alloc, &mut talk, &ends, own, client, &mut lines)
 }
 
-// Lets the client log in, send its codes and go away. Returns whether it was logged in and each code passed; no session is
-// open then. Faults: CannotReadInput, CannotWrite, CannotWriteOutput, Socket and NoMemory.
+// Lets the client log in, send its codes and go away. Returns whether it was logged in and each line that it sent passed; no
+// session is open then. Faults: CannotReadInput, CannotWrite, CannotWriteOutput, Socket and NoMemory.
 fn converse<S, R, W, L, C, I>(
     alloc: Global,
     talk: &mut Talk<'_, S, R, W, L, C>,
@@ -104,8 +103,9 @@ where
     I: BufRead,
     requires closed { phase_of talk.old.desk.state ≡ Phase.Closed }
     requires silent { client.stage ≡ Stage.Silent }
-    ensures is_in { result ≡ Ok true → (there : Option (List ℕ)) × IsAccepted client.user client.nonce client.password
-        (R.facts talk.old.wires.of_client.reader).left there }
+    ensures passes { result ≡ Ok true → IsInAndPasses client.user client.nonce client.password
+        (I.remaining lines.old.input.now) (I.remaining lines.new.input.now)
+        (talked_by R.facts W.facts talk.old.wires.of_client) (talked_by R.facts W.facts talk.new.wires.of_client) }
     ensures log { OnOk result (StaysItsLog S.facts talk.old.desk (L.facts talk.old.log) talk.new.desk (L.facts talk.new.log)) }
     ensures closed { OnOk result (phase_of talk.new.desk.state ≡ Phase.Closed) }
     ensures after_fault { OnErr result (IsLogAfterFault S.facts talk.old.desk (L.facts talk.old.log) talk.new.desk (L.facts talk.new.log)) }
@@ -128,6 +128,7 @@ where
     W: Sink + Drop,
     L: Sink + Drop,
     C: sasl_desk::Clock + Drop,
+    ensures client { talk.new.wires.of_client ≡ talk.old.wires.of_client }
     ensures log { OnOk result (StaysItsLog S.facts talk.old.desk (L.facts talk.old.log) talk.new.desk (L.facts talk.new.log)) }
     ensures closed { OnOk result (phase_of talk.new.desk.state ≡ Phase.Closed) }
     ensures after_fault { OnErr result (IsLogAfterFault S.facts talk.old.desk (L.facts talk.old.log) talk.new.desk (L.facts talk.new.log)) }

@@ -18,6 +18,9 @@ const CODE_EXAMPLES: &str =
     "With --counter the code is HOTP's, with SHA-1. Else --moment is needed, and it is TOTP's. Standard
 input is not read.
 
+Other users of the machine can read the words of a command while it runs (`ps`), and so the secret:
+give none that they may not have.
+
 Examples:
   scramotp code --secret 3132333435363738393031323334353637383930 --counter 0
   scramotp code --secret 3132333435363738393031323334353637383930 --digits 8 --moment 59";

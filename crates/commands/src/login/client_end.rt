@@ -5,7 +5,7 @@ ghost use Rattle.log_grammar.specs.Payload.{escaped};
 ghost use Rattle.scram_ends.specs.Client.{IsStarted, IsExpecting};
 ghost use Rattle.scram_ends.specs.Login.{IsAuthentic};
 ghost use Rattle.scram_ends.specs.Stages.{Started, Answered};
-ghost use Rattle.commands.specs.ClientEnd.{IfSays, Begins, Answers, MaySay, ShowsKeys};
+ghost use Rattle.commands.specs.ClientEnd.{IfSays, BeginsLogin, AnswersChallenge, MaySay, ShowsKeys};
 
 use command_line::Fault;
 use mac_core::Mechanism;
@@ -108,7 +108,7 @@ impl ClientEnd {
     fn ask(&mut self, alloc: Global, names: &[u8]) -> Result<Next, Fault>
         ensures kept { (self.new.user ≡ self.old.user) × (self.new.nonce ≡ self.old.nonce) × (self.new.password ≡ self.old.password) }
         ensures not_in { IfOk result (λ next. next ≢ Next.IsIn) }
-        ensures says { IfOk result (λ next. IfSays next (λ said. Begins self.old.user self.old.nonce names.now said self.new.stage)) }
+        ensures says { IfOk result (λ next. IfSays next (λ said. BeginsLogin self.old.user self.old.nonce names.now said self.new.stage)) }
         ensures err { IfErr result (λ fault. fault ≡ Fault.NoMemory) }
     {
         let user = &self.user;
@@ -131,7 +131,7 @@ impl ClientEnd {
         ensures kept { (self.new.user ≡ self.old.user) × (self.new.nonce ≡ self.old.nonce) × (self.new.password ≡ self.old.password) }
         ensures not_in { IfOk result (λ next. next ≢ Next.IsIn) }
         ensures says { IfOk result (λ next. IfSays next (λ said. (login : Started) → IsStarted client login
-            → Answers login self.old.password challenge.now said self.new.stage)) }
+            → AnswersChallenge login self.old.password challenge.now said self.new.stage)) }
         ensures err { IfErr result (λ fault. fault ≡ Fault.NoMemory) }
     {
         let mut message = Vec::new(alloc);

@@ -16,7 +16,9 @@ pub struct Moments<'a, R> {
 
 impl<'a, R: Clock> Moments<'a, R> {
     /// The clock of these words: `given` is the moment that they have.
-    pub fn new(rt: &'a R, given: Option<Moment>) -> Moments<'a, R> {
+    pub fn new(rt: &'a R, given: Option<Moment>) -> Moments<'a, R>
+        ensures { result.given ≡ given }
+    {
         Moments {
             rt,
             given,

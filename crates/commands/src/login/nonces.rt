@@ -1,7 +1,7 @@
 //! The nonces of a login: those that the words give, or fresh random ones.
-ghost use Rattle.std.specs.Prelude.{◌≡◌, ℕ, List, IfOk, IfErr, IfSome, IfNone, length};
-ghost use Rattle.std.specs.Io.KnownBytes.{Consumes};
+ghost use Rattle.std.specs.Prelude.{◌≡◌, ℕ, List, Option, IfOk, IfErr, length};
 ghost use Rattle.scram_text.specs.Base64Field.{base64};
+ghost use Rattle.commands.specs.Nonces.{TakesNonce, TakesNonces};
 
 use crate::random::Random;
 use base64::engine::general_purpose::STANDARD;
@@ -19,18 +19,30 @@ pub fn both<R: Files + AllocGlobal>(
     client: Option<NoncePart>,
     service: Option<NoncePart>,
 ) -> Result<(NoncePart, NoncePart), Fault>
-    ensures client { IfSome client (λ given. IfOk result (λ nonces. nonces.0 ≡ given)) }
-    ensures service { IfSome service (λ given. IfOk result (λ nonces. nonces.1 ≡ given)) }
+    ensures { IfOk result (λ nonces. (old : Option (List ℕ)) × (new : Option (List ℕ)) × TakesNonces old client service nonces new) }
 {
     match (client, service) {
         (Some(client), Some(service)) => Ok((client, service)),
         (client, service) => {
             let mut random = Random::open(rt, path)?;
-            let client = given_or_random(rt.alloc(), client, &mut random)?;
-            let service = given_or_random(rt.alloc(), service, &mut random)?;
-            Ok((client, service))
+            both_from(rt.alloc(), client, service, &mut random)
         }
     }
+}
+
+// Both nonces, each that is not given from the next random bytes.
+fn both_from<F: Read + Drop>(
+    alloc: Global,
+    client: Option<NoncePart>,
+    service: Option<NoncePart>,
+    random: &mut Random<'_, F>,
+) -> Result<(NoncePart, NoncePart), Fault>
+    ensures { IfOk result (λ nonces.
+        TakesNonces (F.remaining random.old.file) client service nonces (F.remaining random.new.file)) }
+{
+    let client = given_or_random(alloc, client, random)?;
+    let service = given_or_random(alloc, service, random)?;
+    Ok((client, service))
 }
 
 // The nonce that is given, or one of the next random bytes.
@@ -39,9 +51,7 @@ fn given_or_random<F: Read + Drop>(
     given: Option<NoncePart>,
     random: &mut Random<'_, F>,
 ) -> Result<NoncePart, Fault>
-    ensures given { IfSome given (λ it. IfOk result (λ nonce. nonce ≡ it)) }
-    ensures fresh { IfNone given (IfOk result (λ nonce. (bytes : List ℕ) × (length bytes ≡ 18) × (nonce ≡ base64 bytes)
-        × Consumes (F.remaining random.old.file) (F.remaining random.new.file) bytes)) }
+    ensures { IfOk result (λ nonce. TakesNonce (F.remaining random.old.file) given nonce (F.remaining random.new.file)) }
 {
     match given {
         Some(nonce) => Ok(nonce),

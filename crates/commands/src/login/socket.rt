@@ -4,22 +4,48 @@
 //! to wait means that the other end is a stranger, who came to the socket in between.
 use command_line::Fault;
 use sasl_log::{OverRead, OverWrite};
-use std::fs::Files;
+use std::fs::{Files, Metadata};
 use std::io::ErrorKind;
 use std::net::{Net, Shutdown};
+use std::os::unix::fs::MetadataExt;
 use std::os::unix::net::{UnixListener, UnixStream};
 use std::{fs, io};
 
-/// The file of a socket that this run has made. It is removed with this value.
+/// The file of a socket that this run has made. It is removed with this value, unless another file has its name by then.
 pub struct SocketFile<'a, R: Files> {
     rt: &'a R,
     path: &'a str,
+
+    // What the system says of the file, where it could be asked.
+    made: Option<Metadata>,
 }
 
 impl<'a, R: Files> Drop for SocketFile<'a, R> {
     fn drop(self) {
-        let _ = fs::remove_file(self.rt, self.path);
-        let SocketFile { rt: _, path: _ } = self;
+        if !self.is_replaced() {
+            let _ = fs::remove_file(self.rt, self.path);
+        }
+        let SocketFile {
+            rt: _,
+            path: _,
+            made: _,
+        } = self;
+    }
+}
+
+impl<'a, R: Files> SocketFile<'a, R> {
+    // The file of this name, which was just made.
+    fn new(rt: &'a R, path: &'a str) -> SocketFile<'a, R> {
+        let made = fs::symlink_metadata(rt, path).ok();
+        SocketFile { rt, path, made }
+    }
+
+    // Whether another file has the name, as far as the system can be asked.
+    fn is_replaced(&self) -> bool {
+        match (&self.made, fs::symlink_metadata(self.rt, self.path)) {
+            (Some(made), Ok(found)) => made.dev() != found.dev() || made.ino() != found.ino(),
+            _ => false,
+        }
     }
 }
 
@@ -99,7 +125,7 @@ fn bind<'a, R: Files + Net>(
 ) -> Result<(UnixListener, SocketFile<'a, R>), Fault> {
     let was_free = is_free(rt, path);
     match UnixListener::bind(rt, path) {
-        Ok(listener) => Ok((listener, SocketFile { rt, path })),
+        Ok(listener) => Ok((listener, SocketFile::new(rt, path))),
         Err(error) => {
             if was_free && error.kind() != ErrorKind::AddrInUse {
                 let _ = fs::remove_file(rt, path);

@@ -1,42 +1,44 @@
-use Rattle.commands.specs.Verify.{run_of}
+use Rattle.std.proofs.Common.{inl, inr, refl}
+use Rattle.commands.specs.Verify.{run_of, AnswersLine}
 use Rattle.commands.proofs.Faults.{after_any_fault}
-use Rattle.commands.proofs.Replies.{after_line, at_end, before_line, at_line}
+use Rattle.commands.proofs.LinesInTurn.{after_line, at_end, before_line, at_line}
 use Rattle.commands.proofs.verify.answer_lines.Goals as goal
 
 pub returns-in_err-line-clause-err : goal.returns-in_err-line-clause-err
 returns-in_err-line-clause-err g c =
-    after_any_fault c.from_residual.result
-    (before_line c.args.name.now c.args.moment (g.I.Read.remaining c.args.input.now)
+    let stop =
+    before_line (AnswersLine c.args.name.now c.args.moment) (g.I.Read.remaining c.args.input.now)
     (run_of g.S.BookStore.facts c.args.held.now (g.O.Write.contents c.args.output.now)) c.loop-line.all_passed (g.I.Read.remaining c.loop-line.lines.input.now)
-    (run_of g.S.BookStore.facts c.loop-line.held (g.O.Write.contents c.loop-line.output))
-    c.loop-line.invariant)
+    (run_of g.S.BookStore.facts c.loop-line.held (g.O.Write.contents c.loop-line.output)) c.loop-line.invariant in
+    after_any_fault c.from_residual.result (inl (stop.0, c.loop-line.all_passed, stop.1))
 
 pub returns-in_err-reply-clause-err : goal.returns-in_err-reply-clause-err
 returns-in_err-reply-clause-err g c =
     let (has_lf, takes, some, counted) = rw c.in-Some.is at c.in_ok-line.ensures.line in
     let fault = rw c.as_slice.ensures.value at c.in_err-reply.ensures.err in
-    after_any_fault c.from_residual-in_err-reply.result
-    (at_line c.args.name.now c.args.moment (g.I.Read.remaining c.args.input.now)
+    let there = run_of g.S.BookStore.facts c.loop-line.held (g.O.Write.contents c.loop-line.output) in
+    let stop =
+    at_line (AnswersLine c.args.name.now c.args.moment) (g.I.Read.remaining c.args.input.now)
     (run_of g.S.BookStore.facts c.args.held.now (g.O.Write.contents c.args.output.now)) c.loop-line.all_passed (g.I.Read.remaining c.loop-line.lines.input.now)
-    (run_of g.S.BookStore.facts c.loop-line.held (g.O.Write.contents c.loop-line.output))
-    c.in-Some.line.items has_lf (g.I.Read.remaining c.next.new.self.input.now)
-    (run_of g.S.BookStore.facts c.answer_line.new.held (g.O.Write.contents c.answer_line.new.output)) c.loop-line.invariant takes some fault)
+    there c.in-Some.line.items has_lf (g.I.Read.remaining c.next.new.self.input.now) c.loop-line.invariant takes some in
+    after_any_fault c.from_residual-in_err-reply.result (inr (c.in-Some.line.items, stop.0, c.loop-line.all_passed, there, stop.1, fault))
 
 pub loop-line-preserved : goal.loop-line-preserved
 loop-line-preserved g c =
     let (has_lf, takes, some, counted) = rw c.in-Some.is at c.in_ok-line.ensures.line in
     let answered = rw c.as_slice.ensures.value at c.in_ok-reply.ensures.ok in
     rw c.and_passed-all_passed.ensures
-    (after_line c.args.name.now c.args.moment (g.I.Read.remaining c.args.input.now)
+    (after_line (AnswersLine c.args.name.now c.args.moment) (g.I.Read.remaining c.args.input.now)
     (run_of g.S.BookStore.facts c.args.held.now (g.O.Write.contents c.args.output.now)) c.loop-line.all_passed (g.I.Read.remaining c.loop-line.lines.input.now)
     (run_of g.S.BookStore.facts c.loop-line.held (g.O.Write.contents c.loop-line.output))
-    c.in-Some.line.items has_lf (g.I.Read.remaining c.next.new.self.input.now) c.in_ok-reply.reply
-    (run_of g.S.BookStore.facts c.answer_line.new.held (g.O.Write.contents c.answer_line.new.output)) c.loop-line.invariant takes some answered)
+    c.in-Some.line.items has_lf (g.I.Read.remaining c.next.new.self.input.now) _
+    (run_of g.S.BookStore.facts c.answer_line.new.held (g.O.Write.contents c.answer_line.new.output)) c.loop-line.invariant takes some
+    (c.in_ok-reply.reply, answered, refl))
 
 pub returns-clause-ok : goal.returns-clause-ok
 returns-clause-ok g c =
     let end = rw c.in_default.is at c.in_ok-line.ensures.end in
-    at_end c.args.name.now c.args.moment (g.I.Read.remaining c.args.input.now)
+    at_end (AnswersLine c.args.name.now c.args.moment) (g.I.Read.remaining c.args.input.now)
     (run_of g.S.BookStore.facts c.args.held.now (g.O.Write.contents c.args.output.now)) c.loop-line.all_passed (g.I.Read.remaining c.loop-line.lines.input.now)
     (run_of g.S.BookStore.facts c.loop-line.held (g.O.Write.contents c.loop-line.output))
     c.loop-line.invariant end

@@ -1,0 +1,20 @@
+-- The nonces of a login: given by the user, or made of random bytes.
+use Rattle.std.specs.Prelude.{ℕ, ◌≡◌, List, [], length}
+use Rattle.std.specs.Io.KnownBytes.{Consumes}
+use Rattle.std.specs.declared.option.Option.{Option}
+use Rattle.std.specs.declared.option.Option.TheVariants.{None, Some}
+use Rattle.scram_text.specs.Base64Field.{base64}
+
+-- the nonce is the one that is given, and takes no random bytes; or it is the base64 text of 18 of them
+abbrev pub IsNonceOf : (given : Option (List ℕ)) → (random nonce : List ℕ) → Type 0
+IsNonceOf (Some given) random nonce = (random ≡ []) × (nonce ≡ given)
+IsNonceOf None random nonce = (length random ≡ 18) × (nonce ≡ base64 random)
+
+-- a source of random bytes loses those of a nonce
+abbrev pub TakesNonce : (old : Option (List ℕ)) → (given : Option (List ℕ)) → (nonce : List ℕ) → (new : Option (List ℕ)) → Type 0
+TakesNonce old given nonce new = (random : List ℕ) × IsNonceOf given random nonce × Consumes old new random
+
+-- a source of random bytes loses those of two nonces, one after the other: no byte is in both
+abbrev pub TakesNonces : (old : Option (List ℕ)) → (first second : Option (List ℕ)) → (nonces : List ℕ × List ℕ) → (new : Option (List ℕ)) → Type 0
+TakesNonces old first second nonces new =
+    (there : Option (List ℕ)) × TakesNonce old first nonces.0 there × TakesNonce there second nonces.1 new
