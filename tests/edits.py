@@ -17,7 +17,8 @@ proved as they are, `rt ci` says.
 
 What was refused is kept on this machine, as `rt ci` keeps what it proved: by the sum of all that the trial read, which is the kit, this
 script, the edit, and the sources of its crate and of those below. A later run tries the others, and with --anew all.
-Each run begins with a test of the script: an edit without a change is let through, and one whose text is gone is unusable.
+Each run begins with a test of the script: an edit without a change is let through, and one whose text is gone, or of which a line
+would not be read, is unusable.
 """
 import argparse
 import hashlib
@@ -180,6 +181,8 @@ def read_edit(path: Path, crate: Path, functions: list[Function]) -> Edit:
             places.add((file, before.count("\n") + 1))
             texts[file] = before + line.removeprefix("new:").removeprefix(" ") + others[0]
             old = ""
+        elif line:
+            raise Unusable(f"a line begins with none of 'file:', 'old:' and 'new:': {line.strip()[:60]}")
     if not places:
         raise Unusable("it has no pair of 'old:' and 'new:'")
     # no text has the end of a line in it, so lines keep their numbers
@@ -394,7 +397,7 @@ def try_crate(room: Room, is_first: bool, options: argparse.Namespace) -> Count:
 
 
 def self_test(room: Room, edits: list[Edit]) -> None:
-    """Ends the run unless an edit without a change is let through, and one whose text is gone is unusable."""
+    """Ends the run unless an edit without a change is let through, and one whose text is gone, or a line of it not read, is unusable."""
     wrong = next(it for it in edits if it.is_inside)
     # a method of a type has a body, and a trait's need not
     other = next(it for it in room.functions if it.of and it not in wrong.owners)
@@ -402,13 +405,15 @@ def self_test(room: Room, edits: list[Edit]) -> None:
     together, alone = try_together(room, [wrong, nothing]), try_alone(room, nothing)
     if [*together] != [wrong.name] or alone != Outcome(False, f"{other}: LET THROUGH"):
         sys.exit(f"edits.py: its own test fails with {wrong.name} in {room.crate}: {together}, {alone}")
-    gone = room.folder / "gone.edit"
-    gone.write_text(f"file: src/{other.file}\nold: a text that no file has\nnew: another\n", encoding="utf-8")
-    try:
-        read_edit(gone, room.source, room.functions)
-    except Unusable:
-        return
-    sys.exit("edits.py: its own test fails: an edit applies whose text is gone")
+    gone = f"file: src/{other.file}\nold: a text that no file has\nnew: another\n"
+    for what, text in (("whose text is gone", gone), ("with a line that is not read", f"{wrong.text}and one line more\n")):
+        unusable = room.folder / "unusable.edit"
+        unusable.write_text(text, encoding="utf-8")
+        try:
+            read_edit(unusable, room.source, room.functions)
+        except Unusable:
+            continue
+        sys.exit(f"edits.py: its own test fails: an edit applies {what}")
 
 
 def edits_of(crate: Path) -> list[Path]:
