@@ -5,7 +5,11 @@ A row names a log and a book of that folder. In the log `old`, which is there on
 """
 import csv
 import pathlib
+import sys
 from typing import NamedTuple
+
+if not __debug__:
+    sys.exit("audit_cases.py: the tests rest on assertions, which python3 -O and PYTHONOPTIMIZE leave out")
 
 FILES = pathlib.Path(__file__).parent / "data" / "audits"
 TABLE = FILES / "cases.csv"

@@ -328,6 +328,19 @@ def shared_book(folder):
     same("access", (os.stat(book).st_uid, os.stat(book).st_gid, os.stat(book).st_mode & 0o7777), (0, 4321, 0o600))
 
 
+def group_of_others(folder):
+    """A book whose group its owner is not in is worked on and saved: the file then has the owner's group, and nobody but
+    the owner may read it. Only root can try this."""
+    book = put(os.path.join(folder, "book"))
+    os.chown(folder, NOBODY.pw_uid, NOBODY.pw_gid)
+    for command in GOOD:
+        os.chown(book, NOBODY.pw_uid, 0)
+        os.chmod(book, 0o640)
+        succeeds(command, book, **AS_NOBODY)
+        found = os.stat(book)
+        same("access", (found.st_uid, found.st_gid, found.st_mode & 0o7777), (NOBODY.pw_uid, NOBODY.pw_gid, 0o600))
+
+
 def is_refused(book, runner):
     """Each command on a book of another says why it is not worked on, and leaves it as it was."""
     before = seen(book)
@@ -453,7 +466,7 @@ TESTS = [
     hard_links,
 ]
 if ROOT:
-    TESTS += [owner, shared_book, others_book, others_next]
+    TESTS += [owner, shared_book, group_of_others, others_book, others_next]
 else:
     print("book_commands.py: not root, so owners and groups are not tested")
 

@@ -219,7 +219,7 @@ def help_and_version(folder):
         (["upgrade", "--help"], ["is, by the same book.", "Standard input is read only where it is /dev/stdin."]),
         (["login", "--help"], ["a socket fault", "Codes are saved before they are\ntold", "--as <NAME> ", "every code passed"]),
         (["hall", "--help"], ["is a bad event and ends the\nrun", "Codes are saved before they are told", "to the end of the input"]),
-        (["code", "--help"], ["Standard\ninput is not read."]),
+        (["code", "--help"], ["Standard\ninput is not read.", "Other users of the machine can read the words"]),
     ]:
         text = help_of(words[:-1])
         assert all(part in text for part in parts), text

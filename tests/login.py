@@ -200,6 +200,18 @@ def replies_at_once(folder):
     assert not os.path.lexists(here.socket)
 
 
+def another_at_the_path(folder):
+    """A file that takes the socket's name while the login runs stays there."""
+    here = Login(folder, with_codes())
+    running = start(here, here.words(*SHA1), "pencil\n")
+    assert read(running, 6) == ACCEPTED
+    here.socket.unlink()
+    here.socket.write_text("another")
+    output, faults = running.communicate()
+    assert (running.returncode, output, faults) == (0, GONE, ""), (running.returncode, output, faults)
+    assert here.socket.read_text() == "another"
+
+
 def start(here, words, text):
     """A run that waits for more input than this."""
     running = subprocess.Popen(words, stdin=subprocess.PIPE, stdout=subprocess.PIPE, stderr=subprocess.PIPE, text=True)
@@ -388,6 +400,7 @@ TESTS = [
     order_of_faults,
     short_random_files,
     sockets_in_the_way,
+    another_at_the_path,
     long_inputs,
     full_devices,
     faulty_inputs,

@@ -33,6 +33,9 @@ NAME = "user@example.org"
 # RFC 4226, appendix D
 CODES = ["755224", "287082", "359152", "969429", "338314", "254676"]
 
+# Prints nothing where the block before it has let go of the password.
+FORGOTTEN = 'printf %s "$password"\n'
+
 # The blocks that a test has used.
 used = set()
 
@@ -119,6 +122,12 @@ def keys_of(mechanism, password, salt, count):
     return stored.hexdigest(), hmac.digest(salted, b"Server Key", mechanism).hex()
 
 
+def seen(path):
+    """What differs once a file was written or replaced, or got another owner, group or mode."""
+    found = os.stat(path)
+    return found.st_ino, found.st_mtime_ns, found.st_ctime_ns, found.st_uid, found.st_gid, found.st_mode, path.read_bytes()
+
+
 def verify(name, *codes, moment=5):
     return f"printf '%s\\n' {' '.join(codes)} | scramotp verify --book book.toml --name {name} --moment {moment}"
 
@@ -141,18 +150,17 @@ def is_locked(path):
 
 
 def an_editor_and_a_command(folder):
-    """An edit by an editor, and one by a command. The file keeps its owner, and nobody else can read it."""
+    """An edit by an editor with an option, and one by a command. The file keeps owner and group, and nobody else can read it."""
     book = with_tools(folder, USER)
-    if os.geteuid() == 0:
-        os.chown(book, 1234, 2345)
+    os.chown(book, -1, 2345 if os.geteuid() == 0 else [os.getegid(), *os.getgroups()][-1])
     before = book.stat()
     editor = Path(folder, "editor")
-    editor.write_text('#!/bin/sh\nprintf \'\\n[accounts."a@b"]\\n\' >>"$1"\n')
+    editor.write_text('#!/bin/sh\nprintf \'\\n[accounts."%s"]\\n\' "$1" >>"$2"\n')
     editor.chmod(0o755)
-    does(folder, "./edit-book book.toml", EDITOR=str(editor))
+    does(folder, "./edit-book book.toml", EDITOR=f"{shlex.quote(str(editor))} 'a b@c'")
     does(folder, "./edit-book book.toml sed s/4096/4097/")
     assert book_of(folder)["decoy_count"] == 4097
-    assert set(book_of(folder)["accounts"]) == {"user", "a@b"}
+    assert set(book_of(folder)["accounts"]) == {"user", "a b@c"}
     after = book.stat()
     assert (after.st_uid, after.st_gid, after.st_mode) == (before.st_uid, before.st_gid, before.st_mode)
     assert {path.name for path in Path(folder).iterdir()} == {"bin", "book.toml", "drop-tables", "edit-book", "editor"}
@@ -172,6 +180,31 @@ def an_edit_that_fails(folder):
     found = ran(folder, "./edit-book book.toml", EDITOR="false")
     assert found == (1, "", f"edit-book: {real} is as it was, since the editor failed\n"), found
     assert book.read_text() == USER
+    assert len(os.listdir(folder)) == 4
+
+
+def an_edit_of_anothers_book(folder):
+    """A book of another user is refused, and stays as it was. As root also one in such a user's folder."""
+    book = with_tools(folder, USER)
+    if os.geteuid() == 0:
+        os.chown(book, 65534, 65534)
+    else:
+        # A file of root's, by a link
+        book.unlink()
+        book.symlink_to("/etc/passwd")
+    before = seen(book)
+    belongs = f"edit-book: {os.path.realpath(book)} belongs to another user: run edit-book as the book's owner\n"
+    for edit in ["./edit-book book.toml sed s/4096/4097/", "EDITOR=false ./edit-book book.toml"]:
+        found = ran(folder, edit)
+        assert found == (1, "", belongs), found
+        assert seen(book) == before, edit
+    if os.geteuid() == 0:
+        os.chown(book, 0, 0)
+        os.chown(folder, 65534, 65534)
+        before = seen(book)
+        found = ran(folder, "./edit-book book.toml sed s/4096/4097/")
+        assert found == (1, "", f"edit-book: {os.path.realpath(book)} is in a folder of another user\n"), found
+        assert seen(book) == before
     assert len(os.listdir(folder)) == 4
 
 
@@ -236,7 +269,8 @@ def an_edit_gives_up(folder):
 
 
 def a_token(folder):
-    """The token that is set takes the codes of the secret that is printed, and is taken out again."""
+    """The token that is set takes the codes of the secret that is printed, and is taken out again. An account that has one gets no
+    other, and a name without an account gets none."""
     enrolled(folder)
     set_token, drop_token = blocks("Set a token")
     status, output, faults = ran(folder, set_token)
@@ -247,9 +281,13 @@ def a_token(folder):
     moment = 1234567890
     does(folder, verify(NAME, totp(secret, moment), moment=moment), printed=f"PASS {moment} {moment // 30}\n")
     assert ran(folder, verify("other", "000000"))[2] == "scramotp: no token\n"
-    twice = ran(folder, set_token)
-    assert twice[1] == "" and twice[2].startswith("scramotp: bad book: 60\n"), twice
     before = book_of(folder)
+    mistyped = set_token.replace("user", "usr")
+    for block, why in [(set_token, "there is one already"), (mistyped, "scramotp: no such account")]:
+        _, output, faults = ran(folder, block)
+        assert (output, faults) == ("", f"no token is set: {why}\n"), (output, faults)
+        assert book_of(folder) == before, why
+        assert not Path(folder, "token.toml").exists(), why
     does(folder, drop_token)
     del before["accounts"][NAME]["token"]
     assert book_of(folder) == before
@@ -297,7 +335,7 @@ def an_account(folder):
     assert book_of(folder) == before
     other = add.replace(NAME, "other")
     assert other != add
-    does(folder, other, "pencil\n", "enrolled other\n")
+    does(folder, other + FORGOTTEN, "pencil\n", "enrolled other\n")
     after = book_of(folder)
     assert (after["accounts"][NAME], set(after["accounts"])) == (before["accounts"][NAME], {NAME, "other"})
     line, acts = re.findall(r"`(act_as = \[.*\])`", DOCUMENT.read_text(encoding="utf-8"))
@@ -326,7 +364,7 @@ def a_password(folder):
     does(folder, verify(NAME, CODES[0]), printed="PASS 5 0\n")
     left = Path(folder, "left")
     left.mkdir()
-    does(folder, change, "a third\n", f"enrolled {NAME}\n", TMPDIR=str(left))
+    does(folder, change + FORGOTTEN, "a third\n", f"enrolled {NAME}\n", TMPDIR=str(left))
     assert not any(left.iterdir())
 
 
@@ -515,14 +553,22 @@ def a_backup(folder):
     """A copy has the book's text, and nobody else can read it. The newest copy is put back."""
     book = with_tools(folder, USER)
     copy, put_back = blocks("Backups")
-    does(folder, copy)
+    does(folder, copy, TZ="SUMMER-2")
     [found] = Path(folder, "backups").iterdir()
     assert found.read_bytes() == book.read_bytes()
     assert (found.stat().st_mode & 0o777, found.parent.stat().st_mode & 0o777) == (0o600, 0o700)
-    Path(folder, "backups", "book-20010203T040506.toml").write_text("older\n")
+    Path(folder, "backups", "book-20010203T040506Z.toml").write_text("older\n")
     does(folder, "./edit-book book.toml sed s/4096/4097/")
     does(folder, put_back)
     assert book.read_text() == USER
+    # A copy that is made later, where the clock was put back an hour
+    newer = USER.replace("4096", "4098")
+    book.write_text(newer)
+    until(lambda: time.time() > found.stat().st_mtime + 1)
+    does(folder, copy, TZ="WINTER-1")
+    book.write_text(USER)
+    does(folder, put_back)
+    assert book.read_text() == newer
 
 
 def units(folder):
@@ -557,6 +603,7 @@ def every_block(folder):
 TESTS = [
     an_editor_and_a_command,
     an_edit_that_fails,
+    an_edit_of_anothers_book,
     an_edit_that_is_stopped,
     an_edit_waits,
     a_run_waits,

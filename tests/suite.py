@@ -5,6 +5,9 @@ import subprocess
 import sys
 import tempfile
 
+if not __debug__:
+    sys.exit("suite.py: the tests rest on assertions, which python3 -O and PYTHONOPTIMIZE leave out")
+
 PROGRAM = os.path.abspath(sys.argv[1])
 
 SECRET = "3132333435363738393031323334353637383930"
