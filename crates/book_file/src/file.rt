@@ -1,5 +1,5 @@
 //! The file of a book, held by one run at a time.
-ghost use Rattle.std.specs.Prelude.{◌≤◌, IfOk, IfSome, vec_len};
+ghost use Rattle.std.specs.Prelude.{◌≡◌, ◌≤◌, IfOk, IfSome, vec_len};
 
 use crate::fault::HoldFault;
 use crate::hold::{Held, OpenBook, hold, is_named, next_of};
@@ -199,6 +199,8 @@ where
 /// are more than 16777216.
 pub fn read_unheld<R: Files + AllocGlobal>(rt: &R, path: &str) -> io::Result<Vec<u8>>
     ensures most { IfOk result (λ bytes. vec_len bytes ≤ MOST_BOOK) }
+    // They are all bytes of a file, where these are known.
+    ensures all { IfOk result (λ bytes. (file : R.File) × IfSome (R.File.remaining file) (λ all. bytes.items ≡ all)) }
 {
     let mut file = fs::open(rt, path)?;
     read_all(rt, &mut file)
@@ -207,6 +209,7 @@ pub fn read_unheld<R: Files + AllocGlobal>(rt: &R, path: &str) -> io::Result<Vec
 // Reads the rest of a file. FileTooLarge where that is more than a book may have.
 fn read_all<R: AllocGlobal, F: Read>(rt: &R, file: &mut F) -> io::Result<Vec<u8>>
     ensures most { IfOk result (λ bytes. vec_len bytes ≤ MOST_BOOK) }
+    ensures all { IfOk result (λ bytes. IfSome (F.remaining file.old) (λ all. bytes.items ≡ all)) }
 {
     let mut bytes = Vec::new(rt.alloc());
     file.take(MOST_BOOK as u64 + 1).read_to_end(&mut bytes)?;
