@@ -9,4 +9,5 @@ pub mod LoginGoesOn
 pub mod LoginLemmas
 pub mod NonceLemmas
 pub mod OneEvent
+pub mod Printed
 pub mod Spellings

@@ -1,5 +1,7 @@
 -- What becomes of a held book and of its store.
-use Rattle.std.specs.Prelude.{ℕ, ◌≡◌, ◌≢◌, ◌≤◌, ◌<◌, ◌⊎◌, true, List, length, is_some, None, IfSome}
+use Rattle.std.specs.Prelude.{ℕ, ◌≡◌, ◌≢◌, ◌≤◌, ◌<◌, ◌⊎◌, true, List, [], ◌∷◌, ◌++◌, length, codes, Option, is_some, None, IfSome}
+use Rattle.std.specs.Str.{byte}
+use Rattle.std.specs.Io.KnownBytes.{Appends}
 use Rattle.otp_core.specs.Attempt.{CodeTexts}
 use Rattle.otp_core.specs.Settings.{unlocked}
 use Rattle.otp_core.specs.declared.token.answer.Reply.{Reply}
@@ -11,6 +13,9 @@ use Rattle.account_book.specs.Enrolled.{enrolled}
 use Rattle.account_book.specs.Store.{StoreFacts, IsSaved, IsLost}
 use Rattle.account_book.specs.Tokens.{IsAttempt, token_at, with_token}
 use Rattle.book_file.specs.declared.file.TheConstants.{MOST_BOOK}
+use Rattle.clap.specs.declared.parser.matches.ArgMatches.{ArgMatches}
+use Rattle.command_line.specs.declared.value.OptionName.TheVariants as option
+use Rattle.commands.specs.Words.{given_value}
 use Rattle.commands.specs.declared.held_book.HeldBook.{HeldBook}
 
 -- a book, and what is known of its store
@@ -66,3 +71,16 @@ pub record IsReplySaved (old : Held) (name : List ℕ) (moment : ℕ) (said : Co
 abbrev pub IsReplyUnsaved : Held → (name : List ℕ) → (moment : ℕ) → CodeTexts → Held → Type 0
 IsReplyUnsaved old name moment said new =
     (new ≡ old) ⊎ ((reply : Reply) × IsAttemptAnswered old.book name moment said reply new.book × IsBookUnsaved old.store new.book new.store)
+
+-- the token of this name is unlocked, and the book is saved
+pub record IsUnlockSaved (name : List ℕ) (old new : Held) : Type 0 where
+  pub unlocked : IsUnlocked name old.book new.book
+  pub saved : IsBookSaved old.store new.book new.store
+
+-- that is done for the name that the words give, in a book whose text the store had; and the name is printed
+pub record UnlocksAsked (words : ArgMatches) (old new : Option (List ℕ)) : Type 0 where
+  pub first : Held
+  pub last : Held
+  pub is_text : IsBookText first.store.saved first.book
+  pub is_saved : IsUnlockSaved (given_value words option.Name) first last
+  pub printed : Appends old new (codes "unlocked " ++ (given_value words option.Name ++ byte "\n" ∷ []))

@@ -7,10 +7,14 @@ use Rattle.std.specs.declared.option.Option.{Option}
 use Rattle.otp_core.specs.Attempt.{CodeTexts}
 use Rattle.otp_core.specs.declared.token.answer.Reply.{Reply}
 use Rattle.otp_core.specs.declared.token.answer.Reply.TheVariants.{Pass, Fail, Locked}
+use Rattle.book_format.specs.Trees.{IsBookText}
 use Rattle.account_book.specs.Store.{StoreFacts}
+use Rattle.clap.specs.declared.parser.matches.ArgMatches.{ArgMatches}
+use Rattle.command_line.specs.declared.value.OptionName.TheVariants as option
 use Rattle.commands.specs.HeldBook.{Held, held_shown, IsReplySaved, IsReplyUnsaved}
 use Rattle.commands.specs.Input.{LinesInTurn}
 use Rattle.commands.specs.Sent.{Says}
+use Rattle.commands.specs.Words.{given_value}
 use Rattle.commands.specs.declared.held_book.HeldBook.{HeldBook}
 
 -- the reply says that the code is right
@@ -62,3 +66,27 @@ AnswersFirstLines name moment input old new =
     ((last : List (List ℕ)) × (all_passed : Bool) × LinesInTurn (AnswersLine name moment) input last old all_passed new)
     ⊎ ((line : List ℕ) × (last : List (List ℕ)) × (all_passed : Bool) × (there : VerifyRun)
     × LinesInTurn (AnswersLine name moment) input (line ∷ last) old all_passed there × FailsAtLine name moment line there new)
+
+-- a run of `verify` begins, at the moment that the words give: it holds a book whose text its store has, and this is printed
+pub record BeginsToVerify (words : ArgMatches) (printed : Option (List ℕ)) (moment : ℕ) (run : VerifyRun) : Type 0 where
+  pub is_moment : given_value words option.Moment ≡ decimal moment
+  pub is_text : IsBookText run.held.store.saved run.held.book
+  pub is_printed : run.printed ≡ printed
+
+-- a run begins, and each line of the input is answered by the token of the name that the words give
+pub record VerifiesAllLines (words : ArgMatches) (input old : Option (List ℕ)) (all_passed : Bool) (new : Option (List ℕ)) : Type 0 where
+  pub moment : ℕ
+  pub first : VerifyRun
+  pub last : VerifyRun
+  pub begins : BeginsToVerify words old moment first
+  pub answers : AnswersAllLines (given_value words option.Name) moment input first all_passed last
+  pub printed : last.printed ≡ new
+
+-- a run begins, and the first lines of the input are answered so; then comes a fault
+pub record VerifiesFirstLines (words : ArgMatches) (input old new : Option (List ℕ)) : Type 0 where
+  pub moment : ℕ
+  pub first : VerifyRun
+  pub last : VerifyRun
+  pub begins : BeginsToVerify words old moment first
+  pub answers : AnswersFirstLines (given_value words option.Name) moment input first last
+  pub printed : last.printed ≡ new

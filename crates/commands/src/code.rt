@@ -1,6 +1,9 @@
 //! The command `code`: prints the one-time code of a counter or a moment.
-ghost use Rattle.std.specs.Prelude.{◌≡◌, IfErr, IfOk};
-ghost use Rattle.commands.specs.Code.{IsCodeFor, IsTooEarly};
+ghost use Rattle.std.specs.Prelude.{◌≡◌, ◌++◌, ◌∷◌, [], ℕ, List, None, IfErr, IfOk, OnOk, IsErrOf};
+ghost use Rattle.std.specs.Str.{byte};
+ghost use Rattle.std.specs.Io.KnownBytes.{Appends};
+ghost use Rattle.commands.specs.Code.{IsCodeFor, IsTooEarly, IsFactorAsked, IsCodeAsked, IsAskedTooEarly};
+ghost use Rattle.commands.specs.Words.{value_of};
 
 use crate::moving_factor::{MovingFactor, Steps};
 use crate::words::{given, optional};
@@ -26,7 +29,12 @@ fn answer(secret: &Secret, digits: Digits, factor: &MovingFactor) -> Result<Code
 }
 
 // Judges the options that say which code is meant, in their order.
-fn judge(words: &ArgMatches<'_>) -> Result<MovingFactor, Fault> {
+fn judge(words: &ArgMatches<'_>) -> Result<MovingFactor, Fault>
+    ensures asked { IfOk result (IsFactorAsked words.now) }
+    ensures nothing { IsErrOf result Fault.NoCounterOrMoment
+        → (value_of words.now OptionName.Counter ≡ None) × (value_of words.now OptionName.Moment ≡ None) }
+    ensures in_time { IsErrOf result Fault.BeforeFirstStep → ⊥ }
+{
     let counter = match optional(words, OptionName::Counter) {
         Some(text) => Some(value::within(OptionName::Counter, text, 0, MOST_COUNTER)?),
         None => None,
@@ -57,9 +65,24 @@ fn judge(words: &ArgMatches<'_>) -> Result<MovingFactor, Fault> {
 
 /// Judges the options in their order and prints the code. Faults: BadValue, NoCounterOrMoment and
 /// BeforeFirstStep, in this order, CannotWriteOutput and NoMemory.
-pub fn code<O: Write>(alloc: Global, words: &ArgMatches<'_>, output: &mut O) -> Result<(), Fault> {
+pub fn code<O: Write>(alloc: Global, words: &ArgMatches<'_>, output: &mut O) -> Result<(), Fault>
+    ensures printed { OnOk result ((code : List ℕ) × IsCodeAsked words.now code
+        × Appends (O.contents output.old) (O.contents output.new) (code ++ byte "\n" ∷ [])) }
+    ensures early { IsErrOf result Fault.BeforeFirstStep → IsAskedTooEarly words.now }
+    ensures nothing { IsErrOf result Fault.NoCounterOrMoment
+        → (value_of words.now OptionName.Counter ≡ None) × (value_of words.now OptionName.Moment ≡ None) }
+{
     let secret = value::secret(alloc, given(words, OptionName::Secret))?;
     let digits = value::digits(given(words, OptionName::Digits))?;
-    let code = answer(&secret, digits, &judge(words)?)?;
-    writeln!(output, "{}", code.text()).map_err(|_| Fault::CannotWriteOutput)
+    let factor = judge(words)?;
+    let code = answer(&secret, digits, &factor)?;
+    print_code(code.text(), output)
+}
+
+// Prints a code and an LF. The only fault is CannotWriteOutput.
+fn print_code<O: Write>(code: &str, output: &mut O) -> Result<(), Fault>
+    ensures printed { OnOk result (Appends (O.contents output.old) (O.contents output.new) (code.now ++ byte "\n" ∷ [])) }
+    ensures err { IfErr result (λ fault. fault ≡ Fault.CannotWriteOutput) }
+{
+    writeln!(output, "{code}").map_err(|_| Fault::CannotWriteOutput)
 }

@@ -1,7 +1,15 @@
 //! The command `enrol`: adds an account with a password to a book.
-ghost use Rattle.std.specs.Prelude.{◌≡◌, ◌≤◌};
+ghost use Rattle.std.specs.Prelude.{◌≡◌, ◌≤◌, ◌++◌, ◌∷◌, [], ℕ, List, codes, IfOk, IfErr, IfSome, OnOk, string_bytes};
+ghost use Rattle.std.specs.Fmt.{decimal};
+ghost use Rattle.std.specs.Io.KnownBytes.{Appends, Consumes};
+ghost use Rattle.std.specs.Str.{byte};
+ghost use Rattle.scram_text.specs.Class.{IsPassword};
+ghost use Rattle.book_format.specs.Trees.{IsBookText};
+ghost use Rattle.commands.specs.Enrol.{EnrolsAsked, IsReadOrNew, SavesAccount, TakesSalts};
+ghost use Rattle.commands.specs.Input.{IsFirstLine};
+ghost use Rattle.commands.specs.Words.{given_value};
 
-use crate::held_book::HeldBook;
+use crate::held_book::{HeldBook, Seen};
 use crate::progress::Watched;
 use crate::prompt::{PASSWORD, Typed, ask};
 use crate::random::Random;
@@ -15,7 +23,7 @@ use command_line::{Fault, value};
 use scram_text::{Password, PlainName, Salt};
 use std::alloc::Global;
 use std::fs::Files;
-use std::io::Write;
+use std::io::{Read, Write};
 use std::time::Clock;
 
 /// The iteration count of a new book's decoys; it is the default of `--count` too.
@@ -48,18 +56,53 @@ where
     I: Typed,
     O: Write,
     E: Watched,
+    ensures { OnOk result (EnrolsAsked R.File.remaining words.now (I.remaining input.old) (O.contents output.old) (O.contents output.new)) }
 {
     let asked = judge(rt.alloc(), words, input, faults)?;
     let path = given(words, OptionName::Book);
     let seen = held_book::read_and_release(rt, path, faults)?;
     let mut random = Random::open(rt, given(words, OptionName::Random))?;
-    let (book, text) = match seen {
-        Some(seen) => (seen.book, Some(seen.text)),
-        None => (Book::new(rt.alloc(), random.bytes()?, DECOY_COUNT), None),
-    };
-    let salts = (salt(random.bytes()?), salt(random.bytes()?));
+    let (book, text) = seen_or_new(rt.alloc(), seen, &mut random)?;
+    let salts = two_salts(&mut random)?;
     save(rt, path, book, text, &asked, &salts, faults)?;
-    writeln!(output, "enrolled {}", asked.name.text()).map_err(|_| Fault::CannotWriteOutput)
+    print_enrolled(asked.name.text(), output)
+}
+
+// The book that was seen and its text; or, where there was no file, a new book, whose key is the next random bytes.
+fn seen_or_new<F: Read + Drop>(
+    alloc: Global,
+    seen: Option<Seen>,
+    random: &mut Random<'_, F>,
+) -> Result<(Book, Option<String>), Fault>
+    requires { IfSome seen (λ seen. IsBookText (string_bytes seen.text) seen.book) }
+    ensures { IfOk result (λ found. (key : List ℕ) × Consumes (F.remaining random.old.file) (F.remaining random.new.file) key
+        × IsReadOrNew key found.0) }
+{
+    match seen {
+        Some(seen) => Ok((seen.book, Some(seen.text))),
+        None => {
+            let key = random.bytes()?;
+            Ok((Book::new(alloc, key, DECOY_COUNT), None))
+        }
+    }
+}
+
+// Two salts of random bytes, for SCRAM-SHA-1 and for SCRAM-SHA-256.
+fn two_salts<F: Read + Drop>(random: &mut Random<'_, F>) -> Result<(Salt, Salt), Fault>
+    ensures { IfOk result (λ salts. TakesSalts (F.remaining random.old.file) salts.0 salts.1 (F.remaining random.new.file)) }
+{
+    let first = salt(random.bytes()?);
+    let second = salt(random.bytes()?);
+    Ok((first, second))
+}
+
+// Prints that the account of this name is added. The only fault is CannotWriteOutput.
+fn print_enrolled<O: Write>(name: &str, output: &mut O) -> Result<(), Fault>
+    ensures printed { OnOk result (Appends (O.contents output.old) (O.contents output.new)
+        (codes "enrolled " ++ (name.now ++ byte "\n" ∷ []))) }
+    ensures err { IfErr result (λ fault. fault ≡ Fault.CannotWriteOutput) }
+{
+    writeln!(output, "enrolled {name}").map_err(|_| Fault::CannotWriteOutput)
 }
 
 // Judges the options that describe the account, and reads the password.
@@ -68,7 +111,11 @@ fn judge<I: Typed, E: Watched>(
     words: &ArgMatches<'_>,
     input: &mut I,
     faults: &mut E,
-) -> Result<NewAccount, Fault> {
+) -> Result<NewAccount, Fault>
+    ensures name { IfOk result (λ asked. asked.name ≡ given_value words.now OptionName.Name) }
+    ensures count { IfOk result (λ asked. given_value words.now OptionName.Count ≡ decimal asked.count) }
+    ensures password { IfOk result (λ asked. IsFirstLine (I.remaining input.old) asked.password × IsPassword asked.password) }
+{
     let name = value::name(given(words, OptionName::Name))?;
     let count = value::count(given(words, OptionName::Count))?;
     ask(input, faults, PASSWORD);
@@ -88,7 +135,7 @@ fn judge<I: Typed, E: Watched>(
 fn save<R, E>(
     rt: &R,
     path: &str,
-    mut book: Book,
+    book: Book,
     text: Option<String>,
     asked: &NewAccount,
     salts: &(Salt, Salt),
@@ -98,10 +145,20 @@ where
     R: Files + Clock + AllocGlobal,
     R::File: Lockable,
     E: Write,
+    ensures { OnOk result (SavesAccount book asked.now.name asked.now.password salts.now.0 salts.now.1 asked.now.count) }
 {
     let (name, password, count) = (&asked.name, &asked.password, asked.count);
     let alloc = rt.alloc();
-    held_book::add(alloc, &mut book, name, password, &salts.0, &salts.1, count)?;
+    let mut with_account = book;
+    held_book::add(
+        alloc,
+        &mut with_account,
+        name,
+        password,
+        &salts.0,
+        &salts.1,
+        count,
+    )?;
     let held = match text {
         Some(_) => BookFile::hold(rt, path),
         None => BookFile::hold_or_make(rt, path),
@@ -114,7 +171,7 @@ where
         }
         _ => {
             let store = FileStore::new(file, text.unwrap_or(String::new(alloc)));
-            HeldBook::new(book, store, path).save(alloc)
+            HeldBook::new(with_account, store, path).save(alloc)
         }
     }
 }

@@ -1,5 +1,5 @@
 //! A book that this run holds, and its store: each change is saved before it is reported.
-ghost use Rattle.std.specs.Prelude.{◌≡◌, ◌≢◌, ◌≤◌, ◌⊎◌, ℕ, List, true, is_some, None, IfErr, IfOk, MatchOption, OnOk, OnErr, string_bytes};
+ghost use Rattle.std.specs.Prelude.{◌≡◌, ◌≢◌, ◌≤◌, ◌⊎◌, ℕ, List, true, is_some, None, IfErr, IfOk, IfSome, MatchOption, OnOk, OnErr, string_bytes};
 ghost use Rattle.book_format.specs.Reading.{IsFirstFault};
 ghost use Rattle.book_format.specs.Trees.{IsBookText};
 ghost use Rattle.book_format.specs.declared.fault.BookFault.{BookFault};
@@ -7,7 +7,7 @@ ghost use Rattle.account_book.specs.Accounts.{account_at};
 ghost use Rattle.account_book.specs.Tokens.{IsAnswered, token_at};
 ghost use Rattle.sasl_desk.specs.Keeper.{texts_of};
 ghost use Rattle.command_line.specs.Fault.{IsTokenFault, IsUnwritten, of_book};
-ghost use Rattle.commands.specs.HeldBook.{held_shown, CannotBeSaved, IsBookSaved, IsBookUnsaved, IsChangeUnsaved, IsEnrolled, IsAttemptAnswered, IsReplyUnsaved, IsUnlocked};
+ghost use Rattle.commands.specs.HeldBook.{held_shown, CannotBeSaved, IsBookSaved, IsBookUnsaved, IsChangeUnsaved, IsEnrolled, IsAttemptAnswered, IsReplyUnsaved, IsUnlocked, IsUnlockSaved};
 
 use crate::shown::Shown;
 use account_book::{Book, BookStore, BookWhy, EnrolFault, Reply};
@@ -49,6 +49,7 @@ where
     R: Files + Clock + AllocGlobal,
     R::File: Lockable,
     E: Write,
+    ensures { IfOk result (λ found. IfSome found (λ seen. IsBookText (string_bytes seen.text) seen.book)) }
 {
     let mut file = match BookFile::hold(rt, path) {
         Ok(file) => file,
@@ -73,6 +74,8 @@ where
     R: Files + Clock + AllocGlobal,
     R::File: Lockable,
     E: Write,
+    ensures text { IfOk result (λ held. IsBookText (⟦<FileStore<'r, R> as BookStore>⟧.facts held.store).saved held.book) }
+    ensures path { IfOk result (λ held. held.path.now ≡ path.now) }
 {
     let (file, text) = text_held(rt, path, BookFile::hold(rt, path), faults)?;
     match text {
@@ -289,12 +292,11 @@ impl<'a, S: BookStore> HeldBook<'a, S> {
     /// Sets the failures of the account's token to 0, and saves the book. Faults: NoSuchAccount, NoToken,
     /// CannotWrite and NoMemory.
     pub fn unlock(&mut self, alloc: Global, name: &PlainName) -> Result<(), Fault>
-        ensures unlocked { OnOk result (IsUnlocked name.now self.old.book self.new.book) }
+        ensures done { OnOk result (IsUnlockSaved name.now (held_shown S.facts self.old) (held_shown S.facts self.new)) }
         ensures err { IfErr result (IsTokenFault self.old.path.now (account_at self.old.book name.now)) }
         ensures unasked { IfErr result (λ fault. fault ≡ Fault.NoMemory → self.new.store ≡ self.old.store) }
         ensures unsaved { OnErr result (IsChangeUnsaved (held_shown S.facts self.old) (IsUnlocked name.now)
             (held_shown S.facts self.new)) }
-        ensures saved { OnOk result (IsBookSaved (S.facts self.old.store) self.new.book (S.facts self.new.store)) }
     {
         self.check_token(name)?;
         self.book.unlock(name);

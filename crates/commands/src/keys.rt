@@ -3,7 +3,7 @@ ghost use Rattle.std.specs.Prelude.{◌≡◌, ◌≤◌, ◌⊎◌, ℕ, List, 
 ghost use Rattle.std.specs.Io.KnownBytes.{Appends};
 ghost use Rattle.scram_text.specs.Class.{IsPassword};
 ghost use Rattle.commands.specs.Input.{IsFirstLine};
-ghost use Rattle.commands.specs.Keys.{printed_keys};
+ghost use Rattle.commands.specs.Keys.{printed_keys, PrintsKeysAsked};
 
 use crate::input;
 use crate::progress::Watched;
@@ -75,7 +75,9 @@ pub fn keys<I: Typed, O: Write, E: Watched>(
     input: &mut I,
     output: &mut O,
     faults: &mut E,
-) -> Result<(), Fault> {
+) -> Result<(), Fault>
+    ensures { OnOk result (PrintsKeysAsked words.now (I.remaining input.old) (O.contents output.old) (O.contents output.new)) }
+{
     let mechanism = value::mechanism(given(words, OptionName::Mechanism))?;
     let salt = value::salt(alloc, given(words, OptionName::Salt))?;
     let count = value::count(given(words, OptionName::Count))?;

@@ -1,9 +1,12 @@
 //! The command `login`: logs a user in to a service over a book, and prints the service's log.
-ghost use Rattle.std.specs.Prelude.{◌≡◌, true, Ok, OnOk, OnErr};
+ghost use Rattle.std.specs.Prelude.{◌≡◌, true, ℕ, List, Option, Ok, OnOk, OnErr};
+ghost use Rattle.book_format.specs.Book.{BookFields};
+ghost use Rattle.log_grammar.specs.Versions.{IsClean};
 ghost use Rattle.sasl_desk.specs.Desks.{phase_of};
 ghost use Rattle.sasl_desk.specs.declared.desk.state.Phase.TheVariants as Phase;
 ghost use Rattle.commands.specs.declared.login.client_end.Stage.{Stage};
-ghost use Rattle.commands.specs.Login.{StaysItsLog, IsLogAfterFault, talked_by, IsInAndPasses};
+ghost use Rattle.commands.specs.Login.{IsDeskLog, StaysItsLog, IsLogAfterFault, talked_by, IsInAndPasses};
+ghost use Rattle.commands.specs.PrintedLog.{HasLog};
 
 mod client_end;
 mod code_line;
@@ -26,6 +29,7 @@ use command_line::value::OptionName;
 use command_line::{Fault, value};
 use moments::Moments;
 use otp_core::Moment;
+use sasl_desk::laws::log_is_clean;
 use sasl_log::{Sink, Source};
 use scram_text::{NoncePart, Password};
 use socket::Ends;
@@ -108,8 +112,11 @@ where
         (talked_by R.facts W.facts talk.old.wires.of_client) (talked_by R.facts W.facts talk.new.wires.of_client) }
     ensures log { OnOk result (StaysItsLog S.facts talk.old.desk (L.facts talk.old.log) talk.new.desk (L.facts talk.new.log)) }
     ensures closed { OnOk result (phase_of talk.new.desk.state ≡ Phase.Closed) }
+    ensures clean { OnOk result ((start : BookFields) (before : Option (List ℕ)) → IsDeskLog S.facts start before talk.old.desk (L.facts talk.old.log)
+        → HasLog IsClean start before (L.facts talk.new.log).given) }
     ensures after_fault { OnErr result (IsLogAfterFault S.facts talk.old.desk (L.facts talk.old.log) talk.new.desk (L.facts talk.new.log)) }
 {
+    log_is_clean::<S>();
     talk.greet(alloc, own)?;
     let passed = talk.log_in_and_send(alloc, client, lines)?;
     hang_up(alloc, talk, ends)?;

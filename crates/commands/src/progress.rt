@@ -1,4 +1,6 @@
 //! How far a log was read, shown to someone who waits at a terminal.
+ghost use Rattle.std.specs.Prelude.{◌≡◌};
+
 use std::io;
 use std::io::{BufWriter, IsTerminal, Read, Write};
 use std::time::{Clock, Instant};
@@ -90,12 +92,16 @@ pub struct Counted<'a, 'b, F, R, E> {
 
 impl<'a, 'b, F, R, E> Counted<'a, 'b, F, R, E> {
     /// The file, before anything was read from it.
-    pub fn new(file: F, progress: &'a mut Progress<'b, R, E>) -> Counted<'a, 'b, F, R, E> {
+    pub fn new(file: F, progress: &'a mut Progress<'b, R, E>) -> Counted<'a, 'b, F, R, E>
+        ensures { result.file ≡ file }
+    {
         Counted { file, progress }
     }
 }
 
 impl<F: Read, R: Clock, E: Watched> Read for Counted<'_, '_, F, R, E> {
+    ghost remaining = { λ counted. F.remaining counted.file };
+
     fn read(&mut self, buf: &mut [u8]) -> io::Result<usize> {
         let count = self.file.read(buf)?;
         self.progress.add(&buf[..count]);

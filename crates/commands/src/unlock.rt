@@ -1,4 +1,9 @@
 //! The command `unlock`: lets a token take codes again.
+ghost use Rattle.std.specs.Prelude.{◌≡◌, ◌++◌, ◌∷◌, [], codes, OnOk, IfErr};
+ghost use Rattle.std.specs.Str.{byte};
+ghost use Rattle.std.specs.Io.KnownBytes.{Appends};
+ghost use Rattle.commands.specs.HeldBook.{UnlocksAsked};
+
 use crate::held_book;
 use crate::words::given;
 use book_file::Lockable;
@@ -24,9 +29,19 @@ where
     R::File: Lockable,
     O: Write,
     E: Write,
+    ensures { OnOk result (UnlocksAsked words.now (O.contents output.old) (O.contents output.new)) }
 {
     let name = value::name(given(words, OptionName::Name))?;
     let mut held = held_book::open(rt, given(words, OptionName::Book), faults)?;
     held.unlock(rt.alloc(), &name)?;
-    writeln!(output, "unlocked {}", name.text()).map_err(|_| Fault::CannotWriteOutput)
+    print_unlocked(name.text(), output)
+}
+
+// Prints that the token of this name is unlocked. The only fault is CannotWriteOutput.
+fn print_unlocked<O: Write>(name: &str, output: &mut O) -> Result<(), Fault>
+    ensures printed { OnOk result (Appends (O.contents output.old) (O.contents output.new)
+        (codes "unlocked " ++ (name.now ++ byte "\n" ∷ []))) }
+    ensures err { IfErr result (λ fault. fault ≡ Fault.CannotWriteOutput) }
+{
+    writeln!(output, "unlocked {name}").map_err(|_| Fault::CannotWriteOutput)
 }

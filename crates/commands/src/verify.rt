@@ -1,7 +1,7 @@
 //! The command `verify`: judges each input line as a one-time code, or as two in a row.
-ghost use Rattle.std.specs.Prelude.{◌≡◌, ◌&&◌, IfErr, IfOk, OnOk, OnErr, string_bytes};
+ghost use Rattle.std.specs.Prelude.{◌≡◌, ◌⊎◌, ◌&&◌, IfErr, IfOk, OnOk, OnErr, string_bytes};
 ghost use Rattle.std.specs.Io.KnownBytes.{Appends};
-ghost use Rattle.commands.specs.Verify.{is_passed, printed_reply, run_of, IsLineAnswered, FailsAtLine, AnswersAllLines, AnswersFirstLines};
+ghost use Rattle.commands.specs.Verify.{is_passed, printed_reply, run_of, IsLineAnswered, FailsAtLine, AnswersAllLines, AnswersFirstLines, VerifiesAllLines, VerifiesFirstLines};
 
 use crate::held_book;
 use crate::held_book::HeldBook;
@@ -39,6 +39,10 @@ where
     I: Typed,
     O: Write,
     E: Watched,
+    ensures ok { IfOk result (λ all_passed. VerifiesAllLines words.now (I.remaining input.old) (O.contents output.old) all_passed
+        (O.contents output.new)) }
+    ensures err { OnErr result ((O.contents output.new ≡ O.contents output.old)
+        ⊎ VerifiesFirstLines words.now (I.remaining input.old) (O.contents output.old) (O.contents output.new)) }
 {
     let alloc = rt.alloc();
     let name = value::name(given(words, OptionName::Name))?;

@@ -1,4 +1,7 @@
 //! The command words, as `clap` reads them.
+ghost use Rattle.std.specs.Prelude.{◌≡◌, option_map};
+ghost use Rattle.commands.specs.Words.{value_of, given_value};
+
 use clap::{Arg, ArgAction, ArgMatches, Command};
 use command_line::value::OptionName;
 use std::alloc::{AllocError, Global};
@@ -331,12 +334,19 @@ pub fn scramotp<'a>(alloc: Global) -> Result<Command<'a>, AllocError> {
 }
 
 /// The value of an option, its default included, or None where none was given.
-pub fn optional<'a>(words: &ArgMatches<'a>, option: OptionName) -> Option<&'a str> {
+pub fn optional<'a>(words: &ArgMatches<'a>, option: OptionName) -> Option<&'a str>
+    ensures { option_map (λ text. text.now) result ≡ value_of words.now option }
+{
     let name = option.name();
     words.get_str(name)
 }
 
 /// The value of an option that is required or has a default.
-pub fn given<'a>(words: &ArgMatches<'a>, option: OptionName) -> &'a str {
-    optional(words, option).unwrap_or("")
+pub fn given<'a>(words: &ArgMatches<'a>, option: OptionName) -> &'a str
+    ensures { result.now ≡ given_value words.now option }
+{
+    match optional(words, option) {
+        Some(text) => text,
+        None => "",
+    }
 }

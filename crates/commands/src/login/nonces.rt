@@ -1,5 +1,5 @@
 //! The nonces of a login: those that the words give, or fresh random ones.
-ghost use Rattle.std.specs.Prelude.{◌≡◌, ℕ, List, Option, IfOk, IfErr, length};
+ghost use Rattle.std.specs.Prelude.{◌≡◌, ◌⊎◌, Some, IfOk, IfErr, length};
 ghost use Rattle.scram_text.specs.Base64Field.{base64};
 ghost use Rattle.commands.specs.Nonces.{TakesNonce, TakesNonces};
 
@@ -19,7 +19,9 @@ pub fn both<R: Files + AllocGlobal>(
     client: Option<NoncePart>,
     service: Option<NoncePart>,
 ) -> Result<(NoncePart, NoncePart), Fault>
-    ensures { IfOk result (λ nonces. (old : Option (List ℕ)) × (new : Option (List ℕ)) × TakesNonces old client service nonces new) }
+    // Both are given, or a file gives the bytes of each that is not, one after the other.
+    ensures { IfOk result (λ nonces. ((client ≡ Some nonces.0) × (service ≡ Some nonces.1))
+        ⊎ ((file : R.File) × (after : R.File) × TakesNonces (R.File.remaining file) client service nonces (R.File.remaining after))) }
 {
     match (client, service) {
         (Some(client), Some(service)) => Ok((client, service)),
