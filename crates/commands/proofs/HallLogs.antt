@@ -7,7 +7,7 @@ use Rattle.book_format.specs.Book.{BookFields}
 use Rattle.account_book.specs.Store.{StoreFacts}
 use Rattle.command_line.specs.Fault.{IsUnwritten}
 use Rattle.command_line.specs.declared.fault.Fault.{Fault}
-use Rattle.command_line.specs.declared.fault.Fault.TheVariants.{CannotWriteOutput, BadEvent}
+use Rattle.command_line.specs.declared.fault.Fault.TheVariants.{BadEvent}
 use Rattle.log_grammar.specs.Lines.{LogLine}
 use Rattle.log_grammar.specs.Numbered.{Numbered, numbered}
 use Rattle.sasl_log.specs.Sink.{SinkFacts}
@@ -19,6 +19,7 @@ use Rattle.sasl_desk.specs.declared.desk.state.Phase.{Phase}
 use Rattle.sasl_desk.specs.declared.hall.Hall.{Hall}
 use Rattle.sasl_desk.proofs.HallLaws.{hall_bytes_next}
 use Rattle.sasl_desk.proofs.HallSteps.{stands_reordered}
+use Rattle.commands.specs.PrintedLog.{IsUnsavedOrUnlogged}
 use Rattle.commands.specs.Hall.{InputEvent, opens, says, leaves, does_at, SaysEvent, SaysNothing, IsOfNobody, IsCallFor, IsHallLogOf, Hears}
 
 -- a call by which a hall heard an event added what was put into the log
@@ -76,9 +77,9 @@ hears_more facts events more old middle new a b c first second start before earl
     (second start before (events ++ earlier) (first start before earlier l))
 
 -- such a fault is no bad event
-pub not_bad : (path : List ℕ) (fault : Fault) → (IsUnwritten path fault ⊎ (fault ≡ CannotWriteOutput)) → fault ≡ BadEvent → ⊥
-not_bad path fault (inl unwritten) is = let wrong = subst (IsUnwritten path) is unwritten in cc wrong
-not_bad path fault (inr output) is = cc (output, is)
+pub not_bad : (path : List ℕ) (log : SinkFacts) (fault : Fault) → IsUnsavedOrUnlogged path log fault → fault ≡ BadEvent → ⊥
+not_bad path log fault (inl unwritten) is = let wrong = subst (IsUnwritten path) is unwritten in cc wrong
+not_bad path log fault (inr (output, failed)) is = cc (output, is)
 
 -- a client does something in a session that is not open
 pub of_nobody : {S : Type 0} (hall : HallFields S) (n : ℕ) (event : ClientEvent) (moment : ℕ) → phase_in hall n ≡ None

@@ -97,9 +97,10 @@ unwritten : (path : List ℕ) (fault : Fault) → fault ≡ OutOfMemory → IsUn
 unwritten path fault is = subst (λ (f : Fault). IsUnwritten path f) (sym is) refl
 
 -- a fault of serving is one of a turn
-pub turn_fault : (path : List ℕ) (fault : ServeFault) (result : Fault) → IsFaultOf path fault result → IsFaultInTurn path result
-turn_fault path Halted result is = inl is
-turn_fault path Unwritable result is = inl is
-turn_fault path NoMemory result is = inl (unwritten path result is)
-turn_fault path WriteFault result is = inr (inl is)
-turn_fault path LogFault result is = inr (inr is)
+pub turn_fault : {S : Type 0} (facts : S → StoreFacts) (moment : ℕ) (old new : Service S) (path : List ℕ) (fault : ServeFault) (result : Fault)
+    → IsTurnFault facts moment old new fault → IsFaultOf path fault result → IsFaultInTurn path new.log result
+turn_fault facts moment old new path Halted result served is = inr (inl is)
+turn_fault facts moment old new path Unwritable result served is = inr (inl is)
+turn_fault facts moment old new path NoMemory result served is = inr (inl (unwritten path result is))
+turn_fault facts moment old new path WriteFault result served is = inl is
+turn_fault facts moment old new path LogFault result (read, reads, undone) is = inr (inr (is, undone.failed))

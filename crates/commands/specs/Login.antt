@@ -1,7 +1,7 @@
 -- What the command `login` logs, what its client sends for the lines of its input, and when these pass.
-use Rattle.std.specs.Prelude.{ℕ, ◌≡◌, ◌⊎◌, ◌↔◌, Bool, true, List, [], ◌∷◌, ◌++◌, codes, take, IsTrue, IfSome}
+use Rattle.std.specs.Prelude.{ℕ, ◌≡◌, ◌≤◌, length, ◌⊎◌, ◌↔◌, Bool, true, List, [], ◌∷◌, ◌++◌, codes, take, IsTrue, IfSome}
 use Rattle.std.specs.Str.{byte}
-use Rattle.std.specs.Io.KnownBytes.{Appends, Consumes}
+use Rattle.std.specs.Io.KnownBytes.{Appends, Consumes, IsAtEnd}
 use Rattle.std.specs.declared.option.Option.{Option}
 use Rattle.std.specs.declared.option.Option.TheVariants.{Some}
 use Rattle.otp_core.specs.Attempt.{CodeTexts}
@@ -24,6 +24,7 @@ use Rattle.sasl_desk.specs.declared.fault.ServeFault.{ServeFault}
 use Rattle.sasl_desk.specs.declared.fault.ServeFault.TheVariants as serve
 use Rattle.commands.specs.ClientEnd.{IsLoggedIn}
 use Rattle.commands.specs.Input.{AreLinesOf, LinesInTurn}
+use Rattle.commands.specs.PrintedLog.{IsUnsavedOrUnlogged}
 use Rattle.commands.specs.Sent.{Says}
 use Rattle.commands.specs.declared.login.client_end.User.{User}
 use Rattle.commands.specs.declared.login.socket.Wire.{Wire}
@@ -43,6 +44,13 @@ StaysItsLog facts old log new log' =
 abbrev pub IsLogAfterFault : {S : Type 0} → (S → StoreFacts) → (old : Desk S) → (log : SinkFacts) → (new : Desk S) → (log' : SinkFacts) → Type 0
 IsLogAfterFault facts old log new log' = (log'.failed ≡ true) ⊎ StaysItsLog facts old log new log'
 
+-- a source gives no line of at most so many bytes with its LF: it has failed, or it has ended, or these bytes have no LF
+pub record GivesNoLine (most : ℕ) (old new : SourceFacts) : Type 0 where
+  pub begun : List ℕ
+  pub taken : Consumes old.left new.left begun
+  pub lacks : LacksLf begun
+  pub why : (new.failed ≡ true) ⊎ (IsAtEnd new.left ⊎ (most ≤ length begun))
+
 -- why a client is not served, as the command says it: the book, whose file has this path, can't be saved, the socket or the log
 -- has failed, or memory ran out
 abbrev pub IsFaultOf : (path : List ℕ) → ServeFault → Fault → Type 0
@@ -52,9 +60,9 @@ IsFaultOf path serve.NoMemory fault = fault ≡ NoMemory
 IsFaultOf path serve.WriteFault fault = fault ≡ Socket
 IsFaultOf path serve.LogFault fault = fault ≡ CannotWriteOutput
 
--- a turn's fault is one of these
-abbrev pub IsFaultInTurn : (path : List ℕ) → Fault → Type 0
-IsFaultInTurn path fault = IsUnwritten path fault ⊎ ((fault ≡ Socket) ⊎ (fault ≡ CannotWriteOutput))
+-- a turn's fault is one of these, and it is the log only where that has failed
+abbrev pub IsFaultInTurn : (path : List ℕ) → (log : SinkFacts) → Fault → Type 0
+IsFaultInTurn path log fault = (fault ≡ Socket) ⊎ IsUnsavedOrUnlogged path log fault
 
 -- what is sent for an input line, by what the line says: the line itself where it is two codes in a row, else `CODE ` and the
 -- line. No more than 6201 of its bytes are sent, and a line of the protocol has at most 6200.
