@@ -2,8 +2,8 @@
 mod folder;
 
 use account_book::{BookStore, StoreFault};
-use book_file::faulty::{Calls, Faulty};
 use book_file::{BookFile, FileStore, HoldFault};
+use faulty_files::{Calls, Faulty};
 use folder::has;
 use std::fs;
 use std::fs::{File, OpenFile, Permissions};

@@ -9,6 +9,7 @@ ghost use Rattle.sha2.proofs.Facts256.{length-sha256};
 ghost use Rattle.sha2.proofs.Facts512.{length-sha512};
 ghost use Rattle.mac_core.specs.Digest.{length-sha1};
 
+use crate::bytes::copy_of;
 use arrayvec::ArrayVec;
 use sha1::Sha1;
 use sha2::{Digest, Sha256, Sha512};
@@ -67,17 +68,6 @@ pub trait HashFn: Drop {
     ghost most_block: { BLOCK ≤ 128 };
 }
 
-/// These bytes as a tag.
-pub(crate) fn tag_from_bytes(bytes: &[u8]) -> Tag
-    requires { length bytes.now ≤ 64 }
-    ensures { result.items ≡ bytes.now }
-{
-    let Ok(tag) = Tag::try_from(bytes) else {
-        unreachable!()
-    };
-    tag
-}
-
 /// SHA-1: digests of 20 bytes, blocks of 64.
 #[derive(Drop)]
 pub struct HSha1 {
@@ -108,7 +98,7 @@ impl HashFn for HSha1 {
     }
 
     fn done(self) -> Tag {
-        tag_from_bytes(&self.hasher.finalize())
+        copy_of(&self.hasher.finalize())
     }
 
     fn copy(&self) -> HSha1 {
@@ -159,7 +149,7 @@ impl HashFn for HSha256 {
     }
 
     fn done(self) -> Tag {
-        tag_from_bytes(&self.hasher.finalize())
+        copy_of(&self.hasher.finalize())
     }
 
     fn copy(&self) -> HSha256 {
@@ -210,7 +200,7 @@ impl HashFn for HSha512 {
     }
 
     fn done(self) -> Tag {
-        tag_from_bytes(&self.hasher.finalize())
+        copy_of(&self.hasher.finalize())
     }
 
     fn copy(&self) -> HSha512 {

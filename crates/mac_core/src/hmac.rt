@@ -2,6 +2,7 @@
 ghost use Rattle.std.specs.Prelude.{◌≡◌, ◌-◌, ◌≤◌, ℕ, List, [], ◌++◌, length, replicate};
 ghost use Rattle.mac_core.specs.Hmac.{xor_each, padded_key, hmac, IsMacOf, IsPreparedFor};
 
+use crate::bytes::copy_of;
 use crate::digest::{HashFn, Tag};
 use arrayvec::ArrayVec;
 
@@ -21,9 +22,7 @@ fn zero_filled(key: &[u8], block: usize) -> Block
     requires most { block ≤ MOST_BLOCK }
     ensures { result.items ≡ key.now ++ replicate (block - length key.now) 0 }
 {
-    let Ok(mut filled) = Block::try_from(key) else {
-        unreachable!()
-    };
+    let mut filled: Block = copy_of(key);
     for i in key.len()..block {
         filled.push(0);
     }

@@ -3,7 +3,8 @@ ghost use Rattle.std.specs.Prelude.{◌≡◌, ◌≤◌, ℕ, List, ◌++◌, l
 ghost use Rattle.mac_core.specs.Hmac.{hmac, IsPreparedFor};
 ghost use Rattle.mac_core.specs.Keys.{xor_bytes, int_one, iterated, hi, salted_password, client_key, stored_key, server_key};
 
-use crate::digest::{HashFn, Tag, tag_from_bytes};
+use crate::bytes::copy_of;
+use crate::digest::{HashFn, Tag};
 use crate::hmac::Prepared;
 use crate::mac;
 
@@ -42,7 +43,7 @@ pub fn hi<H: HashFn>(password: &[u8], salt: &[u8], count: u32) -> Tag
 {
     let key = Prepared::<H>::new(password);
     let mut last = first_round(&key, salt);
-    let mut sum = tag_from_bytes(last.as_slice());
+    let mut sum = copy_of(last.as_slice());
     for round in 1..count {
         last = key.mac(last.as_slice());
         sum = xor(&sum, &last);
@@ -92,8 +93,8 @@ impl ScramKeys {
         ensures { result ≡ self.now }
     {
         ScramKeys {
-            stored: tag_from_bytes(self.stored.as_slice()),
-            server: tag_from_bytes(self.server.as_slice()),
+            stored: copy_of(self.stored.as_slice()),
+            server: copy_of(self.server.as_slice()),
         }
     }
 }

@@ -14,11 +14,13 @@
 ghost use Rattle.std.specs.Prelude.{◌≡◌, length};
 ghost use Rattle.mac_core.specs.Hmac.{hmac};
 
+mod bytes;
 mod digest;
 pub mod hmac;
 mod keys;
 mod mechanism;
 
+pub use bytes::copy_of;
 pub use digest::{HSha1, HSha256, HSha512, HashFn, Tag};
 pub use hmac::Prepared;
 pub use keys::{ScramKeys, client_key, hi, scram_keys, server_key, stored_key, xor};

@@ -5,6 +5,7 @@ ghost use Rattle.otp_core.specs.declared.fault.OtpFault.TheVariants.{SecretLengt
 
 use crate::fault::OtpFault;
 use arrayvec::ArrayVec;
+use mac_core::copy_of;
 use std::marker::Model;
 
 /// The key of a token's HMAC: 10 to 64 bytes. Contracts see it as the list of its bytes.
@@ -50,10 +51,9 @@ impl Secret {
     pub fn copy(&self) -> Secret
         ensures { result ≡ self.now }
     {
-        let Ok(bytes) = ArrayVec::try_from(self.bytes.as_slice()) else {
-            unreachable!()
-        };
-        Secret { bytes }
+        Secret {
+            bytes: copy_of(self.bytes.as_slice()),
+        }
     }
 }
 

@@ -2,8 +2,7 @@
 use Rattle.std.proofs.Common.{◌≡◌, ℕ, ◌≤◌, true, false, inl, inr, List, ◌++◌, length, length-append, sym, ◌∙◌, ap, subst, arith, eqb, append-nil}
 use Rattle.std.specs.Prelude.{◌≢◌}
 use Rattle.std.proofs.lemmas.List.{nil_from_length}
-use Rattle.std.proofs.lemmas.Bool.{eqb-true, both_ways}
-use Rattle.std.proofs.lemmas.Bool.Decides.{eqb_tells}
+use Rattle.std.proofs.lemmas.Bool.{eqb-true, eqb-false, both_ways}
 use Rattle.scram_text.specs.Messages.{ServerFirstParts, server_first_mandatory}
 use Rattle.scram_text.proofs.ServerFirstLemmas.{server_first_once}
 use Rattle.scram_ends.specs.Stages.{Started}
@@ -23,16 +22,10 @@ pub not_longer : (own nonce sent prefix rest : List ℕ) → sent ≡ nonce → 
 not_longer own nonce sent prefix rest same is cut empty =
     sym same ∙ (cut ∙ (ap (λ (back : List ℕ). prefix ++ back) (nil_from_length rest (eqb-true (length rest) 0 empty)) ∙ (append-nil prefix ∙ is)))
 
-some_length : (n : ℕ) → eqb n 0 ≡ false → 1 ≤ n
-some_length n h = elim (eqb_tells n 0) [
-  | inl none ↦ absurd (both_ways (eqb n 0) h none.0)
-  | inr other ↦ omega (arith, other.1)
-]
-
 pub longer : (own nonce sent prefix rest : List ℕ) → sent ≡ nonce → prefix ≡ own → sent ≡ prefix ++ rest
     → eqb (length rest) 0 ≡ false → (more : List ℕ) × (nonce ≡ own ++ more) × (1 ≤ length more)
 longer own nonce sent prefix rest same is cut some =
-    (rest, sym same ∙ (cut ∙ ap (λ (front : List ℕ). front ++ rest) is), some_length (length rest) some)
+    (rest, sym same ∙ (cut ∙ ap (λ (front : List ℕ). front ++ rest) is), omega (arith, eqb-false (length rest) 0 some))
 
 -- a challenge that is refused is not one to answer
 pub not_refused : (limits : Limits) (own server_first : List ℕ) (fault : ClientFault) (c : ServerFirstParts)

@@ -13,6 +13,7 @@ use Rattle.mac_core.specs.Keys.{xor_bytes}
 use Rattle.mac_core.specs.Mechanism.{hash_by, hmac_by}
 use Rattle.mac_core.specs.declared.mechanism.Mechanism.{Mechanism}
 use Rattle.mac_core.specs.declared.mechanism.Mechanism.TheVariants.{ScramSha1, ScramSha256}
+use Rattle.scram_text.proofs.DecisionLemmas.{same_cons}
 
 -- each element is a byte
 abbrev pub AreBytes : List ℕ → Type 0
@@ -62,11 +63,8 @@ length-xor (x ∷ xs) (y ∷ ys) same = ap suc (length-xor xs ys (omega (arith, 
 xor_twice : (x y : ℕ) → bit_xor (bit_xor x y) y ≡ x
 xor_twice x y = xor_assoc x y y ∙ (ap (bit_xor x) (xor_self y) ∙ xor_zero_r x)
 
-heads : (x z : ℕ) (xs zs : List ℕ) → x ≡ z → xs ≡ zs → x ∷ xs ≡ z ∷ zs
-heads x z xs zs e f = cc
-
 pub xor_back : (a b : List ℕ) → length a ≡ length b → xor_bytes (xor_bytes a b) b ≡ a
 unfolding xor_bytes
 xor_back [] ys same = refl
 xor_back (x ∷ xs) [] same = absurd (omega (arith, same))
-xor_back (x ∷ xs) (y ∷ ys) same = heads _ x _ xs (xor_twice x y) (xor_back xs ys (omega (arith, same)))
+xor_back (x ∷ xs) (y ∷ ys) same = same_cons _ x _ xs (xor_twice x y) (xor_back xs ys (omega (arith, same)))

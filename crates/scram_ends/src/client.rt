@@ -14,7 +14,7 @@ mod start;
 
 use arrayvec::ArrayVec;
 use mac_core::{Mechanism, Tag};
-use scram_text::{TextFault, WriteFault};
+use scram_text::{MOST_MESSAGE, TextFault, WriteFault};
 use thiserror::Error;
 
 /// A client that has sent nothing yet.
@@ -109,7 +109,7 @@ impl From<TextFault> for ClientFault {
 pub struct ClientOne {
     mechanism: Mechanism,
     limits: Limits,
-    bare: ArrayVec<u8, 2048>,
+    bare: ArrayVec<u8, MOST_MESSAGE>,
     header: ArrayVec<u8, 1536>,
     nonce: ArrayVec<u8, 256>,
 }

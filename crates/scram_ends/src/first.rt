@@ -6,7 +6,7 @@
 ghost use Rattle.std.specs.Prelude.{◌≡◌, ◌≤◌, ℕ, List, length, codes, IfOk, IfErr, IfSome, IfNone, ◌++◌};
 ghost use Rattle.std.specs.Bool.{OnTrue, OnFalse};
 ghost use Rattle.std.specs.declared.option.Option.{Option};
-ghost use Rattle.scram_text.specs.Messages.{ClientFirstParts, IsClientFirst};
+ghost use Rattle.scram_text.specs.Messages.{most_bytes, ClientFirstParts, IsClientFirst};
 ghost use Rattle.scram_text.specs.Shown.{flag_text};
 ghost use Rattle.scram_ends.specs.Opening.{IsNameOf, IsAuthzidOf, IsUnbound, IsTakenUp};
 ghost use Rattle.scram_ends.specs.First.{IsRefusedWith, ShowsTaken};
@@ -84,7 +84,7 @@ pub(crate) fn take_up(client_first: &[u8]) -> Result<Taken<'_>, FirstFault>
     ensures ok { IfOk result (λ taken. (first : ClientFirstParts) × IsClientFirst client_first.now first
         × ShowsTaken taken first) }
     ensures nonce { IfOk result (λ taken. length taken.nonce.now ≤ 256) }
-    ensures header { IfOk result (λ taken. length taken.header.now ≤ 2048) }
+    ensures header { IfOk result (λ taken. length taken.header.now ≤ most_bytes) }
     ensures err { IfErr result (λ fault. IsRefusedWith client_first.now fault) }
 {
     let message = read_client_first(client_first)?;

@@ -2,17 +2,7 @@
 ghost use Rattle.std.specs.Prelude.{◌≡◌, ◌≤◌, ◌+◌, ◌↔◌, ◌++◌, length, IsTrue};
 
 use arrayvec::ArrayVec;
-
-/// A copy of the bytes.
-pub(crate) fn copy_of<const N: usize>(bytes: &[u8]) -> ArrayVec<u8, N>
-    requires { length bytes.now ≤ N }
-    ensures { result.items ≡ bytes.now }
-{
-    let Ok(copy) = ArrayVec::try_from(bytes) else {
-        unreachable!()
-    };
-    copy
-}
+use mac_core::copy_of;
 
 /// The bytes of `front`, followed by those of `back`.
 pub(crate) fn concatenated<const N: usize>(front: &[u8], back: &[u8]) -> ArrayVec<u8, N>

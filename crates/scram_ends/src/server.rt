@@ -12,7 +12,7 @@
 //! has no keys as it refuses a wrong proof.
 ghost use Rattle.std.specs.Prelude.{◌≡◌, ◌≢◌, ◌≤◌, ◌<◌, ◌+◌, ◌↔◌, ℕ, List, ◌++◌, length, IsTrue, IfOk, IfErr, IsErrAnd, Contains};
 ghost use Rattle.std.specs.declared.option.Option.{Option};
-ghost use Rattle.scram_text.specs.Messages.{ClientFirstParts, bare_text, IsClientFirst, ClientFinalParts, IsServerFinal};
+ghost use Rattle.scram_text.specs.Messages.{most_bytes, ClientFirstParts, bare_text, IsClientFirst, ClientFinalParts, IsServerFinal};
 ghost use Rattle.scram_text.specs.Shown.{ShowsClientFinal};
 ghost use Rattle.scram_text.specs.Appended.{UnchangedOnErr, LacksRoom};
 ghost use Rattle.scram_ends.specs.Entry.{entry_of};
@@ -26,14 +26,14 @@ ghost use Rattle.scram_ends.specs.First.{IsRefusedWith, IsChallengeTo, ShowsOpen
 ghost use Rattle.scram_ends.specs.Faults.{first_refused_number};
 
 use crate::first::{FirstFault, Taken, take_up};
-use crate::fixed::{are_same, concatenated, copy_of};
+use crate::fixed::{are_same, concatenated};
 use crate::keys_view::KeysView;
 use crate::signing::Signing;
 use crate::verdict::{Judged, Refusal, Verdict};
 use crate::written::{write_challenge, write_judgement};
 use arrayvec::ArrayVec;
-use mac_core::Mechanism;
-use scram_text::{ClientFinal, NoncePart, PlainName, WriteFault, read_client_final};
+use mac_core::{Mechanism, copy_of};
+use scram_text::{ClientFinal, MOST_MESSAGE, NoncePart, PlainName, WriteFault, read_client_final};
 use std::alloc::Allocator;
 use thiserror::Error;
 
@@ -68,7 +68,7 @@ impl FirstRefused {
 #[derive(Drop)]
 pub struct ServerWait {
     nonce: ArrayVec<u8, 512>,
-    header: ArrayVec<u8, 2048>,
+    header: ArrayVec<u8, MOST_MESSAGE>,
     allowed: bool,
     signing: Option<Signing>,
     spent: Option<WriteFault>,
@@ -123,7 +123,7 @@ pub(crate) fn wait_for(
     challenge: &[u8],
 ) -> ServerWait
     requires nonce { length nonce.now ≤ 512 }
-    requires header { length taken.now.header.now ≤ 2048 }
+    requires header { length taken.now.header.now ≤ most_bytes }
     ensures { (client_first : List ℕ) (o : Opening)
         → IsOpening (entry_of view.now) client_first challenge.now o → ShowsOpening taken.now nonce.now o
         → StandsFor result (challenged_login (entry_of view.now) mechanism client_first challenge.now) }
@@ -251,7 +251,7 @@ impl ServerWait {
         ensures memory { IfErr result (λ r. (l : Challenged) → StandsFor self l
             → r.1 ≡ WriteFault.NoMemory) }
         ensures no_memory { IfErr result (λ r. (l : Challenged) → StandsFor self l
-            → (d : Due) × IsDue l client_final.now d × (length (due_text d) ≤ 2048)
+            → (d : Due) × IsDue l client_final.now d × (length (due_text d) ≤ most_bytes)
             × LacksRoom out.old (due_text d)) }
     {
         if let Some(fault) = self.spent {

@@ -8,8 +8,8 @@ ghost use Rattle.scram_ends.specs.Entry.{Keys, keys_of};
 ghost use Rattle.scram_ends.specs.Auth.{auth_front, server_signature, IsProof};
 ghost use Rattle.scram_ends.specs.Standing.{IsSigning};
 
-use crate::fixed::{are_same, copy_of};
-use mac_core::{Mechanism, ScramKeys, ScramMac, Tag, xor};
+use crate::fixed::are_same;
+use mac_core::{Mechanism, ScramKeys, ScramMac, Tag, copy_of, xor};
 
 /// StoredKey, and the two MACs of AuthMessage as far as it is known.
 #[derive(Drop)]
@@ -62,8 +62,8 @@ impl Signing {
     }
 }
 
-// A MAC that has taken in AuthMessage as far as the challenge.
-fn running(mechanism: Mechanism, key: &Tag, bare: &[u8], challenge: &[u8]) -> ScramMac
+/// A MAC that has taken in AuthMessage as far as client-final-message-without-proof.
+pub(crate) fn running(mechanism: Mechanism, key: &Tag, bare: &[u8], challenge: &[u8]) -> ScramMac
     ensures { IsScramMac mechanism result key.now.items
         (bare.now ++ byte "," ∷ [] ++ challenge.now ++ byte "," ∷ []) }
 {

@@ -3,13 +3,13 @@
 ghost use Rattle.std.specs.Prelude.{◌≡◌, ◌≤◌, ◌<◌, ℕ, List, [], length, OnOk, IsErrOf};
 ghost use Rattle.scram_text.specs.Class.{IsNonce};
 ghost use Rattle.scram_text.specs.Base64Field.{IsField};
-ghost use Rattle.scram_text.specs.Messages.{server_first_text, IsServerFirst, IsServerFinal};
+ghost use Rattle.scram_text.specs.Messages.{most_bytes, server_first_text, IsServerFirst, IsServerFinal};
 ghost use Rattle.scram_text.specs.Written.{server_first_of};
 ghost use Rattle.scram_text.specs.Appended.{IsAppended, LacksRoom};
 ghost use Rattle.scram_ends.specs.Verdict.{accept, refuse, due_of, final_due, due_text};
 
-use crate::fixed::copy_of;
 use crate::verdict::{Judged, Refusal};
+use mac_core::copy_of;
 use scram_text::{FinalResult, Salt, WriteFault, write_server_final, write_server_first};
 use std::alloc::Allocator;
 
@@ -55,7 +55,7 @@ pub(crate) fn write_judgement<A: Allocator>(
         → (signature : List ℕ) × (due_of judged.now ≡ accept signature) × (length signature ≡ 0) }
     ensures over_limit { IsErrOf result WriteFault.OverLimit → ⊥ }
     ensures no_memory { let text = due_text (due_of judged.now) in IsErrOf result WriteFault.NoMemory
-        → (length text ≤ 2048) × LacksRoom out.old text }
+        → (length text ≤ most_bytes) × LacksRoom out.old text }
 {
     match judged {
         Judged::Accepted(signature) => write_signature(signature.as_slice(), out),
@@ -71,7 +71,7 @@ fn write_signature<A: Allocator>(signature: &[u8], out: &mut Vec<u8, A>) -> Resu
     ensures unwritable { IsErrOf result WriteFault.Unwritable → length signature.now ≡ 0 }
     ensures over_limit { IsErrOf result WriteFault.OverLimit → ⊥ }
     ensures no_memory { let text = due_text (accept signature.now) in IsErrOf result WriteFault.NoMemory
-        → (length text ≤ 2048) × LacksRoom out.old text }
+        → (length text ≤ most_bytes) × LacksRoom out.old text }
 {
     write_server_final(FinalResult::Verifier(copy_of(signature)), b"", out)
 }
@@ -83,7 +83,7 @@ fn write_refusal<A: Allocator>(refusal: Refusal, out: &mut Vec<u8, A>) -> Result
     ensures unwritable { IsErrOf result WriteFault.Unwritable → ⊥ }
     ensures over_limit { IsErrOf result WriteFault.OverLimit → ⊥ }
     ensures no_memory { let text = due_text (refuse refusal) in IsErrOf result WriteFault.NoMemory
-        → (length text ≤ 2048) × LacksRoom out.old text }
+        → (length text ≤ most_bytes) × LacksRoom out.old text }
 {
     let value = refusal.error_value().as_bytes();
     write_server_final(FinalResult::ErrorValue(value), b"", out)

@@ -20,13 +20,12 @@ use Rattle.scram_text.specs.declared.fault.TextWhy.{TextWhy}
 use Rattle.scram_text.specs.declared.fault.TextWhy.TheVariants.{TooLong, NotText, Missing, Flag, Authzid, Mandatory, Name, Nonce, Salt, Count, Channel, Extension, Proof, Verifier, ErrorValue}
 use Rattle.scram_text.proofs.Base64Lemmas.{base64_lacks}
 use Rattle.scram_text.proofs.CountLemmas.{below_64}
+use Rattle.scram_text.proofs.NameLemmas.{heads}
 use Rattle.scram_text.proofs.PlaceLemmas.{AllFit}
 
-same_cons : (x y : ℕ) (xs ys : List ℕ) → x ≡ y → xs ≡ ys → x ∷ xs ≡ y ∷ ys
+-- equal heads and equal tails make equal lists
+pub same_cons : (x y : ℕ) (xs ys : List ℕ) → x ≡ y → xs ≡ ys → x ∷ xs ≡ y ∷ ys
 same_cons x y xs ys head tail = cc
-
-heads_same : (x y : ℕ) (xs ys : List ℕ) → x ∷ xs ≡ y ∷ ys → (x ≡ y) × (xs ≡ ys)
-heads_same x y xs ys same = (cc, cc)
 
 pub run_decided : (test : ℕ → Bool) (most : ℕ) (bytes : List ℕ) → Decided (IsRunOf test most bytes)
 run_decided test most bytes =
@@ -101,13 +100,13 @@ spells_field_decided most value = field_decided_by most value (reading value) re
 -- a part with a letter is decided with its value
 headed_decided : (letter : ℕ) (class : List ℕ → Type 0) (part : List ℕ) → ((value : List ℕ) → Decided (class value)) → Decided (IsHeaded letter class part)
 headed_decided letter class [] each = inr (λ (value, spelled, is). cc spelled)
-headed_decided letter class (a ∷ []) each = inr (λ (value, spelled, is). let none = (heads_same a letter [] (61 ∷ value) spelled).1 in cc none)
+headed_decided letter class (a ∷ []) each = inr (λ (value, spelled, is). let none = (heads a letter [] (61 ∷ value) spelled).1 in cc none)
 headed_decided letter class (a ∷ b ∷ value) each =
     decided_by ((a ≡ letter) × ((b ≡ 61) × class value)) (IsHeaded letter class (a ∷ b ∷ value))
     (λ h. (value, same_cons a letter (b ∷ value) (61 ∷ value) h.0 (same_cons b 61 value value h.1.0 refl), h.1.1))
     (λ (v, spelled, is).
-    let first = heads_same a letter (b ∷ value) (61 ∷ v) spelled in
-    let second = heads_same b 61 value v first.1 in
+    let first = heads a letter (b ∷ value) (61 ∷ v) spelled in
+    let second = heads b 61 value v first.1 in
     (first.0, (second.0, subst class (sym second.1) is)))
     (decided_both _ _ (decided_nat a letter) (decided_both _ _ (decided_nat b 61) (each value)))
 

@@ -1,12 +1,12 @@
--- A message that is composed piece by piece.
+-- A text that is composed piece by piece.
 use Rattle.std.specs.Prelude.{ℕ, ◌≡◌, ◌<◌, true, false, List, [], ◌∷◌, length}
 use Rattle.std.specs.Str.{byte}
 use Rattle.scram_text.specs.declared.draft.Draft.{Draft}
 
--- the draft stands for this text: it holds it, or the text has more than 2048 bytes
-pub record IsDraftOf (draft : Draft) (text : List ℕ) : Type 0 where
+-- the draft stands for this text: it holds it, or the text has more bytes than such a draft holds
+pub record IsDraftOf {most : ℕ} (draft : Draft most) (text : List ℕ) : Type 0 where
   pub held : draft.over ≡ false → draft.text.items ≡ text
-  pub over : draft.over ≡ true → 2048 < length text
+  pub over : draft.over ≡ true → most < length text
 
 -- a text that is not empty, with a comma before it
 abbrev pub after_comma : List ℕ → List ℕ

@@ -4,7 +4,7 @@ use Rattle.std.specs.Str.{byte}
 use Rattle.std.specs.Option.{option_copied}
 use Rattle.scram_text.specs.Class.{IsText, IsNonce}
 use Rattle.scram_text.specs.Name.{IsSaslName}
-use Rattle.scram_text.specs.Messages.{ClientFirstParts, bare_parts, client_first_mandatory}
+use Rattle.scram_text.specs.Messages.{most_bytes, ClientFirstParts, bare_parts, client_first_mandatory}
 use Rattle.std.specs.declared.option.Option.{Option}
 use Rattle.scram_text.specs.Parts.{parts, parts_of_some, mext_parts, joined, IsValue, is_headed, AreExtensions}
 use Rattle.scram_text.specs.Faults.{IsFirstMisfit, places, first_of, marked_places}
@@ -19,14 +19,14 @@ use Rattle.scram_text.specs.declared.fault.TextWhy.TheVariants.{Name, Nonce}
 
 -- the parts of a text that may be client-final
 pub record IsCutFinal (message : List ℕ) (pieces : Pieces) : Type 0 where
-  pub short : length message ≤ 2048
+  pub short : length message ≤ most_bytes
   pub is_text : IsText message
   pub whole : message ≡ pieces.without_proof.now ++ byte "," ∷ pieces.proof.now
   pub cut : parts pieces.without_proof.now ≡ pieces.channel.now ∷ pieces.nonce.now ∷ parts_of_some (option_copied pieces.rest)
   pub cut_whole : parts message ≡ pieces.channel.now ∷ pieces.nonce.now ∷ (parts_of_some (option_copied pieces.rest) ++ pieces.proof.now ∷ [])
   pub count : pieces.count ≡ length (parts message)
   pub few : length (parts message) ≤ 2049
-  pub channel_len : length pieces.channel.now ≤ 2048
+  pub channel_len : length pieces.channel.now ≤ most_bytes
 
 -- parts are a mandatory extension, where they begin with "m=", and the others
 pub record IsMarked (pieces rest : List (List ℕ)) (mext : Option (List ℕ)) : Type 0 where
@@ -41,7 +41,7 @@ IsMextMisfit k pieces f =
 
 -- the parts of a text that may be server-first
 pub record IsCutServer (message : List ℕ) (pieces : ServerPieces) : Type 0 where
-  pub short : length message ≤ 2048
+  pub short : length message ≤ most_bytes
   pub is_text : IsText message
   pub mext : Option (List ℕ)
   pub marked : IsMarked (parts message) (pieces.nonce.now ∷ pieces.salt.now ∷ pieces.count.now ∷ parts_of_some (option_copied pieces.rest)) mext
@@ -51,7 +51,7 @@ pub record IsCutServer (message : List ℕ) (pieces : ServerPieces) : Type 0 whe
 
 -- the parts of a text that may be client-first
 pub record IsCutFirst (message : List ℕ) (pieces : FirstPieces) : Type 0 where
-  pub short : length message ≤ 2048
+  pub short : length message ≤ most_bytes
   pub is_text : IsText message
   pub header : message ≡ pieces.header.now ++ pieces.bare.now
   pub header_parts : pieces.header.now ≡ pieces.flag.now ++ byte "," ∷ (pieces.authzid.now ++ byte "," ∷ [])

@@ -10,7 +10,7 @@
 ghost use Rattle.std.specs.Prelude.{◌≡◌, ◌≤◌, ◌<◌, ◌+◌, ◌↔◌, ℕ, List, [], ◌++◌, length, IsTrue, IfOk, IfErr, OnOk, IsOkAnd, IsErrOf};
 ghost use Rattle.scram_text.specs.Class.{IsText};
 ghost use Rattle.scram_text.specs.Base64Field.{IsField};
-ghost use Rattle.scram_text.specs.Messages.{ClientFinalParts, client_final_without_proof, client_final_text, IsClientFinal};
+ghost use Rattle.scram_text.specs.Messages.{most_bytes, ClientFinalParts, client_final_without_proof, client_final_text, IsClientFinal};
 ghost use Rattle.scram_text.specs.Draft.{IsDraftOf};
 ghost use Rattle.scram_text.specs.Written.{client_final_of, CanBeClientFinal, CanBeWithoutProof, IsWithoutProof};
 ghost use Rattle.scram_text.specs.Faults.{IsClientFinalFault};
@@ -18,9 +18,9 @@ ghost use Rattle.scram_text.specs.Shown.{ShowsClientFinal};
 ghost use Rattle.scram_text.specs.Pieces.{IsCutFinal};
 ghost use Rattle.scram_text.specs.Appended.{UnchangedOnErr, IsAppended, LacksRoom};
 
-use crate::draft::Draft;
+use crate::draft::MessageDraft;
 use crate::fault::{TextFault, TextWhy, WriteFault};
-use crate::{class, cut, field};
+use crate::{MOST_MESSAGE, class, cut, field};
 use arrayvec::ArrayVec;
 use mac_core::Tag;
 use std::alloc::Allocator;
@@ -142,7 +142,7 @@ fn pieces_of(message: &[u8]) -> Result<Pieces<'_>, TextFault>
 /// It does not keep its parts, so its contracts say which ones it stands for.
 #[derive(Drop)]
 pub struct ClientFinalWithoutProof {
-    text: ArrayVec<u8, 2048>,
+    text: ArrayVec<u8, MOST_MESSAGE>,
 }
 
 impl ClientFinalWithoutProof {
@@ -162,7 +162,7 @@ impl ClientFinalWithoutProof {
             → CanBeWithoutProof channel.now nonce.now extensions.now → ⊥ }
         ensures over_limit { IsErrOf result WriteFault.OverLimit
             → CanBeWithoutProof channel.now nonce.now extensions.now
-            × (2048 < length (client_final_without_proof (client_final_of channel.now nonce.now extensions.now []))) }
+            × (most_bytes < length (client_final_without_proof (client_final_of channel.now nonce.now extensions.now []))) }
         ensures no_memory { IsErrOf result WriteFault.NoMemory → ⊥ }
     {
         if !is_writable(channel, nonce, extensions) {
@@ -199,7 +199,7 @@ impl ClientFinalWithoutProof {
         ensures unwritable { IsErrOf result WriteFault.Unwritable → IsField 64 proof.now.items → ⊥ }
         ensures over_limit { IsErrOf result WriteFault.OverLimit → IsField 64 proof.now.items
             × ((p : ClientFinalParts) → IsWithoutProof self p → p.proof ≡ proof.now.items
-            → 2048 < length (client_final_text p)) }
+            → most_bytes < length (client_final_text p)) }
         ensures no_memory { IsErrOf result WriteFault.NoMemory
             → (p : ClientFinalParts) → IsWithoutProof self p → p.proof ≡ proof.now.items
             → IsClientFinal (client_final_text p) p
@@ -212,14 +212,14 @@ impl ClientFinalWithoutProof {
         self.with_proof(proof).append_to(out)
     }
 
-    fn with_proof(self, proof: &[u8]) -> Draft
+    fn with_proof(self, proof: &[u8]) -> MessageDraft
         requires { IsField 64 proof.now }
         ensures draft { (p : ClientFinalParts) → IsWithoutProof self p → p.proof ≡ proof.now
             → IsDraftOf result (client_final_text p) }
         ensures related { (p : ClientFinalParts) → IsWithoutProof self p → p.proof ≡ proof.now
-            → length (client_final_text p) ≤ 2048 → IsClientFinal (client_final_text p) p }
+            → length (client_final_text p) ≤ most_bytes → IsClientFinal (client_final_text p) p }
     {
-        let mut draft = Draft::of(self.text);
+        let mut draft = MessageDraft::of(self.text);
         draft.add(b",p=");
         draft.add_base64(proof);
         draft
@@ -232,14 +232,14 @@ fn is_writable(channel: &[u8], nonce: &[u8], extensions: &[u8]) -> bool
     field::is_field(channel, 1536) && class::is_nonce(nonce, 512) && cut::are_extensions(extensions)
 }
 
-fn draft_of(channel: &[u8], nonce: &[u8], extensions: &[u8]) -> Draft
+fn draft_of(channel: &[u8], nonce: &[u8], extensions: &[u8]) -> MessageDraft
     requires { CanBeWithoutProof channel.now nonce.now extensions.now }
     ensures draft { (proof : List ℕ) → IsDraftOf result
         (client_final_without_proof (client_final_of channel.now nonce.now extensions.now proof)) }
     ensures is_text { (proof : List ℕ)
         → IsText (client_final_without_proof (client_final_of channel.now nonce.now extensions.now proof)) }
 {
-    let mut draft = Draft::new();
+    let mut draft = MessageDraft::new();
     draft.add(b"c=");
     draft.add_base64(channel);
     draft.add(b",r=");
@@ -269,7 +269,7 @@ pub fn write_client_final<A: Allocator>(
         → CanBeClientFinal channel.now nonce.now extensions.now proof.now.items → ⊥ }
     ensures over_limit { IsErrOf result WriteFault.OverLimit
         → CanBeClientFinal channel.now nonce.now extensions.now proof.now.items
-        × (2048 < length (client_final_text (client_final_of channel.now nonce.now extensions.now proof.now.items))) }
+        × (most_bytes < length (client_final_text (client_final_of channel.now nonce.now extensions.now proof.now.items))) }
     ensures no_memory { let p = client_final_of channel.now nonce.now extensions.now proof.now.items in
         IsErrOf result WriteFault.NoMemory → IsClientFinal (client_final_text p) p
         × LacksRoom out.old (client_final_text p) }

@@ -11,7 +11,7 @@ ghost use Rattle.std.specs.Prelude.{◌≡◌, ◌≤◌, ◌<◌, ◌+◌, [], 
 ghost use Rattle.std.specs.Option.{option_copied};
 ghost use Rattle.scram_text.specs.Name.{IsSaslName};
 ghost use Rattle.scram_text.specs.Parts.{parts, is_flag, authzid_text};
-ghost use Rattle.scram_text.specs.Messages.{ClientFirstParts, client_first_text, IsClientFirst};
+ghost use Rattle.scram_text.specs.Messages.{most_bytes, ClientFirstParts, client_first_text, IsClientFirst};
 ghost use Rattle.scram_text.specs.Faults.{IsClientFirstFault, IsAuthzid, fault, marked_places};
 ghost use Rattle.scram_text.specs.Shown.{ShowsClientFirst, flag_text};
 ghost use Rattle.scram_text.specs.Draft.{IsDraftOf};
@@ -19,7 +19,7 @@ ghost use Rattle.scram_text.specs.Written.{client_first_of, CanBeClientFirst};
 ghost use Rattle.scram_text.specs.Pieces.{IsCutFirst, IsCutBare, IsBare, ShowsBare, IsBareMisfit};
 ghost use Rattle.scram_text.specs.Appended.{IsAppended, LacksRoom};
 
-use crate::draft::Draft;
+use crate::draft::MessageDraft;
 use crate::fault::{TextFault, TextWhy, WriteFault};
 use crate::name::{PlainName, SaslText};
 use crate::secret::NoncePart;
@@ -262,7 +262,7 @@ pub fn write_client_first<A: Allocator>(
         → CanBeClientFirst flag.entry extensions.now → ⊥ }
     ensures over_limit { IsErrOf result WriteFault.OverLimit
         → CanBeClientFirst flag.entry extensions.now
-        × (2048 < length (client_first_text
+        × (most_bytes < length (client_first_text
         (client_first_of flag.entry (option_copied authzid.entry) name.now nonce.now extensions.now))) }
     ensures no_memory { let p = client_first_of flag.entry (option_copied authzid.entry) name.now nonce.now extensions.now in
         IsErrOf result WriteFault.NoMemory → IsClientFirst (client_first_text p) p
@@ -289,12 +289,12 @@ fn draft_of(
     name: &PlainName,
     nonce: &NoncePart,
     extensions: &[u8],
-) -> Draft
+) -> MessageDraft
     requires { CanBeClientFirst flag.now extensions.now }
     ensures draft { IsDraftOf result (client_first_text
         (client_first_of flag.now (option_copied authzid.entry) name.now nonce.now extensions.now)) }
     ensures related { let p = client_first_of flag.now (option_copied authzid.entry) name.now nonce.now extensions.now in
-        length (client_first_text p) ≤ 2048 → IsClientFirst (client_first_text p) p }
+        length (client_first_text p) ≤ most_bytes → IsClientFirst (client_first_text p) p }
 {
     let mut draft = flagged(flag);
     draft.add(b",");
@@ -307,10 +307,10 @@ fn draft_of(
     draft
 }
 
-fn flagged(flag: &Flag<'_>) -> Draft
+fn flagged(flag: &Flag<'_>) -> MessageDraft
     ensures { IsDraftOf result (flag_text flag.now) }
 {
-    let mut draft = Draft::new();
+    let mut draft = MessageDraft::new();
     match flag {
         Flag::NoBinding => draft.add(b"n"),
         Flag::NotOffered => draft.add(b"y"),

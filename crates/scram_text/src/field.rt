@@ -5,6 +5,7 @@ ghost use Rattle.base64.specs.Decode.{decoded_estimate};
 ghost use Rattle.scram_text.specs.Class.{IsNonce};
 ghost use Rattle.scram_text.specs.Name.{IsSaslName, LacksComma};
 ghost use Rattle.scram_text.specs.Base64Field.{base64, IsField};
+ghost use Rattle.scram_text.specs.Messages.{most_bytes};
 ghost use Rattle.scram_text.specs.Parts.{IsHeaded, IsValue, IsCount, SpellsCount, SpellsField};
 
 use crate::name::SaslText;
@@ -13,7 +14,7 @@ use crate::{class, cut, name};
 use arrayvec::ArrayVec;
 use base64::engine::general_purpose::STANDARD;
 use itoa::Buffer;
-use mac_core::Tag;
+use mac_core::{Tag, copy_of};
 
 /// The nonce of a part that is `r=` and 1 to `most` printable characters.
 pub(crate) fn nonce_of(part: &[u8], most: usize) -> Option<&[u8]>
@@ -101,7 +102,7 @@ fn is_decimal(digits: &[u8], number: u32) -> bool
 
 /// The bytes of a part that is `c=` and the base64 of 1 to 1536 bytes.
 pub(crate) fn channel_of(part: &[u8]) -> Option<ArrayVec<u8, 1536>>
-    requires { length part.now ≤ 2048 }
+    requires { length part.now ≤ most_bytes }
     ensures none { IfNone result (IsHeaded (byte "c") (SpellsField 1536) part.now → ⊥) }
     ensures spelled { IfSome result (λ channel. part.now ≡ codes "c=" ++ base64 channel.items) }
     ensures class { IfSome result (λ channel. IsField 1536 channel.items) }
@@ -131,17 +132,14 @@ pub(crate) fn salt_of(part: &[u8]) -> Option<Salt>
 }
 
 fn long_field(text: &[u8]) -> Option<ArrayVec<u8, 1536>>
-    requires { length text.now ≤ 2048 }
+    requires { length text.now ≤ most_bytes }
     ensures none { IfNone result (SpellsField 1536 text.now → ⊥) }
     ensures spelled { IfSome result (λ field. text.now ≡ base64 field.items) }
     ensures class { IfSome result (λ field. IsField 1536 field.items) }
 {
     let mut buffer = [0; 1536];
     let size = decode(text, &mut buffer)?;
-    let Ok(field) = ArrayVec::try_from(&buffer[..size]) else {
-        unreachable!()
-    };
-    Some(field)
+    Some(copy_of(&buffer[..size]))
 }
 
 // A text of more than 88 characters is the base64 of no field of 64 bytes.

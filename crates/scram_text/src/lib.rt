@@ -38,8 +38,12 @@ pub use client_final::{
     ClientFinal, ClientFinalWithoutProof, read_client_final, write_client_final,
 };
 pub use client_first::{ClientFirst, Flag, read_client_first, write_client_first};
+pub use draft::Draft;
 pub use fault::{TextFault, TextWhy, WriteFault};
 pub use name::{PlainName, SaslText, write_name};
 pub use secret::{NoncePart, Password, Salt};
 pub use server_final::{FinalResult, ServerFinal, read_server_final, write_server_final};
 pub use server_first::{ServerFirst, read_server_first, write_server_first};
+
+/// The most bytes of a message.
+pub const MOST_MESSAGE: usize = 2048;

@@ -7,9 +7,10 @@ ghost use Rattle.scram_text.specs.Name.{IsSaslName, LacksComma, SpellsName, esca
 ghost use Rattle.scram_text.specs.Appended.{IsAppended, LacksRoom};
 
 use crate::class;
-use crate::draft::Draft;
+use crate::draft::MessageDraft;
 use crate::fault::WriteFault;
 use arrayvec::ArrayVec;
+use mac_core::copy_of;
 use std::alloc::Allocator;
 use std::marker::Model;
 
@@ -38,10 +39,9 @@ impl PlainName {
         if !class::is_plain_run(bytes, 255) {
             return None;
         }
-        let Ok(bytes) = ArrayVec::try_from(bytes) else {
-            unreachable!()
-        };
-        Some(PlainName { bytes })
+        Some(PlainName {
+            bytes: copy_of(bytes),
+        })
     }
 
     /// The bytes of the name, 1 to 255.
@@ -67,10 +67,9 @@ impl PlainName {
     pub fn copy(&self) -> PlainName
         ensures { result ≡ self.now }
     {
-        let Ok(bytes) = ArrayVec::try_from(self.bytes()) else {
-            unreachable!()
-        };
-        PlainName { bytes }
+        PlainName {
+            bytes: copy_of(self.bytes()),
+        }
     }
 }
 
@@ -199,7 +198,7 @@ pub fn write_name<A: Allocator>(name: &PlainName, out: &mut Vec<u8, A>) -> Resul
     ensures no_memory { IfErr result (λ f. (f ≡ WriteFault.NoMemory)
         × LacksRoom out.old (name_spelling name.now)) }
 {
-    let mut draft = Draft::new();
+    let mut draft = MessageDraft::new();
     draft.add_name(name);
     draft.append_to(out)
 }

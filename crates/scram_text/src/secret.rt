@@ -5,6 +5,7 @@ ghost use Rattle.scram_text.specs.Class.{IsPassword, IsNoncePart, IsSalt};
 
 use crate::class;
 use arrayvec::ArrayVec;
+use mac_core::copy_of;
 use std::marker::Model;
 
 /// A password: 1 to 1024 bytes of 20 to 7E hex, which SASLprep (RFC 4013) leaves as they are.
@@ -30,10 +31,9 @@ impl Password {
         if !class::is_plain_run(bytes, 1024) {
             return None;
         }
-        let Ok(bytes) = ArrayVec::try_from(bytes) else {
-            unreachable!()
-        };
-        Some(Password { bytes })
+        Some(Password {
+            bytes: copy_of(bytes),
+        })
     }
 
     /// The bytes of the password, 1 to 1024.
@@ -68,10 +68,9 @@ impl NoncePart {
         if !class::is_nonce(bytes, 256) {
             return None;
         }
-        let Ok(bytes) = ArrayVec::try_from(bytes) else {
-            unreachable!()
-        };
-        Some(NoncePart { bytes })
+        Some(NoncePart {
+            bytes: copy_of(bytes),
+        })
     }
 
     /// The bytes of the nonce part, 1 to 256.
@@ -105,10 +104,9 @@ impl Salt {
         if bytes.is_empty() || 64 < bytes.len() {
             return None;
         }
-        let Ok(bytes) = ArrayVec::try_from(bytes) else {
-            unreachable!()
-        };
-        Some(Salt { bytes })
+        Some(Salt {
+            bytes: copy_of(bytes),
+        })
     }
 
     /// The bytes of the salt, 1 to 64.
@@ -123,9 +121,8 @@ impl Salt {
     pub fn copy(&self) -> Salt
         ensures { result ≡ self.now }
     {
-        let Ok(bytes) = ArrayVec::try_from(self.bytes()) else {
-            unreachable!()
-        };
-        Salt { bytes }
+        Salt {
+            bytes: copy_of(self.bytes()),
+        }
     }
 }

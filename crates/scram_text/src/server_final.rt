@@ -11,14 +11,14 @@ ghost use Rattle.scram_text.specs.Class.{IsText};
 ghost use Rattle.scram_text.specs.Name.{LacksComma};
 ghost use Rattle.scram_text.specs.Base64Field.{base64};
 ghost use Rattle.scram_text.specs.Parts.{is_headed};
-ghost use Rattle.scram_text.specs.Messages.{ServerFinalParts, IsServerFinal, IsVerifierOrError, verifier_or_error_text, server_final_text};
+ghost use Rattle.scram_text.specs.Messages.{most_bytes, ServerFinalParts, IsServerFinal, IsVerifierOrError, verifier_or_error_text, server_final_text};
 ghost use Rattle.scram_text.specs.Faults.{IsServerFinalFault, Fits, fault, result_place};
 ghost use Rattle.scram_text.specs.Shown.{ShowsServerFinal, verifier_or_error_of};
 ghost use Rattle.scram_text.specs.Draft.{IsDraftOf};
 ghost use Rattle.scram_text.specs.Written.{server_final_of, CanBeTold, CanBeServerFinal};
 ghost use Rattle.scram_text.specs.Appended.{IsAppended, LacksRoom};
 
-use crate::draft::Draft;
+use crate::draft::MessageDraft;
 use crate::fault::{TextFault, TextWhy, WriteFault};
 use crate::{class, cut, field};
 use mac_core::Tag;
@@ -131,7 +131,7 @@ pub fn write_server_final<A: Allocator>(
         → CanBeServerFinal (verifier_or_error_of outcome.entry) extensions.now → ⊥ }
     ensures over_limit { IsErrOf result WriteFault.OverLimit
         → CanBeServerFinal (verifier_or_error_of outcome.entry) extensions.now
-        × (2048 < length (server_final_text (server_final_of (verifier_or_error_of outcome.entry) extensions.now))) }
+        × (most_bytes < length (server_final_text (server_final_of (verifier_or_error_of outcome.entry) extensions.now))) }
     ensures no_memory { let p = server_final_of (verifier_or_error_of outcome.entry) extensions.now in
         IsErrOf result WriteFault.NoMemory → IsServerFinal (server_final_text p) p
         × LacksRoom out.old (server_final_text p) }
@@ -151,18 +151,18 @@ fn is_tellable(outcome: &FinalResult<'_>) -> bool
     }
 }
 
-fn draft_of(outcome: &FinalResult<'_>, extensions: &[u8]) -> Draft
+fn draft_of(outcome: &FinalResult<'_>, extensions: &[u8]) -> MessageDraft
     requires { CanBeServerFinal (verifier_or_error_of outcome.now) extensions.now }
     ensures draft { IsDraftOf result (server_final_text (server_final_of (verifier_or_error_of outcome.now) extensions.now)) }
     ensures related { let p = server_final_of (verifier_or_error_of outcome.now) extensions.now in
-        length (server_final_text p) ≤ 2048 → IsServerFinal (server_final_text p) p }
+        length (server_final_text p) ≤ most_bytes → IsServerFinal (server_final_text p) p }
 {
     let mut draft = told(outcome);
     draft.add_extensions(extensions);
     draft
 }
 
-fn told(outcome: &FinalResult<'_>) -> Draft
+fn told(outcome: &FinalResult<'_>) -> MessageDraft
     requires { CanBeTold (verifier_or_error_of outcome.now) }
     ensures draft { IsDraftOf result (verifier_or_error_text (verifier_or_error_of outcome.now)) }
     ensures is_text { IsText (verifier_or_error_text (verifier_or_error_of outcome.now)) }
@@ -174,24 +174,24 @@ fn told(outcome: &FinalResult<'_>) -> Draft
 }
 
 // "v=" base64
-fn verifier(signature: &[u8]) -> Draft
+fn verifier(signature: &[u8]) -> MessageDraft
     requires { length signature.now ≤ 64 }
     ensures draft { IsDraftOf result (codes "v=" ++ base64 signature.now) }
     ensures is_text { IsText (codes "v=" ++ base64 signature.now) }
 {
-    let mut draft = Draft::new();
+    let mut draft = MessageDraft::new();
     draft.add(b"v=");
     draft.add_base64(signature);
     draft
 }
 
 // "e=" server-error-value
-fn error(value: &[u8]) -> Draft
+fn error(value: &[u8]) -> MessageDraft
     requires { IsText value.now }
     ensures draft { IsDraftOf result (codes "e=" ++ value.now) }
     ensures is_text { IsText (codes "e=" ++ value.now) }
 {
-    let mut draft = Draft::new();
+    let mut draft = MessageDraft::new();
     draft.add(b"e=");
     draft.add(value);
     draft

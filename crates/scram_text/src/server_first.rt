@@ -6,7 +6,7 @@
 //!
 //! as `r=abcdef,s=QSXCR+Q6sek8bf92,i=4096`.
 ghost use Rattle.std.specs.Prelude.{◌≤◌, ◌<◌, ◌+◌, ◌↔◌, length, IsTrue, IfOk, IfErr, OnOk, IsOkAnd, IsErrOf};
-ghost use Rattle.scram_text.specs.Messages.{ServerFirstParts, server_first_text, IsServerFirst};
+ghost use Rattle.scram_text.specs.Messages.{most_bytes, ServerFirstParts, server_first_text, IsServerFirst};
 ghost use Rattle.scram_text.specs.Draft.{IsDraftOf};
 ghost use Rattle.scram_text.specs.Written.{server_first_of, CanBeServerFirst};
 ghost use Rattle.scram_text.specs.Faults.{IsServerFirstFault};
@@ -14,7 +14,7 @@ ghost use Rattle.scram_text.specs.Shown.{ShowsServerFirst};
 ghost use Rattle.scram_text.specs.Pieces.{IsCutServer};
 ghost use Rattle.scram_text.specs.Appended.{IsAppended, LacksRoom};
 
-use crate::draft::Draft;
+use crate::draft::MessageDraft;
 use crate::fault::{TextFault, TextWhy, WriteFault};
 use crate::secret::Salt;
 use crate::{class, cut, field};
@@ -145,7 +145,7 @@ pub fn write_server_first<A: Allocator>(
         → CanBeServerFirst nonce.now salt.now count extensions.now → ⊥ }
     ensures over_limit { IsErrOf result WriteFault.OverLimit
         → CanBeServerFirst nonce.now salt.now count extensions.now
-        × (2048 < length (server_first_text (server_first_of nonce.now salt.now count extensions.now))) }
+        × (most_bytes < length (server_first_text (server_first_of nonce.now salt.now count extensions.now))) }
     ensures no_memory { let p = server_first_of nonce.now salt.now count extensions.now in
         IsErrOf result WriteFault.NoMemory → IsServerFirst (server_first_text p) p
         × LacksRoom out.old (server_first_text p) }
@@ -166,19 +166,19 @@ fn is_writable(nonce: &[u8], salt: &[u8], count: u32, extensions: &[u8]) -> bool
         && cut::are_extensions(extensions)
 }
 
-fn draft_of(nonce: &[u8], salt: &[u8], count: u32, extensions: &[u8]) -> Draft
+fn draft_of(nonce: &[u8], salt: &[u8], count: u32, extensions: &[u8]) -> MessageDraft
     requires { CanBeServerFirst nonce.now salt.now count extensions.now }
     ensures draft { IsDraftOf result (server_first_text (server_first_of nonce.now salt.now count extensions.now)) }
     ensures related { let p = server_first_of nonce.now salt.now count extensions.now in
-        length (server_first_text p) ≤ 2048 → IsServerFirst (server_first_text p) p }
+        length (server_first_text p) ≤ most_bytes → IsServerFirst (server_first_text p) p }
 {
-    let mut draft = Draft::new();
+    let mut draft = MessageDraft::new();
     draft.add(b"r=");
     draft.add(nonce);
     draft.add(b",s=");
     draft.add_base64(salt);
     draft.add(b",i=");
-    draft.add_decimal(count);
+    draft.add_decimal(u64::from(count));
     draft.add_extensions(extensions);
     draft
 }

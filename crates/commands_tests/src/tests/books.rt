@@ -1,7 +1,7 @@
 //! Tests of the commands that work on an account book.
 use super::streams::{Faults, Input};
-use book_file::faulty::{Calls, Faulty};
 use commands::run;
+use faulty_files::{Calls, Faulty};
 use std::test::Fail;
 use std::{env, fs, process};
 

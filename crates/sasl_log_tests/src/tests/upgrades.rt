@@ -1,10 +1,10 @@
 //! Upgrades: the login of RFC 5802, section 5, as a log of version 2, and logs that can't be upgraded.
+use super::torn::Torn;
 use super::{LOGIN, long};
 use linked_list_allocator::LocalHeap;
 use sasl_log::{AuditFault, AuditWhy, Got, OverRead, Source, upgrade};
 use std::alloc::Global;
-use std::io;
-use std::io::{ErrorKind, Read};
+use std::io::Read;
 use std::test::Fail;
 
 // The same login as a log of version 2.
@@ -176,21 +176,6 @@ fn lengths_of_lines(rt: HostRuntime) -> Result<(), Fail> {
         Some((1, 81))
     );
     Ok(())
-}
-
-// A reader that fails after these bytes.
-#[derive(Drop)]
-struct Torn<'a> {
-    bytes: &'a [u8],
-}
-
-impl Read for Torn<'_> {
-    fn read(&mut self, buf: &mut [u8]) -> io::Result<usize> {
-        if self.bytes.is_empty() {
-            return Err(io::Error::from(ErrorKind::ConnectionReset));
-        }
-        self.bytes.read(buf)
-    }
 }
 
 #[test]

@@ -11,7 +11,8 @@ ghost use Rattle.scram_ends.specs.Honest.{IsHonest};
 ghost use Rattle.scram_ends.specs.Client.{IsStarted, IsAnswerable, IsExpecting, IsChallengeFault, HasAnswered, IfSpent, IfBack};
 
 use crate::client::{ClientFault, ClientOne, ClientTwo, OneRefused};
-use mac_core::{ScramMac, Tag, xor};
+use crate::signing::running;
+use mac_core::{Tag, xor};
 use scram_text::{ClientFinalWithoutProof, Password, ServerFirst, WriteFault, read_server_first};
 use std::alloc::Allocator;
 
@@ -150,11 +151,7 @@ impl ClientOne {
             (auth_front first server_first.now ++ client_final_without_proof.now) }
         ensures len { length result.items ≡ length_by self.now.mechanism }
     {
-        let mut mac = ScramMac::new(self.mechanism, key.as_slice());
-        mac.add(self.bare.as_slice());
-        mac.add(b",");
-        mac.add(server_first);
-        mac.add(b",");
+        let mut mac = running(self.mechanism, key, self.bare.as_slice(), server_first);
         mac.add(client_final_without_proof);
         mac.done()
     }

@@ -9,8 +9,7 @@ ghost use Rattle.scram_ends.specs.Honest.{IsHonestFirst};
 ghost use Rattle.scram_ends.specs.Client.{IsStarted};
 
 use crate::client::{Client, ClientOne, Limits};
-use crate::fixed::copy_of;
-use mac_core::Mechanism;
+use mac_core::{Mechanism, copy_of};
 use scram_text::{Flag, NoncePart, PlainName, WriteFault, read_client_first, write_client_first};
 use std::alloc::Allocator;
 

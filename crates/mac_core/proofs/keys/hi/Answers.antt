@@ -19,7 +19,7 @@ pub loop-round-init : goal.loop-round-init
 unfolding iterated xor_of_iterated
 loop-round-init g c = record {
   last = c.first_round-last.ensures.value _ c.new-key.ensures;
-  sum = c.tag_from_bytes-sum.ensures ∙ (c.as_slice.ensures.value ∙ c.first_round-last.ensures.value _ c.new-key.ensures);
+  sum = c.copy_of-sum.ensures ∙ (c.as_slice.ensures.value ∙ c.first_round-last.ensures.value _ c.new-key.ensures);
   last_len = search rules;
   sum_len = search rules;
 }

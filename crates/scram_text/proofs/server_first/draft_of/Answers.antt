@@ -9,7 +9,7 @@ returns-clause-draft c =
     let salted = c.add_base64.ensures _ (c.add-3.ensures _ (c.add-2.ensures _ (c.add.ensures _ c.new-draft.ensures))) in
     subst (λ (text : List ℕ). IsDraftOf c.add_extensions.new.self text)
     (server_first_composed c.args.nonce.now c.args.salt.now c.args.count c.args.extensions.now)
-    (c.add_extensions.ensures _ (c.add_decimal.ensures _ (c.add-4.ensures _ salted)))
+    (c.add_extensions.ensures _ (rw c.from.ensures at (c.add_decimal.ensures _ (c.add-4.ensures _ salted))))
 
 pub returns-clause-related : goal.returns-clause-related
 returns-clause-related c = λ short.
