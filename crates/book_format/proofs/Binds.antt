@@ -1,7 +1,7 @@
 -- Readings step by step.
 use Rattle.std.proofs.Common.{◌≡◌, Bool, true, false, Option, Some, None, ok_or, Result, Ok, Err, refl}
 use Rattle.std.specs.Result.{OnOk, is_err}
-use Rattle.book_format.specs.Reading.{◌>>=◌, demand}
+use Rattle.book_format.specs.Rows.{◌>>=◌, demand}
 use Rattle.book_format.specs.declared.fault.BookWhy.{BookWhy}
 
 -- where two steps give a value, each does

@@ -2,10 +2,10 @@ pub mod Binds
 pub mod Fields
 pub mod Lists
 pub mod Entries
-pub mod AsTrees
-pub mod Found
+mod RowLemmas
+mod KindLemmas
+mod TableLemmas
 pub mod Whole
-mod Lookups
 mod Stands
 mod PutLemmas
 mod Printable

@@ -4,7 +4,8 @@ use Rattle.std.proofs.lemmas.Bool.Decides.{nat_tests}
 use Rattle.toml.specs.Data.{Items}
 use Rattle.toml.specs.View.{items_view}
 use Rattle.toml.specs.declared.value.Value.{Value}
-use Rattle.book_format.specs.Reading.{are_texts, item_count, names_in, names_of, ◌>>=◌}
+use Rattle.book_format.specs.Kinds.{are_texts, item_count, names_in, names_of}
+use Rattle.book_format.specs.Rows.{◌>>=◌}
 use Rattle.book_format.specs.declared.fault.BookWhy.TheVariants.{Key, Name}
 
 pub item_count-view : (vs : List Value) → item_count (items_view vs) ≡ length vs

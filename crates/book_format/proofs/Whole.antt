@@ -7,14 +7,14 @@ use Rattle.toml.specs.Data.{Members}
 use Rattle.toml.specs.Parse.{parse_document}
 use Rattle.book_format.specs.Account.{AccountFields}
 use Rattle.book_format.specs.Book.{BookFields, IsBook}
-use Rattle.book_format.specs.Reading.{TopFields, tree_in, top_of, accounts_of_table, book_of, book_in}
+use Rattle.book_format.specs.Tables.{TopFields}
+use Rattle.book_format.specs.Reading.{tree_in, top_of, accounts_of_table, book_of, book_in}
 use Rattle.book_format.specs.Trees.{IsBookText}
 use Rattle.book_format.specs.declared.fault.BookFault.{BookFault}
 use Rattle.book_format.specs.declared.fault.BookWhy.{BookWhy}
 use Rattle.book_format.specs.declared.fault.BookWhy.TheVariants.{Toml}
-use Rattle.book_format.proofs.AsTrees.{book_held}
+use Rattle.book_format.proofs.TableLemmas.{book_held, book_found, in_range, at_top_ok}
 use Rattle.book_format.proofs.Binds.{bind_ok, ok_or_ok}
-use Rattle.book_format.proofs.Found.{book_found, in_range, at_top_ok}
 
 pub no_tree : (bytes : List ℕ) (why : BookWhy) → tree_in bytes ≡ Err why → book_in bytes ≡ Err (record { why = why; account = None })
 unfolding book_in

@@ -1,35 +1,10 @@
--- The keys of each table of a book's text, and the names of kinds and hash functions.
+-- The keys of a table, and the names of hash functions.
 use Rattle.std.specs.Prelude.{ℕ, List, [], ◌∷◌, Bool, true, ◌&&◌, codes}
 use Rattle.std.specs.List.{list_any}
 use Rattle.std.specs.Str.{bytes_eq}
 use Rattle.otp_core.specs.declared.hash.OtpHash.{OtpHash}
 use Rattle.otp_core.specs.declared.hash.OtpHash.TheVariants.{Sha1, Sha256, Sha512}
 use Rattle.toml.specs.Data.{Members, no_members, member}
-
--- the keys of the document itself
-abbrev pub top_keys : List (List ℕ)
-top_keys = codes "format" ∷ codes "decoy_key" ∷ codes "decoy_count" ∷ codes "accounts" ∷ []
-
--- the keys of an account
-abbrev pub account_keys : List (List ℕ)
-account_keys = codes "sha1" ∷ codes "sha256" ∷ codes "act_as" ∷ codes "token" ∷ []
-
--- the keys of what is kept for one mechanism
-abbrev pub mech_table_keys : List (List ℕ)
-mech_table_keys = codes "salt" ∷ codes "count" ∷ codes "stored" ∷ codes "server" ∷ []
-
--- the keys of a HOTP token
-abbrev pub hotp_keys : List (List ℕ)
-hotp_keys =
-    codes "kind" ∷ codes "secret" ∷ codes "digits" ∷ codes "next" ∷ codes "look_ahead"
-    ∷ codes "sync_ahead" ∷ codes "limit" ∷ codes "failures" ∷ []
-
--- the keys of a TOTP token
-abbrev pub totp_keys : List (List ℕ)
-totp_keys =
-    codes "kind" ∷ codes "hash" ∷ codes "secret" ∷ codes "digits" ∷ codes "t0" ∷ codes "step"
-    ∷ codes "back" ∷ codes "ahead" ∷ codes "max_drift" ∷ codes "last" ∷ codes "drift"
-    ∷ codes "limit" ∷ codes "failures" ∷ []
 
 -- the name of a hash function
 abbrev pub hash_name : OtpHash → List ℕ

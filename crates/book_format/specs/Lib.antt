@@ -2,7 +2,10 @@ pub mod Account
 pub mod Book
 pub mod Faults
 pub mod Keys
-pub mod Trees
-pub mod Reading
-pub mod Written
 pub mod Put
+pub mod Rows
+pub mod Kinds
+pub mod Tables
+pub mod Reading
+pub mod Trees
+pub mod Written

@@ -1,8 +1,11 @@
 //! The accounts of a book.
-ghost use Rattle.std.specs.Prelude.{◌≡◌, ◌≤◌, IfOk, MatchResult, ◌⊎◌, codes, Some};
+ghost use Rattle.std.specs.Prelude.{◌≡◌, ◌≤◌, IfOk, MatchResult, ◌⊎◌, codes, [], Ok, Some};
 ghost use Rattle.toml.specs.Data.{get_member};
 ghost use Rattle.toml.specs.View.{view, items_view, table_view};
-ghost use Rattle.book_format.specs.Reading.{IsReadAs, IsReadOrFault, optional, mech_of, plain_name_of, are_texts, names_in, names_of, act_as_of, act_as_at, token_of, account_of, named_account_of, accounts_from, in_account};
+ghost use Rattle.book_format.specs.Kinds.{plain_name_of, are_texts, names_in, names_of, name_list_in};
+ghost use Rattle.book_format.specs.Reading.{IsReadAs, IsReadOrFault, named_account_of, accounts_from, in_account};
+ghost use Rattle.book_format.specs.Rows.{in_table, read_or, read_some, table_in};
+ghost use Rattle.book_format.specs.Tables.{mech, token, account};
 ghost use Rattle.book_format.specs.declared.fault.BookWhy.TheVariants.{NoMemory};
 
 use crate::account::{Account, MechKeys};
@@ -71,9 +74,9 @@ fn plain_name_of(text: &str) -> Result<PlainName, BookWhy>
     PlainName::new(text.as_bytes()).ok_or(BookWhy::Name)
 }
 
-#[tactic(auto, unfolding(crate::specs::Reading::account_of))]
+#[tactic(auto, unfolding(crate::specs::Rows::table_in, crate::specs::Rows::read_table))]
 fn account_of(alloc: Global, value: &Value) -> Result<Account, BookWhy>
-    ensures { IsReadAs (λ a. a) result (account_of (view value.now)) }
+    ensures { IsReadAs (λ a. a) result (table_in account (view value.now)) }
 {
     let table = table_of(value)?;
     known_keys(table, &["sha1", "sha256", "act_as", "token"])?;
@@ -92,7 +95,7 @@ fn account_of(alloc: Global, value: &Value) -> Result<Account, BookWhy>
 // What is kept for a mechanism, or None where its key is missing.
 fn mech_at(len: usize, table: &Table, key: &str) -> Result<Option<MechKeys>, BookWhy>
     requires { len ≤ 64 }
-    ensures { result ≡ optional (mech_of len) (get_member key.now (table_view table.now)) }
+    ensures { result ≡ read_some key.now (in_table (mech len)) (table_view table.now) }
 {
     match at(table, key) {
         Some(value) => Ok(Some(mech_of(len, value)?)),
@@ -102,7 +105,7 @@ fn mech_at(len: usize, table: &Table, key: &str) -> Result<Option<MechKeys>, Boo
 
 // The token, or None where there is no key `token`.
 fn token_at(table: &Table) -> Result<Option<Token>, BookWhy>
-    ensures { result ≡ optional token_of (get_member (codes "token") (table_view table.now)) }
+    ensures { result ≡ read_some (codes "token") token (table_view table.now) }
 {
     match at(table, "token") {
         Some(value) => Ok(Some(token_of(value)?)),
@@ -112,7 +115,7 @@ fn token_at(table: &Table) -> Result<Option<Token>, BookWhy>
 
 // The names that the account may act as: none where there is no key `act_as`.
 fn act_as_at(alloc: Global, table: &Table) -> Result<Vec<PlainName>, BookWhy>
-    ensures { IsReadAs (λ v. v.items) result (act_as_at (get_member (codes "act_as") (table_view table.now))) }
+    ensures { IsReadAs (λ v. v.items) result (read_or (Ok []) name_list_in (get_member (codes "act_as") (table_view table.now))) }
 {
     match at(table, "act_as") {
         Some(value) => act_as_of(alloc, value),
@@ -121,9 +124,9 @@ fn act_as_at(alloc: Global, table: &Table) -> Result<Vec<PlainName>, BookWhy>
 }
 
 // The names of a list.
-#[tactic(auto, unfolding(crate::specs::Reading::act_as_of))]
+#[tactic(auto, unfolding(crate::specs::Kinds::name_list_in))]
 fn act_as_of(alloc: Global, value: &Value) -> Result<Vec<PlainName>, BookWhy>
-    ensures { IsReadAs (λ v. v.items) result (act_as_of (view value.now)) }
+    ensures { IsReadAs (λ v. v.items) result (name_list_in (view value.now)) }
 {
     let list = value.as_array().ok_or(BookWhy::Key)?;
     names_of(alloc, list.as_slice())
@@ -154,7 +157,7 @@ fn are_texts(list: &[Value]) -> bool
     true
 }
 
-#[tactic(auto, unfolding(crate::specs::Reading::names_in))]
+#[tactic(auto, unfolding(crate::specs::Kinds::names_in, crate::specs::Kinds::text_in))]
 fn names_in(alloc: Global, list: &[Value]) -> Result<Vec<PlainName>, BookWhy>
     ensures { IsReadAs (λ v. v.items) result (names_in (items_view list.now)) }
 {

@@ -1,11 +1,16 @@
-//! The values at the keys of a table: texts, whole numbers, bytes.
-ghost use Rattle.std.specs.Prelude.{◌≡◌, ◌≤◌, ℤ, ℕ, List, option_map, IfOk, IfSome, length};
+//! The values of a table: texts, whole numbers, bytes, tables.
+ghost use Rattle.std.specs.Prelude.{◌≡◌, ◌≤◌, ℤ, ℕ, List, Err, Ok, option_map, ok_or, IfOk, IfSome, length};
 ghost use Rattle.std.specs.List.{list_any};
 ghost use Rattle.std.specs.Str.{bytes_eq};
 ghost use Rattle.toml.specs.Data.{get_member};
 ghost use Rattle.toml.specs.View.{view, table_view};
 ghost use Rattle.book_format.specs.Keys.{has_only};
-ghost use Rattle.book_format.specs.Reading.{seen, table_of, known_keys, text_of, integer_of, number_within, number_of, number_or_zero, bytes_within, bytes_of};
+ghost use Rattle.hex.specs.Hex.{decode_of};
+ghost use Rattle.book_format.specs.Kinds.{number, number_in, bytes, bytes_in, decoded, text_in};
+ghost use Rattle.book_format.specs.Reading.{seen};
+ghost use Rattle.book_format.specs.Rows.{demand, number_at, read_at, read_or, table_of};
+ghost use Rattle.book_format.specs.declared.fault.BookWhy.{BookWhy};
+ghost use Rattle.book_format.specs.declared.fault.BookWhy.TheVariants.{Key};
 
 use crate::fault::BookWhy;
 use arrayvec::ArrayVec;
@@ -19,6 +24,13 @@ pub(crate) fn at<'a>(table: &'a Table, key: &str) -> Option<&'a Value>
     table.get(key)
 }
 
+/// The value at a key, or `Key` where it is missing.
+pub(crate) fn needed<'a>(table: &'a Table, key: &str) -> Result<&'a Value, BookWhy>
+    ensures { seen (λ v. view v.now) result ≡ ok_or (get_member key.now (table_view table.now)) Key }
+{
+    at(table, key).ok_or(BookWhy::Key)
+}
+
 /// The members of a table.
 pub(crate) fn table_of(value: &Value) -> Result<&Table, BookWhy>
     ensures { seen (λ t. table_view t.now) result ≡ table_of (view value.now) }
@@ -28,7 +40,7 @@ pub(crate) fn table_of(value: &Value) -> Result<&Table, BookWhy>
 
 /// Answers `Key` where the table has a key that is not among these.
 pub(crate) fn known_keys(table: &Table, keys: &[&str]) -> Result<(), BookWhy>
-    ensures { result ≡ known_keys (λ key. list_any (λ k. bytes_eq k.now key) keys.now) (table_view table.now) }
+    ensures { result ≡ demand (has_only (λ key. list_any (λ k. bytes_eq k.now key) keys.now) (table_view table.now)) Key }
 {
     if has_only(table, keys) {
         Ok(())
@@ -56,45 +68,35 @@ fn is_among(keys: &[&str], key: &str) -> bool
 }
 
 /// The text at a key. `Key` where it is missing or the value has another type.
-#[tactic(auto, unfolding(crate::specs::Reading::text_of))]
+#[tactic(auto, unfolding(crate::specs::Kinds::text_in))]
 pub(crate) fn text_of<'a>(table: &'a Table, key: &str) -> Result<&'a str, BookWhy>
-    ensures { seen (λ t. t.now) result ≡ text_of key.now (table_view table.now) }
+    ensures { seen (λ t. t.now) result ≡ read_or (Err Key) text_in (get_member key.now (table_view table.now)) }
 {
-    match at(table, key) {
-        Some(value) => value.as_str().ok_or(BookWhy::Key),
-        None => Err(BookWhy::Key),
-    }
+    needed(table, key)?.as_str().ok_or(BookWhy::Key)
 }
 
-/// The whole number at a key. `Key` where it is missing or the value has another type.
-#[tactic(auto, unfolding(crate::specs::Reading::integer_of))]
-pub(crate) fn integer_of(table: &Table, key: &str) -> Result<i64, BookWhy>
-    ensures { result ≡ integer_of key.now (table_view table.now) }
+/// The whole number, from `least` to `most`. `Key` for a value of another type, and `why` for another number.
+#[tactic(auto, unfolding(crate::specs::Kinds::number_in))]
+pub(crate) fn number_in(value: &Value, least: u64, most: u64, why: BookWhy) -> Result<u64, BookWhy>
+    ensures value { result ≡ number_in why least most (view value.now) }
+    ensures least { IfOk result (λ n. least ≤ n) }
+    ensures most { IfOk result (λ n. n ≤ most) }
 {
-    match at(table, key) {
-        Some(value) => value.as_integer().ok_or(BookWhy::Key),
-        None => Err(BookWhy::Key),
-    }
-}
-
-/// The number, where it is from `least` to `most`.
-pub(crate) fn number_within(least: u64, most: u64, number: i64) -> Option<u64>
-    ensures { result ≡ number_within least most number }
-{
+    let number = value.as_integer().ok_or(BookWhy::Key)?;
     if number < 0 {
-        return None;
+        return Err(why);
     }
     let number = number as u64;
     if least <= number && number <= most {
-        Some(number)
+        Ok(number)
     } else {
-        None
+        Err(why)
     }
 }
 
 /// The whole number from `least` to `most` at a key. `Key` where it is missing or the value has another
 /// type, and `why` where it is another number.
-#[tactic(auto, unfolding(crate::specs::Reading::number_of))]
+#[tactic(auto, unfolding(crate::specs::Kinds::number_in))]
 pub(crate) fn number_of(
     table: &Table,
     key: &str,
@@ -102,37 +104,35 @@ pub(crate) fn number_of(
     most: u64,
     why: BookWhy,
 ) -> Result<u64, BookWhy>
-    ensures value { result ≡ number_of key.now least most why (table_view table.now) }
+    ensures value { result ≡ read_at key.now (number why least most) (table_view table.now) }
     ensures least { IfOk result (λ n. least ≤ n) }
     ensures most { IfOk result (λ n. n ≤ most) }
+    ensures at { IfOk result (λ n. number_at key.now (table_view table.now) ≡ n) }
 {
-    let number = integer_of(table, key)?;
-    number_within(least, most, number).ok_or(why)
+    number_in(needed(table, key)?, least, most, why)
 }
 
 /// The whole number at a key, at most `most`, or 0 where the key is missing. `Key` where the value has another
 /// type, and `why` where it is another number.
-#[tactic(auto, unfolding(crate::specs::Reading::number_or_zero))]
 pub(crate) fn number_or_zero(
     table: &Table,
     key: &str,
     most: u64,
     why: BookWhy,
 ) -> Result<u64, BookWhy>
-    ensures value { result ≡ number_or_zero key.now most why (table_view table.now) }
+    ensures value { result ≡ read_or (Ok 0) (number_in why 0 most) (get_member key.now (table_view table.now)) }
     ensures most { IfOk result (λ n. n ≤ most) }
 {
     match at(table, key) {
-        Some(_) => number_of(table, key, 0, most, why),
+        Some(value) => number_in(value, 0, most, why),
         None => Ok(0),
     }
 }
 
 /// The bytes of a hexadecimal text in either case, where their number is from `least` to `most`.
-#[tactic(auto, unfolding(crate::specs::Reading::bytes_within))]
 fn bytes_within(least: usize, most: usize, text: &str) -> Option<Tag>
     requires { most ≤ 64 }
-    ensures value { result ≡ bytes_within least most text.now }
+    ensures value { (why : BookWhy) → ok_or (option_map (λ bytes. bytes.items) result) why ≡ decoded why least most (decode_of text.now) }
     ensures least { IfSome result (λ bytes. least ≤ length bytes.items) }
     ensures most { IfSome result (λ bytes. length bytes.items ≤ most) }
 {
@@ -147,7 +147,7 @@ fn bytes_within(least: usize, most: usize, text: &str) -> Option<Tag>
 
 /// The bytes, `least` to `most` of them, whose hexadecimal text, in either case, is at a key. `Key`
 /// where it is missing or the value has another type, and `why` for another text.
-#[tactic(auto, unfolding(crate::specs::Reading::bytes_of))]
+#[tactic(auto, unfolding(crate::specs::Kinds::bytes_in, crate::specs::Kinds::text_in))]
 pub(crate) fn bytes_of(
     table: &Table,
     key: &str,
@@ -156,7 +156,7 @@ pub(crate) fn bytes_of(
     why: BookWhy,
 ) -> Result<Tag, BookWhy>
     requires { most ≤ 64 }
-    ensures value { result ≡ bytes_of key.now least most why (table_view table.now) }
+    ensures value { seen (λ v. v.items) result ≡ read_at key.now (bytes why least most) (table_view table.now) }
     ensures least { IfOk result (λ bytes. least ≤ length bytes.items) }
     ensures most { IfOk result (λ bytes. length bytes.items ≤ most) }
 {

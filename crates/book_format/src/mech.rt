@@ -1,7 +1,8 @@
 //! What is kept for one mechanism: `salt`, `count`, `stored`, `server`.
 ghost use Rattle.std.specs.Prelude.{◌≡◌, ◌≤◌, length};
 ghost use Rattle.toml.specs.View.{view};
-ghost use Rattle.book_format.specs.Reading.{mech_of};
+ghost use Rattle.book_format.specs.Rows.{table_in};
+ghost use Rattle.book_format.specs.Tables.{mech};
 
 use crate::account::MechKeys;
 use crate::fault::BookWhy;
@@ -11,10 +12,10 @@ use scram_text::Salt;
 use toml::Value;
 
 /// What is kept for a mechanism whose keys have `len` bytes.
-#[tactic(auto, unfolding(crate::specs::Reading::mech_of))]
+#[tactic(auto, unfolding(crate::specs::Rows::table_in, crate::specs::Rows::read_table))]
 pub(crate) fn mech_of(len: usize, value: &Value) -> Result<MechKeys, BookWhy>
     requires { len ≤ 64 }
-    ensures { result ≡ mech_of len (view value.now) }
+    ensures { result ≡ table_in (mech len) (view value.now) }
 {
     let table = table_of(value)?;
     known_keys(table, &["salt", "count", "stored", "server"])?;

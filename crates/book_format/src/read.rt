@@ -4,7 +4,10 @@ ghost use Rattle.toml.specs.Data.{get_member, as_integer};
 ghost use Rattle.toml.specs.View.{table_view};
 ghost use Rattle.book_format.specs.Book.{BookFields};
 ghost use Rattle.book_format.specs.Trees.{IsBookText};
-ghost use Rattle.book_format.specs.Reading.{IsReadAs, IsReadOrFault, TopFields, seen, at_top, tree_in, top_of, table_at, accounts_of_table, book_of, book_in, is_one, IsFirstFault};
+ghost use Rattle.book_format.specs.Reading.{IsReadAs, IsReadOrFault, seen, at_top, tree_in, top_of, accounts_of_table, book_of, book_in, is_one, IsFirstFault};
+ghost use Rattle.book_format.specs.Kinds.{any_table};
+ghost use Rattle.book_format.specs.Rows.{read_some};
+ghost use Rattle.book_format.specs.Tables.{TopFields};
 ghost use Rattle.book_format.specs.declared.fault.BookWhy.TheVariants.{NoMemory};
 ghost use Rattle.book_format.specs.declared.read.Top.{Top};
 
@@ -85,7 +88,7 @@ fn document_of(alloc: Global, bytes: &[u8]) -> Result<Table, BookWhy>
     }
 }
 
-#[tactic(auto, unfolding(crate::specs::Reading::top_of))]
+#[tactic(auto, unfolding(crate::specs::Reading::top_of, crate::specs::Rows::read_table))]
 fn top_of(table: &Table) -> Result<Top<'_>, BookWhy>
     ensures { seen (λ t. record { decoy_key = t.decoy_key; decoy_count = t.decoy_count; accounts = option_map (λ m. table_view m.now) t.accounts }) result ≡ top_of (table_view table.now) }
 {
@@ -124,7 +127,7 @@ fn key_of(bytes: &Tag) -> [u8; 32]
 
 // The table at a key, or None where it is missing.
 fn table_at<'a>(table: &'a Table, key: &str) -> Result<Option<&'a Table>, BookWhy>
-    ensures { seen (λ t. option_map (λ m. table_view m.now) t) result ≡ table_at (get_member key.now (table_view table.now)) }
+    ensures { seen (λ t. option_map (λ m. table_view m.now) t) result ≡ read_some key.now any_table (table_view table.now) }
 {
     match at(table, key) {
         Some(value) => Ok(Some(table_of(value)?)),

@@ -1,7 +1,7 @@
 //! A token of either kind: `kind`, and the keys of that kind.
 ghost use Rattle.std.specs.Prelude.{◌≡◌};
 ghost use Rattle.toml.specs.View.{view, table_view};
-ghost use Rattle.book_format.specs.Reading.{token_of, kind_of};
+ghost use Rattle.book_format.specs.Tables.{token_in, token_of_kind};
 
 mod hotp;
 mod setting;
@@ -15,18 +15,18 @@ use toml::{Table, Value};
 use totp::{totp_of, totp_token};
 
 /// Reads a token.
-#[tactic(auto, unfolding(crate::specs::Reading::token_of))]
+#[tactic(auto, unfolding(crate::specs::Tables::token_in))]
 pub(crate) fn token_of(value: &Value) -> Result<Token, BookWhy>
-    ensures { result ≡ token_of (view value.now) }
+    ensures { result ≡ token_in (view value.now) }
 {
     let table = table_of(value)?;
     let kind = text_of(table, "kind")?;
     kind_of(kind, table)
 }
 
-#[tactic(auto, unfolding(crate::specs::Reading::kind_of))]
+#[tactic(auto, unfolding(crate::specs::Tables::token_of_kind))]
 fn kind_of(kind: &str, table: &Table) -> Result<Token, BookWhy>
-    ensures { result ≡ kind_of kind.now (table_view table.now) }
+    ensures { result ≡ token_of_kind kind.now (table_view table.now) }
 {
     if kind == "hotp" {
         Ok(hotp_token(hotp_of(table)?))

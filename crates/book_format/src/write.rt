@@ -1,12 +1,13 @@
 //! Writes the text of an account book.
 ghost use Rattle.std.specs.Prelude.{◌≡◌, false, codes, length, Ok, IfOk, OnOk, string_bytes};
 ghost use Rattle.hex.specs.Hex.{decode_of, encode_lower};
+ghost use Rattle.toml.specs.Data.{string};
 ghost use Rattle.toml.specs.Text.{IsDocumentText};
 ghost use Rattle.toml.specs.View.{table_view};
 ghost use Rattle.book_format.specs.Book.{AreAccounts};
 ghost use Rattle.book_format.specs.Put.{put_member};
 ghost use Rattle.book_format.specs.Trees.{AreAccountTrees, IsBookTree, IsBookText};
-ghost use Rattle.book_format.specs.Written.{hex_tree, book_tree, accounts_tree};
+ghost use Rattle.book_format.specs.Written.{book_tree, accounts_tree};
 
 mod account;
 mod put;
@@ -38,7 +39,7 @@ impl Contents {
     }
 }
 
-#[tactic(auto, unfolding(crate::specs::Written::book_tree))]
+#[tactic(auto, unfolding(crate::specs::Written::book_tree, crate::specs::Rows::written))]
 fn book_table(alloc: Global, book: &Contents) -> Result<Table, AllocError>
     ensures tree { IfOk result (λ t. table_view t ≡ book_tree book.now) }
     ensures stands { OnOk result (IsBookTree (book_tree book.now) book.now) }
@@ -59,7 +60,7 @@ fn book_table(alloc: Global, book: &Contents) -> Result<Table, AllocError>
 // Puts the decoy key into the table; its type says its length.
 fn put_decoy_key(alloc: Global, table: &mut Table, key: &[u8; 32]) -> Result<(), AllocError>
     ensures tree { OnOk result (table_view table.new
-        ≡ put_member (codes "decoy_key") (hex_tree key.now) (table_view table.old)) }
+        ≡ put_member (codes "decoy_key") (string (encode_lower key.now)) (table_view table.old)) }
     ensures len { length key.now ≡ 32 }
     ensures back { decode_of (encode_lower key.now) ≡ Ok key.now }
 {

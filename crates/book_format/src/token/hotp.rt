@@ -3,7 +3,8 @@ ghost use Rattle.std.specs.Prelude.{◌≡◌, IfOk};
 ghost use Rattle.toml.specs.View.{table_view};
 ghost use Rattle.otp_core.specs.Settings.{IsHotpInRange};
 ghost use Rattle.otp_core.specs.declared.token.kinds.Fields.TheVariants.{Hotp};
-ghost use Rattle.book_format.specs.Reading.{hotp_of};
+ghost use Rattle.book_format.specs.Rows.{read_table};
+ghost use Rattle.book_format.specs.Tables.{hotp};
 
 use crate::fault::BookWhy;
 use crate::field::{bytes_of, known_keys, number_of, number_or_zero};
@@ -13,9 +14,9 @@ use toml::Table;
 
 /// Reads the settings and the state of a HOTP token, from a table whose `kind`
 /// says that it is one.
-#[tactic(auto, unfolding(crate::specs::Reading::hotp_of))]
+#[tactic(auto, unfolding(crate::specs::Rows::read_table))]
 pub(super) fn hotp_of(table: &Table) -> Result<HotpFields, BookWhy>
-    ensures value { result ≡ hotp_of (table_view table.now) }
+    ensures value { result ≡ read_table hotp (table_view table.now) }
     ensures range { IfOk result IsHotpInRange }
 {
     known_keys(

@@ -2,23 +2,25 @@
 //! `limit`, `failures`.
 ghost use Rattle.std.specs.Prelude.{◌≡◌, ◌≤◌, ◌-◌, ◌^◌, codes, nat_abs, IfOk};
 ghost use Rattle.std.specs.Option.{ForSome};
-ghost use Rattle.toml.specs.Data.{get_member};
-ghost use Rattle.toml.specs.View.{view, table_view};
+ghost use Rattle.toml.specs.View.{table_view};
 ghost use Rattle.otp_core.specs.Settings.{IsTotpInRange};
 ghost use Rattle.otp_core.specs.declared.token.kinds.Fields.TheVariants.{Totp};
-ghost use Rattle.book_format.specs.Keys.{is_among, totp_keys};
-ghost use Rattle.book_format.specs.Reading.{optional, known_keys, hash_named, hash_of, last_of, drift_of, totp_of};
+ghost use Rattle.book_format.specs.Keys.{is_among, has_only};
+ghost use Rattle.book_format.specs.Kinds.{number, signed, hash, hash_named};
+ghost use Rattle.book_format.specs.Rows.{demand, read_at, read_some, read_table, table_keys};
+ghost use Rattle.book_format.specs.Tables.{totp};
+ghost use Rattle.book_format.specs.declared.fault.BookWhy.TheVariants as why;
 
 use crate::fault::BookWhy;
-use crate::field::{at, bytes_of, integer_of, known_keys, number_of, number_within, text_of};
+use crate::field::{at, bytes_of, known_keys, needed, number_in, number_of, text_of};
 use crate::token::setting::{digits_of, moment_of, secret_of};
 use otp_core::{MOST_COUNTER, MOST_STEP, OtpHash, Token, TotpFields};
-use toml::{Table, Value};
+use toml::Table;
 
 /// Reads the settings and the state of a TOTP token, from a table whose `kind` says that it is one.
-#[tactic(auto, unfolding(crate::specs::Reading::totp_of))]
+#[tactic(auto, unfolding(crate::specs::Rows::read_table))]
 pub(super) fn totp_of(table: &Table) -> Result<TotpFields, BookWhy>
-    ensures value { result ≡ totp_of (table_view table.now) }
+    ensures value { result ≡ read_table totp (table_view table.now) }
     ensures range { IfOk result IsTotpInRange }
 {
     known_totp_keys(table)?;
@@ -51,7 +53,7 @@ pub(super) fn totp_of(table: &Table) -> Result<TotpFields, BookWhy>
 }
 
 fn known_totp_keys(table: &Table) -> Result<(), BookWhy>
-    ensures { result ≡ known_keys (is_among totp_keys) (table_view table.now) }
+    ensures { result ≡ demand (has_only (is_among (table_keys totp)) (table_view table.now)) why.Key }
 {
     known_keys(
         table,
@@ -84,52 +86,43 @@ pub(super) fn totp_token(fields: TotpFields) -> Token
     token
 }
 
-#[tactic(auto, unfolding(crate::specs::Reading::hash_of))]
+#[tactic(auto, unfolding(crate::specs::Kinds::hash_in))]
 fn hash_of(table: &Table, key: &str) -> Result<OtpHash, BookWhy>
-    ensures { result ≡ hash_of key.now (table_view table.now) }
+    ensures { result ≡ read_at key.now hash (table_view table.now) }
 {
     let name = text_of(table, key)?;
-    hash_named(name).ok_or(BookWhy::Token)
+    hash_named(name)
 }
 
-fn hash_named(name: &str) -> Option<OtpHash>
+fn hash_named(name: &str) -> Result<OtpHash, BookWhy>
     ensures { result ≡ hash_named name.now }
 {
     match name {
-        "sha1" => Some(OtpHash::Sha1),
-        "sha256" => Some(OtpHash::Sha256),
-        "sha512" => Some(OtpHash::Sha512),
-        _ => None,
+        "sha1" => Ok(OtpHash::Sha1),
+        "sha256" => Ok(OtpHash::Sha256),
+        "sha512" => Ok(OtpHash::Sha512),
+        _ => Err(BookWhy::Token),
     }
 }
 
 // The last step, or None where there is no key `last`.
 fn last_at(table: &Table) -> Result<Option<u64>, BookWhy>
-    ensures value { result ≡ optional last_of (get_member (codes "last") (table_view table.now)) }
+    ensures value { result ≡ read_some (codes "last") (number why.Token 0 (2 ^ 63 - 2)) (table_view table.now) }
     ensures range { IfOk result (λ last. ForSome last (λ l. l ≤ 2 ^ 63 - 2)) }
 {
     match at(table, "last") {
-        Some(value) => Ok(Some(last_of(value)?)),
+        Some(value) => Ok(Some(number_in(value, 0, MOST_COUNTER, BookWhy::Token)?)),
         None => Ok(None),
     }
 }
 
-#[tactic(auto, unfolding(crate::specs::Reading::last_of))]
-fn last_of(value: &Value) -> Result<u64, BookWhy>
-    ensures value { result ≡ last_of (view value.now) }
-    ensures range { IfOk result (λ last. last ≤ 2 ^ 63 - 2) }
-{
-    let number = value.as_integer().ok_or(BookWhy::Key)?;
-    number_within(0, MOST_COUNTER, number).ok_or(BookWhy::Token)
-}
-
 // The drift, at most `most` steps to either side.
-#[tactic(auto, unfolding(crate::specs::Reading::drift_of))]
+#[tactic(auto, unfolding(crate::specs::Kinds::signed_in))]
 fn drift_of(table: &Table, key: &str, most: u64) -> Result<i64, BookWhy>
-    ensures value { result ≡ drift_of key.now most (table_view table.now) }
+    ensures value { result ≡ read_at key.now (signed why.Token most) (table_view table.now) }
     ensures range { IfOk result (λ drift. nat_abs drift ≤ most) }
 {
-    let drift = integer_of(table, key)?;
+    let drift = needed(table, key)?.as_integer().ok_or(BookWhy::Key)?;
     if drift.unsigned_abs() <= most {
         Ok(drift)
     } else {

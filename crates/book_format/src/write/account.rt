@@ -4,8 +4,9 @@ ghost use Rattle.std.specs.Option.{ForSome};
 ghost use Rattle.toml.specs.View.{view, table_view};
 ghost use Rattle.book_format.specs.Account.{AreKeys, IsAccount};
 ghost use Rattle.book_format.specs.Put.{put_some};
-ghost use Rattle.book_format.specs.Trees.{IsMechTree, IsTokenTree, AreNames, IsAccountTree};
-ghost use Rattle.book_format.specs.Written.{mech_tree, token_tree, names_tree, account_tree};
+ghost use Rattle.book_format.specs.Kinds.{AreNames, names_tree};
+ghost use Rattle.book_format.specs.Rows.{Stands, in_table};
+ghost use Rattle.book_format.specs.Tables as tables;
 
 use super::put::{put, put_count, put_hex};
 use super::token::token_value;
@@ -16,20 +17,20 @@ use std::alloc::{AllocError, Global};
 use toml::{Table, Value};
 
 /// The value of an account.
-#[tactic(auto, unfolding(crate::specs::Written::account_tree))]
+#[tactic(auto, unfolding(crate::specs::Rows::written))]
 pub(super) fn account_value(alloc: Global, account: &Account) -> Result<Value, AllocError>
-    ensures tree { IfOk result (λ v. view v ≡ account_tree account.now) }
-    ensures stands { OnOk result (IsAccount account.now → IsAccountTree (account_tree account.now) account.now) }
+    ensures tree { IfOk result (λ v. view v ≡ (in_table tables.account).write account.now) }
+    ensures stands { OnOk result (IsAccount account.now → Stands (in_table tables.account) account.now) }
 {
     let mut table = Table::new(alloc);
+    put_keys(alloc, &mut table, "sha1", &account.sha1)?;
+    put_keys(alloc, &mut table, "sha256", &account.sha256)?;
     put(
         alloc,
         &mut table,
         "act_as",
         names_value(alloc, account.act_as.as_slice())?,
     )?;
-    put_keys(alloc, &mut table, "sha1", &account.sha1)?;
-    put_keys(alloc, &mut table, "sha256", &account.sha256)?;
     put_token(alloc, &mut table, &account.token)?;
     Ok(Value::Table(table))
 }
@@ -41,9 +42,9 @@ fn put_keys(
     keys: &Option<MechKeys>,
 ) -> Result<(), AllocError>
     ensures tree { OnOk result (table_view table.new
-        ≡ put_some key.now (option_map mech_tree keys.now) (table_view table.old)) }
+        ≡ put_some key.now (option_map (in_table (tables.mech 20)).write keys.now) (table_view table.old)) }
     ensures stands { OnOk result ((len : ℕ) → ForSome keys.now (AreKeys len)
-        → ForSome keys.now (λ k. IsMechTree len (mech_tree k) k)) }
+        → ForSome keys.now (Stands (in_table (tables.mech len)))) }
 {
     match keys {
         Some(keys) => put(alloc, table, key, mech_value(alloc, keys)?),
@@ -53,8 +54,8 @@ fn put_keys(
 
 fn put_token(alloc: Global, table: &mut Table, token: &Option<Token>) -> Result<(), AllocError>
     ensures tree { OnOk result (table_view table.new
-        ≡ put_some (codes "token") (option_map token_tree token.now) (table_view table.old)) }
-    ensures stands { OnOk result (ForSome token.now (λ t. IsTokenTree (token_tree t) t)) }
+        ≡ put_some (codes "token") (option_map tables.token.write token.now) (table_view table.old)) }
+    ensures stands { OnOk result (ForSome token.now (Stands tables.token)) }
 {
     match token {
         Some(token) => put(alloc, table, "token", token_value(alloc, token)?),
@@ -62,10 +63,10 @@ fn put_token(alloc: Global, table: &mut Table, token: &Option<Token>) -> Result<
     }
 }
 
-#[tactic(auto, unfolding(crate::specs::Written::mech_tree))]
+#[tactic(auto, unfolding(crate::specs::Rows::written))]
 fn mech_value(alloc: Global, keys: &MechKeys) -> Result<Value, AllocError>
-    ensures tree { IfOk result (λ v. view v ≡ mech_tree keys.now) }
-    ensures stands { OnOk result ((len : ℕ) → AreKeys len keys.now → IsMechTree len (mech_tree keys.now) keys.now) }
+    ensures tree { IfOk result (λ v. view v ≡ (in_table (tables.mech 20)).write keys.now) }
+    ensures stands { OnOk result ((len : ℕ) → AreKeys len keys.now → Stands (in_table (tables.mech len)) keys.now) }
 {
     let mut table = Table::new(alloc);
     put_hex(alloc, &mut table, "salt", keys.salt.bytes())?;

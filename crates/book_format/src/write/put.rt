@@ -1,10 +1,9 @@
 //! Puts values into a table.
-ghost use Rattle.std.specs.Prelude.{◌≡◌, OnOk, Ok};
+ghost use Rattle.std.specs.Prelude.{◌≡◌, OnOk, Ok, pos};
 ghost use Rattle.hex.specs.Hex.{decode_of, encode_lower};
 ghost use Rattle.toml.specs.Data.{string, integer};
 ghost use Rattle.toml.specs.View.{view, table_view};
 ghost use Rattle.book_format.specs.Put.{put_member};
-ghost use Rattle.book_format.specs.Written.{hex_tree, number_tree};
 
 use std::alloc::{AllocError, Global};
 use toml::{Table, Value};
@@ -54,7 +53,7 @@ pub(super) fn put_count(
     key: &str,
     count: u32,
 ) -> Result<(), AllocError>
-    ensures { OnOk result (table_view table.new ≡ put_member key.now (number_tree count) (table_view table.old)) }
+    ensures { OnOk result (table_view table.new ≡ put_member key.now (integer (pos count)) (table_view table.old)) }
 {
     put(alloc, table, key, Value::Integer(i64::from(count)))
 }
@@ -67,7 +66,7 @@ pub(super) fn put_hex(
     bytes: &[u8],
 ) -> Result<(), AllocError>
     ensures tree { OnOk result (table_view table.new
-        ≡ put_member key.now (hex_tree bytes.now) (table_view table.old)) }
+        ≡ put_member key.now (string (encode_lower bytes.now)) (table_view table.old)) }
     ensures back { decode_of (encode_lower bytes.now) ≡ Ok bytes.now }
 {
     let text = hex::encode(alloc, bytes)?;

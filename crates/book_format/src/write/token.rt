@@ -1,12 +1,13 @@
 //! The values that a token is written as.
-ghost use Rattle.std.specs.Prelude.{◌≡◌, ◌≤◌, ◌-◌, ◌^◌, None, IfOk, OnOk, codes, option_map};
+ghost use Rattle.std.specs.Prelude.{◌≡◌, ◌≤◌, ◌-◌, ◌^◌, None, IfOk, OnOk, codes, option_map, pos};
 ghost use Rattle.std.specs.Option.{ForSome};
+ghost use Rattle.toml.specs.Data.{integer};
 ghost use Rattle.toml.specs.View.{view, table_view};
 ghost use Rattle.otp_core.specs.Settings.{IsHotpInRange, IsTotpInRange};
 ghost use Rattle.book_format.specs.Keys.{hash_name};
 ghost use Rattle.book_format.specs.Put.{put_some};
-ghost use Rattle.book_format.specs.Trees.{IsHotpTree, IsTotpTree, IsTokenTree};
-ghost use Rattle.book_format.specs.Written.{number_tree, hotp_tree, totp_members, totp_tree, token_tree};
+ghost use Rattle.book_format.specs.Rows.{Stands, in_table, written};
+ghost use Rattle.book_format.specs.Tables as tables;
 
 use super::put::{put_hex, put_number, put_text};
 use otp_core::{Fields, HotpFields, OtpHash, Token, TotpFields};
@@ -15,8 +16,8 @@ use toml::{Table, Value};
 
 /// The value of a token.
 pub(super) fn token_value(alloc: Global, token: &Token) -> Result<Value, AllocError>
-    ensures tree { IfOk result (λ v. view v ≡ token_tree token.now) }
-    ensures stands { OnOk result (IsTokenTree (token_tree token.now) token.now) }
+    ensures tree { IfOk result (λ v. view v ≡ tables.token.write token.now) }
+    ensures stands { OnOk result (Stands tables.token token.now) }
 {
     match token.fields() {
         Fields::Hotp(fields) => hotp_value(alloc, fields),
@@ -24,11 +25,11 @@ pub(super) fn token_value(alloc: Global, token: &Token) -> Result<Value, AllocEr
     }
 }
 
-#[tactic(auto, unfolding(crate::specs::Written::hotp_tree))]
+#[tactic(auto, unfolding(crate::specs::Rows::written))]
 fn hotp_value(alloc: Global, fields: &HotpFields) -> Result<Value, AllocError>
     requires { IsHotpInRange fields.now }
-    ensures tree { IfOk result (λ v. view v ≡ hotp_tree fields.now) }
-    ensures stands { OnOk result (IsHotpTree (hotp_tree fields.now) fields.now) }
+    ensures tree { IfOk result (λ v. view v ≡ (in_table tables.hotp).write fields.now) }
+    ensures stands { OnOk result (Stands (in_table tables.hotp) fields.now) }
 {
     let mut table = Table::new(alloc);
     put_text(alloc, &mut table, "kind", "hotp")?;
@@ -49,8 +50,8 @@ fn hotp_value(alloc: Global, fields: &HotpFields) -> Result<Value, AllocError>
 
 fn totp_value(alloc: Global, fields: &TotpFields) -> Result<Value, AllocError>
     requires { IsTotpInRange fields.now }
-    ensures tree { IfOk result (λ v. view v ≡ totp_tree fields.now) }
-    ensures stands { OnOk result (IsTotpTree (totp_tree fields.now) fields.now) }
+    ensures tree { IfOk result (λ v. view v ≡ (in_table tables.totp).write fields.now) }
+    ensures stands { OnOk result (Stands (in_table tables.totp) fields.now) }
 {
     let mut table = settings_table(alloc, fields)?;
     put_last(alloc, &mut table, fields.last)?;
@@ -58,10 +59,11 @@ fn totp_value(alloc: Global, fields: &TotpFields) -> Result<Value, AllocError>
 }
 
 // The table of a TOTP token, except its last step.
+#[tactic(auto, unfolding(crate::specs::Rows::written))]
 fn settings_table(alloc: Global, fields: &TotpFields) -> Result<Table, AllocError>
     requires { IsTotpInRange fields.now }
-    ensures tree { IfOk result (λ t. table_view t ≡ totp_members (record fields.now { last = None })) }
-    ensures stands { OnOk result (IsTotpTree (totp_tree fields.now) fields.now) }
+    ensures tree { IfOk result (λ t. table_view t ≡ written tables.totp (record fields.now { last = None })) }
+    ensures stands { OnOk result (Stands (in_table tables.totp) fields.now) }
 {
     let mut table = Table::new(alloc);
     put_text(alloc, &mut table, "kind", "totp")?;
@@ -87,7 +89,7 @@ fn settings_table(alloc: Global, fields: &TotpFields) -> Result<Table, AllocErro
 fn put_last(alloc: Global, table: &mut Table, last: Option<u64>) -> Result<(), AllocError>
     requires { ForSome last (λ l. l ≤ 2 ^ 63 - 2) }
     ensures { OnOk result (table_view table.new
-        ≡ put_some (codes "last") (option_map number_tree last) (table_view table.old)) }
+        ≡ put_some (codes "last") (option_map (λ n. integer (pos n)) last) (table_view table.old)) }
 {
     match last {
         Some(last) => put_number(alloc, table, "last", last as i64),

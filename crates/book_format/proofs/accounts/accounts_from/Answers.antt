@@ -7,11 +7,12 @@ use Rattle.std.specs.String.{string_cmp}
 use Rattle.toml.specs.Data.{Data, Members, member}
 use Rattle.toml.specs.View.{view}
 use Rattle.toml.proofs.Views.{Entry}
-use Rattle.book_format.specs.Reading.{accounts_from, named_account_of, ◌>>=◌}
+use Rattle.book_format.specs.Reading.{accounts_from, named_account_of}
+use Rattle.book_format.specs.Rows.{◌>>=◌}
 use Rattle.book_format.specs.declared.fault.BookFault.{BookFault}
 use Rattle.book_format.proofs.Binds.{on_ok}
 use Rattle.book_format.proofs.Entries.{Named, HaveKeys-last, inserted_last}
-use Rattle.book_format.proofs.Found.{entry_name}
+use Rattle.book_format.proofs.TableLemmas.{entry_name}
 use Rattle.book_format.proofs.Lists.{moved}
 use Rattle.book_format.proofs.accounts.accounts_from.Goals as goal
 

@@ -1,6 +1,6 @@
 use Rattle.std.proofs.Common.{inl, inr, option_map}
 use Rattle.toml.specs.View.{table_view}
-use Rattle.book_format.specs.Reading.{TopFields}
+use Rattle.book_format.specs.Tables.{TopFields}
 use Rattle.book_format.proofs.Whole.{no_tree, no_top, no_accounts, whole, text_in_range}
 use Rattle.book_format.proofs.read.contents_of.Goals as goal
 

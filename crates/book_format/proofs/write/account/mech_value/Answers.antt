@@ -1,5 +1,6 @@
 use Rattle.std.proofs.Common.{subst}
-use Rattle.book_format.proofs.Stands.{ComesBack, mech_stands}
+use Rattle.book_format.proofs.KindLemmas.{ComesBack}
+use Rattle.book_format.proofs.Stands.{mech_stands}
 use Rattle.book_format.proofs.write.account.mech_value.Goals as goal
 
 pub returns-clause-stands : goal.returns-clause-stands

@@ -1,5 +1,6 @@
 use Rattle.std.proofs.Common.{subst}
-use Rattle.book_format.proofs.Stands.{ComesBack, hotp_stands}
+use Rattle.book_format.proofs.KindLemmas.{ComesBack}
+use Rattle.book_format.proofs.Stands.{hotp_stands}
 use Rattle.book_format.proofs.write.token.hotp_value.Goals as goal
 
 pub returns-clause-stands : goal.returns-clause-stands

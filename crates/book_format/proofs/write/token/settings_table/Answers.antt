@@ -1,5 +1,6 @@
 use Rattle.std.proofs.Common.{subst}
-use Rattle.book_format.proofs.Stands.{ComesBack, totp_stands}
+use Rattle.book_format.proofs.KindLemmas.{ComesBack}
+use Rattle.book_format.proofs.Stands.{totp_stands}
 use Rattle.book_format.proofs.write.token.settings_table.Goals as goal
 
 pub returns-clause-stands : goal.returns-clause-stands

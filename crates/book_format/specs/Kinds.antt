@@ -1,0 +1,134 @@
+-- The kinds of values of the format: texts, whole numbers, bytes, names. Of each, the fault of a value of another
+-- type comes before that of a value out of its range.
+use Rattle.std.specs.Prelude.{ℕ, ◌≡◌, ◌≤◌, ◌&&◌, ◌+◌, nat_le, ℤ, pos, negsuc, nat_abs, Bool, true, false, if◌then◌else◌, List, [], ◌∷◌, length, map, codes, is_some, Option, ok_or, Result, Ok, Err}
+use Rattle.std.specs.List.{list_all}
+use Rattle.std.specs.Str.{bytes_eq}
+use Rattle.hex.specs.Hex.{decode_of, encode_lower}
+use Rattle.toml.specs.Data.{Data, string, integer, array, table, Items, no_items, item, Members, as_str}
+use Rattle.toml.specs.View.{items_of}
+use Rattle.scram_text.specs.Class.{is_plain, IsPlainName}
+use Rattle.otp_core.specs.declared.hash.OtpHash.{OtpHash}
+use Rattle.otp_core.specs.declared.hash.OtpHash.TheVariants.{Sha1, Sha256, Sha512}
+use Rattle.book_format.specs.Keys.{hash_name}
+use Rattle.book_format.specs.Rows.{◌>>=◌, demand, table_of, Kind}
+use Rattle.book_format.specs.declared.fault.BookWhy.{BookWhy}
+use Rattle.book_format.specs.declared.fault.BookWhy.TheVariants.{Key, Name, Token}
+
+-- the kind of value whose V is what is read of it
+abbrev pub kind : {V : Type 0} → (Data → Result V BookWhy) → (V → Data) → Kind V
+kind read write = record { Is = λ d v. read d ≡ Ok v; read = read; write = write }
+
+-- a value that passes a test
+abbrev pub such : {V : Type 0} → Bool → V → BookWhy → Result V BookWhy
+such fits v why = if fits then Ok v else Err why
+
+-- a whole number from `least` to `most`
+unfoldable pub number_in : BookWhy → ℕ → ℕ → Data → Result ℕ BookWhy
+number_in why least most (integer (pos n)) = such (nat_le least n && nat_le n most) n why
+number_in why least most (integer (negsuc n)) = Err why
+number_in why least most d = Err Key
+
+-- whole numbers from `least` to `most`
+abbrev pub number : BookWhy → ℕ → ℕ → Kind ℕ
+number why least most = kind (number_in why least most) (λ n. integer (pos n))
+
+-- a whole number of at most `most` to either side of 0
+unfoldable pub signed_in : BookWhy → ℕ → Data → Result ℤ BookWhy
+signed_in why most (integer z) = such (nat_le (nat_abs z) most) z why
+signed_in why most d = Err Key
+
+-- whole numbers of at most `most` to either side of 0
+abbrev pub signed : BookWhy → ℕ → Kind ℤ
+signed why most = kind (signed_in why most) integer
+
+-- bytes that were decoded, `least` to `most` of them
+abbrev pub decoded : {E : Type 0} → BookWhy → ℕ → ℕ → Result (List ℕ) E → Result (List ℕ) BookWhy
+decoded why least most (Ok bytes) = such (nat_le least (length bytes) && nat_le (length bytes) most) bytes why
+decoded why least most (Err e) = Err why
+
+-- the hexadecimal text, in either case, of `least` to `most` bytes
+unfoldable pub bytes_in : BookWhy → ℕ → ℕ → Data → Result (List ℕ) BookWhy
+bytes_in why least most (string text) = decoded why least most (decode_of text)
+bytes_in why least most d = Err Key
+
+-- `least` to `most` bytes, in lower-case hexadecimal
+abbrev pub bytes : BookWhy → ℕ → ℕ → Kind (List ℕ)
+bytes why least most = kind (bytes_in why least most) (λ bs. string (encode_lower bs))
+
+-- any text
+unfoldable pub text_in : Data → Result (List ℕ) BookWhy
+text_in d = ok_or (as_str d) Key
+
+-- the hash function of this name
+abbrev pub hash_named : List ℕ → Result OtpHash BookWhy
+hash_named name =
+    if bytes_eq name (codes "sha1") then Ok Sha1
+    else if bytes_eq name (codes "sha256") then Ok Sha256
+    else if bytes_eq name (codes "sha512") then Ok Sha512
+    else Err Token
+
+-- the name of a hash function
+unfoldable pub hash_in : Data → Result OtpHash BookWhy
+hash_in d = text_in d >>= hash_named
+
+-- hash functions, by their names
+abbrev pub hash : Kind OtpHash
+hash = kind hash_in (λ h. string (hash_name h))
+
+-- each value of a list is a text
+abbrev pub are_texts : Items → Bool
+are_texts no_items = true
+are_texts (item d ds) = is_some (as_str d) && are_texts ds
+
+-- the number of values of a list
+abbrev pub item_count : Items → ℕ
+item_count no_items = 0
+item_count (item d ds) = item_count ds + 1
+
+-- the name, where it is plain
+abbrev pub plain_name_of : List ℕ → Result (List ℕ) BookWhy
+plain_name_of name = such (nat_le 1 (length name) && nat_le (length name) 255 && list_all is_plain name) name Name
+
+-- the names in a list of texts
+unfoldable pub names_in : Items → Result (List (List ℕ)) BookWhy
+names_in no_items = Ok []
+names_in (item d ds) = do
+  text ← text_in d
+  name ← plain_name_of text
+  names ← names_in ds
+  Ok (name ∷ names)
+
+-- at most 16 names: all types before any value
+unfoldable pub names_of : Items → Result (List (List ℕ)) BookWhy
+names_of list = do
+  typed ← demand (are_texts list) Key
+  few ← demand (nat_le (item_count list) 16) Name
+  names_in list
+
+-- the list of at most 16 names
+unfoldable pub name_list_in : Data → Result (List (List ℕ)) BookWhy
+name_list_in (array list) = names_of list
+name_list_in d = Err Key
+
+-- each is a plain name
+abbrev pub AreNames : List (List ℕ) → Type 0
+AreNames [] = Unit {0}
+AreNames (name ∷ names) = IsPlainName name × AreNames names
+
+-- names, as in `["root"]`
+abbrev pub names_tree : List (List ℕ) → Data
+names_tree names = array (items_of (map string names))
+
+-- a list of at most 16 names
+pub record IsNameList (d : Data) (names : List (List ℕ)) : Type 0 where
+  pub there : d ≡ names_tree names
+  pub plain : AreNames names
+  pub few : length names ≤ 16
+
+-- lists of at most 16 names
+abbrev pub name_list : Kind (List (List ℕ))
+name_list = record { Is = IsNameList; read = name_list_in; write = names_tree }
+
+-- tables of any keys
+abbrev pub any_table : Kind Members
+any_table = kind table_of table

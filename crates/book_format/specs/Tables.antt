@@ -1,0 +1,146 @@
+-- The tables of the format. A row has a key, the kind of its value with its range, and the field that it is; rows
+-- stand in the order in which their faults come.
+use Rattle.std.specs.Prelude.{ℕ, ◌≡◌, ◌-◌, ◌^◌, pos, List, [], ◌∷◌, codes, if◌then◌else◌, Option, Result, Ok, Err}
+use Rattle.std.specs.Str.{bytes_eq}
+use Rattle.toml.specs.Data.{Data, string, integer, table, Members, get_member}
+use Rattle.otp_core.specs.declared.token.kinds.Fields.{Fields}
+use Rattle.otp_core.specs.declared.token.kinds.Fields.TheVariants.{Hotp, Totp}
+use Rattle.otp_core.specs.declared.token.kinds.HotpFields.{HotpFields}
+use Rattle.otp_core.specs.declared.token.kinds.TotpFields.{TotpFields}
+use Rattle.book_format.specs.Account.{AccountFields}
+use Rattle.book_format.specs.Kinds.{number, signed, bytes, text_in, hash, name_list, any_table}
+use Rattle.book_format.specs.Rows.{◌>>=◌, table_of, Kind, Table, row, row_to, row_or, optional, IsTableIn, read_or, read_table, written, in_table}
+use Rattle.book_format.specs.declared.account.MechKeys.{MechKeys}
+use Rattle.book_format.specs.declared.fault.BookWhy.{BookWhy}
+use Rattle.book_format.specs.declared.fault.BookWhy.TheVariants.{Salt, Count, Key, KeyLength, Token}
+
+-- what is kept for a mechanism whose keys have `len` bytes
+abbrev pub mech : ℕ → Table MechKeys
+mech len = record {
+  marks = [];
+  rows =
+      row "salt" (bytes Salt 1 64) (λ m. m.salt)
+      ∷ row "count" (number Count 1 4294967295) (λ m. m.count)
+      ∷ row "stored" (bytes KeyLength len len) (λ m. m.keys.stored.items)
+      ∷ row "server" (bytes KeyLength len len) (λ m. m.keys.server.items)
+      ∷ [];
+  make = λ salt count stored server.
+      record { salt = salt; count = count; keys = record { stored = record { items = stored }; server = record { items = server } } };
+}
+
+-- a HOTP token
+abbrev pub hotp : Table HotpFields
+hotp = record {
+  marks = (codes "kind", string (codes "hotp")) ∷ [];
+  rows =
+      row "secret" (bytes Token 10 64) (λ t. t.secret)
+      ∷ row "digits" (number Token 6 8) (λ t. t.digits)
+      ∷ row "next" (number Token 0 (2 ^ 63 - 1)) (λ t. t.next)
+      ∷ row "look_ahead" (number Token 0 100) (λ t. t.look_ahead)
+      ∷ row_or 0 "sync_ahead" (number Token 0 1000) (λ t. t.sync_ahead)
+      ∷ row "limit" (number Token 1 100) (λ t. t.limit)
+      ∷ row_to "failures" (number Token 0) "limit" (λ t. t.failures)
+      ∷ [];
+  make = λ secret digits next look_ahead sync_ahead limit failures. record {
+    secret = secret;
+    digits = digits;
+    next = next;
+    look_ahead = look_ahead;
+    sync_ahead = sync_ahead;
+    limit = limit;
+    failures = failures;
+  };
+}
+
+-- a TOTP token
+abbrev pub totp : Table TotpFields
+totp = record {
+  marks = (codes "kind", string (codes "totp")) ∷ [];
+  rows =
+      row "hash" hash (λ t. t.hash)
+      ∷ row "secret" (bytes Token 10 64) (λ t. t.secret)
+      ∷ row "digits" (number Token 6 8) (λ t. t.digits)
+      ∷ row "t0" (number Token 0 253402300799) (λ t. t.t0)
+      ∷ row "step" (number Token 1 3600) (λ t. t.step)
+      ∷ row "back" (number Token 0 10) (λ t. t.back)
+      ∷ row "ahead" (number Token 0 10) (λ t. t.ahead)
+      ∷ row "max_drift" (number Token 0 100) (λ t. t.max_drift)
+      ∷ optional "last" (number Token 0 (2 ^ 63 - 2)) (λ t. t.last)
+      ∷ row_to "drift" (signed Token) "max_drift" (λ t. t.drift)
+      ∷ row "limit" (number Token 1 100) (λ t. t.limit)
+      ∷ row_to "failures" (number Token 0) "limit" (λ t. t.failures)
+      ∷ [];
+  make = λ hash secret digits t0 step back ahead max_drift last drift limit failures. record {
+    hash = hash;
+    secret = secret;
+    digits = digits;
+    t0 = t0;
+    step = step;
+    back = back;
+    ahead = ahead;
+    max_drift = max_drift;
+    last = last;
+    drift = drift;
+    limit = limit;
+    failures = failures;
+  };
+}
+
+-- the table of a token of either kind
+abbrev pub IsToken : Data → Fields → Type 0
+IsToken d (Hotp t) = IsTableIn hotp d t
+IsToken d (Totp t) = IsTableIn totp d t
+
+-- a token of the kind of this name
+unfoldable pub token_of_kind : List ℕ → Members → Result Fields BookWhy
+token_of_kind name ms =
+    if bytes_eq name (codes "hotp") then (read_table hotp ms >>= λ t. Ok (Hotp t))
+    else if bytes_eq name (codes "totp") then (read_table totp ms >>= λ t. Ok (Totp t))
+    else Err Token
+
+-- a token: its kind comes before all else
+unfoldable pub token_in : Data → Result Fields BookWhy
+token_in d = do
+  ms ← table_of d
+  name ← read_or (Err Key) text_in (get_member (codes "kind") ms)
+  token_of_kind name ms
+
+-- the table that a token is written as
+abbrev pub token_tree : Fields → Data
+token_tree (Hotp t) = table (written hotp t)
+token_tree (Totp t) = table (written totp t)
+
+-- tokens of either kind
+abbrev pub token : Kind Fields
+token = record { Is = IsToken; read = token_in; write = token_tree }
+
+-- an account: a mechanism without its key has no keys, and without `token` there is none
+abbrev pub account : Table AccountFields
+account = record {
+  marks = [];
+  rows =
+      optional "sha1" (in_table (mech 20)) (λ a. a.sha1)
+      ∷ optional "sha256" (in_table (mech 32)) (λ a. a.sha256)
+      ∷ row_or [] "act_as" name_list (λ a. a.act_as)
+      ∷ optional "token" token (λ a. a.token)
+      ∷ [];
+  make = λ sha1 sha256 act_as token. record { sha1 = sha1; sha256 = sha256; act_as = act_as; token = token };
+}
+
+-- the keys of the document itself, with the table of its accounts unread
+pub record TopFields : Type 0 where
+  pub decoy_key : List ℕ
+  pub decoy_count : ℕ
+  pub accounts : Option Members
+
+-- the document itself
+abbrev pub document : Table TopFields
+document = record {
+  marks = (codes "format", integer (pos 1)) ∷ [];
+  rows =
+      row "decoy_key" (bytes KeyLength 32 32) (λ t. t.decoy_key)
+      ∷ row "decoy_count" (number Count 1 4294967295) (λ t. t.decoy_count)
+      ∷ optional "accounts" any_table (λ t. t.accounts)
+      ∷ [];
+  make = λ decoy_key decoy_count accounts. record { decoy_key = decoy_key; decoy_count = decoy_count; accounts = accounts };
+}
