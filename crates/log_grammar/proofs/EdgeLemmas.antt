@@ -11,10 +11,10 @@ use Rattle.log_grammar.specs.Clean.{Begins}
 use Rattle.log_grammar.specs.Why.{is_cut, no_line, out_of_order, class_of, LineClass, IsClassDue}
 use Rattle.log_grammar.specs.Laws.{ClassesFollowThePlace}
 use Rattle.log_grammar.specs.Examples.{AreWhole}
-use Rattle.log_grammar.proofs.CutLemmas.{cut_one_way, each-append, first_lack, among, whole}
+use Rattle.log_grammar.proofs.CutLemmas.{cut_one_way, first_lack, among, whole}
 use Rattle.log_grammar.proofs.FaultLemmas.{Lead, start, clean_at, end_is_cut, rest_is_cut, rest_is_long, long_text_why, last_why}
 use Rattle.log_grammar.specs.Versions.{both, IsClean, IsWhy}
-use Rattle.log_grammar.proofs.Snoc.{last_same, split_last}
+use Rattle.log_grammar.proofs.Snoc.{last_same, split_last, all_append}
 use Rattle.log_grammar.proofs.VersionLemmas.{none_end_both}
 
 pub halted_is_clean : (accounts : Accounts) (texts : List (List ℕ)) (log : List LogLine) (told : List Told) → AreWhole texts log
@@ -84,5 +84,5 @@ pub long_line_is_no_line : (accounts : Accounts) (texts : List (List ℕ)) (log 
     → IsWhy accounts (ended_by_lf (texts ++ text ∷ [])) (length texts + 1) no_line
 long_line_is_no_line accounts texts log place told text are begins lacks long =
     let all = texts ++ text ∷ [] in
-    long_text_why accounts (ended_by_lf all) texts text [] [] log place told (whole all (each-append texts (text ∷ []) are.1 (lacks, tt)))
+    long_text_why accounts (ended_by_lf all) texts text [] [] log place told (whole all (all_append LacksLf texts (text ∷ []) are.1 (lacks, tt)))
     (read accounts texts log place told are begins) long

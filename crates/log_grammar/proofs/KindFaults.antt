@@ -6,50 +6,50 @@ use Rattle.std.proofs.lemmas.List.{take-append-le}
 use Rattle.std.proofs.lemmas.Bool.{cases_lt}
 use Rattle.log_grammar.specs.Bytes.{LacksLf, ended_by_lf, IsCut}
 use Rattle.log_grammar.specs.Why.{Why}
-use Rattle.log_grammar.specs.Kinds.{Kind, IsFrontOf, IsCleanOf, IsFaultLineOf, IsWrongNextOf, IsWhyOf, BeginsCleanOf, IsFirstToBeginNoCleanOf}
+use Rattle.log_grammar.specs.Kinds.{LogKind, IsFrontOf, IsCleanOf, IsFaultLineOf, IsWrongNextOf, IsWhyOf, BeginsCleanOf, IsFirstToBeginNoCleanOf}
 use Rattle.log_grammar.proofs.CutLemmas.{cut_one_way, cut_on, first_lack, up_to, whole}
 use Rattle.log_grammar.proofs.Snoc.{with_next, parted}
 use Rattle.log_grammar.proofs.KindLemmas.{IsShortened, EndsStand, first_stand, front_stands, front_at, fronts_front, text_at_fault}
 
 -- each front of the kind begins a clean log
-abbrev pub FrontsBeginCleanOf : Kind → Type 0
+abbrev pub FrontsBeginCleanOf : LogKind → Type 0
 FrontsBeginCleanOf kind = (bytes : List ℕ) → IsFrontOf kind bytes → BeginsCleanOf kind bytes
 
 -- the lines of what begins a clean log stand
-pub begun_stand : (kind : Kind) → IsShortened kind → EndsStand kind → (bytes : List ℕ) (texts : List (List ℕ)) → IsCut bytes texts [] → BeginsCleanOf kind bytes
-    → kind.Stands texts
+pub begun_stand : (kind : LogKind) → IsShortened kind → EndsStand kind → (bytes : List ℕ) (texts : List (List ℕ)) → IsCut bytes texts [] → BeginsCleanOf kind bytes
+    → kind.MayBegin texts
 begun_stand kind shorter stand bytes texts cut (more, clean) =
     let (all, also, ends) = clean in
     let (others, rest, on) = cut_on bytes texts more cut in
     let same = (cut_one_way (bytes ++ more) all (texts ++ others) [] rest also on).0 in
-    first_stand kind shorter texts others (subst kind.Stands same (stand all ends))
+    first_stand kind shorter texts others (subst kind.MayBegin same (stand all ends))
 
-pub fronts_are_what_begins : (kind : Kind) → IsShortened kind → EndsStand kind → FrontsBeginCleanOf kind → (bytes : List ℕ) (texts : List (List ℕ)) → IsCut bytes texts []
+pub fronts_are_what_begins : (kind : LogKind) → IsShortened kind → EndsStand kind → FrontsBeginCleanOf kind → (bytes : List ℕ) (texts : List (List ℕ)) → IsCut bytes texts []
     → IsFrontOf kind bytes ↔ BeginsCleanOf kind bytes
 fronts_are_what_begins kind shorter stand completes bytes texts cut =
     (λ front. completes bytes front, λ begins. (texts, cut, begun_stand kind shorter stand bytes texts cut begins))
 
 -- the first lines of these bytes stand, so they begin a clean log
-those_begin : (kind : Kind) → FrontsBeginCleanOf kind → (texts : List (List ℕ)) (j : ℕ) (first : List (List ℕ)) → take j texts ≡ first
+those_begin : (kind : LogKind) → FrontsBeginCleanOf kind → (texts : List (List ℕ)) (j : ℕ) (first : List (List ℕ)) → take j texts ≡ first
     → IsFrontOf kind (ended_by_lf (take j texts)) → BeginsCleanOf kind (ended_by_lf first)
 those_begin kind completes texts j first same front =
     completes (ended_by_lf first) (subst (λ (ts : List (List ℕ)). IsFrontOf kind (ended_by_lf ts)) same front)
 
 -- what is known of a fault line, among the lines of these bytes
-record IsFaultAmong (kind : Kind) (bytes : List ℕ) (texts : List (List ℕ)) (k : ℕ) : Type 0 where
+record IsFaultAmong (kind : LogKind) (bytes : List ℕ) (texts : List (List ℕ)) (k : ℕ) : Type 0 where
   below : (j : ℕ) → j < k → j ≤ length texts → IsFrontOf kind (ended_by_lf (take j texts))
   within : k ≤ length texts → IsFrontOf kind (ended_by_lf (take k texts)) → ⊥
   past : k ≤ length texts + 1
   unclean : k ≡ length texts + 1 → IsCleanOf kind bytes → ⊥
 
-among_these : (kind : Kind) (bytes : List ℕ) (texts : List (List ℕ)) (rest : List ℕ) (k : ℕ) → IsCut bytes texts rest → IsFaultLineOf kind bytes k
+among_these : (kind : LogKind) (bytes : List ℕ) (texts : List (List ℕ)) (rest : List ℕ) (k : ℕ) → IsCut bytes texts rest → IsFaultLineOf kind bytes k
     → IsFaultAmong kind bytes texts k
 among_these kind bytes texts rest k cut f =
     subst (λ (ts : List (List ℕ)). IsFaultAmong kind bytes ts k) (cut_one_way bytes f.texts texts f.rest rest f.cut cut).0
     (record { below = f.below; within = f.within; past = f.past; unclean = f.unclean })
 
 -- the lines before a fault line begin a clean log, and with it they do not
-at_line : (kind : Kind) → IsShortened kind → EndsStand kind → FrontsBeginCleanOf kind → (bytes : List ℕ) (texts : List (List ℕ)) (rest : List ℕ) (k : ℕ)
+at_line : (kind : LogKind) → IsShortened kind → EndsStand kind → FrontsBeginCleanOf kind → (bytes : List ℕ) (texts : List (List ℕ)) (rest : List ℕ) (k : ℕ)
     → IsCut bytes texts rest → IsFaultAmong kind bytes texts k → (before : List (List ℕ)) (text : List ℕ) (more : List (List ℕ))
     → texts ≡ before ++ text ∷ more → k ≡ length before + 1 → IsFirstToBeginNoCleanOf kind bytes texts k
 at_line kind shorter stand completes bytes texts rest k cut f before text more same at =
@@ -70,11 +70,11 @@ at_line kind shorter stand completes bytes texts rest k cut f before text more s
     )
 
 -- no lines at all are a front
-no_lines_front : (kind : Kind) → kind.Stands [] → (texts : List (List ℕ)) → IsFrontOf kind (ended_by_lf (take 0 texts))
+no_lines_front : (kind : LogKind) → kind.MayBegin [] → (texts : List (List ℕ)) → IsFrontOf kind (ended_by_lf (take 0 texts))
 no_lines_front kind nothing [] = front_at kind [] tt nothing
 no_lines_front kind nothing (text ∷ texts) = front_at kind [] tt nothing
 
-of_fault : (kind : Kind) → kind.Stands [] → IsShortened kind → EndsStand kind → FrontsBeginCleanOf kind → (bytes : List ℕ) (texts : List (List ℕ)) (rest : List ℕ) (k : ℕ)
+of_fault : (kind : LogKind) → kind.MayBegin [] → IsShortened kind → EndsStand kind → FrontsBeginCleanOf kind → (bytes : List ℕ) (texts : List (List ℕ)) (rest : List ℕ) (k : ℕ)
     → IsCut bytes texts rest → IsFaultAmong kind bytes texts k → IsFirstToBeginNoCleanOf kind bytes texts k
 of_fault kind nothing shorter stand completes bytes texts rest zero cut f = absurd (f.within (omega arith) (no_lines_front kind nothing texts))
 of_fault kind nothing shorter stand completes bytes texts rest (suc n) cut f = elim (cases_lt n (length texts)) [
@@ -88,7 +88,7 @@ of_fault kind nothing shorter stand completes bytes texts rest (suc n) cut f = e
 ]
 
 -- lines that begin no clean log are no front
-fault_at_line : (kind : Kind) → IsShortened kind → EndsStand kind → FrontsBeginCleanOf kind → (bytes : List ℕ) (before : List (List ℕ)) (text : List ℕ) (more : List (List ℕ)) (rest : List ℕ)
+fault_at_line : (kind : LogKind) → IsShortened kind → EndsStand kind → FrontsBeginCleanOf kind → (bytes : List ℕ) (before : List (List ℕ)) (text : List ℕ) (more : List (List ℕ)) (rest : List ℕ)
     → IsCut bytes (before ++ text ∷ more) rest → BeginsCleanOf kind (ended_by_lf before)
     → (BeginsCleanOf kind (ended_by_lf (before ++ text ∷ [])) → ⊥) → IsFaultLineOf kind bytes (length before + 1)
 fault_at_line kind shorter stand completes bytes before text more rest cut begins none =
@@ -107,7 +107,7 @@ fault_at_line kind shorter stand completes bytes before text more rest cut begin
       unclean = λ last clean. omega (arith, last, long);
     }
 
-fault_at_end : (kind : Kind) → IsShortened kind → EndsStand kind → (bytes : List ℕ) (texts : List (List ℕ)) (rest : List ℕ) → IsCut bytes texts rest
+fault_at_end : (kind : LogKind) → IsShortened kind → EndsStand kind → (bytes : List ℕ) (texts : List (List ℕ)) (rest : List ℕ) → IsCut bytes texts rest
     → BeginsCleanOf kind (ended_by_lf texts) → (IsCleanOf kind bytes → ⊥) → IsFaultLineOf kind bytes (length texts + 1)
 fault_at_end kind shorter stand bytes texts rest cut begins unclean =
     let all = whole texts cut.lines in
@@ -122,7 +122,7 @@ fault_at_end kind shorter stand bytes texts rest cut begins unclean =
       unclean = λ last. unclean;
     }
 
-fault_of : (kind : Kind) → IsShortened kind → EndsStand kind → FrontsBeginCleanOf kind → (bytes : List ℕ) (texts : List (List ℕ)) (rest : List ℕ) (k : ℕ)
+fault_of : (kind : LogKind) → IsShortened kind → EndsStand kind → FrontsBeginCleanOf kind → (bytes : List ℕ) (texts : List (List ℕ)) (rest : List ℕ) (k : ℕ)
     → IsCut bytes texts rest → IsFirstToBeginNoCleanOf kind bytes texts k → IsFaultLineOf kind bytes k
 fault_of kind shorter stand completes bytes texts rest k cut (inl (before, text, more, same, at, begins, none)) =
     subst (IsFaultLineOf kind bytes) (sym at)
@@ -130,7 +130,7 @@ fault_of kind shorter stand completes bytes texts rest k cut (inl (before, text,
 fault_of kind shorter stand completes bytes texts rest k cut (inr (at, begins, unclean)) =
     subst (IsFaultLineOf kind bytes) (sym at) (fault_at_end kind shorter stand bytes texts rest cut begins unclean)
 
-pub fault_lines : (kind : Kind) → kind.Stands [] → IsShortened kind → EndsStand kind → FrontsBeginCleanOf kind → (bytes : List ℕ) (texts : List (List ℕ)) (rest : List ℕ) (k : ℕ)
+pub fault_lines : (kind : LogKind) → kind.MayBegin [] → IsShortened kind → EndsStand kind → FrontsBeginCleanOf kind → (bytes : List ℕ) (texts : List (List ℕ)) (rest : List ℕ) (k : ℕ)
     → IsCut bytes texts rest → IsFaultLineOf kind bytes k ↔ IsFirstToBeginNoCleanOf kind bytes texts k
 fault_lines kind nothing shorter stand completes bytes texts rest k cut = (
   λ f. of_fault kind nothing shorter stand completes bytes texts rest k cut (among_these kind bytes texts rest k cut f),
@@ -138,12 +138,12 @@ fault_lines kind nothing shorter stand completes bytes texts rest k cut = (
 )
 
 -- a whole line that is at fault: the lines before it stand, it is wrong after them, and with it they do not stand
-pub record FaultText (kind : Kind) (before : List (List ℕ)) (text : List ℕ) (why : Why) : Type 0 where
-  pub stands : kind.Stands before
+pub record FaultText (kind : LogKind) (before : List (List ℕ)) (text : List ℕ) (why : Why) : Type 0 where
+  pub stands : kind.MayBegin before
   pub wrong : kind.Wrong before text why
-  pub stuck : kind.Stands (before ++ text ∷ []) → ⊥
+  pub stuck : kind.MayBegin (before ++ text ∷ []) → ⊥
 
-pub at_text : (kind : Kind) (bytes : List ℕ) (before : List (List ℕ)) (text : List ℕ) (more : List (List ℕ)) (rest : List ℕ) (why : Why)
+pub at_text : (kind : LogKind) (bytes : List ℕ) (before : List (List ℕ)) (text : List ℕ) (more : List (List ℕ)) (rest : List ℕ) (why : Why)
     → IsCut bytes (before ++ text ∷ more) rest → IsWhyOf kind bytes (length before + 1) why → FaultText kind before text why
 at_text kind bytes before text more rest why cut w =
     let texts = before ++ text ∷ more in
@@ -167,7 +167,7 @@ at_text kind bytes before text more rest why cut w =
     }
 
 -- such a line is at fault in any bytes that begin with the same lines
-elsewhere : (kind : Kind) → IsShortened kind → (bytes other : List ℕ) (before : List (List ℕ)) (text : List ℕ) (more others : List (List ℕ)) (rest also : List ℕ) (why : Why)
+elsewhere : (kind : LogKind) → IsShortened kind → (bytes other : List ℕ) (before : List (List ℕ)) (text : List ℕ) (more others : List (List ℕ)) (rest also : List ℕ) (why : Why)
     → IsCut bytes (before ++ text ∷ more) rest → IsCut other (before ++ text ∷ others) also
     → IsWhyOf kind bytes (length before + 1) why → IsWhyOf kind other (length before + 1) why
 elsewhere kind shorter bytes other before text more others rest also why cut there w =
@@ -179,7 +179,7 @@ longer : (bytes : List ℕ) (texts before : List (List ℕ)) (text : List ℕ) (
 longer bytes texts before text middle more rest same cut =
     subst (λ (ts : List (List ℕ)). IsCut bytes ts rest) (ap (λ (ts : List (List ℕ)). ts ++ more) same ∙ append_assoc before (text ∷ middle) more) cut
 
-pub whatever_follows : (kind : Kind) → IsShortened kind → (bytes other : List ℕ) (texts more others : List (List ℕ)) (rest also : List ℕ) (k : ℕ) (why : Why)
+pub whatever_follows : (kind : LogKind) → IsShortened kind → (bytes other : List ℕ) (texts more others : List (List ℕ)) (rest also : List ℕ) (k : ℕ) (why : Why)
     → IsCut bytes (texts ++ more) rest → IsCut other (texts ++ others) also → k ≤ length texts → IsWhyOf kind bytes k why → IsWhyOf kind other k why
 whatever_follows kind shorter bytes other texts more others rest also zero why cut there few w = absurd (omega (arith, w.this))
 whatever_follows kind shorter bytes other texts more others rest also (suc n) why cut there few w =
@@ -191,12 +191,12 @@ whatever_follows kind shorter bytes other texts more others rest also (suc n) wh
     (subst (λ (i : ℕ). IsWhyOf kind bytes i why) k w))
 
 -- a fault after the last line: all lines stand, and the bytes are not clean
-pub record FaultEnd (kind : Kind) (bytes : List ℕ) (texts : List (List ℕ)) (rest : List ℕ) (why : Why) : Type 0 where
-  pub stands : kind.Stands texts
+pub record FaultEnd (kind : LogKind) (bytes : List ℕ) (texts : List (List ℕ)) (rest : List ℕ) (why : Why) : Type 0 where
+  pub stands : kind.MayBegin texts
   pub unclean : IsCleanOf kind bytes → ⊥
   pub wrong : IsWrongNextOf kind texts [] rest why
 
-pub after_last : (kind : Kind) (bytes : List ℕ) (texts : List (List ℕ)) (rest : List ℕ) (why : Why) → IsCut bytes texts rest
+pub after_last : (kind : LogKind) (bytes : List ℕ) (texts : List (List ℕ)) (rest : List ℕ) (why : Why) → IsCut bytes texts rest
     → IsWhyOf kind bytes (length texts + 1) why → FaultEnd kind bytes texts rest why
 after_last kind bytes texts rest why cut w =
     let f = among_these kind bytes texts rest (length texts + 1) cut w.fault in

@@ -16,7 +16,7 @@ use Rattle.log_grammar.specs.Why.{other_outcome, other_reply, accepted, of_words
 use Rattle.log_grammar.specs.Versions.{IsWhy}
 use Rattle.log_grammar.specs.Logins.{IsLoginTo, login_log, tried_log, log_bytes, RefusedLoginsAreAtFault, OtherRepliesAreAtFault}
 use Rattle.log_grammar.proofs.ClassLemmas.{classes_due}
-use Rattle.log_grammar.proofs.WhyLemmas.{Known, verdict_once, reply_once}
+use Rattle.log_grammar.proofs.WhyLemmas.{Known, one_verdict, reply_once}
 use Rattle.log_grammar.proofs.LineBytes.{text_lacks, reply_line}
 use Rattle.log_grammar.proofs.FaultLemmas.{last_why}
 use Rattle.log_grammar.proofs.LoginLemmas.{granted, lead_tried, lead_asked, by_name}
@@ -35,7 +35,7 @@ refused_by known valid accounts m name client_first server_first client_final se
       last_why known.one_first known.names accounts _ header _ at [] (log_text line) line (other_outcome (accepted signature)) lead is
           (text_lacks (log_text line) line is)
           (λ f.
-          let wrong = verdict_once known accounts (name_of m) name client_first server_first client_final (accept signature) (refuse f.goes.0.0) due f.goes.0.1 in cc wrong)
+          let wrong = one_verdict known.verdicts accounts (name_of m) name client_first server_first client_final (accept signature) (refuse f.goes.0.0) due f.goes.0.1 in cc wrong)
           (inr ((classes_due accounts _ at [] of_words lead.begins).1 refl, at, [], lead.begins, (accept signature, due, refl))),
     )
 

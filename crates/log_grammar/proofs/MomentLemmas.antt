@@ -8,6 +8,7 @@ use Rattle.log_grammar.specs.Sessions.{Told, Session, session, session_lines, se
 use Rattle.log_grammar.specs.Demands.{Accounts, demands}
 use Rattle.log_grammar.specs.Places.{Place}
 use Rattle.log_grammar.specs.Clean.{Begins, AreLines}
+use Rattle.log_grammar.proofs.Snoc.{all_append}
 
 -- all lines are in their ranges
 abbrev pub Ranged : List LogLine → Type 0
@@ -61,10 +62,6 @@ of_session (session names l) h = of_login l h.1
 parted : {A : Type 0} (P : A → Type 0) (front back : List A) → AllByRecursion P (front ++ back) → AllByRecursion P front × AllByRecursion P back
 parted P [] back h = (tt, h)
 parted P (a ∷ front) back h = let more = parted P front back h.1 in ((h.0, more.0), more.1)
-
-all_append : {A : Type 0} (P : A → Type 0) (front back : List A) → AllByRecursion P front → AllByRecursion P back → AllByRecursion P (front ++ back)
-all_append P [] back h k = k
-all_append P (a ∷ front) back h k = (h.0, all_append P front back h.1 k)
 
 pub of_sessions : (sessions : List Session) → Ranged (flat_map session_lines sessions) → Timed (flat_map session_told sessions)
 of_sessions [] h = tt

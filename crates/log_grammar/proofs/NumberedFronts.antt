@@ -27,7 +27,7 @@ use Rattle.log_grammar.proofs.Owns.{at_each, put_here, put_other, of_number_stan
 use Rattle.log_grammar.proofs.Snoc.{with_last}
 
 -- where HALT and BUSY lead
-halt_leads : (d : Demands) (place next : Place) → Goes d place (said halt) next → next ≡ halted
+pub halt_leads : (d : Demands) (place next : Place) → Goes d place (said halt) next → next ≡ halted
 halt_leads d (got_code account sent) next h = h
 halt_leads d place next h = absurd h
 

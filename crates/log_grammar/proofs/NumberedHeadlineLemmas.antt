@@ -38,11 +38,12 @@ written_of (text ∷ texts) [] are = absurd are
 written_of (text ∷ texts) (x ∷ log) are =
     (subst (λ (t : List ℕ). IsNumberedLine t x) are.0.spelled are.0, written_of texts log are.1)
 
-are_written : (log : List (Numbered LogLine)) → AllByRecursion IsNumberedWritable log → AllZip IsNumberedLine (map numbered_text log) log
+-- numbered lines that can be written are read as they are
+pub are_written : (log : List (Numbered LogLine)) → AllByRecursion IsNumberedWritable log → AllZip IsNumberedLine (map numbered_text log) log
 are_written [] all = tt
 are_written (x ∷ log) all = (all.0, are_written log all.1)
 
-each_lacks : (log : List (Numbered LogLine)) → AllByRecursion IsNumberedWritable log → AllByRecursion LacksLf (map numbered_text log)
+pub each_lacks : (log : List (Numbered LogLine)) → AllByRecursion IsNumberedWritable log → AllByRecursion LacksLf (map numbered_text log)
 each_lacks [] all = tt
 each_lacks (x ∷ log) all = (numbered_lacks (numbered_text x) x all.0, each_lacks log all.1)
 

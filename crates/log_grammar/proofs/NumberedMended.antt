@@ -20,7 +20,7 @@ use Rattle.log_grammar.specs.Headline.{IsWritable}
 use Rattle.log_grammar.specs.NumberedHeadline.{IsNumberedWritable}
 use Rattle.log_grammar.specs.Reasons.{SaysWhatIsDue, NamesWhatIsDue}
 use Rattle.log_grammar.specs.NumberedReasons.{IsNumberedMended, WhatIsDueMayStandUnderItsNumber, EachNumberedLineThatIsDueMayStand}
-use Rattle.log_grammar.proofs.CutLemmas.{cut_one_way, each-append, first_lack}
+use Rattle.log_grammar.proofs.CutLemmas.{cut_one_way, first_lack}
 use Rattle.log_grammar.proofs.DueLines.{NamesOneLine, says_once, named, goes_ok, word_of}
 use Rattle.log_grammar.proofs.KindFaults.{FaultText, at_text}
 use Rattle.log_grammar.proofs.KindLemmas.{front_at}
@@ -30,7 +30,7 @@ use Rattle.log_grammar.proofs.NumberedClassLemmas.{room_line, next_line, number_
 use Rattle.log_grammar.proofs.NumberedLineLemmas.{one_numbered_line, numbered_lacks, numbered_written}
 use Rattle.log_grammar.proofs.NumberedLogSteps.{numbered_on}
 use Rattle.log_grammar.proofs.NumberedStandings.{busy_line}
-use Rattle.log_grammar.proofs.Snoc.{parted}
+use Rattle.log_grammar.proofs.Snoc.{parted, all_append}
 
 -- a line of a number that is at fault, where some line of its class is due
 record FaultOf (limit : ℕ) (accounts : Accounts) (before : List (List ℕ)) (x : Numbered LogLine) (why : Why) : Type 0 where
@@ -163,7 +163,7 @@ begins_with completes limit accounts fit before x why f line next lack says writ
     let stands : StandsTwo limit accounts ((f.first ∷ f.texts) ++ numbered_text y ∷ []) =
     (f.head, f.log ++ y ∷ [], put n next f.places, f.told ++ told_at (f.places n) line, numbered_pairs f.texts (numbered_text y) f.log y f.are writable, on) in
     let all = before ++ numbered_text y ∷ [] in
-    let lacks = each-append before (numbered_text y ∷ []) lack (numbered_lacks (numbered_text y) y writable, tt) in
+    let lacks = all_append LacksLf before (numbered_text y ∷ []) lack (numbered_lacks (numbered_text y) y writable, tt) in
     completes limit accounts fit (ended_by_lf all)
     (front_at (two limit accounts) all lacks (subst (λ (ts : List (List ℕ)). StandsTwo limit accounts (ts ++ numbered_text y ∷ [])) (sym f.same) stands))
 

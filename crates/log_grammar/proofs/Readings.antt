@@ -5,7 +5,7 @@ use Rattle.log_grammar.specs.Lines.{LogLine, header, said, heard, bad, gone, end
 use Rattle.log_grammar.specs.Sessions.{Told}
 use Rattle.log_grammar.specs.Demands.{Demands}
 use Rattle.log_grammar.specs.Places.{Place, before_all, between, offered, asks_bare, waits_first, got_first, waits_final, got_final, waits_code, got_code, leaving, over, halted}
-use Rattle.log_grammar.specs.Steps.{Quits, FromOffered, FromInvitation, FromWaitsFirst, FromFirst, FromWaitsFinal, FromFinal, FromWaitsCode, FromCode, FromLeaving, FromBetween, FromOver, FromStart, Goes, told_at}
+use Rattle.log_grammar.specs.Steps.{FromOffered, FromInvitation, FromWaitsFirst, FromFirst, FromWaitsFinal, FromFinal, FromWaitsCode, FromCode, FromLeaving, FromBetween, FromOver, FromStart, Goes, told_at}
 use Rattle.log_grammar.specs.Clean.{Begins}
 use Rattle.log_grammar.proofs.LogSteps.{before_last}
 use Rattle.log_grammar.proofs.Snoc.{some_last, last_same, length-last}
@@ -13,12 +13,6 @@ use Rattle.log_grammar.proofs.Snoc.{some_last, last_same, length-last}
 -- a challenge is that of one account
 abbrev pub OneAccount : Demands → Type 0
 OneAccount d = (m first account other text : List ℕ) → d.challenged m first account text → d.challenged m first other text → account ≡ other
-
-quits_once : (line : LogLine) (p q : Place) → Quits line p → Quits line q → p ≡ q
-quits_once (heard abort) p q h k = h ∙ sym k
-quits_once bad p q h k = h ∙ sym k
-quits_once gone p q h k = h ∙ sym k
-quits_once line p q h k = absurd h
 
 offered_once : (line : LogLine) (p q : Place) → FromOffered line p → FromOffered line q → p ≡ q
 offered_once (heard (auth m)) p q h k = h ∙ sym k

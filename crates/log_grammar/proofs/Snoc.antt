@@ -1,6 +1,6 @@
 -- Lists by their first elements, by their last, and by one within.
 use Rattle.std.proofs.Common.{◌≡◌, ◌+◌, ◌<◌, ℕ, zero, suc, List, [], ◌∷◌, ◌++◌, length, take, refl, sym, ◌∙◌, ap, arith, length-append}
-use Rattle.std.specs.List.{AllZip}
+use Rattle.std.specs.List.{AllByRecursion, AllZip}
 use Rattle.std.proofs.Math.Seq.{take-append-add}
 
 -- two lists with their first elements
@@ -59,3 +59,8 @@ parted (a ∷ xs) zero less = ([], a, xs, refl, refl)
 parted (a ∷ xs) (suc n) less =
     let (before, x, more, same, at) = parted xs n (omega (arith, less)) in
     (a ∷ before, x, more, ap (λ l. a ∷ l) same, ap suc at)
+
+-- what holds of each of two lists holds of each of both
+pub all_append : {A : Type 0} (P : A → Type 0) (front back : List A) → AllByRecursion P front → AllByRecursion P back → AllByRecursion P (front ++ back)
+all_append P [] back h k = k
+all_append P (a ∷ front) back h k = (h.0, all_append P front back h.1 k)

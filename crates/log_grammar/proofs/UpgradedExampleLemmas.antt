@@ -25,9 +25,9 @@ use Rattle.log_grammar.proofs.KindTwo.{headed_two, last_is_numbered}
 use Rattle.log_grammar.proofs.LineLemmas.{one_log_line}
 use Rattle.log_grammar.proofs.NumberedLineLemmas.{unnumbered_is_none}
 use Rattle.log_grammar.proofs.Snoc.{same_cons}
-use Rattle.log_grammar.proofs.UpgradedFaults.{upgraded_clean, same_fault, stands_two}
+use Rattle.log_grammar.proofs.UpgradedFaults.{upgraded_clean, same_fault}
 use Rattle.log_grammar.proofs.UpgradedTexts.{next_within}
-use Rattle.log_grammar.proofs.VersionLemmas.{shorter_both}
+use Rattle.log_grammar.proofs.VersionLemmas.{shorter_both, second_stands}
 use Rattle.log_grammar.proofs.WordLemmas.{after_space, after-word, spaceless_number}
 
 -- lines with numbers of one digit
@@ -181,7 +181,7 @@ after_first : (accounts : Accounts) (text : List ℕ) (why : Why) → LacksLf te
 after_first accounts text why lacks none wrong =
     text_at_fault (both accounts) (shorter_both accounts) (ended_by_lf (second_text ∷ text ∷ [])) (second_text ∷ []) text [] [] why
     (whole (second_text ∷ text ∷ []) (refl, (lacks, tt))) (inr (headed_two most_open accounts).begins)
-    (λ stands. let last = last_is_numbered most_open accounts second_text [] text (stands_two accounts (text ∷ []) stands) in none last.0 last.1)
+    (λ stands. let last = last_is_numbered most_open accounts second_text [] text (second_stands accounts (text ∷ []) stands) in none last.0 last.1)
     (inr (refl, ([], tt, wrong)))
 
 pub second_again : (accounts : Accounts) → IsWhy accounts (ended_by_lf (second_text ∷ second_text ∷ [])) 2 out_of_order

@@ -7,7 +7,7 @@ use Rattle.log_grammar.specs.Demands.{Accounts, demands}
 use Rattle.log_grammar.specs.Places.{Place, MayEnd}
 use Rattle.log_grammar.specs.Clean.{Spells, Begins}
 use Rattle.log_grammar.specs.Why.{Why, IsWrongText}
-use Rattle.log_grammar.specs.Kinds.{Kind}
+use Rattle.log_grammar.specs.Kinds.{LogKind}
 
 -- the texts are lines that a log of version 1 may begin with
 abbrev pub StandsOne : Accounts → List (List ℕ) → Type 0
@@ -26,5 +26,5 @@ abbrev pub WrongOne : Accounts → List (List ℕ) → List ℕ → Why → Type
 WrongOne accounts before text why = (lines : List LogLine) × AllZip IsLogLine before lines × IsWrongText accounts lines text why
 
 -- logs of version 1. A line has at most 6202 bytes.
-abbrev pub one : Accounts → Kind
-one accounts = record { Stands = StandsOne accounts; Ends = EndsOne accounts; Wrong = WrongOne accounts; most_line = λ before. 6202 }
+abbrev pub one : Accounts → LogKind
+one accounts = record { MayBegin = StandsOne accounts; Ends = EndsOne accounts; Wrong = WrongOne accounts; most_line = λ before. 6202 }

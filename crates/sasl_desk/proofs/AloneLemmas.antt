@@ -19,7 +19,7 @@ use Rattle.log_grammar.specs.Demands.{Accounts, Demands, demands, NamesMechanism
 use Rattle.log_grammar.specs.Places.{Place, between, offered, asks_bare, waits_first, got_first, waits_final, got_final, waits_code, leaving, over}
 use Rattle.log_grammar.specs.Steps.{Goes}
 use Rattle.log_grammar.proofs.Openings.{one_name, login_of}
-use Rattle.log_grammar.proofs.WhyLemmas.{mechanism_once}
+use Rattle.log_grammar.proofs.WhyLemmas.{mechanism_once, one_verdict}
 use Rattle.sasl_desk.specs.Alone.{AsksTheSame, AskTheSame, up_to_acceptance, HaveSameEntries}
 use Rattle.sasl_desk.specs.Events.{ClientEvent, sends, goes_away}
 use Rattle.sasl_desk.specs.Halls.{HallFields, hall_lines, busy_lines, IsStay, StandsHall}
@@ -217,13 +217,6 @@ own_challenge_once one_first accounts own mechanism account first text other (m,
     challenge_once one_first (accounts.entry m account) first own text other a
     (subst (λ (x : Mechanism). IsChallengeTo (accounts.entry x account) first own other) same b)
 
-verdict_once : AtMostOneIsDue → (accounts : Accounts) (mechanism name first challenge last : List ℕ) (d e : Due)
-    → IsVerdict accounts mechanism name first challenge last d → IsVerdict accounts mechanism name first challenge last e → d ≡ e
-verdict_once law accounts mechanism name first challenge last d e (m, named, due) (k, also, other) =
-    let same = mechanism_once k m (sym also ∙ named) in
-    law (challenged_login (accounts.entry m name) m first challenge) last d e due
-    (subst (λ (x : Mechanism). IsDue (challenged_login (accounts.entry x name) x first challenge) last e) same other)
-
 -- so is the acceptance, without extensions, of a signature
 plain_text : HasOneServerFinal → (text signature : List ℕ) → IsAuthentic text signature → LacksExtensions (said (accepts text)) → text ≡ due_text (accept signature)
 plain_text one_last text signature is (other, plain) =
@@ -260,17 +253,17 @@ once_at t accounts part (got_first m first) lines others next also due mine your
       both_same next also _ _ a.1 b.1 (ap (λ (n : List ℕ). waits_final m n first text) names ∙ ap (λ (x : List ℕ). waits_final m name first x) texts),
     )
 once_at t accounts part (got_final m account first challenge last) lines others next also due mine yours plain bare (inl (why, a, (lines_are, at))) (inl (reason, b, (others_are, too))) =
-    let same = verdict_once t.verdicts accounts m account first challenge last (refuse why) (refuse reason) a b in (
+    let same = one_verdict t.verdicts accounts m account first challenge last (refuse why) (refuse reason) a b in (
       both_same lines others _ _ lines_are others_are (ap (λ (d : Due). said (refuses (due_text d)) ∷ ended ∷ []) same),
       at ∙ sym too,
     )
 once_at t accounts part (got_final m account first challenge last) lines others next also due mine yours plain bare (inl (why, a, (lines_are, at))) (inr (signature, text, b, authentic, rest)) =
-    let same = verdict_once t.verdicts accounts m account first challenge last (refuse why) (accept signature) a b in absurd (cc same)
+    let same = one_verdict t.verdicts accounts m account first challenge last (refuse why) (accept signature) a b in absurd (cc same)
 once_at t accounts part (got_final m account first challenge last) lines others next also due mine yours plain bare (inr (signature, text, a, authentic, rest)) (inl (why, b, (others_are, too))) =
-    let same = verdict_once t.verdicts accounts m account first challenge last (refuse why) (accept signature) b a in absurd (cc same)
+    let same = one_verdict t.verdicts accounts m account first challenge last (refuse why) (accept signature) b a in absurd (cc same)
 once_at t accounts part (got_final m account first challenge last) lines others next also due mine yours plain bare
     (inr (signature, text, a, authentic, (lines_are, at))) (inr (other, word, b, genuine, (others_are, too))) =
-    let same = verdict_once t.verdicts accounts m account first challenge last (accept signature) (accept other) a b in
+    let same = one_verdict t.verdicts accounts m account first challenge last (accept signature) (accept other) a b in
     let mine_plain = subst (AllByRecursion LacksExtensions) lines_are plain in
     let yours_plain = subst (AllByRecursion LacksExtensions) others_are bare in
     let texts = plain_text t.one_last text signature authentic mine_plain.0 ∙ ap due_text same ∙ sym (plain_text t.one_last word other genuine yours_plain.0) in (

@@ -12,18 +12,10 @@ use Rattle.std.proofs.lemmas.Option.{slice_get_cases}
 use Rattle.std.proofs.lemmas.List.Sums.{sum_by-append}
 use Rattle.sasl_desk.specs.Guests.{is_of}
 use Rattle.sasl_desk.specs.declared.hall.guest.Guest.{Guest}
-
-count_one : {X : Type 0} (p : X → Bool) (x : X) → p x ≡ true → count_by p (x ∷ []) ≡ 1
-count_one p x is = rw is refl
-
-count_no : {X : Type 0} (p : X → Bool) (x : X) → p x ≡ false → count_by p (x ∷ []) ≡ 0
-count_no p x is = rw is refl
+use Rattle.sasl_log.proofs.PermutedSlots.{count_one, count_no, count_cons}
 
 count_append : {X : Type 0} (p : X → Bool) (xs ys : List X) → count_by p (xs ++ ys) ≡ count_by p xs + count_by p ys
 count_append p xs ys = sum_by-append _ xs ys
-
-count_cons : {X : Type 0} (p : X → Bool) (x : X) (xs : List X) → count_by p (x ∷ xs) ≡ count_by p (x ∷ []) + count_by p xs
-count_cons p x xs = count_append p (x ∷ []) xs
 
 -- guests of a number, and one more
 pub count_here : (n : ℕ) (guest : Guest) (guests : List Guest) → guest.number ≡ n → count_by (is_of n) (guest ∷ guests) ≡ 1 + count_by (is_of n) guests

@@ -1,6 +1,6 @@
 -- The laws of halls.
 use Rattle.std.proofs.Common.{◌≡◌, ◌⊎◌, inl, inr, Bool, true, false, ℕ, List, [], ◌∷◌, ◌++◌, map, reverse, refl, sym, ◌∙◌, ap, subst, arith, append_assoc, append-nil}
-use Rattle.std.specs.List.{AllByRecursion, AllZip, find}
+use Rattle.std.specs.List.{AllByRecursion, find}
 use Rattle.std.specs.declared.option.Option.{Option}
 use Rattle.std.specs.declared.option.Option.TheVariants.{None, Some}
 use Rattle.std.proofs.lemmas.Bool.{cases_Bool, eqb-true}
@@ -12,23 +12,23 @@ use Rattle.book_format.specs.Book.{BookFields}
 use Rattle.book_format.specs.Trees.{IsBookText}
 use Rattle.account_book.specs.Store.{StoreFacts}
 use Rattle.log_grammar.specs.Books.{accounts_in}
-use Rattle.log_grammar.specs.Bytes.{LacksLf, ended_by_lf, IsCut}
+use Rattle.log_grammar.specs.Bytes.{ended_by_lf, IsCut}
 use Rattle.log_grammar.specs.Versions.{IsFront, IsClean}
 use Rattle.log_grammar.specs.Lines.{LogLine, second_header, said, halt, log_text}
 use Rattle.log_grammar.specs.Sessions.{Told}
 use Rattle.log_grammar.specs.Demands.{Accounts, demands}
 use Rattle.log_grammar.specs.Places.{Place, before_all, between, halted}
 use Rattle.log_grammar.specs.Numbered.{Numbered, numbered, of_number, SpellsNumbered, MayEndNumbered}
-use Rattle.log_grammar.specs.NumberedLines.{numbered_text, IsNumberedLine}
+use Rattle.log_grammar.specs.NumberedLines.{numbered_text}
 use Rattle.log_grammar.specs.NumberedCounts.{is_closed}
 use Rattle.log_grammar.proofs.NumberedCuts.{numbered_before}
-use Rattle.log_grammar.proofs.NumberedLineLemmas.{numbered_lacks}
 use Rattle.log_grammar.proofs.Owns.{of_number_append, of_number_all, of_number_none}
+use Rattle.log_grammar.proofs.NumberedHeadlineLemmas.{are_written, each_lacks}
 use Rattle.log_grammar.specs.NumberedHeadline.{IsNumberedWritable}
 use Rattle.sasl_desk.specs.Desks.{IsHeld, IsLostAfter, IsStoredAt, session_phase, all_spent}
 use Rattle.sasl_desk.specs.Guests.{is_of}
 use Rattle.sasl_desk.specs.Halls.{HallFields, hall_lines, hall_bytes, numbered_bytes, IsStay, IsSeated, IsStoredAfter, StandsHall, guest_phase, phase_in, IsPhaseOf, IsPhaseIn}
-use Rattle.sasl_desk.specs.Keeper.{IsTold}
+use Rattle.sasl_desk.specs.Keeper.{IsAttemptJudged}
 use Rattle.sasl_desk.specs.Records.{HasSessionRecords}
 use Rattle.sasl_desk.specs.Restarts.{HallRun, IsHallRunOf}
 use Rattle.sasl_desk.specs.Runs.{Asked, greets, hears, Call, IsAtRest, IsAnsweredBy, IsRun, wire_bytes, own_part}
@@ -41,19 +41,6 @@ use Rattle.sasl_desk.proofs.HallSteps.{opened, closed, halt_in}
 use Rattle.sasl_desk.proofs.RecordLemmas.{run_offers, run_records}
 use Rattle.sasl_desk.proofs.RestartLemmas.{held_or_lost, told_spent}
 use Rattle.sasl_desk.proofs.RunLemmas.{wire_bytes-append}
-
--- numbered lines that can be written are read as they are
-each_numbered : (lines : List (Numbered LogLine)) → AllByRecursion IsNumberedWritable lines → AllZip IsNumberedLine (map numbered_text lines) lines
-each_numbered [] all = tt
-each_numbered (x ∷ lines) all = (all.0, each_numbered lines all.1)
-
-each_lacks : (lines : List (Numbered LogLine)) → AllByRecursion IsNumberedWritable lines → AllByRecursion LacksLf (map numbered_text lines)
-each_lacks [] all = tt
-each_lacks (x ∷ lines) all = (numbered_lacks (numbered_text x) x all.0, each_lacks lines all.1)
-
--- the texts of a log of version 2
-hall_texts : List (Numbered Call) → List (List ℕ)
-hall_texts calls = log_text second_header ∷ map numbered_text (hall_lines calls)
 
 hall_cut : (calls : List (Numbered Call)) → AllByRecursion IsNumberedWritable (hall_lines calls)
     → IsCut (hall_bytes calls) (log_text second_header ∷ map numbered_text (hall_lines calls)) []
@@ -69,7 +56,7 @@ pub hall_is_front : {S : Type 0} (facts : S → StoreFacts) (start : BookFields)
 hall_is_front facts start calls hall s = (
   log_text second_header ∷ map numbered_text (hall_lines calls),
   hall_cut calls s.written,
-  inr (refl, hall_lines calls, s.places, s.told, each_numbered (hall_lines calls) s.written, s.spelled),
+  inr (refl, hall_lines calls, s.places, s.told, are_written (hall_lines calls) s.written, s.spelled),
 )
 
 hall_ends : {S : Type 0} (facts : S → StoreFacts) (start : BookFields) (calls : List (Numbered Call)) (hall : HallFields S)
@@ -77,7 +64,7 @@ hall_ends : {S : Type 0} (facts : S → StoreFacts) (start : BookFields) (calls 
 hall_ends facts start calls hall s ends = (
   log_text second_header ∷ map numbered_text (hall_lines calls),
   hall_cut calls s.written,
-  inr (refl, hall_lines calls, s.places, s.told, each_numbered (hall_lines calls) s.written, s.spelled, ends),
+  inr (refl, hall_lines calls, s.places, s.told, are_written (hall_lines calls) s.written, s.spelled, ends),
 )
 
 -- nothing is left to be said at a session's place
@@ -211,7 +198,7 @@ held_or_lost_after accounts (c ∷ calls) places book store stored =
     ]
 
 run_to : {S : Type 0} (facts : S → StoreFacts) (start : BookFields) (calls : List (Numbered Call)) (hall : HallFields S) (s : StandsHall facts start calls hall)
-    (left : BookFields) → (left ≡ hall.keeper.book) ⊎ ((t : Told) × IsTold hall.keeper.book t left)
+    (left : BookFields) → (left ≡ hall.keeper.book) ⊎ ((t : Told) × IsAttemptJudged hall.keeper.book t left)
     → (r : HallRun) × IsHallRunOf facts r × (r.start ≡ start) × (r.calls ≡ calls) × (r.left ≡ left)
 run_to facts start calls hall s left leaves = (
   record { start = start; calls = calls; places = s.places; told = s.told; left = left },
@@ -240,7 +227,7 @@ left_by_hall facts start calls hall s =
     ]
 
 pub stopped_hall : {S : Type 0} (facts : S → StoreFacts) (start : BookFields) (calls : List (Numbered Call)) (hall : HallFields S) (t : Told) (next : BookFields)
-    → StandsHall facts start calls hall → IsTold hall.keeper.book t next
+    → StandsHall facts start calls hall → IsAttemptJudged hall.keeper.book t next
     → (r : HallRun) × IsHallRunOf facts r × (r.start ≡ start) × (r.calls ≡ calls) × (r.left ≡ next)
 stopped_hall facts start calls hall t next s one = run_to facts start calls hall s next (inr (t, one))
 
@@ -260,6 +247,6 @@ saved_by_hall itself stays facts start calls hall s ps spent =
 
 pub stopped_by_hall : BeginsWithItself → SpentStaysSpent → {S : Type 0} (facts : S → StoreFacts) (start : BookFields) (calls : List (Numbered Call))
     (hall : HallFields S) (s : StandsHall facts start calls hall) (ps : List (List ℕ × ℕ)) (t : Told) (next : BookFields) → AreSpent ps start
-    → IsTold hall.keeper.book t next → AreSpent (all_spent (reverse s.told) ++ ps) next
+    → IsAttemptJudged hall.keeper.book t next → AreSpent (all_spent (reverse s.told) ++ ps) next
 stopped_by_hall itself stays facts start calls hall s ps t next spent one =
     told_spent itself stays hall.keeper.book next t (all_spent (reverse s.told) ++ ps) one (s.spent ps spent)

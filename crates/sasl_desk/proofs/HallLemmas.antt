@@ -29,7 +29,7 @@ use Rattle.sasl_desk.specs.Events.{ClientEvent}
 use Rattle.sasl_desk.specs.Guests.{guest_of}
 use Rattle.sasl_desk.specs.Halls.{HallFields, hall_of, hall_lines, numbered_bytes, IsStay, IsPhaseOf, StandsHall, AnswersIn, IsSameHall}
 use Rattle.otp_core.specs.Secret.{IsMoment}
-use Rattle.sasl_desk.specs.Keeper.{IsTold, IsJudged, IsJudgedInRange}
+use Rattle.sasl_desk.specs.Keeper.{IsAttemptJudged, IsJudged, IsJudgedInRange}
 use Rattle.sasl_desk.specs.Left.{left_of, judged_lines, judged_left, SessionAnswers, AsksJudgement, IsTurnOf, IsTurnWritten}
 use Rattle.sasl_desk.specs.Marks.{mark, marked_bytes}
 use Rattle.sasl_desk.specs.Runs.{Asked, hears, Call, call_of, own_part, IsTurnTaken, IsRun}
@@ -51,7 +51,7 @@ use Rattle.sasl_desk.proofs.HallSteps.{turn_is_open, any_follows, holds_book, st
 use Rattle.sasl_desk.proofs.KeeperLemmas.{told_due}
 use Rattle.sasl_desk.proofs.PathLemmas.{client_turn, turn_path, turn_no_reply}
 use Rattle.sasl_desk.proofs.RunLemmas.{left_rests}
-use Rattle.sasl_desk.proofs.StandLemmas.{book_after_told, held_at_turn, left_going, kept_held, spent_after, halt_written, taken_by_turn, taken_by_reply, taken_by_halt, stored_by_halt, turn_saves, saves_by_code, asked_by_code, quiet_by_code, failed_by}
+use Rattle.sasl_desk.proofs.StandLemmas.{book_after_told, held_at_turn, left_going, kept_held, spent_after, halt_written, taken_by_turn, taken_by_reply, taken_by_halt, stored_by_halt, turn_saves, saves_by_code, asked_by_code, quiet_by_code, failed_by, open_goes_on}
 
 -- numbered lines, as a turn writes them
 marked_texts : (n : ℕ) (lines : List LogLine) → map (λ line. mark (Some n) ++ log_text line) lines ≡ map numbered_text (map (numbered n) lines)
@@ -244,7 +244,7 @@ asks_by_turn : BeginsWithItself → {S : Type 0} (facts : S → StoreFacts) (sta
     (going : Session) (part : List ℕ) (others : List Guest) (given : ℕ) (event : ClientEvent) (moment : ℕ) (lines : List LogLine) (left : Left)
     (s : StandsHall facts start calls (hall_of old (guest_of n going part ∷ others) given false)) → IsTurnOf facts old going part event moment lines left new
     → (filter is_saving lines ≡ [] → ⊥)
-    → (t : Told) × (next : BookFields) × IsAttemptOf (hears event moment) (s.places n) lines t × IsTold old.book t next × IsBookText (facts new.store).asked next
+    → (t : Told) × (next : BookFields) × IsAttemptOf (hears event moment) (s.places n) lines t × IsAttemptJudged old.book t next × IsBookText (facts new.store).asked next
 asks_by_turn itself facts start calls old new n going part others given event moment lines left s (inl t) some =
     absurd (some (ap (filter is_saving) t.lines_are ∙ turn_saves t.turn t.message))
 asks_by_turn itself facts start calls old new n going part others given event moment lines left s (inr (name, sent, asked, t)) some =
@@ -255,14 +255,8 @@ asks_by_turn itself facts start calls old new n going part others given event mo
     (holds_book facts start calls hall s refl) t.is_judged (rw t.lines_are at some))
 
 -- the phase that a turn leaves is Halted exactly where it has halted the hall
-session_goes_on : (going : Session) → session_phase going ≡ phase.Halted → ⊥
-session_goes_on Offered is = cc is
-session_goes_on (WaitsFirst mechanism) is = cc is
-session_goes_on (WaitsFinal waiting) is = cc is
-session_goes_on (WaitsCode name) is = cc is
-
 tells_halt : (left : Left) → (phase_left left ≡ phase.Halted) ↔ (halted_after left ≡ true)
-tells_halt (Going going) = (λ is. absurd (session_goes_on going is), λ is. absurd (cc is))
+tells_halt (Going going) = (λ is. absurd (open_goes_on going is), λ is. absurd (cc is))
 tells_halt Over = (λ is. absurd (cc is), λ is. absurd (cc is))
 tells_halt (Halted going) = (λ is. refl, λ is. refl)
 

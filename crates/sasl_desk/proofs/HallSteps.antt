@@ -20,6 +20,8 @@ use Rattle.log_grammar.specs.NumberedSteps.{put, GoesIn}
 use Rattle.log_grammar.proofs.NumberedCuts.{numbered_before}
 use Rattle.log_grammar.proofs.OpenCounts.{open_was_begun}
 use Rattle.log_grammar.proofs.Owns.{at_each, put_here, put_other, begun_append, closed_append}
+use Rattle.log_grammar.proofs.Snoc.{all_append}
+use Rattle.log_grammar.proofs.NumberedFronts.{halt_leads, no_busy_line}
 use Rattle.log_grammar.specs.NumberedHeadline.{IsNumberedWritable}
 use Rattle.sasl_log.proofs.PermutedSlots.{all_permuted, count_permuted}
 use Rattle.sasl_desk.specs.Desks.{IsHeld, IsStoredAt, IsBookWith, all_spent}
@@ -36,9 +38,9 @@ use Rattle.sasl_desk.specs.declared.session.Session.{Session}
 use Rattle.sasl_desk.specs.declared.turn.Left.{Left}
 use Rattle.sasl_desk.specs.declared.turn.Left.TheVariants.{Going, Over, Halted}
 use Rattle.sasl_desk.proofs.GuestLemmas.{count_here, count_other, count_last, one_of, none_of, all_with}
-use Rattle.sasl_desk.proofs.HallPaths.{IsTurnLine, turn_number, turn_begun, halt_leads_to, no_busy, LastFollows}
+use Rattle.sasl_desk.proofs.HallPaths.{IsTurnLine, turn_number, turn_begun}
 use Rattle.sasl_desk.proofs.PathLemmas.{client_turn}
-use Rattle.sasl_desk.proofs.RunLemmas.{all-append}
+use Rattle.sasl_log.specs.OpenSessions.{FollowsLast}
 
 -- the calls of a number, with one more
 pub of_number_here : {X : Type 0} (n : ℕ) (x : X) (xs : List (Numbered X)) → of_number n (numbered n x ∷ xs) ≡ x ∷ of_number n xs
@@ -76,11 +78,11 @@ over_stirs at is (inr turn) = let same : is_client_turn over ≡ true = subst (�
 
 -- what leads to such a place may be followed by any line
 pub halt_in : (d : Demands) (at next : Place) → GoesIn d at (said halt) next → next ≡ halted
-halt_in d at next (inl goes) = halt_leads_to d at next goes
+halt_in d at next (inl goes) = halt_leads d at next goes
 halt_in d at next (inr b) = let same = b.1 in absurd (cc same)
 
 busy_in : (d : Demands) (at next : Place) → GoesIn d at (said busy) next → next ≡ over
-busy_in d at next (inl goes) = absurd (no_busy d at next goes)
+busy_in d at next (inl goes) = absurd (no_busy_line d at next goes)
 busy_in d at next (inr b) = b.2
 
 may_follow : (d : Demands) (at next : Place) (n m : ℕ) (line more : LogLine) → GoesIn d at line next → IsResting next → MayFollow n line m more
@@ -107,7 +109,7 @@ at_rest facts start calls hall s working n = elim (cases_Bool (is_closed (s.plac
 ]
 
 pub any_follows : {S : Type 0} (facts : S → StoreFacts) (start : BookFields) (calls : List (Numbered Call)) (hall : HallFields S)
-    (s : StandsHall facts start calls hall) → hall.is_halted ≡ false → (n : ℕ) (line : LogLine) → LastFollows (hall_lines calls) n line
+    (s : StandsHall facts start calls hall) → hall.is_halted ≡ false → (n : ℕ) (line : LogLine) → FollowsLast (hall_lines calls) n line
 any_follows facts start calls hall s working n line before x same =
     let d = demands (accounts_in start) in
     let b = numbered_before 64 d before x.number x.value s.places s.told
@@ -240,7 +242,7 @@ seated_after : (accounts : Accounts) (calls : List (Numbered Call)) (places : �
     → LeavesAt accounts (places n) ends left → AllByRecursion (IsSeated accounts calls places) others → part ≡ own_part (of_number n calls)
     → halted_after left ≡ false → AllByRecursion (IsSeated accounts calls places) (guests_after n part left others)
 seated_after accounts calls places n part (Going going) others ends is seated same working =
-    all-append (IsSeated accounts calls places) others (guest_of n going part ∷ []) seated ((is.0, same), tt)
+    all_append (IsSeated accounts calls places) others (guest_of n going part ∷ []) seated ((is.0, same), tt)
 seated_after accounts calls places n part Over others ends is seated same working = seated
 seated_after accounts calls places n part (Halted going) others ends is seated same working = absurd (cc working)
 
@@ -281,7 +283,7 @@ stands_by_step facts start calls old new n going part others given event moment 
         fresh = λ m more. of_number_skip n m call calls (λ same. omega (arith, same, more, range.1, none, all_begun))
             ∙ s.fresh m (omega (arith, more, none, all_begun));
         spelled = step.spelled;
-        written = all-append IsNumberedWritable (hall_lines calls) (map (numbered n) lines) s.written (turn_written n number lines step.turns step.written);
+        written = all_append IsNumberedWritable (hall_lines calls) (map (numbered n) lines) s.written (turn_written n number lines step.turns step.written);
         given = omega (arith, s.given, none, all_begun);
         last_number = s.last_number;
         guests = at_each (λ (m : ℕ). count_by (is_of m) (guests_after n part left others) ≡ open_at (places m)) n

@@ -19,7 +19,7 @@ use Rattle.log_grammar.specs.Demands.{Accounts, IsReplyDue}
 use Rattle.log_grammar.specs.Sessions.{Told, told_of}
 use Rattle.sasl_log.proofs.TokenLemmas.{reply_by, book_after}
 use Rattle.sasl_log.specs.Tokens.{IsBookAfter}
-use Rattle.sasl_desk.specs.Keeper.{IsTold, NeedsSave, IsKept, SavesText}
+use Rattle.sasl_desk.specs.Keeper.{IsAttemptJudged, NeedsSave, IsKept, SavesText}
 
 -- a token judged what was sent, and leads on from where it was
 pub record IsStep (token : Fields) (moment : ℕ) (sent : CodeTexts) (reply : Reply) (now : Fields) : Type 0 where
@@ -38,21 +38,21 @@ attempted old new name token now moment sent reply step put = record {
 -- the reply to an attempt is told of the account
 pub told_by : (old new : BookFields) (name : List ℕ) (token now : Fields) (moment : ℕ) (sent : CodeTexts) (reply : Reply) → IsMoment moment
     → token_at old name ≡ Some token → IsStep token moment sent reply now → IsChanged old name (with_token now) new
-    → IsTold old (told_of name moment sent (Some reply)) new
+    → IsAttemptJudged old (told_of name moment sent (Some reply)) new
 told_by old new name token now moment sent reply is has step put =
     record { is_moment = is; answered = rw has (reply, refl, attempted old new name token now moment sent reply step put) }
 
 -- nothing is told of an account without a token
 pub told_none : (old : BookFields) (name : List ℕ) (moment : ℕ) (sent : CodeTexts) → IsMoment moment → token_at old name ≡ None
-    → IsTold old (told_of name moment sent None) old
+    → IsAttemptJudged old (told_of name moment sent None) old
 told_none old name moment sent is has = record { is_moment = is; answered = rw has (refl, refl) }
 
 -- what is told is the reply that is due, and leads on from what was told before
-pub told_due : (old new : BookFields) (t : Told) → IsTold old t new → (accounts : Accounts) (told : List Told) → IsBookAfter accounts told old
+pub told_due : (old new : BookFields) (t : Told) → IsAttemptJudged old t new → (accounts : Accounts) (told : List Told) → IsBookAfter accounts told old
     → IsReplyDue accounts (reverse told) t
 told_due old new t one accounts told h = reply_by accounts told old t.account t.moment t.sent t.reply new one.answered h
 
-pub told_after : (old new : BookFields) (t : Told) → IsTold old t new → (accounts : Accounts) (told : List Told) → IsBookAfter accounts told old
+pub told_after : (old new : BookFields) (t : Told) → IsAttemptJudged old t new → (accounts : Accounts) (told : List Told) → IsBookAfter accounts told old
     → IsBookAfter accounts (told ++ t ∷ []) new
 told_after old new t one accounts told h = book_after accounts told old t.account t.moment t.sent t.reply new (token_at old t.account) refl one.answered h
 
@@ -65,7 +65,7 @@ needs_save Locked apart = absurd (apart refl)
 -- LOCKED is told of a book that stays as it was
 pub told_locked : (old : BookFields) (name : List ℕ) (token now : Fields) (moment : ℕ) (sent : CodeTexts) (reply : Reply) → IsMoment moment
     → token_at old name ≡ Some token → IsStep token moment sent reply now → reply ≡ Locked → (was : StoreFacts)
-    → IsTold old (told_of name moment sent (Some reply)) old × IsKept (Some reply) old was old was
+    → IsAttemptJudged old (told_of name moment sent (Some reply)) old × IsKept (Some reply) old was old was
 told_locked old name token now moment sent reply is has step locked was =
     let same : now ≡ token = step.state ∙ ap (advanced token moment) locked in
     let stays : old ≡ with_changed old name (with_token now) =

@@ -18,7 +18,7 @@ use Rattle.log_grammar.specs.Versions.{IsFront, IsClean}
 use Rattle.log_grammar.proofs.FaultLemmas.{lines_front, lines_clean}
 use Rattle.log_grammar.proofs.HeadlineLemmas.{are_lines, each_lacks}
 use Rattle.log_grammar.specs.Logins.{log_bytes}
-use Rattle.sasl_desk.specs.Keeper.{IsTold}
+use Rattle.sasl_desk.specs.Keeper.{IsAttemptJudged}
 use Rattle.sasl_desk.specs.Sessions.{CanBeWritten}
 use Rattle.sasl_desk.specs.Runs.{Call, run_lines}
 use Rattle.sasl_desk.specs.Spent.{AreDifferent, IsUsedUp, AreSpent, spent_by, SpentStaysSpent}
@@ -33,8 +33,8 @@ use Rattle.sasl_desk.specs.declared.desk.state.Phase.TheVariants as phase
 use Rattle.sasl_desk.specs.declared.session.Session.{Session}
 use Rattle.sasl_desk.specs.declared.session.Session.TheVariants.{Offered, WaitsFirst, WaitsFinal, WaitsCode}
 use Rattle.sasl_desk.proofs.KeeperLemmas.{told_due, told_after}
-use Rattle.sasl_desk.proofs.StandLemmas.{book_itself}
 use Rattle.sasl_desk.proofs.UnlockLemmas.{unlocks_keep, added_keeps}
+use Rattle.sasl_log.proofs.AuditRuns.{book_first}
 
 -- the bytes of lines that can be written are these lines
 bytes_are_lines : (lines : List LogLine) → CanBeWritten lines → AreLines (log_bytes lines) lines []
@@ -102,10 +102,10 @@ fewer_spent : (book : BookFields) (ps qs : List (List ℕ × ℕ)) → AreSpent 
 fewer_spent book ps qs spent = record { different = fewer_different ps qs spent.different; used = fewer_used book ps qs spent.used }
 
 -- what was spent after an attempt that the book's token judged
-spent_after_told : BeginsWithItself → SpentStaysSpent → (old new : BookFields) (t : Told) (ps : List (List ℕ × ℕ)) → IsTold old t new
+spent_after_told : BeginsWithItself → SpentStaysSpent → (old new : BookFields) (t : Told) (ps : List (List ℕ × ℕ)) → IsAttemptJudged old t new
     → AreSpent ps old → AreSpent (spent_by t ++ ps) new
 spent_after_told itself stays old new t ps one spent =
-    let self = book_itself itself old in
+    let self = book_first itself old in
     stays old new t ps one.is_moment (told_due old new t one (accounts_in old) [] self) (told_after old new t one (accounts_in old) [] self) spent
 
 -- what was spent after one run
@@ -180,7 +180,7 @@ left_book facts start calls desk s =
 
 -- a stop within a call leaves the book with the attempt that is judged
 pub stopped_run : {S : Type 0} (facts : S → StoreFacts) (start : BookFields) (calls : List Call) (desk : Desk S) (t : Told) (next : BookFields)
-    (s : Stands facts start calls desk) → IsTold desk.keeper.book t next → (r : Run) × IsDeskRunOf facts r × (r.start ≡ start) × (r.calls ≡ calls) × (r.left ≡ next)
+    (s : Stands facts start calls desk) → IsAttemptJudged desk.keeper.book t next → (r : Run) × IsDeskRunOf facts r × (r.start ≡ start) × (r.calls ≡ calls) × (r.left ≡ next)
 stopped_run facts start calls desk t next s one = (
   record { start = start; calls = calls; place = s.place; told = s.told; left = next },
   record { desk = desk; stands = s; begins = s.begins; leaves = inr (t, one) },
@@ -190,7 +190,7 @@ stopped_run facts start calls desk t next s one = (
 )
 
 -- what was spent is spent after one more attempt
-pub told_spent : BeginsWithItself → SpentStaysSpent → (old new : BookFields) (t : Told) (ps : List (List ℕ × ℕ)) → IsTold old t new → AreSpent ps old → AreSpent ps new
+pub told_spent : BeginsWithItself → SpentStaysSpent → (old new : BookFields) (t : Told) (ps : List (List ℕ × ℕ)) → IsAttemptJudged old t new → AreSpent ps old → AreSpent ps new
 told_spent itself stays old new t ps one spent = fewer_spent new (spent_by t) ps (spent_after_told itself stays old new t ps one spent)
 
 -- each counter that was told is used in the book whose text the store holds
@@ -210,7 +210,7 @@ saved_spent itself stays facts start calls desk s ps spent =
 
 -- and in the one that a stop within a call leaves
 pub stopped_spent : BeginsWithItself → SpentStaysSpent → {S : Type 0} (facts : S → StoreFacts) (start : BookFields) (calls : List Call) (desk : Desk S)
-    (s : Stands facts start calls desk) (ps : List (List ℕ × ℕ)) (t : Told) (next : BookFields) → AreSpent ps start → IsTold desk.keeper.book t next
+    (s : Stands facts start calls desk) (ps : List (List ℕ × ℕ)) (t : Told) (next : BookFields) → AreSpent ps start → IsAttemptJudged desk.keeper.book t next
     → AreSpent (all_spent (reverse s.told) ++ ps) next
 stopped_spent itself stays facts start calls desk s ps t next spent one =
     told_spent itself stays desk.keeper.book next t (all_spent (reverse s.told) ++ ps) one (s.spent ps spent)

@@ -82,7 +82,7 @@ pub all_stay : {X : Type 0} (P Q : X → Type 0) → ((x : X) → P x → Q x) �
 all_stay P Q on [] all = tt
 all_stay P Q on (x ∷ xs) all = (on x all.0, all_stay P Q on xs all.1)
 
-some_inside : (one other : Fields) → Some one ≡ Some other → one ≡ other
+pub some_inside : (one other : Fields) → Some one ≡ Some other → one ≡ other
 some_inside one other same = cc
 
 reply_inside : (one other : Reply) → Some one ≡ Some other → one ≡ other

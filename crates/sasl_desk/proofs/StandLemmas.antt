@@ -9,11 +9,9 @@ use Rattle.otp_core.specs.Laws.{BeginsWithItself}
 use Rattle.otp_core.specs.Secret.{IsMoment}
 use Rattle.otp_core.specs.declared.token.answer.Reply.{Reply}
 use Rattle.otp_core.specs.declared.token.answer.Reply.TheVariants.{Pass, Fail, Locked}
-use Rattle.otp_core.specs.declared.token.kinds.Fields.{Fields}
 use Rattle.book_format.specs.Book.{BookFields}
 use Rattle.book_format.specs.Trees.{IsBookText}
 use Rattle.account_book.specs.Store.{StoreFacts, IsLost}
-use Rattle.account_book.specs.Tokens.{token_at}
 use Rattle.log_grammar.specs.Books.{accounts_in}
 use Rattle.log_grammar.specs.Laws.{GoesOnByALine}
 use Rattle.log_grammar.specs.Lines.{LogLine, header, said, heard, mechs, replies, halt, asking}
@@ -22,21 +20,21 @@ use Rattle.log_grammar.specs.Sessions.{Told, told_of}
 use Rattle.log_grammar.specs.Demands.{Accounts, demands, IsReplyDue}
 use Rattle.log_grammar.specs.Places.{Place, before_all, between, offered, waits_code, got_code, halted}
 use Rattle.log_grammar.specs.Clean.{Begins}
-use Rattle.log_grammar.proofs.ExampleLemmas.{is_sha_256, is_sha_1}
 use Rattle.log_grammar.proofs.LineBytes.{reply_line}
 use Rattle.log_grammar.proofs.Shortening.{code_goes}
+use Rattle.log_grammar.proofs.Snoc.{all_append}
+use Rattle.log_grammar.proofs.Mended.{two_names}
 use Rattle.log_grammar.specs.Logins.{log_bytes}
 use Rattle.sasl_log.specs.Logins.{KeepsEntries}
 use Rattle.log_grammar.specs.Headline.{IsWritable}
-use Rattle.sasl_log.specs.Tokens.{LeadsTo, IsBookAfter}
+use Rattle.sasl_log.specs.Tokens.{IsBookAfter}
 use Rattle.sasl_desk.specs.Events.{ClientEvent}
 use Rattle.sasl_desk.specs.Turns.{is_client_turn, IsPath}
-use Rattle.sasl_desk.specs.Keeper.{IsTold, SavesText, IsKept, IsJudged, IsJudgedInRange}
+use Rattle.sasl_desk.specs.Keeper.{IsAttemptJudged, SavesText, IsKept, IsJudged, IsJudgedInRange}
 use Rattle.sasl_desk.specs.Sessions.{StandsAt, IsLeftAt, IsRecord, IsTurn, recorded_shown, said_lines, end_lines, lines_of_answer, turn_lines, CanBeWritten, IsOwnChallenge}
 use Rattle.sasl_desk.specs.Runs.{greets, hears, IsAtRest, IsTurnTaken, Call, call_of, run_lines, own_part, wire_bytes, IsRun}
 use Rattle.sasl_desk.specs.Spent.{AreSpent, spent_by, SpentStaysSpent}
 use Rattle.sasl_desk.specs.Left.{left_of, judged_lines, judged_left, SessionAnswers, IsCodeJudged, AsksJudgement, AreSent, IsTurnWritten}
-use Rattle.sasl_desk.specs.Marks.{marked_bytes}
 use Rattle.sasl_desk.specs.Desks.{IsStateAt, IsHeld, IsAttemptOf, IsStoredAt, IsBookWith, all_spent, Stands, Answers, phase_of, session_phase, desk_of, state_after, is_saving}
 use Rattle.sasl_desk.specs.declared.turn.Left.{Left}
 use Rattle.sasl_desk.specs.declared.keeper.Keeper.{Keeper}
@@ -55,20 +53,13 @@ use Rattle.sasl_desk.specs.declared.session.turn.Saying.TheVariants.{Nothing, Co
 use Rattle.sasl_desk.specs.declared.session.turn.Turn.{Turn}
 use Rattle.sasl_desk.proofs.KeeperLemmas.{told_due, told_after}
 use Rattle.sasl_desk.proofs.PathLemmas.{client_turn, turn_path, turn_no_reply, goes_on_by_path}
-use Rattle.sasl_desk.proofs.RunLemmas.{all-append, left_rests, answer_bears, answer_answers}
-
--- without an attempt a book is the one after what was told of it
-leads_itself : BeginsWithItself → (o : Option Fields) → LeadsTo o [] o
-leads_itself begins None = tt
-leads_itself begins (Some token) = begins token
-
-pub book_itself : BeginsWithItself → (book : BookFields) → IsBookAfter (accounts_in book) [] book
-book_itself begins book = record { entries = λ m name. refl; tokens = λ name. leads_itself begins (token_at book name) }
+use Rattle.sasl_desk.proofs.RunLemmas.{left_rests, answer_bears, answer_answers}
+use Rattle.sasl_log.proofs.AuditRuns.{book_first}
 
 -- a book with what was told is the one after it
 with_after : BeginsWithItself → (start : BookFields) (before : List Told) (book : BookFields) → IsBookWith start before book
     → IsBookAfter (accounts_in start) (reverse before) book
-with_after itself start [] book is = subst (λ (b : BookFields). IsBookAfter (accounts_in start) [] b) (sym is) (book_itself itself start)
+with_after itself start [] book is = subst (λ (b : BookFields). IsBookAfter (accounts_in start) [] b) (sym is) (book_first itself start)
 with_after itself start (t ∷ before) book (old, with_old, one) =
     subst (λ (l : List Told). IsBookAfter (accounts_in start) l book) (sym (reverse_onto before t []))
     (told_after old book t one (accounts_in start) (reverse before) (with_after itself start before old with_old))
@@ -126,9 +117,6 @@ stands_from itself law facts book keeper was same holds =
     (stands_at_first itself law facts keeper was (subst (λ (b : BookFields). SavesText was b (facts keeper.store)) (sym same) holds))
 
 -- a desk that greets
-pub mechs_written : IsWritable (said (mechs offered_names))
-mechs_written = record { spelled = refl; ranges = (is_sha_256, (is_sha_1, tt)); short = omega arith }
-
 pub stands_by_greeting : GoesOnByALine → {S : Type 0} (facts : S → StoreFacts) (start : BookFields) (calls : List Call) (keeper : Keeper S) (own : List ℕ)
     → Stands facts start calls (desk_of keeper Closed)
     → Stands facts start (call_of (greets own) (said (mechs offered_names) ∷ []) ∷ calls) (desk_of keeper (Open Offered own))
@@ -143,7 +131,7 @@ stands_by_greeting law facts start calls keeper own s =
       told = s.told;
       is_run = (s.place, s.is_run, record { from = s.is_state; says = refl; waits = refl });
       begins = subst (λ (t : List Told). Begins (demands accounts) (run_lines calls ++ line ∷ []) offered t) (append-nil s.told) on;
-      written = all-append IsWritable (run_lines calls) (line ∷ []) s.written (mechs_written, tt);
+      written = all_append IsWritable (run_lines calls) (line ∷ []) s.written (two_names, tt);
       is_state = (refl, refl);
       is_book = s.is_book;
       is_stored = stored;
@@ -224,7 +212,7 @@ stands_by_turn itself law facts start calls keeper going own event moment turn m
       );
       begins = goes_on_by_path law accounts (run_lines calls) s.place s.told lines t.is_answer.next s.begins path
           (turn_no_reply accounts own event s.place turn message t);
-      written = all-append IsWritable (run_lines calls) lines s.written written;
+      written = all_append IsWritable (run_lines calls) lines s.written written;
       is_state = left_state accounts (own_part calls) own t.is_answer.next turn.answer.session same t.is_answer.left;
       is_book = s.is_book;
       is_stored = held_at_turn accounts (call_of (hears event moment) lines ∷ calls) t.is_answer.next keeper.book (facts keeper.store) (left_rests accounts t.is_answer.next turn.answer.session t.is_answer.left)
@@ -265,11 +253,11 @@ kept_held None old new was now (same, unasked) held =
     subst (λ (b : BookFields). IsHeld b now) (sym same) (subst (λ (f : StoreFacts). IsHeld old f) (sym unasked) held)
 
 -- what was spent after one more reply
-pub spent_after : BeginsWithItself → SpentStaysSpent → (start old new : BookFields) (told : List Told) (t : Told) → IsTold old t new
+pub spent_after : BeginsWithItself → SpentStaysSpent → (start old new : BookFields) (told : List Told) (t : Told) → IsAttemptJudged old t new
     → ((ps : List (List ℕ × ℕ)) → AreSpent ps start → AreSpent (all_spent (reverse told) ++ ps) old)
     → (ps : List (List ℕ × ℕ)) → AreSpent ps start → AreSpent (all_spent (reverse (told ++ t ∷ [])) ++ ps) new
 spent_after itself stays start old new told t one before ps spent =
-    let own = book_itself itself old in
+    let own = book_first itself old in
     let on =
     stays old new t (all_spent (reverse told) ++ ps) one.is_moment (told_due old new t one (accounts_in old) [] own) (told_after old new t one (accounts_in old) [] own)
     (before ps spent) in
@@ -312,7 +300,7 @@ stands_by_reply itself stays law facts start calls old new name own event moment
         taken_by_reply accounts (own_part calls) event moment name sent reply is_record,
       );
       begins = begins_by_reply law accounts (run_lines calls) name s.told moment sent reply begins (told_due old.book new.book t one accounts s.told after);
-      written = all-append IsWritable (run_lines calls) (judged_lines moment sent (Replied reply)) s.written (written, (reply_line moment reply is range, tt));
+      written = all_append IsWritable (run_lines calls) (judged_lines moment sent (Replied reply)) s.written (written, (reply_line moment reply is range, tt));
       is_state = (refl, s.is_state.1);
       is_book = subst (λ (l : List Told). IsBookWith start l new.book) (sym (reverse-append s.told (t ∷ []))) (old.book, s.is_book, one);
       is_stored = kept_held reply old.book new.book (facts old.store) (facts new.store) kept held;
@@ -346,7 +334,7 @@ stored_by_halt accounts calls old new was now name event moment sent run held (s
         run,
         record { event = event; answer = said halt; is_asked = refl; place = refl; lines_are = refl; needs_save = needs },
       );
-      is_told = subst (λ (b : BookFields). IsTold b (told_of name moment sent reply) next) (sym same) one;
+      is_told = subst (λ (b : BookFields). IsAttemptJudged b (told_of name moment sent reply) next) (sym same) one;
       saved = subst (λ (b : BookFields). IsBookText now.saved b ⊎ IsBookText now.saved next) (sym same) of_old;
     }
 
@@ -373,7 +361,7 @@ stands_by_halt law facts start calls old new name own event moment sent s is_rec
         taken_by_halt accounts (own_part calls) event moment name sent is_record,
       );
       begins = goes_on_by_path law accounts (run_lines calls) (waits_code name) s.told lines halted begins path (tt, (tt, tt));
-      written = all-append IsWritable (run_lines calls) lines s.written (written, (halt_written, tt));
+      written = all_append IsWritable (run_lines calls) lines s.written (written, (halt_written, tt));
       is_state = tt;
       is_book = subst (λ (b : BookFields). IsBookWith start (reverse s.told) b) (sym same) s.is_book;
       is_stored = stored_by_halt accounts calls old.book new.book (facts old.store) (facts new.store) name event moment sent run held (same, (reply, next, needs, one, loses));
@@ -405,7 +393,7 @@ saves_by_code moment sent name Lost old new was now held (same, (reply, next, ne
 -- what the store was given for it
 pub asked_by_code : (event : ClientEvent) (moment : ℕ) (sent : CodeTexts) (name : List ℕ) (at : Place) (judged : Judged) (old new : BookFields) (was now : StoreFacts)
     → at ≡ waits_code name → IsHeld old was → IsJudged old was name moment sent judged new now → (filter is_saving (judged_lines moment sent judged) ≡ [] → ⊥)
-    → (t : Told) × (next : BookFields) × IsAttemptOf (hears event moment) at (judged_lines moment sent judged) t × IsTold old t next × IsBookText now.asked next
+    → (t : Told) × (next : BookFields) × IsAttemptOf (hears event moment) at (judged_lines moment sent judged) t × IsAttemptJudged old t next × IsBookText now.asked next
 asked_by_code event moment sent name at (Replied (Some (Pass c))) old new was now here held (one, kept) some = (
   told_of name moment sent (Some (Pass c)),
   new,
@@ -450,7 +438,7 @@ halts_by_code moment sent name own (Replied reply) old new was now judged is = a
 halts_by_code moment sent name own Lost old new was now (same, (reply, next, needs, one, loses)) is = (failed_by was now loses.text loses.lost, same)
 
 -- an open session, or none, is no halt
-open_goes_on : (going : Session) → session_phase going ≡ phase.Halted → ⊥
+pub open_goes_on : (going : Session) → session_phase going ≡ phase.Halted → ⊥
 open_goes_on Offered is = cc is
 open_goes_on (WaitsFirst mechanism) is = cc is
 open_goes_on (WaitsFinal waiting) is = cc is
@@ -459,10 +447,6 @@ open_goes_on (WaitsCode name) is = cc is
 left_goes_on : (going : Option Session) (own : List ℕ) → phase_of (state_after (left_of going) own) ≡ phase.Halted → ⊥
 left_goes_on None own is = cc is
 left_goes_on (Some going) own is = open_goes_on going is
-
--- the lines of a session without a number stand as they are
-unmarked : (lines : List LogLine) → marked_bytes None lines ≡ log_bytes lines
-unmarked lines = refl
 
 -- the session that waits for a code of this account was asked to hear one
 answers_by_code : BeginsWithItself → SpentStaysSpent → GoesOnByALine → {S : Type 0} (facts : S → StoreFacts) (old : Keeper S) (going : Session)

@@ -1,6 +1,5 @@
 -- What is recorded of a client may stand where it is due, and nowhere else.
-use Rattle.std.proofs.Common.{◌≡◌, true, false, refl, sym, subst}
-use Rattle.std.proofs.lemmas.Bool.{both_ways}
+use Rattle.std.proofs.Common.{◌≡◌, true, refl, sym, subst}
 use Rattle.log_grammar.specs.Lines.{heard, bad, gone, ClientLine, auth, auth_with, resp, abort, code, sync}
 use Rattle.log_grammar.specs.Demands.{Demands, demands}
 use Rattle.log_grammar.specs.Places.{Place, offered, waits_first, waits_final, waits_code, leaving, over}
@@ -44,10 +43,6 @@ goes_due d (code text) (waits_code account) next goes = (refl, goes)
 goes_due d (code text) at next goes = absurd goes
 goes_due d (sync one two) (waits_code account) next goes = (refl, goes)
 goes_due d (sync one two) at next goes = absurd goes
-
--- a line that is not due may not stand
-pub undue_stays : (d : Demands) (line : ClientLine) (at next : Place) → is_due at line ≡ false → Goes d at (heard line) next → ⊥
-undue_stays d line at next undue goes = both_ways (is_due at line) undue (goes_due d line at next goes).0
 
 -- `C BAD` may stand where it is the client's turn
 pub bad_goes : (d : Demands) (at : Place) → is_client_turn at ≡ true → Goes d at bad leaving

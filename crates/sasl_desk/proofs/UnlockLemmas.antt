@@ -22,7 +22,7 @@ use Rattle.account_book.specs.Accounts.{account_at, with_account, with_changed, 
 use Rattle.account_book.specs.Laws.{TokensAreApart, AddedIsApart}
 use Rattle.account_book.specs.Tokens.{token_at, with_token, IsUnlocked}
 use Rattle.sasl_desk.specs.Spent.{IsUsedUp, AreSpent}
-use Rattle.sasl_desk.proofs.SpentLemmas.{IsBelow, all_stay}
+use Rattle.sasl_desk.proofs.SpentLemmas.{IsBelow, all_stay, some_inside}
 
 -- a counter can pass after a history, alone or as the first of a pair
 abbrev CanPass : Fields → List Attempt → ℕ → ℕ → Type 0
@@ -72,9 +72,6 @@ unlocked_can (Totp t) moment c can = can
 unlocked_below : CandidatesAreNew → (token : Fields) (counter : ℕ) → IsBelow token counter → IsBelow (unlocked token) counter
 unlocked_below fresh token counter below history moment c is legal can =
     below_ever fresh (unlocked token) counter (λ m k at now. below [] m k at tt (unlocked_can token m k now)) history legal moment c is can
-
-some_inside : (one other : Fields) → Some one ≡ Some other → one ≡ other
-some_inside one other same = cc
 
 -- where the token of one account is unlocked, a counter that is used stays so
 used_unlocked : TokensAreApart → CandidatesAreNew → (old : BookFields) (name : List ℕ) (token : Fields) → token_at old name ≡ Some token

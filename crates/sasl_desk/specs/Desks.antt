@@ -13,7 +13,7 @@ use Rattle.log_grammar.specs.Places.{Place, between, waits_code, halted}
 use Rattle.log_grammar.specs.Clean.{Begins}
 use Rattle.log_grammar.specs.Logins.{log_bytes}
 use Rattle.sasl_desk.specs.Events.{ClientEvent}
-use Rattle.sasl_desk.specs.Keeper.{IsTold, NeedsSave}
+use Rattle.sasl_desk.specs.Keeper.{IsAttemptJudged, NeedsSave}
 use Rattle.sasl_desk.specs.Runs.{Asked, hears, Call, call_of, run_lines, own_part, wire_bytes, IsRun}
 use Rattle.sasl_desk.specs.Sessions.{StandsAt, CanBeWritten}
 use Rattle.sasl_desk.specs.Spent.{AreSpent, spent_by}
@@ -75,7 +75,7 @@ pub record IsLostAfter (accounts : Accounts) (calls : List Call) (book : BookFie
   pub t : Told
   pub next : BookFields
   pub is_latest : IsLatestAttempt accounts calls t
-  pub is_told : IsTold book t next
+  pub is_told : IsAttemptJudged book t next
   pub saved : IsBookText store.saved book ⊎ IsBookText store.saved next
 
 -- what the store holds where the log stands at this place: after `S HALT` the last save has failed; at every other place the
@@ -87,7 +87,7 @@ IsStoredAt accounts calls at book store = IsHeld book store
 -- the book after what was told, the latest first: each attempt was judged by the book before it
 abbrev pub IsBookWith : BookFields → List Told → BookFields → Type 0
 IsBookWith start [] book = book ≡ start
-IsBookWith start (t ∷ before) book = (old : BookFields) × IsBookWith start before old × IsTold old t book
+IsBookWith start (t ∷ before) book = (old : BookFields) × IsBookWith start before old × IsAttemptJudged old t book
 
 -- the counters that replies use, with their accounts, the latest first
 abbrev pub all_spent : List Told → List (List ℕ × ℕ)
@@ -145,7 +145,7 @@ pub record Answers {S : Type 0} (facts : S → StoreFacts) (old : Desk S) (asked
       → (facts new.keeper.store).saves ≡ (facts old.keeper.store).saves + length (filter is_saving lines)
   -- what the store was given to save is the text of the book with the attempt of this call
   pub asks : (start : BookFields) (calls : List Call) (s : Stands facts start calls old) → (filter is_saving lines ≡ [] → ⊥)
-      → (t : Told) × (next : BookFields) × IsAttemptOf asked s.place lines t × IsTold old.keeper.book t next
+      → (t : Told) × (next : BookFields) × IsAttemptOf asked s.place lines t × IsAttemptJudged old.keeper.book t next
       × IsBookText (facts new.keeper.store).asked next
   -- a call without such a line leaves the book and the store as they are
   pub quiet : filter is_saving lines ≡ [] → (new.keeper.book ≡ old.keeper.book) × (facts new.keeper.store ≡ facts old.keeper.store)

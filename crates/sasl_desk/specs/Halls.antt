@@ -20,7 +20,7 @@ use Rattle.log_grammar.specs.Logins.{log_bytes}
 use Rattle.log_grammar.specs.NumberedHeadline.{IsNumberedWritable}
 use Rattle.sasl_desk.specs.Desks.{session_phase, IsStoredAt, IsHeld, IsBookWith, IsAttemptOf, all_spent, is_saving}
 use Rattle.sasl_desk.specs.Guests.{is_of}
-use Rattle.sasl_desk.specs.Keeper.{IsTold}
+use Rattle.sasl_desk.specs.Keeper.{IsAttemptJudged}
 use Rattle.sasl_desk.specs.Runs.{Asked, greets, Call, call_of, own_part, wire_bytes, IsRun}
 use Rattle.sasl_desk.specs.Sessions.{StandsAt}
 use Rattle.sasl_desk.specs.Spent.{AreSpent}
@@ -152,7 +152,7 @@ pub record AnswersIn {S : Type 0} (facts : S → StoreFacts) (old : HallFields S
       → (facts new.keeper.store).saves ≡ (facts old.keeper.store).saves + length (filter is_saving lines)
   -- what the store was given to save is the text of the book with the attempt of this call
   pub asks : (start : BookFields) (calls : List (Numbered Call)) (s : StandsHall facts start calls old) → (filter is_saving lines ≡ [] → ⊥)
-      → (t : Told) × (next : BookFields) × IsAttemptOf asked (s.places n) lines t × IsTold old.keeper.book t next
+      → (t : Told) × (next : BookFields) × IsAttemptOf asked (s.places n) lines t × IsAttemptJudged old.keeper.book t next
       × IsBookText (facts new.keeper.store).asked next
   -- a call without such a line leaves the book and the store as they are
   pub quiet : filter is_saving lines ≡ [] → (new.keeper.book ≡ old.keeper.book) × (facts new.keeper.store ≡ facts old.keeper.store)

@@ -26,7 +26,7 @@ texts_of (Two first second) = TwoTexts first.now second.now
 
 -- an attempt was judged: the reply is the one that is due, and the book is the old one in which the account's token has moved
 -- by it, and nothing else
-pub record IsTold (old : BookFields) (t : Told) (new : BookFields) : Type 0 where
+pub record IsAttemptJudged (old : BookFields) (t : Told) (new : BookFields) : Type 0 where
   pub is_moment : IsMoment t.moment
   pub answered : IsAnswered old t.account t.moment t.sent t.reply new
 
@@ -65,14 +65,14 @@ IsKept None old was new now = (new ≡ old) × (now ≡ was)
 
 -- what came of a code: a reply that is due and kept; or the store failed in saving the book with the reply that was due
 abbrev pub IsJudged : BookFields → StoreFacts → List ℕ → ℕ → CodeTexts → Judged → BookFields → StoreFacts → Type 0
-IsJudged old was name moment sent (Replied reply) new now = IsTold old (told_of name moment sent reply) new × IsKept reply old was new now
+IsJudged old was name moment sent (Replied reply) new now = IsAttemptJudged old (told_of name moment sent reply) new × IsKept reply old was new now
 IsJudged old was name moment sent Lost new now =
     (new ≡ old)
-    × ((reply : Option Reply) × (next : BookFields) × NeedsSave reply × IsTold old (told_of name moment sent reply) next × LosesText was next now)
+    × ((reply : Option Reply) × (next : BookFields) × NeedsSave reply × IsAttemptJudged old (told_of name moment sent reply) next × LosesText was next now)
 
 -- the reply that is due needs a save
 abbrev pub IsToBeSaved : BookFields → List ℕ → ℕ → CodeTexts → Type 0
-IsToBeSaved old name moment sent = (reply : Option Reply) × (next : BookFields) × NeedsSave reply × IsTold old (told_of name moment sent reply) next
+IsToBeSaved old name moment sent = (reply : Option Reply) × (next : BookFields) × NeedsSave reply × IsAttemptJudged old (told_of name moment sent reply) next
 
 -- the counter of a reply is one that can pass
 abbrev pub IsJudgedInRange : Judged → Type 0

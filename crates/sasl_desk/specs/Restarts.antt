@@ -1,4 +1,4 @@
--- What befalls a book over its life: runs of desks and of halls, one after another, and what is done with it between them.
+-- What happens to a book over its life: runs of desks and of halls, one after another, and what is done with it between them.
 use Rattle.std.specs.Prelude.{ℕ, ◌≡◌, ◌⊎◌, List, [], ◌∷◌, ◌++◌, reverse}
 use Rattle.std.specs.declared.option.Option.TheVariants.{None}
 use Rattle.book_format.specs.Account.{AccountFields}
@@ -12,7 +12,7 @@ use Rattle.log_grammar.specs.Demands.{demands}
 use Rattle.log_grammar.specs.Places.{Place}
 use Rattle.log_grammar.specs.Clean.{Begins}
 use Rattle.log_grammar.specs.Numbered.{Numbered, SpellsNumbered}
-use Rattle.sasl_desk.specs.Keeper.{IsTold}
+use Rattle.sasl_desk.specs.Keeper.{IsAttemptJudged}
 use Rattle.sasl_desk.specs.Runs.{Call, run_lines}
 use Rattle.sasl_desk.specs.Desks.{Stands, all_spent}
 use Rattle.sasl_desk.specs.Halls.{HallFields, hall_lines, StandsHall}
@@ -34,7 +34,7 @@ pub record IsDeskRunOf {S : Type 0} (facts : S → StoreFacts) (r : Run) : Type 
   pub desk : Desk S
   pub stands : Stands facts r.start r.calls desk
   pub begins : Begins (demands (accounts_in r.start)) (run_lines r.calls) r.place r.told
-  pub leaves : (r.left ≡ desk.keeper.book) ⊎ ((t : Told) × IsTold desk.keeper.book t r.left)
+  pub leaves : (r.left ≡ desk.keeper.book) ⊎ ((t : Told) × IsAttemptJudged desk.keeper.book t r.left)
 
 -- the calls that a hall has answered, and what its log tells
 pub record HallRun : Type 0 where
@@ -50,9 +50,9 @@ pub record IsHallRunOf {S : Type 0} (facts : S → StoreFacts) (r : HallRun) : T
   pub hall : HallFields S
   pub stands : StandsHall facts r.start r.calls hall
   pub spelled : SpellsNumbered 64 (demands (accounts_in r.start)) (hall_lines r.calls) r.places r.told
-  pub leaves : (r.left ≡ hall.keeper.book) ⊎ ((t : Told) × IsTold hall.keeper.book t r.left)
+  pub leaves : (r.left ≡ hall.keeper.book) ⊎ ((t : Told) × IsAttemptJudged hall.keeper.book t r.left)
 
--- what befalls a book: a desk or a hall runs with it, from the text that the store held when the run began to the one that it holds when
+-- what happens to a book: a desk or a hall runs with it, from the text that the store held when the run began to the one that it holds when
 -- the run has stopped; its token judges an attempt of an account, without a desk; the token of an account is unlocked; an
 -- account is added
 pub data Change : Type 0 where
@@ -66,7 +66,7 @@ pub data Change : Type 0 where
 abbrev pub IsChange : {S : Type 0} → (S → StoreFacts) → Change → (old new : BookFields) → Type 0
 IsChange facts (ran r) old new = IsDeskRunOf facts r × (r.start ≡ old) × (r.left ≡ new)
 IsChange facts (hosts r) old new = IsHallRunOf facts r × (r.start ≡ old) × (r.left ≡ new)
-IsChange facts (judged t) old new = IsTold old t new
+IsChange facts (judged t) old new = IsAttemptJudged old t new
 IsChange facts (unlocks name) old new = IsUnlocked old name new
 IsChange facts (adds name account) old new = (account_at old name ≡ None) × IsAdded old name account new
 

@@ -8,7 +8,7 @@ ghost use Rattle.log_grammar.specs.Lines.{LogLine, said, halt};
 ghost use Rattle.log_grammar.specs.Sessions.{Told};
 ghost use Rattle.log_grammar.specs.Logins.{log_bytes};
 ghost use Rattle.sasl_desk.specs.Desks.{Stands, phase_of, all_spent};
-ghost use Rattle.sasl_desk.specs.Keeper.{IsTold};
+ghost use Rattle.sasl_desk.specs.Keeper.{IsAttemptJudged};
 ghost use Rattle.sasl_desk.specs.Records.{HasItsRecords};
 ghost use Rattle.sasl_desk.specs.Restarts.{Run, IsDeskRunOf, Change, AreChanges, spent_in};
 ghost use Rattle.sasl_desk.specs.Runs.{Call, run_lines, wire_bytes};
@@ -84,7 +84,7 @@ pub fn store_holds_a_book<S: BookStore>()
 /// the attempt that is judged.
 pub fn stops_leave_runs<S: BookStore>()
     ensures { (start : BookFields) (calls : List Call) (desk : Desk S) (t : Told) (next : BookFields) → Stands S.facts start calls desk
-        → IsTold desk.keeper.book t next → (r : Run) × IsDeskRunOf S.facts r × (r.start ≡ start) × (r.calls ≡ calls) × (r.left ≡ next) }
+        → IsAttemptJudged desk.keeper.book t next → (r : Run) × IsDeskRunOf S.facts r × (r.start ≡ start) × (r.calls ≡ calls) × (r.left ≡ next) }
 {}
 
 /// At every moment of a run the store holds a book in which each counter that a client was told has passed is used, and each that
@@ -94,13 +94,13 @@ pub fn told_counters_are_saved<S: BookStore>()
     ensures ended { (start : BookFields) (calls : List Call) (desk : Desk S) (s : Stands S.facts start calls desk) (ps : List (List ℕ × ℕ)) → AreSpent ps start
         → (saved : BookFields) × IsBookText (S.facts desk.keeper.store).saved saved × AreSpent (all_spent (reverse s.told) ++ ps) saved }
     ensures within { (start : BookFields) (calls : List Call) (desk : Desk S) (s : Stands S.facts start calls desk) (ps : List (List ℕ × ℕ)) (t : Told)
-        (next : BookFields) → AreSpent ps start → IsTold desk.keeper.book t next → AreSpent (all_spent (reverse s.told) ++ ps) next }
+        (next : BookFields) → AreSpent ps start → IsAttemptJudged desk.keeper.book t next → AreSpent (all_spent (reverse s.told) ++ ps) next }
 {
     begins_with_itself();
     spent_stays_spent();
 }
 
-/// No counter of an account passes twice over all that befalls a book: runs of desks and halls, wherever each of them stopped, and between
+/// No counter of an account passes twice over all that happens to a book: runs of desks and halls, wherever each of them stopped, and between
 /// them attempts that the book's tokens judge without a desk, unlocked tokens and added accounts. The counters that the replies
 /// use are different from each other and from those that were used before, and all are used in the book that is left.
 pub fn no_counter_passes_twice<S: BookStore>()

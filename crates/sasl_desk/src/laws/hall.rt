@@ -10,7 +10,7 @@ ghost use Rattle.log_grammar.specs.Versions.{IsFront, IsClean};
 ghost use Rattle.sasl_desk.specs.Alone.{AskTheSame, HaveSameEntries, up_to_acceptance};
 ghost use Rattle.sasl_desk.specs.Desks.{all_spent};
 ghost use Rattle.sasl_desk.specs.Halls.{HallFields, busy_lines, hall_lines, hall_bytes, numbered_bytes, phase_in, IsPhaseIn, StandsHall};
-ghost use Rattle.sasl_desk.specs.Keeper.{IsTold};
+ghost use Rattle.sasl_desk.specs.Keeper.{IsAttemptJudged};
 ghost use Rattle.sasl_desk.specs.Records.{HasSessionRecords};
 ghost use Rattle.sasl_desk.specs.Restarts.{HallRun, IsHallRunOf};
 ghost use Rattle.sasl_desk.specs.Runs.{Call, wire_bytes};
@@ -75,7 +75,7 @@ pub fn store_holds_a_book<S: BookStore>()
 /// the attempt that is judged.
 pub fn stops_leave_runs<S: BookStore>()
     ensures { (start : BookFields) (calls : List (Numbered Call)) (hall : HallFields S) (t : Told) (next : BookFields) → StandsHall S.facts start calls hall
-        → IsTold hall.keeper.book t next → (r : HallRun) × IsHallRunOf S.facts r × (r.start ≡ start) × (r.calls ≡ calls) × (r.left ≡ next) }
+        → IsAttemptJudged hall.keeper.book t next → (r : HallRun) × IsHallRunOf S.facts r × (r.start ≡ start) × (r.calls ≡ calls) × (r.left ≡ next) }
 {}
 
 /// At every moment of a run the store holds a book in which each counter that a client was told has passed is used, and each that
@@ -85,7 +85,7 @@ pub fn told_counters_are_saved<S: BookStore>()
         (ps : List (List ℕ × ℕ)) → AreSpent ps start
         → (saved : BookFields) × IsBookText (S.facts hall.keeper.store).saved saved × AreSpent (all_spent (reverse s.told) ++ ps) saved }
     ensures within { (start : BookFields) (calls : List (Numbered Call)) (hall : HallFields S) (s : StandsHall S.facts start calls hall)
-        (ps : List (List ℕ × ℕ)) (t : Told) (next : BookFields) → AreSpent ps start → IsTold hall.keeper.book t next
+        (ps : List (List ℕ × ℕ)) (t : Told) (next : BookFields) → AreSpent ps start → IsAttemptJudged hall.keeper.book t next
         → AreSpent (all_spent (reverse s.told) ++ ps) next }
 {
     begins_with_itself();

@@ -31,7 +31,7 @@ returns-in-Ok-saved-clause-ok g c = (
   told_by _ _ c.args.name.now c.in-Some.token c.reply_to-reply.new.token c.args.moment _ c.reply_to-reply.result c.moment_is_in_range.ensures (sym c.token.ensures ∙ c.in-Some.is)
       (record { due = c.reply_to-reply.ensures.due; after = c.reply_to-reply.ensures.after; state = c.reply_to-reply.ensures.state })
       c.put_token.ensures.put,
-  kept_by _ _ _ _ c.reply_to-reply.result c.if-is_locked.ensures.open (record { text = _; is_text = c.in-Ok.ensures.stands; saved = c.in-Ok-saved.ensures }),
+  kept_by _ _ _ _ c.reply_to-reply.result c.if-is_locked.ensures.open (record { text = _; is_text = c.in-Ok.ensures.stands; saved = c.in-Ok-saved.ensures.saves }),
 )
 
 pub returns-in-Err-saved-clause-ok : goal.returns-in-Err-saved-clause-ok
@@ -45,7 +45,7 @@ returns-in-Err-saved-clause-ok g c = (
     told_by _ _ c.args.name.now c.in-Some.token c.reply_to-reply.new.token c.args.moment _ c.reply_to-reply.result c.moment_is_in_range.ensures (sym c.token.ensures ∙ c.in-Some.is)
         (record { due = c.reply_to-reply.ensures.due; after = c.reply_to-reply.ensures.after; state = c.reply_to-reply.ensures.state })
         c.put_token.ensures.put,
-    record { text = _; is_text = c.in-Ok.ensures.stands; lost = c.in-Err-saved.ensures },
+    record { text = _; is_text = c.in-Ok.ensures.stands; lost = c.in-Err-saved.ensures.saves },
   ),
 )
 
