@@ -1,5 +1,5 @@
 //! Where the text of a book is kept.
-ghost use Rattle.std.specs.Prelude.{string_bytes};
+ghost use Rattle.std.specs.Prelude.{ℕ, List, ⊤, OnOk, string_bytes};
 ghost use Rattle.account_book.specs.Store.{StoreFacts, Saves};
 
 use thiserror::Error;
@@ -12,17 +12,23 @@ pub struct StoreFault;
 /// A store of one text, that of a book.
 ///
 /// Contracts know four facts of it: `saved`, the text that it holds; `asked`, the text that the last save
-/// was given; `failed`, whether it has failed; `saves`, how many saves it has taken up.
+/// was given; `failed`, whether it has failed; `saves`, how many saves it has taken up. What more a save that succeeds has
+/// done with its text is `IsStored`, which each type of store defines: a store of a file has written the text to a file, and of
+/// a store in memory there is no more to say.
 ///
 /// No contract says what a stop in the middle of a save leaves: a store that outlives its process is to have the
 /// text from before then, or the new one, and never another.
 pub trait BookStore {
     ghost facts: { Self → StoreFacts };
 
+    // What holds of each text that a store of this type has saved.
+    ghost IsStored: { List ℕ → Type 0 } = { λ _. ⊤ };
+
     /// Replaces the text that the store holds by `text`. After Ok it holds `text`. After Err it has failed,
     /// and holds `text` or the text from before; every later call is then Err and changes nothing. A store
     /// is to fail only where it can't replace its text in that call, or where `saves` comes to 2^64 - 1; no contract
     /// says so.
     fn save(&mut self, text: String) -> Result<(), StoreFault>
-        ensures { Saves (facts self.old) (string_bytes text) result (facts self.new) };
+        ensures saves { Saves (facts self.old) (string_bytes text) result (facts self.new) }
+        ensures stored { OnOk result (IsStored (string_bytes text)) };
 }

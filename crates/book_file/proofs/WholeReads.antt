@@ -1,5 +1,5 @@
 -- What was read of a file of which no more bytes than so many are read.
-use Rattle.std.proofs.Common.{◌≡◌, ℕ, ◌<◌, min, List, [], ◌++◌, IfSome, length, take, ◌∙◌, sym, subst, arith, length-take, take_all}
+use Rattle.std.proofs.Common.{◌≡◌, ℕ, ◌<◌, List, [], ◌++◌, IfSome, length, take, ◌∙◌, subst, arith, length-take, take_all}
 use Rattle.std.specs.Prelude.{option_map}
 use Rattle.std.specs.declared.option.Option.{Option}
 use Rattle.std.specs.declared.option.Option.TheVariants.{None, Some}

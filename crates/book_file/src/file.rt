@@ -1,5 +1,6 @@
 //! The file of a book, held by one run at a time.
-ghost use Rattle.std.specs.Prelude.{◌≡◌, ◌≤◌, IfOk, IfSome, vec_len};
+ghost use Rattle.std.specs.Prelude.{◌≡◌, ◌≤◌, IfOk, IfSome, OnOk, vec_len};
+ghost use Rattle.book_file.specs.Text.{IsRead, IsWritten};
 
 use crate::fault::HoldFault;
 use crate::hold::{Held, OpenBook, hold, is_named, next_of};
@@ -116,6 +117,7 @@ where
     /// The file's bytes, or None where there is no file. FileTooLarge where there are more than 16777216.
     pub fn read(&mut self) -> io::Result<Option<Vec<u8>>>
         ensures most { IfOk result (λ found. IfSome found (λ bytes. vec_len bytes ≤ MOST_BOOK)) }
+        ensures all { IfOk result (λ found. IfSome found (λ bytes. IsRead R.File.remaining bytes.items)) }
     {
         match &mut self.book {
             None => Ok(None),
@@ -132,16 +134,28 @@ where
     /// changed since; AlreadyExists where there was none and there now is one; ResourceBusy where the next file
     /// can't be made; FileTooLarge where the text has more bytes than `read` takes; else the error of the call to the
     /// file system that failed.
-    pub fn replace(&mut self, text: &str) -> io::Result<()> {
-        let replaced = self.write_next(text).and_then(|()| self.put_in_place());
+    pub fn replace(&mut self, text: &str) -> io::Result<()>
+        ensures written { OnOk result (IsWritten R.File.contents text.now) }
+    {
+        let replaced = self.write_and_put(text);
         if let Some(next) = self.next.take() {
             remove_own_next(self.rt, &self.place, &next);
         }
         replaced
     }
 
+    // Writes the text to a file of its own, and puts that in the place of the book.
+    fn write_and_put(&mut self, text: &str) -> io::Result<()>
+        ensures { OnOk result (IsWritten R.File.contents text.now) }
+    {
+        self.write_next(text)?;
+        self.put_in_place()
+    }
+
     // Writes the text to a file of its own, and asks the system to write that to its device.
-    fn write_next(&mut self, text: &str) -> io::Result<()> {
+    fn write_next(&mut self, text: &str) -> io::Result<()>
+        ensures { OnOk result (IsWritten R.File.contents text.now) }
+    {
         if text.len() > MOST_BOOK {
             return Err(io::Error::from(ErrorKind::FileTooLarge));
         }
@@ -200,7 +214,7 @@ where
 pub fn read_unheld<R: Files + AllocGlobal>(rt: &R, path: &str) -> io::Result<Vec<u8>>
     ensures most { IfOk result (λ bytes. vec_len bytes ≤ MOST_BOOK) }
     // They are all bytes of a file, where these are known.
-    ensures all { IfOk result (λ bytes. (file : R.File) × IfSome (R.File.remaining file) (λ all. bytes.items ≡ all)) }
+    ensures all { IfOk result (λ bytes. IsRead R.File.remaining bytes.items) }
 {
     let mut file = fs::open(rt, path)?;
     read_all(rt, &mut file)

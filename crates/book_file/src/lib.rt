@@ -18,7 +18,6 @@
 #![tactic(auto)]
 
 mod fault;
-pub mod faulty;
 mod file;
 mod hold;
 mod lock;

@@ -1,6 +1,7 @@
 //! The store of a book that is kept in a file.
 ghost use Rattle.std.specs.Prelude.{◌≡◌, ◌<◌, ◌+◌, ◌^◌, [], string_bytes, Some, None, false};
 ghost use Rattle.account_book.specs.Store.{StoreFacts};
+ghost use Rattle.book_file.specs.Text.{IsWritten};
 ghost use Rattle.std.specs.Option.{is_some, option_map, unwrap_or};
 
 use crate::file::BookFile;
@@ -57,6 +58,8 @@ where
       failed = is_some s.failing;
       saves = s.saves;
     } };
+
+    ghost IsStored = { IsWritten R.File.contents };
 
     fn save(&mut self, text: String) -> Result<(), StoreFault> {
         if self.failing.is_some() {

@@ -20,7 +20,7 @@ use Rattle.sasl_desk.specs.declared.hall.Hall.{Hall}
 use Rattle.sasl_desk.proofs.HallLaws.{hall_bytes_next}
 use Rattle.sasl_desk.proofs.HallSteps.{stands_reordered}
 use Rattle.commands.specs.PrintedLog.{IsUnsavedOrUnlogged}
-use Rattle.commands.specs.Hall.{InputEvent, opens, says, leaves, does_at, SaysEvent, SaysNothing, IsOfNobody, IsCallFor, IsHallLogOf, Hears}
+use Rattle.commands.specs.Hall.{InputEvent, opens, says, goes, does_at, SaysEvent, SaysNothing, IsOfNobody, IsCallFor, IsHallLogOf, Hears}
 
 -- a call by which a hall heard an event added what was put into the log
 pub answered_in_log : {S : Type 0} (facts : S → StoreFacts) (old new : Hall S) (event : InputEvent) (n : ℕ) (asked : Asked) (phase : Phase)
@@ -92,7 +92,7 @@ pub says_nothing : (line : List ℕ) → ((own : List ℕ) → SaysEvent line (o
     → ((session moment : ℕ) (event : ClientEvent) → SaysEvent line (does_at session event moment) → ⊥) → SaysNothing line
 says_nothing line opened done (opens own) is = opened own is
 says_nothing line opened done (says n m text) is = done n m (sends text) is
-says_nothing line opened done (leaves n m) is = done n m goes_away is
+says_nothing line opened done (goes n m) is = done n m goes_away is
 
 -- what was put, or the log has failed
 pub put_or_failed : {P Q N H : Type 0} → P ⊎ Q → (Q → H) → P ⊎ (N ⊎ H)

@@ -95,14 +95,6 @@ pub record IsOfUser (user : User) (nonce password : List ℕ) (login : Answered)
   pub is_nonce : login.nonce ≡ nonce
   pub is_password : login.password ≡ password
 
--- what the client waits for is of a login of this user
-abbrev pub StandsIn : User → (nonce password : List ℕ) → Stage → Type 0
-StandsIn user nonce password Silent = Unit {0}
-StandsIn user nonce password (Begun one) =
-    (login : Started) × IsStarted one login × (login.name ≡ user.name) × (login.authzid ≡ user.act_as) × (login.nonce ≡ nonce)
-StandsIn user nonce password (Proved two) = (login : Answered) × IsExpecting two login × IsOfUser user nonce password login
-StandsIn user nonce password Over = Unit {0}
-
 -- the service has shown that it has the account's keys: of what a source gave, the last line accepts a login of this user, and
 -- bears the signature that only these keys make over the login's messages (RFC 5802, section 3)
 pub record IsLoggedIn (user : User) (nonce password : List ℕ) (old new : Option (List ℕ)) : Type 0 where

@@ -17,24 +17,24 @@ use Rattle.sasl_desk.specs.Runs.{greets, hears, Call}
 use Rattle.sasl_desk.specs.declared.hall.Hall.{Hall}
 use Rattle.commands.specs.Input.{AreLinesOf}
 
--- what befalls a hall: a client comes, and this is the server's part of its nonce; or the client of the session of this number
+-- what happens to a hall: a client comes, and this is the server's part of its nonce; or the client of the session of this number
 -- says a line at this moment; or it goes away
 pub data InputEvent : Type 0 where
   opens : (own : List ℕ) → InputEvent
   says : (session moment : ℕ) (text : List ℕ) → InputEvent
-  leaves : (session moment : ℕ) → InputEvent
+  goes : (session moment : ℕ) → InputEvent
 
 -- the input line for it
 abbrev pub event_text : InputEvent → List ℕ
 event_text (opens own) = codes "open " ++ own
 event_text (says session moment text) = codes "line " ++ (decimal session ++ (byte " " ∷ (decimal moment ++ (byte " " ∷ text))))
-event_text (leaves session moment) = codes "gone " ++ (decimal session ++ (byte " " ∷ decimal moment))
+event_text (goes session moment) = codes "gone " ++ (decimal session ++ (byte " " ∷ decimal moment))
 
 -- its nonce, its number and its moment are in their ranges
 abbrev pub IsEventInRange : InputEvent → Type 0
 IsEventInRange (opens own) = IsNoncePart own
 IsEventInRange (says session moment text) = IsSessionNumber session × IsMoment moment
-IsEventInRange (leaves session moment) = IsSessionNumber session × IsMoment moment
+IsEventInRange (goes session moment) = IsSessionNumber session × IsMoment moment
 
 -- an input line says this
 pub record SaysEvent (line : List ℕ) (event : InputEvent) : Type 0 where
@@ -44,13 +44,13 @@ pub record SaysEvent (line : List ℕ) (event : InputEvent) : Type 0 where
 -- what the client of a session does at a moment, as an event
 abbrev pub does_at : (session : ℕ) → ClientEvent → (moment : ℕ) → InputEvent
 does_at session (sends text) moment = says session moment text
-does_at session goes_away moment = leaves session moment
+does_at session goes_away moment = goes session moment
 
 -- the event is that of a session that is not open
 abbrev pub IsOfNobody : {S : Type 0} → HallFields S → InputEvent → Type 0
 IsOfNobody hall (opens own) = ⊥
 IsOfNobody hall (says session moment text) = phase_in hall session ≡ None
-IsOfNobody hall (leaves session moment) = phase_in hall session ≡ None
+IsOfNobody hall (goes session moment) = phase_in hall session ≡ None
 
 -- an input line says no event
 abbrev pub SaysNothing : List ℕ → Type 0
@@ -64,7 +64,7 @@ IsBadEvent line hall = SaysNothing line ⊎ ((event : InputEvent) × SaysEvent l
 abbrev pub IsCallFor : InputEvent → Numbered Call → Type 0
 IsCallFor (opens own) c = c.value.asked ≡ greets own
 IsCallFor (says session moment text) c = (c.number ≡ session) × (c.value.asked ≡ hears (sends text) moment)
-IsCallFor (leaves session moment) c = (c.number ≡ session) × (c.value.asked ≡ hears goes_away moment)
+IsCallFor (goes session moment) c = (c.number ≡ session) × (c.value.asked ≡ hears goes_away moment)
 
 -- calls by which a hall heard these events, the latest of which comes first
 abbrev pub AreCallsFor : List InputEvent → List (Numbered Call) → Type 0

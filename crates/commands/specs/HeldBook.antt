@@ -12,6 +12,7 @@ use Rattle.account_book.specs.Accounts.{account_at, IsAdded, IsChanged}
 use Rattle.account_book.specs.Enrolled.{enrolled}
 use Rattle.account_book.specs.Store.{StoreFacts, IsSaved, IsLost}
 use Rattle.account_book.specs.Tokens.{IsAttempt, token_at, with_token}
+use Rattle.book_file.specs.Text.{IsRead, IsWritten}
 use Rattle.book_file.specs.declared.file.TheConstants.{MOST_BOOK}
 use Rattle.clap.specs.declared.parser.matches.ArgMatches.{ArgMatches}
 use Rattle.command_line.specs.declared.value.OptionName.TheVariants as option
@@ -27,12 +28,13 @@ pub record Held : Type 0 where
 abbrev pub held_shown : {S : Type 0} → (S → StoreFacts) → HeldBook S → Held
 held_shown facts held = record { book = held.book; store = facts held.store }
 
--- the store has saved the book: it holds its text, which is not longer than the text of a book may be
-pub record IsBookSaved (old : StoreFacts) (book : BookFields) (new : StoreFacts) : Type 0 where
+-- the store has saved the book: it holds its text, which is not longer than the text of a book may be, and of which this holds
+pub record IsBookSaved (IsStored : List ℕ → Type 0) (old : StoreFacts) (book : BookFields) (new : StoreFacts) : Type 0 where
   pub text : List ℕ
   pub is_text : IsBookText text book
   pub short : length text ≤ MOST_BOOK
   pub done : IsSaved old text new
+  pub stored : IsStored text
 
 -- the book is not saved: the store is as it was, or it failed in saving the book's text, and has that or the text from before
 abbrev pub IsBookUnsaved : StoreFacts → BookFields → StoreFacts → Type 0
@@ -62,9 +64,9 @@ pub record IsAttemptAnswered (old : BookFields) (name : List ℕ) (moment : ℕ)
   pub due : IfSome (token_at old name) (λ token. IsAttempt old name token moment said reply new)
 
 -- the reply is due, and the book after it is saved; a token that is locked changes nothing, and nothing is saved
-pub record IsReplySaved (old : Held) (name : List ℕ) (moment : ℕ) (said : CodeTexts) (reply : Reply) (new : Held) : Type 0 where
+pub record IsReplySaved (IsStored : List ℕ → Type 0) (old : Held) (name : List ℕ) (moment : ℕ) (said : CodeTexts) (reply : Reply) (new : Held) : Type 0 where
   pub due : IsAttemptAnswered old.book name moment said reply new.book
-  pub saved : reply ≢ Locked → IsBookSaved old.store new.book new.store
+  pub saved : reply ≢ Locked → IsBookSaved IsStored old.store new.book new.store
   pub unsaved : reply ≡ Locked → new.store ≡ old.store
 
 -- nothing has changed, or a reply was due and the book after it is not saved
@@ -73,14 +75,20 @@ IsReplyUnsaved old name moment said new =
     (new ≡ old) ⊎ ((reply : Reply) × IsAttemptAnswered old.book name moment said reply new.book × IsBookUnsaved old.store new.book new.store)
 
 -- the token of this name is unlocked, and the book is saved
-pub record IsUnlockSaved (name : List ℕ) (old new : Held) : Type 0 where
+pub record IsUnlockSaved (IsStored : List ℕ → Type 0) (name : List ℕ) (old new : Held) : Type 0 where
   pub unlocked : IsUnlocked name old.book new.book
-  pub saved : IsBookSaved old.store new.book new.store
+  pub saved : IsBookSaved IsStored old.store new.book new.store
 
--- that is done for the name that the words give, in a book whose text the store had; and the name is printed
-pub record UnlocksAsked (words : ArgMatches) (old new : Option (List ℕ)) : Type 0 where
+-- a book whose text was read from a file, of which this is what it has
+pub record IsReadBook {File : Type 0} (bytes_of : File → Option (List ℕ)) (held : Held) : Type 0 where
+  pub is_text : IsBookText held.store.saved held.book
+  pub is_read : IsRead bytes_of held.store.saved
+
+-- a book is read from a file, the token of the name that the words give is unlocked, and the text of the book as it is then is
+-- written to a file; and the name is printed
+pub record UnlocksAsked {File : Type 0} (bytes_of written_to : File → Option (List ℕ)) (words : ArgMatches) (old new : Option (List ℕ)) : Type 0 where
   pub first : Held
   pub last : Held
-  pub is_text : IsBookText first.store.saved first.book
-  pub is_saved : IsUnlockSaved (given_value words option.Name) first last
+  pub is_first : IsReadBook bytes_of first
+  pub is_saved : IsUnlockSaved (IsWritten written_to) (given_value words option.Name) first last
   pub printed : Appends old new (codes "unlocked " ++ (given_value words option.Name ++ byte "\n" ∷ []))

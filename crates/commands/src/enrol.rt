@@ -5,6 +5,7 @@ ghost use Rattle.std.specs.Io.KnownBytes.{Appends, Consumes};
 ghost use Rattle.std.specs.Str.{byte};
 ghost use Rattle.scram_text.specs.Class.{IsPassword};
 ghost use Rattle.book_format.specs.Trees.{IsBookText};
+ghost use Rattle.book_file.specs.Text.{IsRead};
 ghost use Rattle.commands.specs.Enrol.{EnrolsAsked, IsReadOrNew, SavesAccount, TakesSalts};
 ghost use Rattle.commands.specs.Input.{IsFirstLine};
 ghost use Rattle.commands.specs.Words.{given_value};
@@ -56,7 +57,7 @@ where
     I: Typed,
     O: Write,
     E: Watched,
-    ensures { OnOk result (EnrolsAsked R.File.remaining words.now (I.remaining input.old) (O.contents output.old) (O.contents output.new)) }
+    ensures { OnOk result (EnrolsAsked R.File.remaining R.File.contents words.now (I.remaining input.old) (O.contents output.old) (O.contents output.new)) }
 {
     let asked = judge(rt.alloc(), words, input, faults)?;
     let path = given(words, OptionName::Book);
@@ -74,9 +75,10 @@ fn seen_or_new<F: Read + Drop>(
     seen: Option<Seen>,
     random: &mut Random<'_, F>,
 ) -> Result<(Book, Option<String>), Fault>
-    requires { IfSome seen (λ seen. IsBookText (string_bytes seen.text) seen.book) }
+    requires text { IfSome seen (λ seen. IsBookText (string_bytes seen.text) seen.book) }
+    requires read { IfSome seen (λ seen. IsRead F.remaining (string_bytes seen.text)) }
     ensures { IfOk result (λ found. (key : List ℕ) × Consumes (F.remaining random.old.file) (F.remaining random.new.file) key
-        × IsReadOrNew key found.0) }
+        × IsReadOrNew F.remaining key found.0) }
 {
     match seen {
         Some(seen) => Ok((seen.book, Some(seen.text))),
@@ -145,7 +147,7 @@ where
     R: Files + Clock + AllocGlobal,
     R::File: Lockable,
     E: Write,
-    ensures { OnOk result (SavesAccount book asked.now.name asked.now.password salts.now.0 salts.now.1 asked.now.count) }
+    ensures { OnOk result (SavesAccount R.File.remaining R.File.contents book asked.now.name asked.now.password salts.now.0 salts.now.1 asked.now.count) }
 {
     let (name, password, count) = (&asked.name, &asked.password, asked.count);
     let alloc = rt.alloc();

@@ -5,9 +5,10 @@ ghost use Rattle.book_format.specs.Trees.{IsBookText};
 ghost use Rattle.book_format.specs.declared.fault.BookFault.{BookFault};
 ghost use Rattle.account_book.specs.Accounts.{account_at};
 ghost use Rattle.account_book.specs.Tokens.{IsAnswered, token_at};
+ghost use Rattle.book_file.specs.Text.{IsRead};
 ghost use Rattle.sasl_desk.specs.Keeper.{texts_of};
 ghost use Rattle.command_line.specs.Fault.{IsTokenFault, IsUnwritten, of_book};
-ghost use Rattle.commands.specs.HeldBook.{held_shown, CannotBeSaved, IsBookSaved, IsBookUnsaved, IsChangeUnsaved, IsEnrolled, IsAttemptAnswered, IsReplyUnsaved, IsUnlocked, IsUnlockSaved};
+ghost use Rattle.commands.specs.HeldBook.{held_shown, CannotBeSaved, IsBookSaved, IsBookUnsaved, IsChangeUnsaved, IsEnrolled, IsAttemptAnswered, IsReadBook, IsReplyUnsaved, IsUnlocked, IsUnlockSaved};
 
 use crate::shown::Shown;
 use account_book::{Book, BookStore, BookWhy, EnrolFault, Reply};
@@ -49,7 +50,8 @@ where
     R: Files + Clock + AllocGlobal,
     R::File: Lockable,
     E: Write,
-    ensures { IfOk result (λ found. IfSome found (λ seen. IsBookText (string_bytes seen.text) seen.book)) }
+    ensures text { IfOk result (λ found. IfSome found (λ seen. IsBookText (string_bytes seen.text) seen.book)) }
+    ensures read { IfOk result (λ found. IfSome found (λ seen. IsRead R.File.remaining (string_bytes seen.text))) }
 {
     let mut file = match BookFile::hold(rt, path) {
         Ok(file) => file,
@@ -74,7 +76,7 @@ where
     R: Files + Clock + AllocGlobal,
     R::File: Lockable,
     E: Write,
-    ensures text { IfOk result (λ held. IsBookText (⟦<FileStore<'r, R> as BookStore>⟧.facts held.store).saved held.book) }
+    ensures read { IfOk result (λ held. IsReadBook R.File.remaining (held_shown ⟦<FileStore<'r, R> as BookStore>⟧.facts held)) }
     ensures path { IfOk result (λ held. held.path.now ≡ path.now) }
 {
     let (file, text) = text_held(rt, path, BookFile::hold(rt, path), faults)?;
@@ -97,6 +99,7 @@ where
     R: Files + Clock + AllocGlobal,
     R::File: Lockable,
     E: Write,
+    ensures { IfOk result (λ found. IfSome found.1 (λ text. IsRead R.File.remaining (string_bytes text))) }
 {
     let mut file = match held {
         Ok(file) => file,
@@ -146,6 +149,7 @@ fn text_of<R>(
 where
     R: Files + Clock + AllocGlobal,
     R::File: Lockable,
+    ensures { IfOk result (λ found. IfSome found (λ text. IsRead R.File.remaining (string_bytes text))) }
 {
     let bytes = match file.read() {
         Ok(Some(bytes)) => bytes,
@@ -239,7 +243,7 @@ impl<'a, S: BookStore> HeldBook<'a, S> {
         ensures unasked { IfErr result (λ fault. fault ≡ Fault.NoMemory → self.new.store ≡ self.old.store) }
         ensures unsaved { OnErr result (IsChangeUnsaved (held_shown S.facts self.old)
             (IsEnrolled name.now password.now salt1.now salt256.now count) (held_shown S.facts self.new)) }
-        ensures saved { OnOk result (IsBookSaved (S.facts self.old.store) self.new.book (S.facts self.new.store)) }
+        ensures saved { OnOk result (IsBookSaved S.IsStored (S.facts self.old.store) self.new.book (S.facts self.new.store)) }
     {
         match add(alloc, &mut self.book, name, password, salt1, salt256, count) {
             Ok(()) => self.save(alloc),
@@ -272,7 +276,7 @@ impl<'a, S: BookStore> HeldBook<'a, S> {
     ) -> Result<Reply, Fault>
         ensures due { IfOk result (λ reply. IsAttemptAnswered self.old.book name.now moment (texts_of sent.entry) reply self.new.book) }
         ensures saved { IfOk result (λ reply. reply ≢ Reply.Locked
-            → IsBookSaved (S.facts self.old.store) self.new.book (S.facts self.new.store)) }
+            → IsBookSaved S.IsStored (S.facts self.old.store) self.new.book (S.facts self.new.store)) }
         ensures locked { IfOk result (λ reply. reply ≡ Reply.Locked → self.new.store ≡ self.old.store) }
         ensures err { IfErr result (IsTokenFault self.old.path.now (account_at self.old.book name.now)) }
         ensures unasked { IfErr result (λ fault. fault ≡ Fault.NoMemory → self.new.store ≡ self.old.store) }
@@ -292,7 +296,7 @@ impl<'a, S: BookStore> HeldBook<'a, S> {
     /// Sets the failures of the account's token to 0, and saves the book. Faults: NoSuchAccount, NoToken,
     /// CannotWrite and NoMemory.
     pub fn unlock(&mut self, alloc: Global, name: &PlainName) -> Result<(), Fault>
-        ensures done { OnOk result (IsUnlockSaved name.now (held_shown S.facts self.old) (held_shown S.facts self.new)) }
+        ensures done { OnOk result (IsUnlockSaved S.IsStored name.now (held_shown S.facts self.old) (held_shown S.facts self.new)) }
         ensures err { IfErr result (IsTokenFault self.old.path.now (account_at self.old.book name.now)) }
         ensures unasked { IfErr result (λ fault. fault ≡ Fault.NoMemory → self.new.store ≡ self.old.store) }
         ensures unsaved { OnErr result (IsChangeUnsaved (held_shown S.facts self.old) (IsUnlocked name.now)
@@ -311,7 +315,7 @@ impl<'a, S: BookStore> HeldBook<'a, S> {
         ensures why { IfErr result (λ fault. fault ≢ Fault.NoMemory
             → (text : List ℕ) × IsBookText text self.old.book × CannotBeSaved text (S.facts self.new.store)) }
         ensures unasked { IfErr result (λ fault. fault ≡ Fault.NoMemory → self.new.store ≡ self.old.store) }
-        ensures saved { OnOk result (IsBookSaved (S.facts self.old.store) self.old.book (S.facts self.new.store)) }
+        ensures saved { OnOk result (IsBookSaved S.IsStored (S.facts self.old.store) self.old.book (S.facts self.new.store)) }
         ensures unsaved { OnErr result (IsBookUnsaved (S.facts self.old.store) self.old.book (S.facts self.new.store)) }
     {
         let text = self.book.write(alloc)?;

@@ -9,6 +9,7 @@ mod audit;
 mod code;
 mod desk_fault;
 mod enrol;
+mod file;
 mod hall;
 mod held_book;
 mod input;

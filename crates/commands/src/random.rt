@@ -1,10 +1,11 @@
 //! The file that random bytes come from.
-ghost use Rattle.std.specs.Prelude.{IfOk};
+ghost use Rattle.std.specs.Prelude.{◌≡◌, IfErr, IfOk};
 ghost use Rattle.std.specs.Io.KnownBytes.{Consumes};
+ghost use Rattle.command_line.specs.Fault.{status_of};
 
+use crate::file::open_file;
 use command_line::Fault;
 use std::alloc::Global;
-use std::fs;
 use std::fs::Files;
 use std::io::Read;
 
@@ -21,12 +22,15 @@ impl<'a, F: Read + Drop> Random<'a, F> {
     pub fn open<R: Files<File = F> + AllocGlobal>(
         rt: &R,
         path: &'a str,
-    ) -> Result<Random<'a, F>, Fault> {
-        let alloc = rt.alloc();
-        match fs::open(rt, path) {
-            Ok(file) => Ok(Random { alloc, path, file }),
-            Err(error) => Err(Fault::of_reading(String::from_str(alloc, path)?, &error)),
-        }
+    ) -> Result<Random<'a, F>, Fault>
+        ensures { IfErr result (λ fault. status_of fault ≡ 3) }
+    {
+        let file = open_file(rt, path)?;
+        Ok(Random {
+            alloc: rt.alloc(),
+            path,
+            file,
+        })
     }
 
     /// The next `N` bytes of the file. CannotRead where it has fewer, and where a read fails; NoMemory

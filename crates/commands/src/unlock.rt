@@ -29,7 +29,7 @@ where
     R::File: Lockable,
     O: Write,
     E: Write,
-    ensures { OnOk result (UnlocksAsked words.now (O.contents output.old) (O.contents output.new)) }
+    ensures { OnOk result (UnlocksAsked R.File.remaining R.File.contents words.now (O.contents output.old) (O.contents output.new)) }
 {
     let name = value::name(given(words, OptionName::Name))?;
     let mut held = held_book::open(rt, given(words, OptionName::Book), faults)?;

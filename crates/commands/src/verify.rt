@@ -39,10 +39,10 @@ where
     I: Typed,
     O: Write,
     E: Watched,
-    ensures ok { IfOk result (λ all_passed. VerifiesAllLines words.now (I.remaining input.old) (O.contents output.old) all_passed
+    ensures ok { IfOk result (λ all_passed. VerifiesAllLines R.File.remaining R.File.contents words.now (I.remaining input.old) (O.contents output.old) all_passed
         (O.contents output.new)) }
     ensures err { OnErr result ((O.contents output.new ≡ O.contents output.old)
-        ⊎ VerifiesFirstLines words.now (I.remaining input.old) (O.contents output.old) (O.contents output.new)) }
+        ⊎ VerifiesFirstLines R.File.remaining R.File.contents words.now (I.remaining input.old) (O.contents output.old) (O.contents output.new)) }
 {
     let alloc = rt.alloc();
     let name = value::name(given(words, OptionName::Name))?;
@@ -62,9 +62,9 @@ fn answer_lines<S: BookStore, I: BufRead, O: Write>(
     input: &mut I,
     output: &mut O,
 ) -> Result<bool, Fault>
-    ensures ok { IfOk result (λ all_passed. AnswersAllLines name.now moment (I.remaining input.old)
+    ensures ok { IfOk result (λ all_passed. AnswersAllLines S.IsStored name.now moment (I.remaining input.old)
         (run_of S.facts held.old (O.contents output.old)) all_passed (run_of S.facts held.new (O.contents output.new))) }
-    ensures err { OnErr result (AnswersFirstLines name.now moment (I.remaining input.old)
+    ensures err { OnErr result (AnswersFirstLines S.IsStored name.now moment (I.remaining input.old)
         (run_of S.facts held.old (O.contents output.old)) (run_of S.facts held.new (O.contents output.new))) }
 {
     let mut lines = Lines::new(input);
@@ -85,9 +85,9 @@ fn answer_line<S: BookStore, O: Write>(
     line: &[u8],
     output: &mut O,
 ) -> Result<Reply, Fault>
-    ensures ok { IfOk result (λ reply. IsLineAnswered name.now moment line.now
+    ensures ok { IfOk result (λ reply. IsLineAnswered S.IsStored name.now moment line.now
         (run_of S.facts held.old (O.contents output.old)) reply (run_of S.facts held.new (O.contents output.new))) }
-    ensures err { OnErr result (FailsAtLine name.now moment line.now
+    ensures err { OnErr result (FailsAtLine S.IsStored name.now moment line.now
         (run_of S.facts held.old (O.contents output.old)) (run_of S.facts held.new (O.contents output.new))) }
 {
     let reply = held.attempt(alloc, name, moment, sent_by(line))?;

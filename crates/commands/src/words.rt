@@ -33,7 +33,7 @@ const ENROL_EXAMPLE: &str =
 terminal, it is shown. Prints `enrolled` and the name once the book is saved.
 
 The book is made, readable by its owner alone, where the file is not there. Put it into a folder
-that nobody else can write, nor the folders above it.
+that nobody else can write, and whose parents nobody else can write.
 
 The account gets keys for SCRAM-SHA-1 and SCRAM-SHA-256, with salts of 16 bytes. A login name
 without an account is answered by a decoy: with a salt of 16 bytes, and the count that the book has
@@ -91,7 +91,7 @@ const UPGRADE_EXAMPLE: &str =
 line: one more than the number of `E` lines before. The new log is clean exactly where the old one
 is, by the same book. Its lines need not be due, only lines of a log. Else nothing is printed, and
 the first line at fault is told on standard error, as `audit` tells it. The log is read whole, up to
-1000000 lines, before anything is printed. Standard input is read only where it is /dev/stdin.
+1000000 lines, before anything is printed. Standard input is read only where the log is /dev/stdin.
 
 Example, after that of `scramotp audit --help`:
   scramotp upgrade --log log.txt >log2.txt
@@ -104,8 +104,9 @@ is shown.
 
 Both ends run here: a service over the book, and a client. They talk through a socket, whose file is
 made for this run and removed at its end. Put it into a folder that nobody else can enter; a file
-that is there already is a socket fault, also one that a killed run left. The client is given what
-it would hear of any service, and ends the login where the service has not the account's keys.
+that is there already is a socket fault, also one that a killed run left. The client learns only
+what any service would tell it, and ends the login where the service does not have the account's
+keys.
 
 Prints the service's log, each line before the client is told of it. Codes are saved before they are
 told; the book is locked from its reading to the end of the input, and other runs wait for it, up to
@@ -123,13 +124,13 @@ Example, after that of `scramotp unlock --help`: a login and a code, and the aud
 const HALL_EXAMPLE: &str = "Each line of standard input is an event:
 
   open NONCE          a client comes; NONCE is the service's part of its nonce, fresh and random
-  line N MOMENT TEXT  the client of session N sends a line, of which TEXT is all, at a moment in
+  line N MOMENT TEXT  the client of session N sends a line: TEXT is the whole line, and MOMENT is in
                       seconds since 1970
   gone N MOMENT       the client of session N goes away
 
-Sessions get the numbers 1, 2 and so on as their clients come. Up to 64 are open at a time, and who
-comes then is told BUSY. Another line, or a number of no open session, is a bad event and ends the
-run, with exit status 1.
+Sessions get the numbers 1, 2 and so on as their clients come. Up to 64 are open at a time; a client
+that comes then is told BUSY. Another line, or a number of no open session, is a bad event and ends
+the run, with exit status 1.
 
 Prints the log, of version 2, each event's lines before the next event is read. What client N is to
 be told is in the lines that begin with its number and ` S `. Codes are saved before they are told;

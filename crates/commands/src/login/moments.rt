@@ -42,7 +42,8 @@ impl<R: Clock> sasl_desk::Clock for Moments<'_, R> {
     }
 }
 
-// The moment of the machine's clock, or the start of 1970 where the clock can't be read, or is after the year 9999.
+// The moment of the machine's clock, or the start of 1970 where the clock can't be read, or is before 1970 or after the year
+// 9999.
 fn machine_moment<R: Clock>(rt: &R) -> Moment {
     let Ok(now) = SystemTime::now(rt) else {
         return start_of_1970();

@@ -1,4 +1,4 @@
-use Rattle.std.proofs.Common.{rules, arith}
+use Rattle.std.proofs.Common.{arith}
 use Rattle.book_file.proofs.WholeReads.{all_were_read}
 use Rattle.book_file.proofs.file.read_all.Goals as goal
 

@@ -7,7 +7,7 @@ returns g c =
     (λ printed. record {
       first = _;
       last = _;
-      is_text = c.in_ok-held.ensures.text;
+      is_first = c.in_ok-held.ensures.read;
       is_saved = rw (c.in_ok-name.ensures.ok, c.given.ensures) at c.in_ok-unlock.ensures.done;
       printed = rw (c.text.ensures.value, c.in_ok-name.ensures.ok, c.given.ensures) at printed;
     })

@@ -7,7 +7,7 @@ use Rattle.commands.proofs.verify.answer_lines.Goals as goal
 pub returns-in_err-line-clause-err : goal.returns-in_err-line-clause-err
 returns-in_err-line-clause-err g c =
     let stop =
-    before_line (AnswersLine c.args.name.now c.args.moment) (g.I.Read.remaining c.args.input.now)
+    before_line (AnswersLine g.S.BookStore.IsStored c.args.name.now c.args.moment) (g.I.Read.remaining c.args.input.now)
     (run_of g.S.BookStore.facts c.args.held.now (g.O.Write.contents c.args.output.now)) c.loop-line.all_passed (g.I.Read.remaining c.loop-line.lines.input.now)
     (run_of g.S.BookStore.facts c.loop-line.held (g.O.Write.contents c.loop-line.output)) c.loop-line.invariant in
     after_any_fault c.from_residual.result (inl (stop.0, c.loop-line.all_passed, stop.1))
@@ -18,7 +18,7 @@ returns-in_err-reply-clause-err g c =
     let fault = rw c.as_slice.ensures.value at c.in_err-reply.ensures.err in
     let there = run_of g.S.BookStore.facts c.loop-line.held (g.O.Write.contents c.loop-line.output) in
     let stop =
-    at_line (AnswersLine c.args.name.now c.args.moment) (g.I.Read.remaining c.args.input.now)
+    at_line (AnswersLine g.S.BookStore.IsStored c.args.name.now c.args.moment) (g.I.Read.remaining c.args.input.now)
     (run_of g.S.BookStore.facts c.args.held.now (g.O.Write.contents c.args.output.now)) c.loop-line.all_passed (g.I.Read.remaining c.loop-line.lines.input.now)
     there c.in-Some.line.items has_lf (g.I.Read.remaining c.next.new.self.input.now) c.loop-line.invariant takes some in
     after_any_fault c.from_residual-in_err-reply.result (inr (c.in-Some.line.items, stop.0, c.loop-line.all_passed, there, stop.1, fault))
@@ -28,7 +28,7 @@ loop-line-preserved g c =
     let (has_lf, takes, some, counted) = rw c.in-Some.is at c.in_ok-line.ensures.line in
     let answered = rw c.as_slice.ensures.value at c.in_ok-reply.ensures.ok in
     rw c.and_passed-all_passed.ensures
-    (after_line (AnswersLine c.args.name.now c.args.moment) (g.I.Read.remaining c.args.input.now)
+    (after_line (AnswersLine g.S.BookStore.IsStored c.args.name.now c.args.moment) (g.I.Read.remaining c.args.input.now)
     (run_of g.S.BookStore.facts c.args.held.now (g.O.Write.contents c.args.output.now)) c.loop-line.all_passed (g.I.Read.remaining c.loop-line.lines.input.now)
     (run_of g.S.BookStore.facts c.loop-line.held (g.O.Write.contents c.loop-line.output))
     c.in-Some.line.items has_lf (g.I.Read.remaining c.next.new.self.input.now) _
@@ -38,7 +38,7 @@ loop-line-preserved g c =
 pub returns-clause-ok : goal.returns-clause-ok
 returns-clause-ok g c =
     let end = rw c.in_default.is at c.in_ok-line.ensures.end in
-    at_end (AnswersLine c.args.name.now c.args.moment) (g.I.Read.remaining c.args.input.now)
+    at_end (AnswersLine g.S.BookStore.IsStored c.args.name.now c.args.moment) (g.I.Read.remaining c.args.input.now)
     (run_of g.S.BookStore.facts c.args.held.now (g.O.Write.contents c.args.output.now)) c.loop-line.all_passed (g.I.Read.remaining c.loop-line.lines.input.now)
     (run_of g.S.BookStore.facts c.loop-line.held (g.O.Write.contents c.loop-line.output))
     c.loop-line.invariant end

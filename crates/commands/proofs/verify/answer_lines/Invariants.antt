@@ -4,7 +4,7 @@ use Rattle.commands.proofs.verify.answer_lines.Given as goal
 
 abbrev pub invariant-loop-line : goal.invariant-loop-line
 invariant-loop-line g l =
-    HasCome (AnswersLine l.fn.name l.fn.moment) (g.I.Read.remaining l.fn.input) (run_of g.S.BookStore.facts l.fn.held (g.O.Write.contents l.fn.output))
+    HasCome (AnswersLine g.S.BookStore.IsStored l.fn.name l.fn.moment) (g.I.Read.remaining l.fn.input) (run_of g.S.BookStore.facts l.fn.held (g.O.Write.contents l.fn.output))
     l.all_passed (g.I.Read.remaining l.lines.input.now) (run_of g.S.BookStore.facts l.held (g.O.Write.contents l.output))
 
 abbrev pub decreases-loop-line : goal.decreases-loop-line

@@ -9,7 +9,7 @@ returns-clause-ok g c =
       moment = c.in_ok-moment.moment;
       first = _;
       last = _;
-      begins = record { is_moment = sym c.given-2.ensures ∙ c.in_ok-moment.ensures.ok; is_text = c.in_ok-held.ensures.text; is_printed = refl };
+      begins = record { is_moment = sym c.given-2.ensures ∙ c.in_ok-moment.ensures.ok; is_book = c.in_ok-held.ensures.read; is_printed = refl };
       answers = rw (c.in_ok-name.ensures.ok, c.given.ensures) at answers;
       printed = refl;
     })
@@ -22,7 +22,7 @@ returns-clause-err g c =
       moment = c.in_ok-moment.moment;
       first = _;
       last = _;
-      begins = record { is_moment = sym c.given-2.ensures ∙ c.in_ok-moment.ensures.ok; is_text = c.in_ok-held.ensures.text; is_printed = refl };
+      begins = record { is_moment = sym c.given-2.ensures ∙ c.in_ok-moment.ensures.ok; is_book = c.in_ok-held.ensures.read; is_printed = refl };
       answers = rw (c.in_ok-name.ensures.ok, c.given.ensures) at answers;
       printed = refl;
     }))

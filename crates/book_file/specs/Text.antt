@@ -1,0 +1,12 @@
+-- What is known of the files that a text was read from or written to: what their reads and writes say. Which paths they have
+-- is not known.
+use Rattle.std.specs.Prelude.{ℕ, ◌≡◌, List, Option, IfSome}
+use Rattle.std.specs.Io.KnownBytes.{Appends}
+
+-- these are all bytes that a file had left when it was read, where those are known
+abbrev pub IsRead : {File : Type 0} → (remaining : File → Option (List ℕ)) → List ℕ → Type 0
+IsRead {File} remaining bytes = (file : File) × IfSome (remaining file) (λ all. bytes ≡ all)
+
+-- these bytes were written to a file, at the end of what it had, where that is known
+abbrev pub IsWritten : {File : Type 0} → (contents : File → Option (List ℕ)) → List ℕ → Type 0
+IsWritten {File} contents bytes = (before : File) × (after : File) × Appends (contents before) (contents after) bytes
