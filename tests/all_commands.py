@@ -1,8 +1,6 @@
 """What the scripts on all commands share: each command with words and an input that it takes, what it prints for them, and what the
 book has after each of its saves, worked out by Python from RFC 4226, RFC 5802 and RFC 7677."""
 import copy
-import hashlib
-import hmac
 import os
 import pathlib
 import re
@@ -12,6 +10,8 @@ import subprocess
 import tomllib
 from typing import NamedTuple
 
+import suite
+from outside import keys_of, numbered
 from suite import PROGRAM, SECRET
 
 HERE = pathlib.Path(__file__).parent
@@ -26,22 +26,6 @@ NONCES = ["--client-nonce", "fyko+d2lbbFgONRv9qkxdawL", "--server-nonce", "3rfcN
 CODES = ["755224", "287082", "359152", "969429"]
 RANDOM = bytes(range(64))
 SALT = "4125c247e43ab1e93c6dff76"
-
-
-def keys_of(function, password, salt, count):
-    """The two keys of a password as hexadecimal text (RFC 5802, section 3)."""
-    salted = hashlib.pbkdf2_hmac(function, password, salt, count)
-    stored = hashlib.new(function, hmac.digest(salted, b"Client Key", function))
-    return stored.hexdigest(), hmac.digest(salted, b"Server Key", function).hex()
-
-
-def numbered(log):
-    """A log of version 1 as one of version 2."""
-    session, lines = 1, ["SCRAMLOG 2\n"]
-    for line in log.splitlines(keepends=True)[1:]:
-        lines.append(f"{session} {line}")
-        session += line == "E\n"
-    return "".join(lines)
 
 
 def read_book(text):
@@ -215,15 +199,11 @@ def is_done(folder, command):
 
 def begins_clean(folder, printed):
     """Whether a log of `login` or `hall` is at fault in no line that it has, whole or not, by the book that it began with."""
-    before, log = os.path.join(folder, "before"), os.path.join(folder, "printed")
-    pathlib.Path(before).write_text(BOOK)
-    pathlib.Path(log).write_text(printed)
-    words = [PROGRAM, "audit", "--book", before, "--log", log]
-    done = subprocess.run(words, capture_output=True, text=True, timeout=60)
-    os.remove(before)
-    os.remove(log)
-    cut = f"line {printed.count(chr(10)) + 1}: cut\n"
-    return done.stderr == "" and (done.stdout.startswith("clean ") or done.stdout == cut)
+    before = pathlib.Path(folder, "before")
+    before.write_text(BOOK)
+    holds = suite.begins_clean(before, printed)
+    before.unlink()
+    return holds
 
 
 def is_front(command, printed):

@@ -5,11 +5,9 @@ A row names a log and a book of that folder. In the log `old`, which is there on
 """
 import csv
 import pathlib
-import sys
 from typing import NamedTuple
 
-if not __debug__:
-    sys.exit("audit_cases.py: the tests rest on assertions, which python3 -O and PYTHONOPTIMIZE leave out")
+from outside import edited
 
 FILES = pathlib.Path(__file__).parent / "data" / "audits"
 TABLE = FILES / "cases.csv"
@@ -23,22 +21,13 @@ class Case(NamedTuple):
     answer: str
 
 
-def spelled(text):
-    """The bytes that a cell of the table spells."""
-    return text.encode("latin-1").decode("unicode_escape").encode("latin-1")
-
-
-def edited(row):
-    """The log of a row."""
-    log = (FILES / row["log"]).with_suffix(".log").read_bytes()
-    for old, new in [(row["old"], row["new"]), (row["old2"], row["new2"])]:
-        if old:
-            assert log.count(spelled(old)) == 1, f"{row}: what is replaced does not stand there once"
-            log = log.replace(spelled(old), spelled(new))
-    return log
+def case(row):
+    """The case of a row."""
+    log = edited((FILES / row["log"]).with_suffix(".log").read_bytes(), row)
+    return Case((FILES / row["book"]).with_suffix(".toml"), log, row["answer"])
 
 
 def cases():
     """All rows, in the table's order."""
     with open(TABLE, newline="", encoding="ascii") as table:
-        return [Case((FILES / row["book"]).with_suffix(".toml"), edited(row), row["answer"]) for row in csv.DictReader(table)]
+        return [case(row) for row in csv.DictReader(table)]

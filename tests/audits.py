@@ -4,9 +4,9 @@
 Usage: audits.py PROGRAM
 
 Each row of data/audits/cases.csv, as audit_cases.py reads it. sha1.log is the example of RFC 5802, section 5, sha256.log that of
-RFC 7677, section 3. Then come a login whose challenge has an extension, its proof made by Python's hmac; the first log cut after
-each byte; logs of a million lines; logs that are pipes; progress shown at a terminal; files that can't be read; and a
-folder that another run holds. Exits at the first difference.
+RFC 7677, section 3. Then come the log that docs/OPERATING.md names; a login whose challenge has an extension, its proof made by Python's
+hmac; the first log cut after each byte; logs of a million lines; logs that are pipes; progress shown at a terminal; files that can't be
+read; and a book that another run holds. Exits at the first difference.
 """
 import base64
 import fcntl
@@ -21,6 +21,7 @@ import threading
 import time
 
 from audit_cases import FILES, TABLE, cases
+from suite import same
 
 KEYS = FILES / "keys.toml"
 LOGIN = FILES / "sha1.log"
@@ -33,11 +34,6 @@ STATUSES = {"clean ": 0, "read fault": 3}
 HEADER = b"SCRAMLOG 1\n"
 GONE = b"S MECHS SCRAM-SHA-256 SCRAM-SHA-1\nC GONE\nE\n"
 ABORTED = b"S MECHS SCRAM-SHA-256 SCRAM-SHA-1\nC ABORT\nS NO :\nE\n"
-
-
-def same(what, got, want):
-    if got != want:
-        sys.exit(f"audits.py: {what}: {got!r}, not {want!r}")
 
 
 def says(what, program, book, log, status, printed, fault=""):
@@ -181,6 +177,11 @@ def long_lines_and_logs(program, log):
         answers(name, program, KEYS, log, answer)
 
 
+def one_code_twice(program):
+    """The log that docs/OPERATING.md shows, whose server took one code twice."""
+    answers("one code twice", program, FILES / "hotp.toml", FILES.parent / "twice.log", "line 10: reply, due FAIL 6")
+
+
 def unreadable_files(program, folder):
     """The faults of files that can't be read, in the order in which they are read: first the book."""
     nothing, book = folder / "nothing", folder / "book"
@@ -218,6 +219,7 @@ def main():
     with tempfile.TemporaryDirectory() as name:
         folder = pathlib.Path(name)
         rows = rows_of_table(program, folder / "log")
+        one_code_twice(program)
         other_challenges(program, folder / "log")
         cut_after_each_byte(program, folder / "log")
         logs_from_pipes(program, folder)

@@ -18,6 +18,8 @@ import sys
 import tempfile
 import tomllib
 
+from suite import same
+
 # A copy of the program that the user nobody can run, wherever the program is.
 COPY = tempfile.TemporaryDirectory()
 os.chmod(COPY.name, 0o755)
@@ -72,11 +74,6 @@ def well(command, book, **how):
     """Runs a command on a book, with all else as it should be."""
     options, text, _ = GOOD[command]
     return run(command, {"book": book, **options}, text, **how)
-
-
-def same(what, got, want):
-    if got != want:
-        sys.exit(f"book_commands.py: {what}: {got!r}, not {want!r}")
 
 
 def says(what, done, status, output, fault=""):
@@ -440,7 +437,7 @@ def start_waiting(folder, beside):
 
 
 def end_waiting(folder, started):
-    """The commands that waited in vain leave the book as it was, and no other file."""
+    """The commands that waited for a lock all the time leave the book as it was, and no other file."""
     for command, path, running in started:
         fault = f"other runs held {path} for 30 seconds\nscramotp: cannot read {path}"
         says(f"{command} on a held book", running.result(), 3, "", fault)

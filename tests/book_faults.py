@@ -15,25 +15,11 @@ import subprocess
 import sys
 import tempfile
 
+from outside import edited
+
 BOOKS = pathlib.Path(__file__).with_name("book_faults")
 TABLE = pathlib.Path(__file__).with_name("book_faults.csv")
 NUMBERS = {str(number) for number in range(60, 68)}
-
-
-def spelled(text):
-    """The bytes that a cell of the table spells."""
-    return text.encode("latin-1").decode("unicode_escape").encode("latin-1")
-
-
-def edited(row):
-    """The book of a row."""
-    book = (BOOKS / row["base"]).with_suffix(".toml").read_bytes()
-    for old, new in [(row["old"], row["new"]), (row["old2"], row["new2"])]:
-        if old:
-            if book.count(spelled(old)) != 1:
-                sys.exit(f"{TABLE.name}: {row}: what is replaced does not stand there once")
-            book = book.replace(spelled(old), spelled(new))
-    return book
 
 
 def due(answer):
@@ -46,7 +32,7 @@ def due(answer):
 
 def check(program, path, row):
     """Runs a row, and returns None where all is as it should be, else what the program did."""
-    book = edited(row)
+    book = edited((BOOKS / row["base"]).with_suffix(".toml").read_bytes(), row)
     path.write_bytes(book)
     done = subprocess.run([program, "unlock", "--book", path, "--name", "user"], capture_output=True)
     if (done.returncode, done.stdout, done.stderr) != due(row["answer"]):

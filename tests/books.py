@@ -8,7 +8,6 @@ Usage: books.py PROGRAM
 import ctypes
 import errno
 import fcntl
-import hmac
 import os
 import random
 import re
@@ -22,7 +21,7 @@ import time
 import tomllib
 
 import suite
-from suite import PROGRAM, SECRET, USER, hotp
+from suite import PROGRAM, USER, code, hotp, is_locked
 
 BOOK = USER + hotp(look_ahead=3, limit=100)
 # RFC 4226, appendix D
@@ -72,14 +71,6 @@ def locked(path):
     return held
 
 
-def is_locked(path):
-    try:
-        os.close(locked(path))
-    except BlockingIOError:
-        return True
-    return False
-
-
 def waiting_verify(path, text=""):
     """A run that holds the book, and waits for more input than this."""
     run = subprocess.Popen(verify_words(path), stdin=subprocess.PIPE, stdout=subprocess.PIPE, stderr=subprocess.PIPE, text=True)
@@ -103,13 +94,6 @@ def seen(path):
     found = os.lstat(path)
     with open(path, "rb") as file:
         return found.st_ino, found.st_mode, found.st_mtime_ns, found.st_ctime_ns, file.read()
-
-
-def code(counter):
-    """The code of a counter (RFC 4226, section 5.3)."""
-    tag = hmac.digest(bytes.fromhex(SECRET), counter.to_bytes(8, "big"), "sha1")
-    at = tag[19] & 15
-    return f"{(int.from_bytes(tag[at:at + 4], 'big') & 0x7FFFFFFF) % 10**6:06}"
 
 
 def twenty_at_once(folder):

@@ -10,10 +10,10 @@ import subprocess
 import tempfile
 import time
 import tomllib
-from hashlib import pbkdf2_hmac, sha1, sha256
 from hmac import digest
 
 import suite
+from outside import keys_of
 from suite import PROGRAM, SECRET, USER, hotp, totp
 
 SALT = "4125c247e43ab1e93c6dff76"
@@ -89,10 +89,9 @@ def passwords(folder):
 
 def key_lines(name, password, salt, count):
     """The two lines of `keys`, by Python's own Hi and HMAC (RFC 5802, section 3)."""
-    hash = {"SCRAM-SHA-1": sha1, "SCRAM-SHA-256": sha256}[name]
-    salted = pbkdf2_hmac(hash().name, password, salt, count)
-    stored = hash(digest(salted, b"Client Key", hash)).hexdigest()
-    return f"stored={stored}\nserver={digest(salted, b'Server Key', hash).hex()}\n"
+    stored, server = keys_of({"SCRAM-SHA-1": "sha1", "SCRAM-SHA-256": "sha256"}[name], password, salt, count)
+    return f"stored={stored}\nserver={server}\n"
+
 
 
 def values_at_their_limits(folder):
@@ -270,7 +269,7 @@ def server_signature(folder):
     run = subprocess.run([PROGRAM, *words], input="pencil\n", capture_output=True, text=True, check=True)
     stored, server = run.stdout.splitlines()
     assert stored.startswith("stored=") and server.startswith("server="), run
-    signature = digest(bytes.fromhex(server.removeprefix("server=")), auth_message, sha256).hex()
+    signature = digest(bytes.fromhex(server.removeprefix("server=")), auth_message, "sha256").hex()
     assert signature == "eabae24d1062db75a9451ff0b6ea7e98c8546549ff741e672d3251b2397de46e", signature
 
 

@@ -13,7 +13,8 @@ import tomllib
 
 import shims
 import suite
-from all_commands import ACCEPTED, BOOK, CODES, GONE, book_of, commands, left, new_book, numbered, prepare, run
+from all_commands import ACCEPTED, BOOK, CODES, GONE, book_of, commands, left, new_book, prepare, run
+from outside import numbered
 
 # The token of BOOK (RFC 4226, appendix D): it lets a code lie three counters ahead, and of two in a row the first none.
 AHEAD = 3

@@ -11,9 +11,6 @@ is kept, as a file fuzz-KIND-SEED-NUMBER in the folder in which the script is st
 
 COUNT, 300 by default, is how many inputs of each kind are tried; each is made from SEED, 1 by default, and its own number.
 """
-import csv
-import hashlib
-import hmac
 import os
 import pathlib
 import random
@@ -22,6 +19,8 @@ import subprocess
 import sys
 import tempfile
 import tomllib
+
+from outside import code, keys_of, numbered
 
 HERE = pathlib.Path(__file__).resolve().parent
 BOOKS = sorted((HERE / "book_faults").glob("*.toml"))
@@ -146,11 +145,7 @@ def logs():
         text = path.read_bytes()
         yield text
         if text.startswith(b"SCRAMLOG 1\n"):
-            session, lines = 1, [b"SCRAMLOG 2\n"]
-            for line in text.splitlines(keepends=True)[1:]:
-                lines.append(b"%d %s" % (session, line))
-                session += line == b"E\n"
-            yield b"".join(lines)
+            yield numbered(text.decode()).encode()
 
 
 def a_log(program, folder, chosen):
@@ -183,13 +178,6 @@ def cut(text):
     return [line + b"\n" for line in text.split(b"\n")[:-1]]
 
 
-def code(secret, counter, digits, name="sha1"):
-    """The code of a counter (RFC 4226, section 5.3)."""
-    mac = hmac.digest(secret, counter.to_bytes(8, "big"), name)
-    part = mac[mac[-1] & 15:][:4]
-    return (int.from_bytes(part, "big") & 0x7FFFFFFF) % 10**digits
-
-
 def words_of_code(program, _, chosen):
     """The words of `code`: where it prints a code, it is the one by Python's hmac."""
     odd = [it.decode() for it in NUMBERS]
@@ -215,13 +203,13 @@ def words_of_code(program, _, chosen):
     else:
         since = int(given["--moment"]) - int(given.get("--t0", 0))
         wanted = code(secret, since // int(given.get("--step", 30)), digits, given.get("--hash", "sha1"))
-    expect(printed == b"%0*d\n" % (digits, wanted), printed, wanted)
+    expect(printed == f"{wanted}\n".encode(), printed, wanted)
 
 
 def words_of_keys(program, _, chosen):
     """The words and the password of `keys`: the keys are those by Python's hashlib."""
     salt = bytes(chosen.randrange(256) for _ in range(chosen.choice([0, 1, 12, 16, 64, 65])))
-    name, function, digest = chosen.choice([("SCRAM-SHA-1", "sha1", hashlib.sha1), ("SCRAM-SHA-256", "sha256", hashlib.sha256)])
+    name, function = chosen.choice([("SCRAM-SHA-1", "sha1"), ("SCRAM-SHA-256", "sha256")])
     count = chosen.choice(["1", "2", "4096", "4096", "0", "01", "4294967296"])
     letters = range(32, 127) if chosen.random() < 0.7 else range(256)
     password = bytes(it for it in chosen.choices(letters, k=chosen.choice([0, 1, 8, 70, 1024, 1025])) if it != 10)
@@ -232,9 +220,7 @@ def words_of_keys(program, _, chosen):
     right = count in ("1", "2", "4096") and 1 <= len(salt) <= 64 and is_password
     expect(status == (0 if right else 2), status, printed)
     if right:
-        salted = hashlib.pbkdf2_hmac(function, password, salt, int(count))
-        stored = digest(hmac.digest(salted, b"Client Key", function)).hexdigest()
-        server = hmac.digest(salted, b"Server Key", function).hex()
+        stored, server = keys_of(function, password, salt, int(count))
         expect(printed.decode() == f"stored={stored}\nserver={server}\n", printed)
 
 

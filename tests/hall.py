@@ -16,7 +16,7 @@ import tomllib
 import clients
 import suite
 from clients import Account, book, dealt, gone, logged_in, of_session, opened, said, turned_away
-from halls import AUTH, CONT, FILES, MECHS, OWN, RESP, USER, Hall, clean, handed, login, read
+from halls import AUTH, FILES, MECHS, OWN, RESP, USER, Hall, clean, handed, login, read
 
 SHUFFLES = 1000
 # A folder of files in memory, where a system has one.

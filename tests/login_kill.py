@@ -4,7 +4,6 @@ book can always be read, and each log that was written is the front of a clean o
 
 Usage: login_kill.py PROGRAM
 """
-import hmac
 import os
 import pathlib
 import random
@@ -14,18 +13,11 @@ import time
 import tomllib
 
 import suite
-from suite import PROGRAM, SECRET, hotp
+from suite import PROGRAM, begins_clean, code, hotp
 
 KEYS = (pathlib.Path(__file__).parent / "data" / "audits" / "keys.toml").read_text()
 BOOK = KEYS + hotp(look_ahead=3, limit=100, sync_ahead=10)
 RUNS = 2000
-
-
-def code(counter):
-    """The code of a counter (RFC 4226, section 5.3)."""
-    tag = hmac.digest(bytes.fromhex(SECRET), counter.to_bytes(8, "big"), "sha1")
-    at = tag[19] & 15
-    return f"{(int.from_bytes(tag[at:at + 4], 'big') & 0x7FFFFFFF) % 10**6:06}"
 
 
 def token(book):
@@ -57,15 +49,6 @@ def used(log):
     return found
 
 
-def begins_clean(book, log):
-    """A log that was cut is at fault in no line that it has, under the book that its login began with."""
-    words = [PROGRAM, "audit", "--book", book, "--log", "/dev/stdin"]
-    done = subprocess.run(words, input=log, capture_output=True, text=True)
-    assert done.stderr == "", done
-    cut = f"line {log.count(chr(10)) + 1}: cut\n"
-    assert done.stdout == cut or done.stdout.startswith("clean "), (log, done.stdout)
-
-
 def lines_from(at):
     """Codes around a counter, and pairs of codes further on."""
     singles = [code(counter) for counter in range(max(at - 1, 0), at + 6)]
@@ -93,7 +76,7 @@ def killed_at_any_moment(folder):
         text = log.read_text()
         killed += status < 0
         whole += text.endswith("\nE\n")
-        begins_clean(before, text)
+        assert begins_clean(before, text), text
         found = used(text)
         assert not set(found) & set(passed) and len(found) == len(set(found)), (found, passed)
         passed += found

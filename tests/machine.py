@@ -25,8 +25,9 @@ from typing import NamedTuple
 import shims
 import suite
 from all_commands import (
-    BOOK, NONCES, begins_clean, book_of, commands, is_front, is_kept, left, login_log, new_book, numbered, prepare, run,
+    BOOK, NONCES, begins_clean, book_of, commands, is_front, is_kept, left, login_log, new_book, prepare, run,
 )
+from outside import numbered
 from suite import PROGRAM, totp
 
 ROOT = os.geteuid() == 0

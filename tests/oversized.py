@@ -18,6 +18,7 @@ import termios
 import time
 
 import clients
+import outside
 import suite
 from all_commands import AUDITS, BOOK, commands, login_log, prepare
 from clients import Account, Exchange, base, dealt, escaped, gone, logged_in, opened, said
@@ -150,7 +151,7 @@ def lengths_of_words(folder):
         assert done == want, (own, others, done)
         tried += 1
     for size in [9, 10, 64, 65]:
-        want = (0, f"{clients.code(bytes(size), 7)}\n", "") if 10 <= size <= 64 else (2, "", "scramotp: bad value for --secret\n")
+        want = (0, f"{outside.code(bytes(size), 7)}\n", "") if 10 <= size <= 64 else (2, "", "scramotp: bad value for --secret\n")
         assert ended([PROGRAM, "code", "--secret", "00" * size, "--counter", "7"], b"") == want, size
         tried += 1
     told("nonces and secrets", tried)
@@ -322,8 +323,9 @@ def endless_codes(folder):
 
 
 # A hall's log of RFC 5802's login, and the events that lead to it.
-LOGGED = "".join(commands(0)[6].printed.splitlines(True)[:-2])
-EVENTS = commands(0)[6].text.removesuffix("gone 1 5\n")
+[HALL] = [command for command in commands(0) if command.name == "hall"]
+LOGGED = "".join(HALL.printed.splitlines(True)[:-2])
+EVENTS = HALL.text.removesuffix("gone 1 5\n")
 
 TESTS = [
     lengths_of_first_messages,

@@ -11,8 +11,6 @@ Python's hashlib. A block that no test runs is a fault. Takes the 30 seconds for
 import base64
 import csv
 import fcntl
-import hashlib
-import hmac
 import os
 import re
 import shlex
@@ -24,8 +22,10 @@ import tomllib
 from concurrent.futures import ThreadPoolExecutor
 from pathlib import Path
 
+import outside
 import suite
-from suite import PROGRAM, SECRET, USER, hotp
+from outside import keys_of
+from suite import PROGRAM, USER, code, hotp, is_locked
 
 HERE = Path(__file__).resolve().parent
 DOCUMENT = Path(sys.argv[2]) if len(sys.argv) > 2 else HERE.parent / "docs" / "OPERATING.md"
@@ -106,20 +106,7 @@ def enrolled(folder):
 
 def totp(secret, moment):
     """RFC 6238: six digits, SHA-1, steps of 30 seconds from 0."""
-    return code(secret, moment // 30)
-
-
-def code(secret, counter):
-    tag = hmac.digest(secret, counter.to_bytes(8, "big"), "sha1")
-    at = tag[19] & 15
-    return f"{(int.from_bytes(tag[at:at + 4], 'big') & 0x7FFFFFFF) % 10**6:06}"
-
-
-def keys_of(mechanism, password, salt, count):
-    """The stored key and the server key (RFC 5802, section 3), in hexadecimal."""
-    salted = hashlib.pbkdf2_hmac(mechanism, password, salt, count)
-    stored = hashlib.new(mechanism, hmac.digest(salted, b"Client Key", mechanism))
-    return stored.hexdigest(), hmac.digest(salted, b"Server Key", mechanism).hex()
+    return outside.code(secret, moment // 30)
 
 
 def seen(path):
@@ -138,15 +125,6 @@ def until(is_so):
             return
         time.sleep(0.01)
     raise AssertionError("it does not come to be so")
-
-
-def is_locked(path):
-    with open(path, "rb") as file:
-        try:
-            fcntl.flock(file, fcntl.LOCK_EX | fcntl.LOCK_NB)
-        except BlockingIOError:
-            return True
-    return False
 
 
 def an_editor_and_a_command(folder):
@@ -304,7 +282,7 @@ def a_hotp_token(folder):
     does(folder, "./edit-book book.toml cat - token.toml")
     does(folder, verify(NAME, CODES[0], CODES[1]), printed="PASS 5 0\nPASS 5 1\n")
     skipped = 2 + tomllib.loads(token)["accounts"][NAME]["token"]["look_ahead"]
-    does(folder, verify(NAME, code(bytes.fromhex(SECRET), skipped)), printed=f"PASS 5 {skipped}\n")
+    does(folder, verify(NAME, code(skipped)), printed=f"PASS 5 {skipped}\n")
 
 
 def a_fob_that_ran_ahead(folder):
@@ -313,12 +291,12 @@ def a_fob_that_ran_ahead(folder):
     [token] = blocks("Set a token", "toml")
     Path(folder, "token.toml").write_text(token)
     does(folder, "./edit-book book.toml cat - token.toml")
-    assert ran(folder, verify(NAME, code(bytes.fromhex(SECRET), 8)))[:2] == (1, "FAIL 5\n")
+    assert ran(folder, verify(NAME, code(8)))[:2] == (1, "FAIL 5\n")
     [sync] = blocks("Find a fob that ran ahead")
     status, output, faults = ran(folder, sync)
     assert (status, faults) == (0, "") and re.fullmatch(r"PASS \d+ 9\n", output), (output, faults)
     assert ran(folder, sync)[0] == 1
-    does(folder, verify(NAME, code(bytes.fromhex(SECRET), 10)), printed="PASS 5 10\n")
+    does(folder, verify(NAME, code(10)), printed="PASS 5 10\n")
 
 
 def an_account(folder):
@@ -414,7 +392,8 @@ def a_removed_account(folder):
     does(folder, f"scramotp enrol --book book.toml --name {NAME}", "pencil\n", f"enrolled {NAME}\n")
     does(folder, remove)
     assert book_of(folder) == before
-    Path(folder, "keys.toml").write_text(f'\n[accounts."{NAME}".sha1]\ncount = 1\nsalt = "00"\nserver = "{"00" * 20}"\nstored = "{"00" * 20}"\n')
+    keys = f'\n[accounts."{NAME}".sha1]\ncount = 1\nsalt = "00"\nserver = "{"00" * 20}"\nstored = "{"00" * 20}"\n'
+    Path(folder, "keys.toml").write_text(keys)
     does(folder, "./edit-book book.toml cat - keys.toml")
     does(folder, remove)
     assert book_of(folder) == before
@@ -514,17 +493,9 @@ def a_code_in_a_script(folder):
     assert ran(folder, 'PATH="$PWD/silent:$PATH" ./check-code book.toml user', CODES[4])[0] == 1
 
 
-def spelled(text):
-    """The bytes that a cell of book_faults.csv spells."""
-    return text.encode("latin-1").decode("unicode_escape").encode("latin-1")
-
-
 def faulty(row):
     """The book of a row of book_faults.csv."""
-    book = (HERE / "book_faults" / row["base"]).with_suffix(".toml").read_bytes()
-    for old, new in [(row["old"], row["new"]), (row["old2"], row["new2"])]:
-        book = book.replace(spelled(old), spelled(new), 1) if old else book
-    return book
+    return outside.edited((HERE / "book_faults" / row["base"]).with_suffix(".toml").read_bytes(), row)
 
 
 def keys_at_fault(folder):

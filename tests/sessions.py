@@ -8,7 +8,6 @@ that line with the same outcome due in every order; 64 logins with codes, shuffl
 whole log; 64 open sessions and a 65th that is turned away; numbers that are none, or not due; and the longest
 lines. Exits at the first difference.
 """
-import hmac
 import itertools
 import os
 import pathlib
@@ -17,13 +16,14 @@ import subprocess
 import sys
 import tempfile
 
+from suite import code
+
 FILES = pathlib.Path(__file__).parent / "data" / "audits"
 BOOK = FILES / "hotp.toml"
 FIRST_LINE = "SCRAMLOG 2"
 MECHS, AUTH, CONT, RESP, OK, GONE, END = (FILES / "sha1.log").read_text().splitlines()[1:]
 WRONG_PROOF = RESP.replace("p=v0X8", "p=w0X8")
 INVALID_PROOF = "S NO :e=invalid-proof"
-SECRET = b"12345678901234567890"
 
 # The turns of three sessions: one is let in, one has a wrong proof, one asks for a mechanism that is not offered.
 LET_IN = [[MECHS], [AUTH, CONT], [RESP, OK, GONE, END]]
@@ -83,13 +83,6 @@ def all_orders(program, log):
         lines[at] = f"{number} {other}"
         answers(f"{order}, {which} turned", program, log, lines, 1, f"line {at + 1}: {answer}")
     return len(orders)
-
-
-def code(counter):
-    """The code of six digits that goes with a counter (RFC 4226, section 5.3)."""
-    mac = hmac.digest(SECRET, counter.to_bytes(8, "big"), "sha1")
-    part = mac[mac[19] & 15:][:4]
-    return f"{(int.from_bytes(part, 'big') & 0x7fffffff) % 1000000:06}"
 
 
 def shuffled(seed):

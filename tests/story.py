@@ -5,7 +5,7 @@ Usage: story.py PROGRAM [README]
 
 The story is what the shell blocks of the section "A story" have. In them a line with `#>` is one that the command above it
 prints, or `#> status N` where that command does not end with status 0. The story runs in a fresh folder, with the program
-on the PATH, the folder's tests/data that of the repository, and a password on standard input. Exits at the first difference.
+on the PATH and a password on standard input. Exits at the first difference.
 """
 import os
 import re
@@ -59,7 +59,6 @@ def ran(program, story):
     mark = f"{os.urandom(16).hex()} "
     script = "".join(f"{command}printf '{mark}%d\\n' $?\n" for command, _, _ in story)
     with tempfile.TemporaryDirectory() as folder:
-        os.symlink(ROOT / "tests", Path(folder, "tests"))
         commands = Path(folder, "bin")
         commands.mkdir()
         os.symlink(os.path.abspath(program), commands / "scramotp")

@@ -1,9 +1,13 @@
-"""What several scripts share: the account `user` with RFC 4226's secret, a folder with a book, and the run of all tests."""
+"""What several scripts share: the account `user` with RFC 4226's secret, a folder with a book, what is asked of locks and logs, and the
+run of all tests."""
+import fcntl
 import os
 import pathlib
 import subprocess
 import sys
 import tempfile
+
+import outside
 
 if not __debug__:
     sys.exit("suite.py: the tests rest on assertions, which python3 -O and PYTHONOPTIMIZE leave out")
@@ -52,6 +56,35 @@ drift = 0
 limit = {limit}
 failures = 0
 """
+
+
+def code(counter):
+    """The code of a counter by that secret."""
+    return outside.code(bytes.fromhex(SECRET), counter)
+
+
+def is_locked(path):
+    """Whether another holds the lock of a file."""
+    with open(path, "rb") as file:
+        try:
+            fcntl.flock(file, fcntl.LOCK_EX | fcntl.LOCK_NB)
+        except BlockingIOError:
+            return True
+    return False
+
+
+def begins_clean(book, log):
+    """Whether a log, which may be cut, is at fault in no line that it has, by the book that it began with."""
+    words = [PROGRAM, "audit", "--book", book, "--log", "/dev/stdin"]
+    done = subprocess.run(words, input=log, capture_output=True, text=True, timeout=60)
+    cut = f"line {log.count(chr(10)) + 1}: cut\n"
+    return done.stderr == "" and (done.stdout.startswith("clean ") or done.stdout == cut)
+
+
+def same(what, got, want):
+    """Ends the script where these differ."""
+    if got != want:
+        sys.exit(f"{os.path.basename(sys.argv[0])}: {what}: {got!r}, not {want!r}")
 
 
 class BookFolder:

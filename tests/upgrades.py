@@ -16,6 +16,8 @@ import tempfile
 import time
 
 from audit_cases import FILES, cases
+from outside import numbered
+from suite import same
 
 LOGIN = (FILES / "sha1.log").read_bytes()
 MECHS = b"S MECHS SCRAM-SHA-256 SCRAM-SHA-1\n"
@@ -28,29 +30,13 @@ def run(program, words, log):
     return done.returncode, done.stdout, done.stderr
 
 
-def same(what, got, want):
-    if got != want:
-        sys.exit(f"upgrades.py: {what}: {got!r}, not {want!r}")
-
-
-def numbered(log):
-    """A log of version 1 as one of version 2."""
-    first, *lines = log.splitlines(keepends=True)
-    assert first == b"SCRAMLOG 1\n", log
-    session, upgraded = 1, [b"SCRAMLOG 2\n"]
-    for line in lines:
-        upgraded.append(b"%d %s" % (session, line))
-        session += line == b"E\n"
-    return b"".join(upgraded)
-
-
 def same_answers(program):
     """The audit's answer to each log of the table, before and after. A first line in the middle has no number in either."""
     upgraded = 0
     for book, log, answer in cases():
         status, text, fault = run(program, ["upgrade"], log)
         if status == 0:
-            same(log, (text, fault), (numbered(log), b""))
+            same(log, (text, fault), (numbered(log.decode()).encode(), b""))
             if b"\nSCRAMLOG" not in log:
                 same(log, run(program, ["audit", "--book", book], text)[1].decode(), answer + "\n")
                 upgraded += 1
@@ -72,7 +58,7 @@ def faults(program, folder):
     for what, log, status, fault in [
         ("without the last LF", LOGIN[:-1], 1, "line 8: cut"),
         ("the empty log", b"", 1, "line 1: cut"),
-        ("version 2", numbered(LOGIN), 1, "line 1: not a line"),
+        ("version 2", numbered(LOGIN.decode()).encode(), 1, "line 1: not a line"),
         ("a first line cut", b"SCRAMLOG 1", 1, "line 1: cut"),
         ("a line that is none", LOGIN.replace(b"C GONE", b"C GONE "), 1, "line 7: not a line"),
         ("6202 bytes", b"SCRAMLOG 1\n" + b"E" * 6202, 1, "line 2: cut"),
@@ -94,7 +80,7 @@ def faults(program, folder):
 def long_logs(program, folder):
     """1000000 lines are upgraded, and 990000 in at most 2 seconds, the best of three runs."""
     log = b"SCRAMLOG 1\n" + GONE * 333333
-    same("1000000 lines", run(program, ["upgrade"], log), (0, numbered(log), b""))
+    same("1000000 lines", run(program, ["upgrade"], log), (0, numbered(log.decode()).encode(), b""))
     path = folder / "log"
     path.write_bytes(b"SCRAMLOG 1\n" + GONE * 330000)
     times = []

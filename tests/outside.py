@@ -1,0 +1,47 @@
+"""What several scripts compare with or begin from, worked out by Python and not by the program: codes, keys, the texts of the tables'
+rows, and logs with numbers."""
+import hashlib
+import hmac
+import sys
+
+if not __debug__:
+    sys.exit("outside.py: the tests rest on assertions, which python3 -O and PYTHONOPTIMIZE leave out")
+
+
+def code(secret, counter, digits=6, function="sha1"):
+    """The code of a counter (RFC 4226, section 5.3; RFC 6238 for other hash functions)."""
+    tag = hmac.digest(secret, counter.to_bytes(8, "big"), function)
+    at = tag[-1] & 15
+    return f"{(int.from_bytes(tag[at:at + 4], 'big') & 0x7FFFFFFF) % 10**digits:0{digits}}"
+
+
+def keys_of(function, password, salt, count):
+    """The stored key and the server key of a password, as hexadecimal text (RFC 5802, section 3)."""
+    salted = hashlib.pbkdf2_hmac(function, password, salt, count)
+    stored = hashlib.new(function, hmac.digest(salted, b"Client Key", function))
+    return stored.hexdigest(), hmac.digest(salted, b"Server Key", function).hex()
+
+
+def spelled(text):
+    """The bytes that a cell of a table spells."""
+    return text.encode("latin-1").decode("unicode_escape").encode("latin-1")
+
+
+def edited(text, row):
+    """A text in which `old` of a table's row, which is there once, is replaced by `new`, and then `old2` by `new2`."""
+    for old, new in [(row["old"], row["new"]), (row["old2"], row["new2"])]:
+        if old:
+            assert text.count(spelled(old)) == 1, f"{row}: what is replaced does not stand there once"
+            text = text.replace(spelled(old), spelled(new))
+    return text
+
+
+def numbered(log):
+    """A log of version 1 as one of version 2."""
+    first, *lines = log.splitlines(keepends=True)
+    assert first == "SCRAMLOG 1\n", log
+    session, upgraded = 1, ["SCRAMLOG 2\n"]
+    for line in lines:
+        upgraded.append(f"{session} {line}")
+        session += line == "E\n"
+    return "".join(upgraded)
