@@ -215,9 +215,9 @@ def help_and_version(folder):
         (["verify", "--help"], ["The book is locked until the input ends", "else may be able to write the book's folder"]),
         (["unlock", "--help"], ["else may be able to write the book's folder", "Standard input is not read."]),
         (["audit", "--help"], ["nothing is written", "Standard input is read only where the log\nis /dev/stdin."]),
-        (["upgrade", "--help"], ["is, by the same book.", "Standard input is read only where it is /dev/stdin."]),
+        (["upgrade", "--help"], ["is, by the same book.", "Standard input is read only where the log is /dev/stdin."]),
         (["login", "--help"], ["a socket fault", "Codes are saved before they are\ntold", "--as <NAME> ", "every code passed"]),
-        (["hall", "--help"], ["is a bad event and ends the\nrun", "Codes are saved before they are told", "to the end of the input"]),
+        (["hall", "--help"], ["is a bad event and ends\nthe run", "Codes are saved before they are told", "to the end of the input"]),
         (["code", "--help"], ["Standard\ninput is not read.", "Other users of the machine can read the words"]),
     ]:
         text = help_of(words[:-1])
