@@ -12,9 +12,12 @@ use Rattle.log_grammar.specs.Numbered.{Numbered}
 use Rattle.log_grammar.specs.NumberedLines.{IsSessionNumber}
 use Rattle.sasl_log.specs.Sink.{SinkFacts}
 use Rattle.sasl_desk.specs.Events.{ClientEvent, sends, goes_away}
+use Rattle.log_grammar.specs.Books.{accounts_in}
+use Rattle.log_grammar.specs.Versions.{IsFront}
 use Rattle.sasl_desk.specs.Halls.{HallFields, hall_shown, hall_bytes, phase_in, StandsHall}
 use Rattle.sasl_desk.specs.Runs.{greets, hears, Call}
 use Rattle.sasl_desk.specs.declared.hall.Hall.{Hall}
+use Rattle.commands.specs.HeldBook.{Held, IsReadBook}
 use Rattle.commands.specs.Input.{AreLinesOf}
 
 -- what happens to a hall: a client comes, and this is the server's part of its nonce; or the client of the session of this number
@@ -126,3 +129,21 @@ HearsFirstLines facts input old log new log' =
 abbrev pub MeetsBadEvent : {S : Type 0} → (S → StoreFacts) → Option (List ℕ) → (old : Hall S) → (log : SinkFacts) → (new : Hall S) → (log' : SinkFacts) → Type 0
 MeetsBadEvent facts input old log new log' =
     (line : List ℕ) × (last : List (List ℕ)) × HearsUpTo facts input (line ∷ last) old log new log' × IsBadEvent line (hall_shown new)
+
+-- what the lines of an input say, but for the last of them, which are these, was heard in their order by a hall that began with
+-- this book; what it logged is printed, and that is a front
+pub record PrintsHallLog (book : BookFields) (input : Option (List ℕ)) (last : List (List ℕ)) (old new : Option (List ℕ)) : Type 0 where
+  pub lines : List (List ℕ)
+  pub events : List InputEvent
+  pub are : IfSome input (λ bytes. AreLinesOf bytes (lines ++ last))
+  pub said : AreSaid lines events
+  pub calls : List (Numbered Call)
+  pub heard : AreCallsFor (latest_first events) calls
+  pub is_front : IsFront (accounts_in book) (hall_bytes calls)
+  pub printed : Appends old new (hall_bytes calls)
+
+-- so it was with each line of an input, and with a book whose text was read from a file, of which this is what it has
+pub record RunsHall {File : Type 0} (bytes_of : File → Option (List ℕ)) (input old new : Option (List ℕ)) : Type 0 where
+  pub held : Held
+  pub is_read : IsReadBook bytes_of held
+  pub printed : PrintsHallLog held.book input [] old new

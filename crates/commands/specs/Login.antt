@@ -15,6 +15,7 @@ use Rattle.command_line.specs.declared.fault.Fault.TheVariants.{Socket, CannotWr
 use Rattle.log_grammar.specs.Bytes.{LacksLf}
 use Rattle.log_grammar.specs.Lines.{IsLine, from_server, replies}
 use Rattle.log_grammar.specs.Logins.{log_bytes}
+use Rattle.log_grammar.specs.Versions.{IsClean}
 use Rattle.sasl_log.specs.Sink.{SinkFacts}
 use Rattle.sasl_log.specs.Source.{SourceFacts}
 use Rattle.sasl_desk.specs.Desks.{Stands}
@@ -23,8 +24,9 @@ use Rattle.sasl_desk.specs.declared.desk.Desk.{Desk}
 use Rattle.sasl_desk.specs.declared.fault.ServeFault.{ServeFault}
 use Rattle.sasl_desk.specs.declared.fault.ServeFault.TheVariants as serve
 use Rattle.commands.specs.ClientEnd.{IsLoggedIn}
+use Rattle.commands.specs.HeldBook.{Held, IsReadBook}
 use Rattle.commands.specs.Input.{AreLinesOf, LinesInTurn}
-use Rattle.commands.specs.PrintedLog.{IsUnsavedOrUnlogged}
+use Rattle.commands.specs.PrintedLog.{HasLog, IsUnsavedOrUnlogged}
 use Rattle.commands.specs.Sent.{Says}
 use Rattle.commands.specs.declared.login.client_end.User.{User}
 use Rattle.commands.specs.declared.login.socket.Wire.{Wire}
@@ -104,3 +106,9 @@ pub record IsInAndPasses (user : User) (nonce password : List ℕ) (input left :
   pub there : Talked
   pub is_in : IsLoggedIn user nonce password old.untold there.untold
   pub passes : SendsLines input left there true new
+
+-- a desk over a book whose text was read from a file, of which this is what it has, has logged a clean log, and that is printed
+pub record PrintsLogin {File : Type 0} (bytes_of : File → Option (List ℕ)) (old new : Option (List ℕ)) : Type 0 where
+  pub held : Held
+  pub is_read : IsReadBook bytes_of held
+  pub printed : HasLog IsClean held.book old new

@@ -1,44 +1,77 @@
 //! The command `hall`: lets up to 64 users in at a time, over one book, by the events of its input, and prints the log.
+ghost use Rattle.std.specs.Prelude.{[], OnOk};
+ghost use Rattle.commands.specs.Hall.{PrintsHallLog, RunsHall};
+
 mod event;
 mod logged_hall;
 
 use crate::held_book;
+use crate::held_book::HeldBook;
 use crate::input::Lines;
 use crate::printed_log::PrintedLog;
 use crate::progress::Watched;
 use crate::prompt::{EVENTS, Typed, ask};
 use crate::words::given;
+use account_book::BookStore;
 use book_file::Lockable;
 use clap::ArgMatches;
 use command_line::Fault;
 use command_line::value::OptionName;
 use logged_hall::LoggedHall;
+use sasl_desk::laws::hall::log_is_a_front;
+use std::alloc::Global;
 use std::fs::Files;
-use std::io::Write;
+use std::io::{BufRead, Write};
 use std::time::Clock;
 
 /// Holds and reads the book, and lets a hall over it hear the event of each input line. Prints the hall's log, of version 2, each
-/// event's lines as it is heard; a fault ends it where it stands. At a terminal it asks for the events once the book is held.
-/// Faults: CannotRead or CannotWrite where the book can't be held, BadBook, and CannotWrite where the book can't be saved, in
-/// this order, then for each line CannotReadInput, BadEvent, CannotWrite and CannotWriteOutput, and NoMemory.
+/// event's lines as it is heard; a fault ends it where it stands. Hands back the output. At a terminal it asks for the events once
+/// the book is held. Faults: CannotRead or CannotWrite where the book can't be held, BadBook, and CannotWrite where the book can't
+/// be saved, in this order, then for each line CannotReadInput, BadEvent, CannotWrite and CannotWriteOutput, and NoMemory.
 pub fn hall<R, I, O, E>(
     rt: &R,
     words: &ArgMatches<'_>,
     input: &mut I,
-    output: &mut O,
+    output: O,
     faults: &mut E,
-) -> Result<(), Fault>
+) -> (Result<(), Fault>, O)
 where
     R: Files + Clock + AllocGlobal,
     R::File: Lockable,
     I: Typed,
-    O: Write,
+    O: Write + Drop,
     E: Watched,
+    ensures { OnOk result.0 (RunsHall R.File.remaining (I.remaining input.old) (O.contents output) (O.contents result.1)) }
 {
-    let alloc = rt.alloc();
-    let held = held_book::open(rt, given(words, OptionName::Book), faults)?;
-    ask(input, faults, EVENTS);
+    match held_book::open(rt, given(words, OptionName::Book), faults) {
+        Ok(held) => {
+            ask(input, faults, EVENTS);
+            hear_input(rt.alloc(), held, input, output)
+        }
+        Err(fault) => (Err(fault), output),
+    }
+}
+
+// Lets a hall over a held book hear the event of each input line, and prints its log. Hands back the output.
+fn hear_input<S, I, O>(
+    alloc: Global,
+    held: HeldBook<'_, S>,
+    input: &mut I,
+    output: O,
+) -> (Result<(), Fault>, O)
+where
+    S: BookStore + Drop,
+    I: BufRead,
+    O: Write + Drop,
+    ensures { OnOk result.0 (PrintsHallLog held.entry.book (I.remaining input.old) [] (O.contents output) (O.contents result.1)) }
+{
+    log_is_a_front::<S>();
     let mut lines = Lines::new(input);
-    let mut hall = LoggedHall::begin(alloc, held, PrintedLog::new(output))?;
-    hall.hear_lines(alloc, &mut lines)
+    match LoggedHall::begin(alloc, held, PrintedLog::new(output)) {
+        Ok(mut hall) => {
+            let heard = hall.hear_lines(alloc, &mut lines);
+            (heard, hall.into_log().into_output())
+        }
+        Err((log, fault)) => (Err(fault), log.into_output()),
+    }
 }

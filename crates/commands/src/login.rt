@@ -1,11 +1,12 @@
 //! The command `login`: logs a user in to a service over a book, and prints the service's log.
-ghost use Rattle.std.specs.Prelude.{◌≡◌, true, ℕ, List, Option, Ok, OnOk, OnErr};
+ghost use Rattle.std.specs.Prelude.{◌≡◌, true, ℕ, List, Option, Ok, IfOk, OnOk, OnErr};
 ghost use Rattle.book_format.specs.Book.{BookFields};
 ghost use Rattle.log_grammar.specs.Versions.{IsClean};
 ghost use Rattle.sasl_desk.specs.Desks.{phase_of};
 ghost use Rattle.sasl_desk.specs.declared.desk.state.Phase.TheVariants as Phase;
 ghost use Rattle.commands.specs.declared.login.client_end.Stage.{Stage};
-ghost use Rattle.commands.specs.Login.{IsDeskLog, StaysItsLog, IsLogAfterFault, talked_by, IsInAndPasses};
+ghost use Rattle.commands.specs.HeldBook.{held_shown, IsReadBook};
+ghost use Rattle.commands.specs.Login.{IsDeskLog, StaysItsLog, IsLogAfterFault, talked_by, IsInAndPasses, PrintsLogin};
 ghost use Rattle.commands.specs.PrintedLog.{HasLog};
 
 mod client_end;
@@ -16,13 +17,14 @@ mod socket;
 mod talk;
 
 use crate::held_book;
+use crate::held_book::HeldBook;
 use crate::input::Lines;
 use crate::printed_log::PrintedLog;
 use crate::progress::Watched;
 use crate::prompt::{LOGIN, Typed, ask};
 use crate::words::{given, optional};
 use account_book::BookStore;
-use book_file::Lockable;
+use book_file::{FileStore, Lockable};
 use clap::ArgMatches;
 use client_end::{ClientEnd, User};
 use command_line::value::OptionName;
@@ -52,40 +54,111 @@ struct LoginOptions {
     moment: Option<Moment>,
 }
 
+// What a login begins with: the book, the client and the lines that it is to send, the service's part of the nonce, and the
+// moment where the words give one.
+#[derive(Drop)]
+struct Prepared<'a, S, I> {
+    held: HeldBook<'a, S>,
+    client: ClientEnd,
+    lines: Lines<'a, I>,
+    own: NoncePart,
+    moment: Option<Moment>,
+
+    ghost silent: { client.stage ≡ Stage.Silent },
+}
+
 /// Judges the options in their order, reads the password, the book and the random bytes, makes the socket, and lets the
 /// client log in and send a code for each further input line. Prints the service's log, each line before the client is told
-/// of it; a fault ends it where it stands. Returns whether the client was logged in and each code passed. At a terminal it
-/// asks for the input. Faults: BadValue, CannotReadInput, BadPassword, CannotRead or CannotWrite where the book can't be
+/// of it; a fault ends it where it stands. Returns whether the client was logged in and each code passed, and hands back the
+/// output. At a terminal it asks for the input. Faults: BadValue, CannotReadInput, BadPassword, CannotRead or CannotWrite where the book can't be
 /// held, BadBook, CannotRead of the random file, Socket, and CannotWrite where the book can't be saved, in this order,
 /// then for each line CannotReadInput, CannotWrite, CannotWriteOutput and Socket, and NoMemory.
 pub fn login<R, I, O, E>(
     rt: &R,
     words: &ArgMatches<'_>,
     input: &mut I,
-    output: &mut O,
+    output: O,
     faults: &mut E,
-) -> Result<bool, Fault>
+) -> (Result<bool, Fault>, O)
 where
     R: Files + Net + Clock + AllocGlobal,
     R::File: Lockable,
     I: Typed,
-    O: Write,
+    O: Write + Drop,
     E: Watched,
+    ensures { OnOk result.0 (PrintsLogin R.File.remaining (O.contents output) (O.contents result.1)) }
 {
-    let alloc = rt.alloc();
+    let login = match prepare(rt, words, input, faults) {
+        Ok(login) => login,
+        Err(fault) => return (Err(fault), output),
+    };
+    let clock = Moments::new(rt, login.moment);
+    match socket::open(rt, given(words, OptionName::Socket)) {
+        Ok((ends, _file)) => talk_over(rt.alloc(), login, &ends, clock, output),
+        Err(fault) => (Err(fault), output),
+    }
+}
+
+// Judges the options, asks for the input, and reads the password, the book and the random bytes.
+fn prepare<'a, R, I, E>(
+    rt: &'a R,
+    words: &'a ArgMatches<'_>,
+    input: &'a mut I,
+    faults: &mut E,
+) -> Result<Prepared<'a, FileStore<'a, R>, I>, Fault>
+where
+    R: Files + Clock + AllocGlobal,
+    R::File: Lockable,
+    I: Typed,
+    E: Watched,
+    ensures { IfOk result (λ login. IsReadBook R.File.remaining (held_shown ⟦<FileStore<'a, R> as BookStore>⟧.facts login.held)) }
+{
     let options = judge(words)?;
     ask(input, faults, LOGIN);
     let mut lines = Lines::new(input);
-    let password = read_password(alloc, &mut lines)?;
+    let password = read_password(rt.alloc(), &mut lines)?;
     let held = held_book::open(rt, given(words, OptionName::Book), faults)?;
     let random = given(words, OptionName::Random);
     let (nonce, own) = nonces::both(rt, random, options.client_nonce, options.service_nonce)?;
-    let client = ClientEnd::new(options.who, password, nonce);
-    let (ends, _file) = socket::open(rt, given(words, OptionName::Socket))?;
-    let log = PrintedLog::new(output);
-    let clock = Moments::new(rt, options.moment);
-    let mut talk = Talk::begin(alloc, held, ends.wires(), log, clock)?;
-    converse(alloc, &mut talk, &ends, own, client, &mut lines)
+    Ok(Prepared {
+        held,
+        client: ClientEnd::new(options.who, password, nonce),
+        lines,
+        own,
+        moment: options.moment,
+    })
+}
+
+// Lets the client of a login talk to a desk over the book, and prints the desk's log. Returns whether the client was logged in
+// and each code passed, and hands back the output.
+fn talk_over<S, I, C, O>(
+    alloc: Global,
+    login: Prepared<'_, S, I>,
+    ends: &Ends,
+    clock: C,
+    output: O,
+) -> (Result<bool, Fault>, O)
+where
+    S: BookStore + Drop,
+    I: BufRead,
+    C: sasl_desk::Clock + Drop,
+    O: Write + Drop,
+    ensures { OnOk result.0 (HasLog IsClean login.entry.held.book (O.contents output) (O.contents result.1)) }
+{
+    let Prepared {
+        held,
+        client,
+        mut lines,
+        own,
+        moment: _,
+    } = login;
+    match Talk::begin(alloc, held, ends.wires(), PrintedLog::new(output), clock) {
+        Ok(mut talk) => {
+            let passed = converse(alloc, &mut talk, ends, own, client, &mut lines);
+            (passed, talk.into_log().into_output())
+        }
+        Err((log, fault)) => (Err(fault), log.into_output()),
+    }
 }
 
 // Lets the client log in, send its codes and go away. Returns whether it was logged in and each line that it sent passed; no

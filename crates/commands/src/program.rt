@@ -95,11 +95,15 @@ where
         }
         Some(("unlock", words)) => unlock::unlock(rt, words, output, faults)?,
         Some(("login", words)) => {
-            if !login::login(rt, words, input, output, faults)? {
+            let (passed, _) = login::login(rt, words, input, &mut *output, faults);
+            if !passed? {
                 status = REFUSED;
             }
         }
-        Some(("hall", words)) => hall::hall(rt, words, input, output, faults)?,
+        Some(("hall", words)) => {
+            let (heard, _) = hall::hall(rt, words, input, &mut *output, faults);
+            heard?;
+        }
         Some(("audit", words)) => status = audit::audit(rt, words, output, faults)?,
         Some(("upgrade", words)) => status = upgrade::upgrade(rt, words, output, faults)?,
         _ => {}
