@@ -58,7 +58,7 @@ libraries: $(foreach it,$(LIBRARIES),crates/$(it)/out/built)
 
 $(PROGRAM): $(SOURCES)
 	@$(MAKE) --no-print-directory kit
-	@echo 'This proves $(words $(LIBRARIES)) libraries and the program, and builds it for $(CPU). From nothing, allow 50 minutes on 4 cores.'
+	@echo 'This proves $(words $(LIBRARIES)) libraries and the program, and builds it for $(CPU). From nothing, allow 40 minutes on 4 cores.'
 	@$(MAKE) --no-print-directory -j 2 libraries
 	@echo "$$(date +%T) scramotp"
 	@mkdir -p $(@D) && cd crates/scramotp && \
