@@ -12,7 +12,7 @@ from typing import NamedTuple
 
 import suite
 from outside import keys_of, numbered
-from suite import PROGRAM, SECRET
+from suite import CODES, KEYS_OF_PENCIL, NONCES, PROGRAM, SALT, SECRET
 
 HERE = pathlib.Path(__file__).parent
 AUDITS = HERE / "data" / "audits"
@@ -21,11 +21,7 @@ BOOK = (AUDITS / "hotp.toml").read_text().replace("failures = 0", "failures = 2"
 LOG = (AUDITS / "sha1.log").read_text()
 ACCEPTED, GONE = "".join(LOG.splitlines(True)[:6]), "C GONE\nE\n"
 AUTH, RESP = LOG.splitlines()[2][2:], LOG.splitlines()[4][2:]
-NONCES = ["--client-nonce", "fyko+d2lbbFgONRv9qkxdawL", "--server-nonce", "3rfcNHYJY1ZVvWVs7j"]
-# RFC 4226, appendix D
-CODES = ["755224", "287082", "359152", "969429"]
 RANDOM = bytes(range(64))
-SALT = "4125c247e43ab1e93c6dff76"
 
 
 def read_book(text):
@@ -109,13 +105,11 @@ def login_log(count):
 def commands(count=2):
     """All commands. Those that take codes are sent so many."""
     book, codes = read_book(BOOK), "".join(f"{code}\n" for code in CODES[:count])
-    stored, server = keys_of("sha1", b"pencil", bytes.fromhex(SALT), 4096)
     on = ["--book", "{book}", "--name"]
     login = [*on, "user", "--socket", "{socket}", "--mechanism", "SCRAM-SHA-1", *NONCES, "--moment", "5"]
     heard, log = events(count)
     return [
-        Command("keys", ["--mechanism", "SCRAM-SHA-1", "--salt", SALT, "--count", "4096"], "pencil\n",
-                f"stored={stored}\nserver={server}\n", [book]),
+        Command("keys", ["--mechanism", "SCRAM-SHA-1", "--salt", SALT, "--count", "4096"], "pencil\n", KEYS_OF_PENCIL, [book]),
         Command("code", ["--secret", SECRET, "--counter", "0"], "", f"{CODES[0]}\n", [book]),
         Command("enrol", [*on, "new", "--count", "1", "--random", "{random}"], "pencil\n", "enrolled new\n",
                 [book, with_account(book)]),

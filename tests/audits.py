@@ -21,7 +21,7 @@ import threading
 import time
 
 from audit_cases import FILES, TABLE, cases
-from suite import same
+from suite import same, told
 
 KEYS = FILES / "keys.toml"
 LOGIN = FILES / "sha1.log"
@@ -39,8 +39,7 @@ ABORTED = b"S MECHS SCRAM-SHA-256 SCRAM-SHA-1\nC ABORT\nS NO :\nE\n"
 def says(what, program, book, log, status, printed, fault=""):
     """Runs an audit, and compares its status, output and fault, which is given without its beginning."""
     done = subprocess.run([program, "audit", "--book", book, "--log", log], capture_output=True, text=True)
-    faults = f"scramotp: {fault}\n" if fault else ""
-    same(what, (done.returncode, done.stdout, done.stderr), (status, printed, faults))
+    same(what, (done.returncode, done.stdout, done.stderr), (status, printed, told(fault)))
 
 
 def status_of(answer):

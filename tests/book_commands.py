@@ -11,45 +11,23 @@ import fcntl
 import json
 import os
 import pathlib
-import pwd
 import shutil
 import subprocess
 import sys
 import tempfile
-import tomllib
 
-from suite import same
+from suite import AS_NOBODY, CODES, NOBODY, ROOT, USER, hotp, read, same, seen, token, told
 
 # A copy of the program that the user nobody can run, wherever the program is.
 COPY = tempfile.TemporaryDirectory()
 os.chmod(COPY.name, 0o755)
 PROGRAM = shutil.copy(sys.argv[1], COPY.name)
 
-ROOT = os.geteuid() == 0
-NOBODY = pwd.getpwnam("nobody")
-AS_NOBODY = {"user": NOBODY.pw_uid, "group": NOBODY.pw_gid, "extra_groups": []} if ROOT else {}
-
-TOP = f"""format = 1
-decoy_key = "{bytes(range(32)).hex()}"
-decoy_count = 4096
-"""
-
-# The token of an account, and its first codes (RFC 4226, appendix D).
-TOKEN = """
-[accounts.{}.token]
-kind = "hotp"
-secret = "3132333435363738393031323334353637383930"
-digits = 6
-next = 0
-look_ahead = 3
-limit = 3
-failures = {}
-"""
-CODES = ["755224", "287082"]
-
+# A book without accounts; an account without a token; and books with it and with `user`, whose token takes codes, or is locked.
+TOP = USER.removesuffix("\n[accounts.user]\n")
 BARE = "\n[accounts.bare]\n"
-BOOK = TOP + TOKEN.format("user", 0) + BARE
-LOCKED = TOP + TOKEN.format("user", 3) + BARE
+BOOK = TOP + hotp(3, 3) + BARE
+LOCKED = TOP + hotp(3, 3, failures=3) + BARE
 
 # Each command's options beside the book, its input and its answer, where all is as it should be.
 GOOD = {
@@ -78,8 +56,7 @@ def well(command, book, **how):
 
 def says(what, done, status, output, fault=""):
     """Compares what a run answered. A fault is given without its beginning."""
-    faults = f"scramotp: {fault}\n" if fault else ""
-    same(what, (done.returncode, done.stdout, done.stderr), (status, output, faults))
+    same(what, (done.returncode, done.stdout, done.stderr), (status, output, told(fault)))
 
 
 def succeeds(command, book, **how):
@@ -91,24 +68,9 @@ def put(path, text=BOOK):
     return path
 
 
-def read(path):
-    with open(path, "rb") as book:
-        return tomllib.load(book)
-
-
-def token(path, name="user"):
-    return read(path)["accounts"][name]["token"]
-
-
 def access(path):
     found = os.stat(path)
     return found.st_mode, found.st_uid, found.st_gid
-
-
-def seen(path):
-    """What differs once a file was written or replaced."""
-    found = os.stat(path)
-    return found.st_ino, found.st_mtime_ns, access(path), pathlib.Path(path).read_bytes()
 
 
 def climb(command, options, text, rungs):
@@ -269,7 +231,7 @@ def full_output(folder):
         for command in ["unlock", "enrol"]:
             says(command, well(command, book, stdout=full), 3, None, "cannot write output")
         options = {"book": book, **GOOD["verify"][0]}
-        done = run("verify", options, "\n".join(CODES), stdout=full)
+        done = run("verify", options, "\n".join(CODES[:2]), stdout=full)
         says("verify", done, 3, None, "cannot write output")
     same("accounts", sorted(read(book)["accounts"]), ["bare", "new", "user"])
     same("the token", (token(book)["next"], token(book)["failures"]), (1, 0))
@@ -280,7 +242,7 @@ def unsaved(folder):
     book = put(os.path.join(folder, "book"), LOCKED)
     before = seen(book)
     user, bare = {"book": book, **GOOD["verify"][0]}, {"book": book, "name": "bare"}
-    says("a locked token", run("verify", user, "\n".join(CODES)), 1, "LOCKED 5\nLOCKED 5\n")
+    says("a locked token", run("verify", user, "\n".join(CODES[:2])), 1, "LOCKED 5\nLOCKED 5\n")
     says("no input", run("verify", user), 0, "")
     says("no token", run("unlock", bare), 1, "", "no token")
     says("a name that is taken", run("enrol", bare, "pencil"), 1, "", "name is taken")
@@ -404,7 +366,7 @@ def names(folder):
         says(f"unlock of {name!r}", run("unlock", options), 1, "", "no token")
     same("names", list(read(book)["accounts"]), sorted(NAMES))
     with open(book, "a") as text:
-        text.writelines(TOKEN.format(json.dumps(name), 0) for name in NAMES)
+        text.writelines(hotp(3, 3, name=json.dumps(name)) for name in NAMES)
     for name in NAMES:
         done = run("verify", {"book": book, "name": name, "moment": "5"}, CODES[0])
         says(f"verify of {name!r}", done, 0, "PASS 5 0\n")

@@ -18,14 +18,12 @@ import subprocess
 import sys
 import threading
 import time
-import tomllib
 
 import suite
-from suite import PROGRAM, USER, code, hotp, is_locked
+from suite import CODES, PROGRAM, USER, code, hotp, is_locked, read, seen, token
 
 BOOK = USER + hotp(look_ahead=3, limit=100)
-# RFC 4226, appendix D
-FIRST_CODE = "755224"
+FIRST_CODE = CODES[0]
 # The user in those entries of an access list that name no user.
 NONE = 0xFFFFFFFF
 
@@ -33,12 +31,6 @@ NONE = 0xFFFFFFFF
 def write(path):
     with open(path, "w") as file:
         file.write(BOOK)
-
-
-def field(path, name):
-    """A number of the book's token."""
-    with open(path) as file:
-        return int(re.search(rf"^{name} = (\d+)$", file.read(), re.M).group(1))
 
 
 def verify_words(path):
@@ -89,13 +81,6 @@ def answered(run, text, want):
     assert (run.returncode, output, faults) == want, (run.returncode, output, faults)
 
 
-def seen(path):
-    """What differs once a name was given to another file, or its file was written."""
-    found = os.lstat(path)
-    with open(path, "rb") as file:
-        return found.st_ino, found.st_mode, found.st_mtime_ns, found.st_ctime_ns, file.read()
-
-
 def twenty_at_once(folder):
     """A code passes once, whichever of the book's two names a run is given."""
     book, link = os.path.join(folder, "book"), os.path.join(folder, "link")
@@ -107,7 +92,7 @@ def twenty_at_once(folder):
         statuses = sorted(run.wait() for run in runs)
         assert sorted(printed) == ["FAIL 5\n"] * 19 + ["PASS 5 0\n"], printed
         assert statuses == [0] + [1] * 19, statuses
-        assert (field(book, "next"), field(book, "failures")) == (1, 19)
+        assert (token(book)["next"], token(book)["failures"]) == (1, 19)
         assert os.path.islink(link)
         assert sorted(os.listdir(folder)) == ["book", "link"]
 
@@ -119,19 +104,19 @@ def killed_at_any_moment(folder):
     codes = [code(counter) for counter in range(2500)]
     passed = []
     for _ in range(200):
-        at = field(book, "next")
+        at = token(book)["next"]
         run = start(book, "\n".join(codes[max(at - 2, 0) : at + 10]) + "\n")
         time.sleep(random.uniform(0, 0.06))
         run.kill()
         told = [int(counter) for counter in re.findall(r"^PASS 5 (\d+)$", run.stdout.read(), re.M)]
         run.wait()
         passed += told
-        assert all(counter < field(book, "next") for counter in told)
+        assert all(counter < token(book)["next"] for counter in told)
         again = verify(book, "")
         assert (again.returncode, again.stderr) == (0, ""), again.stderr
     assert len(passed) == len(set(passed)) > 0, passed
-    write_again = verify(book, codes[field(book, "next")])
-    assert write_again.returncode == 0, write_again
+    again = verify(book, codes[token(book)["next"]])
+    assert again.returncode == 0, again
     assert os.listdir(folder) == ["book"]
 
 
@@ -290,11 +275,8 @@ def keys_before_the_lock(folder):
     assert enrol(new, "quick", 1).wait() == 0
     assert [run.poll() for run in slow] == [None, None]
     assert [run.wait() for run in slow] == [0, 0]
-    with open(book, "rb") as file:
-        accounts = tomllib.load(file)["accounts"]
-    assert (sorted(accounts), accounts["user"]["token"]["next"]) == (["slow", "user"], 1)
-    with open(new, "rb") as file:
-        assert sorted(tomllib.load(file)["accounts"]) == ["quick", "slow"]
+    assert (sorted(read(book)["accounts"]), token(book)["next"]) == (["slow", "user"], 1)
+    assert sorted(read(new)["accounts"]) == ["quick", "slow"]
     assert sorted(os.listdir(folder)) == ["book", "new"]
 
 
@@ -310,8 +292,7 @@ def made_at_once(folder):
         assert statuses[2:] == [0] * 4, statuses
         assert verify(book, "").stderr == "scramotp: no such account\n"
         assert os.listdir(folder) == ["book"]
-        with open(book, "rb") as text:
-            names = set(tomllib.load(text)["accounts"])
+        names = set(read(book)["accounts"])
         assert names >= {f"user{number}" for number in range(6) if statuses[number] == 0}, (statuses, names)
         os.remove(book)
 
@@ -394,7 +375,7 @@ def full_output(folder):
     with open("/dev/full", "w") as full:
         run = subprocess.run(verify_words(book), input=FIRST_CODE, stdout=full, stderr=subprocess.PIPE, text=True)
     assert (run.returncode, run.stderr) == (3, "scramotp: cannot write output\n"), run
-    assert field(book, "next") == 1
+    assert token(book)["next"] == 1
 
 
 def input_limit(folder):
@@ -455,8 +436,7 @@ def random_bytes(folder):
     for name in ["one", "two"]:
         words = [PROGRAM, "enrol", "--book", book, "--name", name, "--count", "1", "--random", file]
         subprocess.run(words, input="pencil\n", capture_output=True, text=True, check=True)
-    with open(book, "rb") as text:
-        made = tomllib.load(text)
+    made = read(book)
     salts = [[made["accounts"][name][table]["salt"] for table in ["sha1", "sha256"]] for name in ["one", "two"]]
     assert made["decoy_key"] == bytes(range(32)).hex(), made
     assert salts == [[bytes(range(at, at + 16)).hex() for at in pair] for pair in [(32, 48), (0, 16)]], salts

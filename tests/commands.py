@@ -9,19 +9,15 @@ import stat
 import subprocess
 import tempfile
 import time
-import tomllib
 from hmac import digest
 
 import suite
 from outside import keys_of
-from suite import PROGRAM, SECRET, USER, hotp, totp
+from suite import KEYS_OF_PENCIL, PROGRAM, SALT, SECRET, USER, hotp, read, token, told, totp
 
-SALT = "4125c247e43ab1e93c6dff76"
 LONGER = "3132333435363738393031323334353637383930313233343536373839303132"
 # 64 bytes
 LONGEST = "00112233445566778899aabbccddeeff00112233445566778899AABBCCDDEEFF" * 2
-# RFC 5802, section 5
-KEYS_OF_PENCIL = "stored=e9d94660c39d65c38fbad91c358f14da0eef2bd6\nserver=0fe09258b3ac852ba502cc62ba903eaacdbf7d31\n"
 
 TOTP = totp(limit=3)
 
@@ -44,9 +40,8 @@ def check(words, text, status, printed="", fault=""):
     """Runs the program, and compares status, output and fault; a fault of its own is given without its beginning."""
     data = text if isinstance(text, bytes) else text.encode()
     run = subprocess.run([PROGRAM, *words], input=data, capture_output=True)
-    faults = f"scramotp: {fault}\n" if fault else ""
     got = (run.returncode, run.stdout.decode(), run.stderr.decode())
-    assert got == (status, printed, faults), (words, text[:100], got)
+    assert got == (status, printed, told(fault)), (words, text[:100], got)
 
 
 def check_usage(words, begin):
@@ -63,11 +58,6 @@ def keys(mechanism, salt, count):
 def write(path, *parts):
     with open(path, "w") as file:
         file.write("".join(parts))
-
-
-def token(path):
-    with open(path, "rb") as file:
-        return tomllib.load(file)["accounts"]["user"]["token"]
 
 
 def on(book, command, name="user", *more):
@@ -91,7 +81,6 @@ def key_lines(name, password, salt, count):
     """The two lines of `keys`, by Python's own Hi and HMAC (RFC 5802, section 3)."""
     stored, server = keys_of({"SCRAM-SHA-1": "sha1", "SCRAM-SHA-256": "sha256"}[name], password, salt, count)
     return f"stored={stored}\nserver={server}\n"
-
 
 
 def values_at_their_limits(folder):
@@ -359,8 +348,7 @@ def enrolling(folder):
         out.write(bytes(range(64)))
     words = on(book, "enrol", "user", "--random", file)
     check(words, "pencil\n", 0, "enrolled user\n")
-    with open(book, "rb") as text:
-        made = tomllib.load(text)
+    made = read(book)
     assert (made["decoy_key"], made["decoy_count"]) == (bytes(range(32)).hex(), 4096), made
     for mechanism, table, at in [("SCRAM-SHA-1", "sha1", 32), ("SCRAM-SHA-256", "sha256", 48)]:
         salt, found = bytes(range(at, at + 16)), made["accounts"]["user"][table]

@@ -9,22 +9,22 @@ none pass that has passed. Logs are audited, each by the book that it began with
 """
 import os
 import pathlib
-import tomllib
 
 import shims
 import suite
-from all_commands import ACCEPTED, BOOK, CODES, GONE, book_of, commands, left, new_book, prepare, run
+from all_commands import ACCEPTED, BOOK, GONE, book_of, commands, left, new_book, prepare, run
 from outside import numbered
+from suite import CODES, token
 
 # The token of BOOK (RFC 4226, appendix D): it lets a code lie three counters ahead, and of two in a row the first none.
 AHEAD = 3
 # What is sent: codes, and lines with two in a row.
 SENT = [
     [CODES[0], CODES[1], CODES[2]],
-    [f"SYNC {CODES[0]} {CODES[1]}", CODES[2], f"SYNC {CODES[3]} 338314"],
+    [f"SYNC {CODES[0]} {CODES[1]}", CODES[2], f"SYNC {CODES[3]} {CODES[4]}"],
     ["000000", CODES[1], f"SYNC {CODES[2]} {CODES[3]}"],
 ]
-COUNTERS = {text: counter for counter, text in enumerate([*CODES, "338314"])}
+COUNTERS = {text: counter for counter, text in enumerate(CODES)}
 
 
 def replied(next_counter, line):
@@ -101,10 +101,6 @@ class Saves:
         self.book.write_text(before)
 
 
-def token(text):
-    return tomllib.loads(text)["accounts"]["user"]["token"]
-
-
 def twice(here, command, lines, number, way):
     """A run whose save fails, and one after it that is sent the same: no counter is used by both."""
     first_save = 0 if command.name == "verify" else 1
@@ -117,7 +113,7 @@ def twice(here, command, lines, number, way):
     kept = done + way[-1]
     after = turns[kept - 1][2] if kept else 0
     saved = here.book.read_text()
-    assert token(saved)["next"] == after and left(here.folder) == set(), (command.name, number, way, saved)
+    assert token(here.book)["next"] == after and left(here.folder) == set(), (command.name, number, way, saved)
     again = [*exchanged(after, lines)]
     more = printed(command.name, lines, [reply for reply, _, _ in again], False)
     status = 0 if command.name == "hall" or all(used for _, used, _ in again) else 1

@@ -17,6 +17,7 @@ import clients
 import suite
 from clients import Account, book, dealt, gone, logged_in, of_session, opened, said, turned_away
 from halls import AUTH, FILES, MECHS, OWN, RESP, USER, Hall, clean, handed, login, read
+from outside import orders_of_turns
 
 SHUFFLES = 1000
 # A folder of files in memory, where a system has one.
@@ -143,9 +144,7 @@ def all_orders(folder):
         events, log = dealt([0] * len(visit), [visit])
         here.prints(events, 0, log)
         alone.append(of_session(log, 1))
-    orders = sorted(set(itertools.permutations([0, 0, 0, 1, 1, 1, 2, 2, 2])))
-    assert len(orders) == 1680
-    for order, begun in zip(orders, itertools.cycle(itertools.permutations([0, 1, 2]))):
+    for order, begun in zip(orders_of_turns(), itertools.cycle(itertools.permutations([0, 1, 2]))):
         here.put(text)
         events, log = dealt(begun + order + (0, 2), visits)
         here.prints(events, 0, log)

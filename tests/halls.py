@@ -4,7 +4,6 @@ import pathlib
 import select
 import subprocess
 import time
-import tomllib
 
 import suite
 from clients import opened, said
@@ -35,7 +34,7 @@ class Hall(suite.BookFolder):
         assert self.seen() == seen, text[:200]
 
     def token(self, name="user"):
-        return tomllib.loads(self.book.read_text())["accounts"][name]["token"]
+        return suite.token(self.book, name)
 
     def start(self, **more):
         """A hall that waits for input."""

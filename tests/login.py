@@ -5,7 +5,6 @@ by the program itself, under the book that the login began with.
 Usage: login.py PROGRAM
 """
 import base64
-import hmac
 import os
 import pathlib
 import re
@@ -15,17 +14,17 @@ import time
 import tomllib
 
 import suite
-from suite import PROGRAM, hotp
+from halls import handed, read
+from outside import decoy_salt
+from suite import NONCES, PROGRAM, hotp
 
 FILES = pathlib.Path(__file__).parent / "data" / "audits"
 # RFC 5802's and RFC 7677's own logins
-SHA1 = ["--mechanism", "SCRAM-SHA-1", "--client-nonce", "fyko+d2lbbFgONRv9qkxdawL", "--server-nonce", "3rfcNHYJY1ZVvWVs7j"]
+SHA1 = ["--mechanism", "SCRAM-SHA-1", *NONCES]
 SHA256 = ["--client-nonce", "rOprNGfwEbeRWgbNEkqO", "--server-nonce", "%hvYDpWUa2RaTCAfuxFIlj)hNlF$k0"]
 KEYS = (FILES / "keys.toml").read_text()
 ACCEPTED = "".join((FILES / "sha1.log").read_text().splitlines(True)[:6])
 GONE = "C GONE\nE\n"
-REFUSED = ACCEPTED.replace("OK :v=rmF9pqV8S7suAoZWja4dJRkFsKQ=", "NO :e={}") + "E\n"
-DECOY_KEY = bytes(range(32))
 
 
 class Login(suite.BookFolder):
@@ -53,7 +52,7 @@ class Login(suite.BookFolder):
         assert self.seen() == seen, words
 
     def account(self):
-        return tomllib.loads(self.book.read_text())["accounts"]["user"]
+        return suite.read(self.book)["accounts"]["user"]
 
 
 def clean(accepted, codes, sessions=1):
@@ -95,7 +94,7 @@ def refused_logins(folder):
 def decoys(folder):
     """A name without an account has one salt, of 16 bytes (HMAC-SHA-256 of the decoy key), and no proof is right."""
     here = Login(folder)
-    salt = hmac.digest(DECOY_KEY, b"SCRAM-SHA-1\0nobody", "sha256")[:16]
+    salt = decoy_salt("nobody")
     for password in ["pencil", "other"]:
         done = here.run(here.words("--mechanism", "SCRAM-SHA-1", name="nobody"), password)
         lines = done.stdout.decode().splitlines()
@@ -191,9 +190,7 @@ def replies_at_once(folder):
     assert read(running, 6) == ACCEPTED
     assert here.socket.is_socket()
     for code, lines in [("755224", "C CODE 755224\nS PASS 5 0\n"), ("000000", "C CODE 000000\nS FAIL 5\n")]:
-        running.stdin.write(code + "\n")
-        running.stdin.flush()
-        assert read(running, 2) == lines
+        assert handed(running, code + "\n", 2) == lines
     assert (here.account()["token"]["next"], here.account()["token"]["failures"]) == (1, 1)
     output, faults = running.communicate()
     assert (running.returncode, output, faults) == (1, GONE, ""), (running.returncode, output, faults)
@@ -220,16 +217,10 @@ def start(here, words, text):
     return running
 
 
-def read(running, lines):
-    """The next lines that a run prints."""
-    return "".join(running.stdout.readline() for _ in range(lines))
-
-
 def failed_saves(folder):
     """A save that fails halts the desk: the log says so, the book is as before, and its clean front is clean."""
     here = Login(folder, with_codes(sync_ahead=8))
-    for line, sent in [("755224", "C CODE 755224\n"), ("000000", "C CODE 000000\n"), ("SYNC 755224 287082",) * 2]:
-        sent = sent if sent.startswith("C ") else f"C {sent}\n"
+    for line, sent in [("755224", "C CODE 755224\n"), ("000000", "C CODE 000000\n"), ("SYNC 755224 287082", "C SYNC 755224 287082\n")]:
         here.put(with_codes(sync_ahead=8))
         running = start(here, here.words(*SHA1, "--moment", "5"), "pencil\n")
         assert read(running, 6) == ACCEPTED

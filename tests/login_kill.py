@@ -10,18 +10,13 @@ import random
 import re
 import subprocess
 import time
-import tomllib
 
 import suite
-from suite import PROGRAM, begins_clean, code, hotp
+from suite import PROGRAM, begins_clean, code, hotp, token
 
 KEYS = (pathlib.Path(__file__).parent / "data" / "audits" / "keys.toml").read_text()
 BOOK = KEYS + hotp(look_ahead=3, limit=100, sync_ahead=10)
 RUNS = 2000
-
-
-def token(book):
-    return tomllib.loads(book.read_text())["accounts"]["user"]["token"]
 
 
 def start(book, path, lines, output):
@@ -61,7 +56,7 @@ def killed_at_any_moment(folder):
     run is not killed: it shows how long one takes."""
     book, before, log = (pathlib.Path(folder, name) for name in ["book", "before", "log"])
     book.write_text(BOOK)
-    passed, killed, whole, duration = [], 0, 0, 0.0
+    passed, killed, duration = [], 0, 0.0
     for number in range(RUNS):
         before.write_bytes(book.read_bytes())
         at = token(book)["next"]
@@ -75,13 +70,12 @@ def killed_at_any_moment(folder):
         duration = duration or time.monotonic() - began
         text = log.read_text()
         killed += status < 0
-        whole += text.endswith("\nE\n")
         assert begins_clean(before, text), text
         found = used(text)
         assert not set(found) & set(passed) and len(found) == len(set(found)), (found, passed)
         passed += found
         assert token(book)["next"] > max(passed, default=-1), (token(book), passed[-5:])
-    assert passed and killed > RUNS // 10, (len(passed), killed, whole)
+    assert passed and killed > RUNS // 10, (len(passed), killed)
     run = start(book, f"{folder}/last", [code(token(book)["next"])], subprocess.PIPE)
     output, faults = run.communicate()
     assert (run.returncode, faults) == (0, "") and "\nS PASS " in output, (output, faults)

@@ -12,7 +12,6 @@ import collections
 import concurrent.futures
 import os
 import pathlib
-import pwd
 import random
 import re
 import resource
@@ -25,13 +24,10 @@ from typing import NamedTuple
 import shims
 import suite
 from all_commands import (
-    BOOK, NONCES, begins_clean, book_of, commands, is_front, is_kept, left, login_log, new_book, prepare, run,
+    BOOK, begins_clean, book_of, commands, is_front, is_kept, left, login_log, new_book, prepare, run,
 )
 from outside import numbered
-from suite import PROGRAM, totp
-
-ROOT = os.geteuid() == 0
-NOBODY = pwd.getpwnam("nobody")
+from suite import AS_NOBODY, NOBODY, NONCES, PROGRAM, ROOT, totp
 
 
 class Due(NamedTuple):
@@ -142,8 +138,7 @@ class Machine:
             if ROOT:
                 os.chown(path, NOBODY.pw_uid, NOBODY.pw_gid)
         os.chmod(self.folder, 0o555)
-        user = {"user": NOBODY.pw_uid, "group": NOBODY.pw_gid, "extra_groups": []} if ROOT else {}
-        answer = run(command, self.folder, executable=self.program, **user)
+        answer = run(command, self.folder, executable=self.program, **AS_NOBODY)
         os.chmod(self.folder, 0o755)
         if ROOT:
             os.chown(self.folder, 0, 0)
@@ -218,6 +213,7 @@ def few_descriptors(folder):
                 assert re.fullmatch(r"scramotp: (cannot (read|write) .+|socket fault)\n", fault), (name, most, answer)
                 refused += 1
         assert answer == (0, command.printed, ""), (name, answer)
+    assert refused > 0
     print(f"machine.py: {refused} runs with too few descriptors")
 
 

@@ -1,7 +1,8 @@
-"""What several scripts compare with or begin from, worked out by Python and not by the program: codes, keys, the texts of the tables'
-rows, and logs with numbers."""
+"""What several scripts compare with or begin from, worked out by Python and not by the program: codes, keys, salts of decoys, the texts
+of the tables' rows, logs with numbers, and orders of turns."""
 import hashlib
 import hmac
+import itertools
 import sys
 
 if not __debug__:
@@ -20,6 +21,22 @@ def keys_of(function, password, salt, count):
     salted = hashlib.pbkdf2_hmac(function, password, salt, count)
     stored = hashlib.new(function, hmac.digest(salted, b"Client Key", function))
     return stored.hexdigest(), hmac.digest(salted, b"Server Key", function).hex()
+
+
+# The key for decoys of the books.
+DECOY_KEY = bytes(range(32))
+
+
+def decoy_salt(name):
+    """The salt that a name without an account is shown for SCRAM-SHA-1: this project's form, as docs/PROMISES.md has it."""
+    return hmac.digest(DECOY_KEY, b"SCRAM-SHA-1\0" + name.encode(), "sha256")[:16]
+
+
+def orders_of_turns():
+    """All orders of three turns of each of three sessions."""
+    orders = sorted(set(itertools.permutations([0, 0, 0, 1, 1, 1, 2, 2, 2])))
+    assert len(orders) == 1680
+    return orders
 
 
 def spelled(text):

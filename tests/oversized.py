@@ -28,14 +28,12 @@ from suite import PROGRAM
 MOST = 16777216
 # How much more memory a run may have had late than early, in KiB.
 MORE = 256
-DECOY_KEY = bytes(range(32))
 NO_AND_END = ["S NO :", "E"]
 
 
 def decoy(name):
-    """The challenge's salt and count for a name that has no account (RFC 5802, section 5; the salt is this project's)."""
-    salt = hmac.digest(DECOY_KEY, b"SCRAM-SHA-1\0" + name.encode(), "sha256")[:16]
-    return f"s={base(salt)},i={clients.COUNT}"
+    """The challenge's salt and count for a name that has no account (RFC 5802, section 5)."""
+    return f"s={base(outside.decoy_salt(name))},i={clients.COUNT}"
 
 
 def first_messages(account):

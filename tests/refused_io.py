@@ -59,6 +59,7 @@ def all_harmless(folder, how):
         for what, answer in here.turns(command, MOVES, how):
             assert answer == (0, command.printed, "") and is_done(here.folder, command), what
             count += 1
+    assert count > 0, how
     print(f"refused_io.py: {count} reads and writes {how}")
 
 

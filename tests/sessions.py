@@ -8,7 +8,6 @@ that line with the same outcome due in every order; 64 logins with codes, shuffl
 whole log; 64 open sessions and a 65th that is turned away; numbers that are none, or not due; and the longest
 lines. Exits at the first difference.
 """
-import itertools
 import os
 import pathlib
 import random
@@ -16,6 +15,7 @@ import subprocess
 import sys
 import tempfile
 
+from outside import orders_of_turns
 from suite import code
 
 FILES = pathlib.Path(__file__).parent / "data" / "audits"
@@ -70,9 +70,7 @@ def dealt(order, sessions):
 
 def all_orders(program, log):
     """Every order of three turns of three sessions, each outcome turned in a third of the orders."""
-    orders = sorted(set(itertools.permutations([0, 0, 0, 1, 1, 1, 2, 2, 2])))
-    if len(orders) != 1680:
-        sys.exit(f"sessions.py: {len(orders)} orders, not 1680")
+    orders = orders_of_turns()
     for index, order in enumerate(orders):
         lines, owners = dealt(order, [LET_IN, REFUSED, LEAVES])
         answers(order, program, log, lines, 0, "clean sessions=3 accepted=1 codes=0")

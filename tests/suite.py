@@ -1,11 +1,13 @@
-"""What several scripts share: the account `user` with RFC 4226's secret, a folder with a book, what is asked of locks and logs, and the
-run of all tests."""
+"""What several scripts share: the account `user` with RFC 4226's secret, a folder with a book, the user nobody, what is asked of books,
+locks and logs, and the run of all tests."""
 import fcntl
 import os
 import pathlib
+import pwd
 import subprocess
 import sys
 import tempfile
+import tomllib
 
 import outside
 
@@ -14,7 +16,19 @@ if not __debug__:
 
 PROGRAM = os.path.abspath(sys.argv[1])
 
+# Whether root runs the script, and how it then runs the program as the user nobody, where permissions matter.
+ROOT = os.geteuid() == 0
+NOBODY = pwd.getpwnam("nobody")
+AS_NOBODY = {"user": NOBODY.pw_uid, "group": NOBODY.pw_gid, "extra_groups": []} if ROOT else {}
+
+# The secret and the codes of RFC 4226, appendix D.
 SECRET = "3132333435363738393031323334353637383930"
+CODES = ["755224", "287082", "359152", "969429", "338314", "254676", "287922", "162583", "399871", "520489"]
+
+# RFC 5802, section 5: the salt, the keys that `keys` prints, and the nonces; the password is `pencil`, and the count 4096.
+SALT = "4125c247e43ab1e93c6dff76"
+KEYS_OF_PENCIL = "stored=e9d94660c39d65c38fbad91c358f14da0eef2bd6\nserver=0fe09258b3ac852ba502cc62ba903eaacdbf7d31\n"
+NONCES = ["--client-nonce", "fyko+d2lbbFgONRv9qkxdawL", "--server-nonce", "3rfcNHYJY1ZVvWVs7j"]
 
 USER = """format = 1
 decoy_key = "000102030405060708090a0b0c0d0e0f101112131415161718191a1b1c1d1e1f"
@@ -24,18 +38,18 @@ decoy_count = 4096
 """
 
 
-def hotp(look_ahead, limit, sync_ahead=None):
-    """A HOTP token for `user`, with the secret of RFC 4226's appendix D; it has no key `sync_ahead` without a number."""
+def hotp(look_ahead, limit, sync_ahead=None, name="user", failures=0):
+    """A HOTP token with that secret, for a name as TOML has it; it has no key `sync_ahead` without a number."""
     sync = "" if sync_ahead is None else f"sync_ahead = {sync_ahead}\n"
     return f"""
-[accounts.user.token]
+[accounts.{name}.token]
 kind = "hotp"
 secret = "{SECRET}"
 digits = 6
 next = 0
 look_ahead = {look_ahead}
 {sync}limit = {limit}
-failures = 0
+failures = {failures}
 """
 
 
@@ -61,6 +75,29 @@ failures = 0
 def code(counter):
     """The code of a counter by that secret."""
     return outside.code(bytes.fromhex(SECRET), counter)
+
+
+def read(path):
+    """What a book says."""
+    with open(path, "rb") as file:
+        return tomllib.load(file)
+
+
+def token(path, name="user"):
+    """The token of an account."""
+    return read(path)["accounts"][name]["token"]
+
+
+def seen(path):
+    """What differs once a name was given to another file, or its file was written, or got another owner, group or mode."""
+    found = os.lstat(path)
+    with open(path, "rb") as file:
+        return found.st_ino, found.st_mode, found.st_uid, found.st_gid, found.st_mtime_ns, found.st_ctime_ns, file.read()
+
+
+def told(fault):
+    """What standard error has of a fault, which is given without its beginning, or of none."""
+    return f"scramotp: {fault}\n" if fault else ""
 
 
 def is_locked(path):
@@ -104,16 +141,12 @@ class BookFolder:
         """Runs the program on this input, and compares its status, log and fault."""
         data = text if isinstance(text, bytes) else text.encode()
         done = subprocess.run(words, input=data, capture_output=True, timeout=60)
-        faults = f"scramotp: {fault}\n" if fault else ""
         got = (done.returncode, done.stdout.decode(), done.stderr.decode())
-        assert got == (status, log, faults), (words, text[:200], got, log)
+        assert got == (status, log, told(fault)), (words, text[:200], got, log)
 
     def seen(self):
-        """What differs once the book's name was given to another file, or its file was written."""
-        if not self.book.exists():
-            return None
-        found = self.book.lstat()
-        return found.st_ino, found.st_mtime_ns, found.st_ctime_ns, self.book.read_bytes(), sorted(os.listdir(self.folder))
+        """What differs once the book was written or replaced, or another file was left beside it."""
+        return (seen(self.book), sorted(os.listdir(self.folder))) if self.book.exists() else None
 
     def audited(self, log, answer):
         """Compares what the audit says of a log under the book that it began with."""

@@ -13,16 +13,14 @@ import time
 from pathlib import Path
 
 import suite
-from suite import PROGRAM, USER, hotp
+from suite import KEYS_OF_PENCIL, NONCES, PROGRAM, SALT, USER, hotp
 
 PASSWORD = "Type the password and press Enter; it is shown as you type.\r\n"
 BOTH = "Type the password and press Enter, then one code a line; all is shown as you type. Ctrl-D ends.\r\n"
 CODES = "Type one code a line; it is shown as you type. Ctrl-D ends.\r\n"
 EVENTS = "Type one event a line: open, line or gone; Ctrl-D ends.\r\n"
-KEYS = ["keys", "--mechanism", "SCRAM-SHA-1", "--salt", "4125c247e43ab1e93c6dff76", "--count", "4096"]
-KEYS_OF_PENCIL = "stored=e9d94660c39d65c38fbad91c358f14da0eef2bd6\nserver=0fe09258b3ac852ba502cc62ba903eaacdbf7d31\n"
+KEYS = ["keys", "--mechanism", "SCRAM-SHA-1", "--salt", SALT, "--count", "4096"]
 AUDITS = Path(__file__).parent / "data" / "audits"
-NONCES = ["--client-nonce", "fyko+d2lbbFgONRv9qkxdawL", "--server-nonce", "3rfcNHYJY1ZVvWVs7j"]
 # The log of RFC 5802's login, up to its acceptance, and of a code.
 LOGIN_AND_CODE = "".join((AUDITS / "sha1.log").read_text().splitlines(True)[:6]) + "C CODE 755224\nS PASS 5 0\nC GONE\nE\n"
 # The log of a client that comes and goes away.
