@@ -11,11 +11,9 @@ import tomllib
 from typing import NamedTuple
 
 import suite
-from outside import keys_of, numbered
+from outside import AUDITS, keys_of, numbered
 from suite import CODES, KEYS_OF_PENCIL, NONCES, PROGRAM, SALT, SECRET
 
-HERE = pathlib.Path(__file__).parent
-AUDITS = HERE / "data" / "audits"
 # RFC 5802's user with RFC 4226's token, of which two codes have failed.
 BOOK = (AUDITS / "hotp.toml").read_text().replace("failures = 0", "failures = 2")
 LOG = (AUDITS / "sha1.log").read_text()
@@ -123,10 +121,15 @@ def commands(count=2):
     ]
 
 
+def command_of(name, count=2):
+    """The command of this name."""
+    [found] = [command for command in commands(count) if command.name == name]
+    return found
+
+
 def new_book():
     """`enrol` where there is no book yet."""
-    [enrol] = [command for command in commands() if command.name == "enrol"]
-    return enrol._replace(books=[None, made_book()])
+    return command_of("enrol")._replace(books=[None, made_book()])
 
 
 def prepare(folder, command, mode=0o600):
@@ -189,6 +192,17 @@ def is_kept(folder, command, printed):
 def is_done(folder, command):
     """Whether all that the command has to save is saved, and it left no file beside."""
     return is_kept(folder, command, command.printed) and book_of(folder) == command.books[-1] and left(folder) == set()
+
+
+def audited(folder, before, log):
+    """Compares what an audit says of a log of one login, by the book of this text: as many codes passed as the log says."""
+    book = pathlib.Path(folder, "book")
+    after = book.read_text()
+    book.write_text(before)
+    pathlib.Path(folder, "log").write_text(log)
+    answer = run(command_of("audit"), folder)
+    assert answer == (0, f"clean sessions=1 accepted=1 codes={log.count(' PASS ')}\n", ""), (log, answer)
+    book.write_text(after)
 
 
 def begins_clean(folder, printed):

@@ -7,10 +7,9 @@ import csv
 import pathlib
 from typing import NamedTuple
 
-from outside import edited
+from outside import AUDITS, edited
 
-FILES = pathlib.Path(__file__).parent / "data" / "audits"
-TABLE = FILES / "cases.csv"
+TABLE = AUDITS / "cases.csv"
 
 
 class Case(NamedTuple):
@@ -23,8 +22,8 @@ class Case(NamedTuple):
 
 def case(row):
     """The case of a row."""
-    log = edited((FILES / row["log"]).with_suffix(".log").read_bytes(), row)
-    return Case((FILES / row["book"]).with_suffix(".toml"), log, row["answer"])
+    log = edited((AUDITS / row["log"]).with_suffix(".log").read_bytes(), row)
+    return Case((AUDITS / row["book"]).with_suffix(".toml"), log, row["answer"])
 
 
 def cases():

@@ -20,11 +20,12 @@ import tempfile
 import threading
 import time
 
-from audit_cases import FILES, TABLE, cases
-from suite import same, told
+from audit_cases import TABLE, cases
+from outside import AUDITS
+from suite import SALT, same, told
 
-KEYS = FILES / "keys.toml"
-LOGIN = FILES / "sha1.log"
+KEYS = AUDITS / "keys.toml"
+LOGIN = AUDITS / "sha1.log"
 ACCEPTED = "clean sessions=1 accepted=1 codes=0"
 
 # How an answer begins that goes with another status than 1.
@@ -65,7 +66,7 @@ def rows_of_table(program, log):
 
 def signed(challenge):
     """The proof and the signature of the first log's login to this challenge (RFC 5802, section 3)."""
-    salted = hashlib.pbkdf2_hmac("sha1", b"pencil", bytes.fromhex("4125c247e43ab1e93c6dff76"), 4096)
+    salted = hashlib.pbkdf2_hmac("sha1", b"pencil", bytes.fromhex(SALT), 4096)
     client = hmac.digest(salted, b"Client Key", "sha1")
     server = hmac.digest(salted, b"Server Key", "sha1")
     nonce = challenge.split(",")[0]
@@ -178,7 +179,7 @@ def long_lines_and_logs(program, log):
 
 def one_code_twice(program):
     """The log that docs/OPERATING.md shows, whose server took one code twice."""
-    answers("one code twice", program, FILES / "hotp.toml", FILES.parent / "twice.log", "line 10: reply, due FAIL 6")
+    answers("one code twice", program, AUDITS / "hotp.toml", AUDITS.parent / "twice.log", "line 10: reply, due FAIL 6")
 
 
 def unreadable_files(program, folder):

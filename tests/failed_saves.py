@@ -12,7 +12,7 @@ import pathlib
 
 import shims
 import suite
-from all_commands import ACCEPTED, BOOK, GONE, book_of, commands, left, new_book, prepare, run
+from all_commands import ACCEPTED, BOOK, GONE, audited, book_of, commands, left, new_book, prepare, run
 from outside import numbered
 from suite import CODES, token
 
@@ -91,15 +91,6 @@ class Saves:
     def unsaved(self, output):
         return 3, output, f"scramotp: cannot write {self.book}\n"
 
-    def audited(self, text, log, codes):
-        """Compares what the audit says of a log under the book of this text: one login, and so many codes that passed."""
-        [audit] = [command for command in commands() if command.name == "audit"]
-        before = self.book.read_text()
-        self.book.write_text(text)
-        pathlib.Path(self.folder, "log").write_text(log)
-        assert run(audit, self.folder) == (0, f"clean sessions=1 accepted=1 codes={codes}\n", ""), log
-        self.book.write_text(before)
-
 
 def twice(here, command, lines, number, way):
     """A run whose save fails, and one after it that is sent the same: no counter is used by both."""
@@ -121,8 +112,8 @@ def twice(here, command, lines, number, way):
     spent = [counter for _, used, _ in [*turns[:done], *again] for counter in used]
     assert len(spent) == len(set(spent)), spent
     if first_save:
-        here.audited(opening, log, log.count(" PASS "))
-        here.audited(saved, more, more.count(" PASS "))
+        audited(here.folder, opening, log)
+        audited(here.folder, saved, more)
 
 
 def codes_of_two_runs(folder):

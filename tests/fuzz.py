@@ -20,11 +20,10 @@ import sys
 import tempfile
 import tomllib
 
-from outside import code, keys_of, numbered
+from outside import AUDITS, code, keys_of, numbered
 
 HERE = pathlib.Path(__file__).resolve().parent
 BOOKS = sorted((HERE / "book_faults").glob("*.toml"))
-AUDITS = HERE / "data" / "audits"
 # What a run may take of the processor, whatever else the machine does.
 SECONDS = 2
 

@@ -16,8 +16,8 @@ import tomllib
 import clients
 import suite
 from clients import Account, book, dealt, gone, logged_in, of_session, opened, said, turned_away
-from halls import AUTH, FILES, MECHS, OWN, RESP, USER, Hall, clean, handed, login, read
-from outside import orders_of_turns
+from halls import AUTH, MECHS, OWN, RESP, USER, Hall, clean, handed, login, read
+from outside import AUDITS, orders_of_turns
 
 SHUFFLES = 1000
 # A folder of files in memory, where a system has one.
@@ -36,7 +36,7 @@ def two_sessions(folder):
         "line 1 3 CODE 755224",
         "gone 1 4",
     ]
-    text, log = "\n".join(events), (FILES / "interleaved.log").read_text()
+    text, log = "\n".join(events), (AUDITS / "interleaved.log").read_text()
     assert log.count("\n") == 14
     for end in ["\n", ""]:
         here.put(USER)

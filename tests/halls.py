@@ -1,19 +1,18 @@
 """What the scripts on `hall` share: a folder with a book and halls over it, and RFC 5802's login in one."""
 import os
-import pathlib
 import select
 import subprocess
 import time
 
 import suite
 from clients import opened, said
+from outside import AUDITS
 from suite import PROGRAM
 
-FILES = pathlib.Path(__file__).parent / "data" / "audits"
-MECHS, AUTH, CONT, RESP, OK = (FILES / "sha1.log").read_text().splitlines()[1:6]
+MECHS, AUTH, CONT, RESP, OK = (AUDITS / "sha1.log").read_text().splitlines()[1:6]
 OWN = "3rfcNHYJY1ZVvWVs7j"
 # RFC 5802's user with RFC 4226's token
-USER = (FILES / "hotp.toml").read_text()
+USER = (AUDITS / "hotp.toml").read_text()
 
 
 class Hall(suite.BookFolder):

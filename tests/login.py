@@ -14,16 +14,15 @@ import time
 import tomllib
 
 import suite
-from halls import handed, read
-from outside import decoy_salt
+from halls import clean, handed, read
+from outside import AUDITS, decoy_salt
 from suite import NONCES, PROGRAM, hotp
 
-FILES = pathlib.Path(__file__).parent / "data" / "audits"
 # RFC 5802's and RFC 7677's own logins
 SHA1 = ["--mechanism", "SCRAM-SHA-1", *NONCES]
 SHA256 = ["--client-nonce", "rOprNGfwEbeRWgbNEkqO", "--server-nonce", "%hvYDpWUa2RaTCAfuxFIlj)hNlF$k0"]
-KEYS = (FILES / "keys.toml").read_text()
-ACCEPTED = "".join((FILES / "sha1.log").read_text().splitlines(True)[:6])
+KEYS = (AUDITS / "keys.toml").read_text()
+ACCEPTED = "".join((AUDITS / "sha1.log").read_text().splitlines(True)[:6])
 GONE = "C GONE\nE\n"
 
 
@@ -55,10 +54,6 @@ class Login(suite.BookFolder):
         return suite.read(self.book)["accounts"]["user"]
 
 
-def clean(accepted, codes, sessions=1):
-    return f"clean sessions={sessions} accepted={accepted} codes={codes}"
-
-
 def with_codes(look_ahead=3, limit=3, sync_ahead=None):
     """The book of RFC 5802's user, with RFC 4226's token."""
     return KEYS + hotp(look_ahead, limit, sync_ahead)
@@ -70,9 +65,9 @@ def published_logins(folder):
     here.prints(here.words(*SHA1), "pencil", 0, ACCEPTED + GONE)
     assert tomllib.loads(here.book.read_text()) == tomllib.loads(KEYS)
     here.prints(here.words(*SHA1), "pencil\n", 0, ACCEPTED + GONE)
-    here.put((FILES / "sha256.toml").read_text())
+    here.put((AUDITS / "sha256.toml").read_text())
     for more in [[], ["--mechanism", "SCRAM-SHA-256"]]:
-        here.prints(here.words(*SHA256, *more), "pencil\n", 0, (FILES / "sha256.log").read_text())
+        here.prints(here.words(*SHA256, *more), "pencil\n", 0, (AUDITS / "sha256.log").read_text())
 
 
 def refused_logins(folder):
@@ -82,12 +77,12 @@ def refused_logins(folder):
     log = done.stdout.decode()
     assert (done.returncode, done.stderr) == (1, b""), done
     assert log.endswith("\nS NO :e=invalid-proof\nE\n") and log.count("\n") == 7, log
-    here.audited(log, clean(0, 0))
+    here.audited(log, clean(1, 0, 0))
     done = here.run(here.words(), "pencil\n755224\n")
     assert (done.returncode, done.stderr) == (1, b""), done
     assert done.stdout.decode().splitlines()[2].startswith("C AUTH SCRAM-SHA-256 :n,,n=user,r="), done
     assert done.stdout.endswith(b"\nS NO :e=invalid-proof\nE\n"), done
-    here.audited(done.stdout.decode(), clean(0, 0))
+    here.audited(done.stdout.decode(), clean(1, 0, 0))
     assert here.account()["token"]["next"] == 0
 
 
@@ -101,7 +96,7 @@ def decoys(folder):
         assert (done.returncode, done.stderr, len(lines)) == (1, b"", 7), done
         assert lines[3].endswith(f",s={base64.b64encode(salt).decode()},i=4096"), lines
         assert lines[5:] == ["S NO :e=invalid-proof", "E"], lines
-        here.audited(done.stdout.decode(), clean(0, 0))
+        here.audited(done.stdout.decode(), clean(1, 0, 0))
 
 
 def names_to_act_as(folder):
@@ -114,12 +109,12 @@ def names_to_act_as(folder):
     assert lines[2] == "C AUTH SCRAM-SHA-1 :n,a=root,n=user,r=fyko+d2lbbFgONRv9qkxdawL", lines
     assert lines[4].startswith("C RESP :c=bixhPXJvb3Qs,r=fyko+d2lbbFgONRv9qkxdawL3rfcNHYJY1ZVvWVs7j,p="), lines
     assert lines[5:] == ["S NO :e=other-error", "E"], lines
-    here.audited(done.stdout.decode(), clean(0, 0))
+    here.audited(done.stdout.decode(), clean(1, 0, 0))
     here.put(KEYS.replace("act_as = []", 'act_as = ["root"]'))
     done = here.run(words, "pencil\n")
     assert (done.returncode, done.stderr) == (0, b""), done
     assert done.stdout.decode().splitlines()[5].startswith("S OK :v="), done
-    here.audited(done.stdout.decode(), clean(1, 0))
+    here.audited(done.stdout.decode(), clean(1, 1, 0))
     here.put(KEYS)
     here.prints(here.words(*SHA1), "pencil\n", 0, ACCEPTED + GONE)
     done = here.run(here.words(*SHA1, "--as", "user"), "pencil\n")
@@ -133,7 +128,7 @@ def client_faults(folder):
         here.put(with_codes().replace("count = 4096\nstored", f"count = {count}\nstored"))
         log = "".join(ACCEPTED.splitlines(True)[:4]).replace("i=4096", f"i={count}") + GONE
         here.prints(here.words(*SHA1), "pencil\n755224\n", 1, log)
-        here.audited(log, clean(0, 0))
+        here.audited(log, clean(1, 0, 0))
         assert here.account()["token"]["next"] == 0
     here.put(with_codes().replace('server = "0f', 'server = "0e'))
     done = here.run(here.words(*SHA1), "pencil\n755224\n")
@@ -141,7 +136,7 @@ def client_faults(folder):
     assert (done.returncode, done.stderr, len(log.splitlines())) == (1, b"", 8), done
     assert log.splitlines()[5].startswith("S OK :v=") and "rmF9pqV8S7suAoZWja4dJRkFsKQ=" not in log, log
     assert log.endswith(GONE), log
-    here.audited(log, clean(1, 0))
+    here.audited(log, clean(1, 1, 0))
 
 
 def codes(folder):
@@ -161,7 +156,7 @@ def codes(folder):
         here.put(book)
         log = ACCEPTED + "".join(f"{'CS'[n % 2]} {line}\n" for n, line in enumerate(told)) + GONE
         here.prints(here.words(*SHA1, "--moment", "5"), "\n".join(["pencil", *lines, ""]), status, log)
-        here.audited(log, clean(1, passed))
+        here.audited(log, clean(1, 1, passed))
 
 
 def lines_that_are_no_code(folder):
@@ -174,7 +169,7 @@ def lines_that_are_no_code(folder):
         here.put(with_codes(sync_ahead=8))
         log = ACCEPTED + "C BAD\nS NO :\nE\n"
         here.prints(words, f"pencil\n{line}\n755224\n", 1, log)
-        here.audited(log, clean(1, 0))
+        here.audited(log, clean(1, 1, 0))
         assert here.account()["token"]["next"] == 0
     here.put(with_codes())
     here.prints(words, b"pencil\n\xff\0\n755224\n", 1, ACCEPTED + "C BAD\nS NO :\nE\n")
@@ -231,7 +226,7 @@ def failed_saves(folder):
         assert faults == f"scramotp: cannot write {here.book}\n", faults
         assert here.book.read_bytes() == book and not os.path.lexists(here.socket)
         os.rmdir(f"{here.book}.new")
-        here.audited(ACCEPTED + output, clean(1, 0))
+        here.audited(ACCEPTED + output, clean(1, 1, 0))
     here.put(with_codes())
     os.mkdir(f"{here.book}.new")
     here.refuses(here.words(*SHA1), "pencil\n755224\n", 3, f"cannot write {here.book}")
@@ -252,7 +247,7 @@ def random_nonces(folder):
         client, service = (base64.b64encode(part).decode() for part in [data[:18], data[18:]])
         lines = done.stdout.decode().splitlines()
         assert lines[2].endswith(f",r={client}") and f":r={client}{service},s=" in lines[3], lines
-        here.audited(done.stdout.decode(), clean(1, 0))
+        here.audited(done.stdout.decode(), clean(1, 1, 0))
     here.put(KEYS)
     file.write_bytes(data[:18])
     given = ["--mechanism", "SCRAM-SHA-1", "--random", file]

@@ -12,9 +12,10 @@ import subprocess
 import time
 
 import suite
+from outside import AUDITS
 from suite import PROGRAM, begins_clean, code, hotp, token
 
-KEYS = (pathlib.Path(__file__).parent / "data" / "audits" / "keys.toml").read_text()
+KEYS = (AUDITS / "keys.toml").read_text()
 BOOK = KEYS + hotp(look_ahead=3, limit=100, sync_ahead=10)
 RUNS = 2000
 

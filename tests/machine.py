@@ -24,7 +24,7 @@ from typing import NamedTuple
 import shims
 import suite
 from all_commands import (
-    BOOK, begins_clean, book_of, commands, is_front, is_kept, left, login_log, new_book, prepare, run,
+    BOOK, audited, begins_clean, book_of, command_of, commands, is_front, is_kept, left, login_log, new_book, prepare, run,
 )
 from outside import numbered
 from suite import AS_NOBODY, NOBODY, NONCES, PROGRAM, ROOT, totp
@@ -240,8 +240,7 @@ def interrupted(here, command, number, wait):
 def signals(folder):
     """A signal at any moment ends a command: what is printed begins what is due, the book is whole and has what was told, and the next
     command finds nothing in its way but a socket."""
-    here, ended = Machine(folder), collections.Counter()
-    [enrol] = [command for command in commands() if command.name == "enrol"]
+    here, ended, enrol = Machine(folder), collections.Counter(), command_of("enrol")
     for name, command in named().items():
         prepare(here.folder, command)
         began = time.monotonic()
@@ -355,17 +354,8 @@ class Clocks(Machine):
                 lines += [run_of_login.stdout.readline() for _ in range(2)]
             run_of_login.stdin.close()
             lines += run_of_login.stdout.readlines()
-        self.audited(before, "".join(lines))
+        audited(self.folder, before, "".join(lines))
         return [line.removeprefix("S ").removesuffix("\n") for line in lines[7:-2:2]]
-
-    def audited(self, before, log):
-        """Compares what an audit says of a log of one login, by the book of this text."""
-        after = self.book.read_text()
-        self.book.write_text(before)
-        pathlib.Path(self.folder, "log").write_text(log)
-        answer = run(self.named["audit"], self.folder)
-        assert answer == (0, f"clean sessions=1 accepted=1 codes={log.count(' PASS ')}\n", ""), (log, answer)
-        self.book.write_text(after)
 
 
 def clocks_that_go_back(folder):
@@ -396,13 +386,13 @@ def moments_that_fall(folder):
         assert run(command, here.folder)[1] == f"{reply}\n", (moment, sent)
     here.fresh()
     before = here.book.read_text()
-    [hall] = [command for command in commands(0) if command.name == "hall"]
+    hall = command_of("hall", 0)
     turns = [(then, code, f"PASS {then} {first}"), (59, old_code, "FAIL 59"), (now, next_code, f"PASS {now} {second}"), (0, code, "FAIL 0")]
     events = "".join(f"line 1 {moment} CODE {sent}\n" for moment, sent, _ in turns)
     lines = "".join(f"1 C CODE {sent}\n1 S {reply}\n" for _, sent, reply in turns)
     log = hall.printed.replace("1 C GONE\n", f"{lines}1 C GONE\n")
     assert run(hall._replace(text=hall.text.replace("gone", f"{events}gone")), here.folder) == (0, log, "")
-    here.audited(before, log)
+    audited(here.folder, before, log)
 
 
 TESTS = [

@@ -1,12 +1,17 @@
 """What several scripts compare with or begin from, worked out by Python and not by the program: codes, keys, salts of decoys, the texts
-of the tables' rows, logs with numbers, and orders of turns."""
+of the tables' rows, logs with numbers, and orders of turns; and where the recorded logs and their books are."""
 import hashlib
 import hmac
 import itertools
+import pathlib
 import sys
 
 if not __debug__:
     sys.exit("outside.py: the tests rest on assertions, which python3 -O and PYTHONOPTIMIZE leave out")
+
+
+# Recorded logs, the books that they are judged by, and the table cases.csv.
+AUDITS = pathlib.Path(__file__).resolve().parent / "data" / "audits"
 
 
 def code(secret, counter, digits=6, function="sha1"):

@@ -20,9 +20,10 @@ import time
 import clients
 import outside
 import suite
-from all_commands import AUDITS, BOOK, commands, login_log, prepare
+from all_commands import BOOK, command_of, commands, login_log, prepare
 from clients import Account, Exchange, base, dealt, escaped, gone, logged_in, opened, said
 from halls import Hall, clean
+from outside import AUDITS
 from suite import PROGRAM
 
 MOST = 16777216
@@ -321,7 +322,7 @@ def endless_codes(folder):
 
 
 # A hall's log of RFC 5802's login, and the events that lead to it.
-[HALL] = [command for command in commands(0) if command.name == "hall"]
+HALL = command_of("hall", 0)
 LOGGED = "".join(HALL.printed.splitlines(True)[:-2])
 EVENTS = HALL.text.removesuffix("gone 1 5\n")
 

@@ -24,7 +24,7 @@ from pathlib import Path
 
 import outside
 import suite
-from outside import keys_of
+from outside import AUDITS, keys_of
 from suite import CODES, PROGRAM, ROOT, USER, code, hotp, is_locked, read, seen
 
 HERE = Path(__file__).resolve().parent
@@ -443,8 +443,7 @@ def a_verifier_there_and_back(folder):
     does(folder, out, printed="\n".join(both) + "\n")
     does(folder, into.replace(NAME, "user"), both[0] + "\n")
     clean = "clean sessions=1 accepted=1 codes=0\n"
-    log = HERE / "data" / "audits" / "sha256.log"
-    does(folder, f"scramotp audit --book book.toml --log {log}", printed=clean)
+    does(folder, f"scramotp audit --book book.toml --log {AUDITS / 'sha256.log'}", printed=clean)
     name = "q\"\\'@ x"
     does(folder, f"./from-verifier {shlex.quote(name)} >keys.toml && ./edit-book book.toml cat - keys.toml", both[1] + "\n")
     assert book_of(folder)["accounts"][name] == book_of(folder)["accounts"]["user"]
@@ -544,7 +543,7 @@ def units(folder):
     answers = []
     for unit in blocks("systemd", "ini"):
         for name in re.findall(r"^LoadCredential\w*=([\w.]+):", unit, re.M):
-            source = HERE / "data" / "audits" / {"before.toml": "hotp.toml", "log.txt": "sha1.log"}.get(name, "")
+            source = AUDITS / {"before.toml": "hotp.toml", "log.txt": "sha1.log"}.get(name, "")
             if source.is_file():
                 (credentials / name).write_bytes(source.read_bytes())
             assert (credentials / name).is_file(), name

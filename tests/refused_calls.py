@@ -13,11 +13,10 @@ import subprocess
 import shims
 import suite
 from all_commands import read_book, with_account
+from outside import AUDITS
 from suite import PROGRAM, USER, hotp
 
-HERE = pathlib.Path(__file__).parent
-BENCH = HERE.parent / "crates" / "bench" / "out" / "bench"
-AUDITS = HERE / "data" / "audits"
+BENCH = pathlib.Path(__file__).parent.parent / "crates" / "bench" / "out" / "bench"
 BOOK = (AUDITS / "sha256.toml").read_text() + hotp(look_ahead=3, limit=3)
 NOBODY = USER.replace("[accounts.user]", "[accounts]")
 CODE = "C CODE 755224\nS PASS 5 0\n"

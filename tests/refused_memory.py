@@ -13,10 +13,9 @@ import subprocess
 import shims
 import suite
 from all_commands import begins_clean, book_of, commands, is_done, is_front, is_kept, left, new_book, prepare, run
+from outside import AUDITS
 from suite import PROGRAM
 
-HERE = pathlib.Path(__file__).parent
-AUDITS = HERE / "data" / "audits"
 
 
 def run_refused(folder, words, shim, refused):

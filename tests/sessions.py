@@ -15,13 +15,12 @@ import subprocess
 import sys
 import tempfile
 
-from outside import orders_of_turns
-from suite import code
+from outside import AUDITS, orders_of_turns
+from suite import code, same
 
-FILES = pathlib.Path(__file__).parent / "data" / "audits"
-BOOK = FILES / "hotp.toml"
+BOOK = AUDITS / "hotp.toml"
 FIRST_LINE = "SCRAMLOG 2"
-MECHS, AUTH, CONT, RESP, OK, GONE, END = (FILES / "sha1.log").read_text().splitlines()[1:]
+MECHS, AUTH, CONT, RESP, OK, GONE, END = (AUDITS / "sha1.log").read_text().splitlines()[1:]
 WRONG_PROOF = RESP.replace("p=v0X8", "p=w0X8")
 INVALID_PROOF = "S NO :e=invalid-proof"
 
@@ -37,19 +36,16 @@ OUTCOMES = [
 ]
 
 
-def audited(program, log, lines, book):
-    """The answer to a log of these lines, and its status."""
-    log.write_text("".join(line + "\n" for line in lines))
+def says(what, program, log, text, status, answer, book=BOOK):
+    """Compares the answer to a log of this text, and its status."""
+    log.write_text(text)
     done = subprocess.run([program, "audit", "--book", book, "--log", log], capture_output=True, text=True, timeout=60)
-    if done.stderr:
-        sys.exit(f"sessions.py: {done.stderr!r}")
-    return done.returncode, done.stdout
+    same(what, (done.returncode, done.stdout, done.stderr), (status, answer + "\n", ""))
 
 
 def answers(what, program, log, lines, status, answer, book=BOOK):
-    got = audited(program, log, lines, book)
-    if got != (status, answer + "\n"):
-        sys.exit(f"sessions.py: {what}: {got!r}, not {(status, answer)!r}")
+    """The same of a log of these lines."""
+    says(what, program, log, "".join(line + "\n" for line in lines), status, answer, book)
 
 
 def numbers_of(order):
@@ -155,7 +151,6 @@ def other_numbers(program, log):
 
 def long_lines(program, log):
     """A line may have 6202 bytes, and 6222 after the first line of version 2, 6202 of them after its number."""
-    words = [program, "audit", "--book", BOOK, "--log", log]
     cases = [
         ("6202 bytes of a first line", "S" * 6202, "line 1: cut"),
         ("6203 bytes of a first line", "S" * 6203, "line 1: not a line"),
@@ -180,10 +175,7 @@ def long_lines(program, log):
             cases.append((f"{size} bytes after {number!r}", f"SCRAMLOG 2\n{line}", f"line 2: {said[0]}"))
             cases.append((f"{size} bytes after {number!r} and LF", f"SCRAMLOG 2\n{line}\n", f"line 2: {ended}"))
     for what, text, answer in cases:
-        log.write_text(text)
-        done = subprocess.run(words, capture_output=True, text=True, timeout=60)
-        if (done.returncode, done.stdout, done.stderr) != (1, answer + "\n", ""):
-            sys.exit(f"sessions.py: {what}: {done!r}, not {answer!r}")
+        says(what, program, log, text, 1, answer)
 
 
 def main():

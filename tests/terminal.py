@@ -13,6 +13,7 @@ import time
 from pathlib import Path
 
 import suite
+from outside import AUDITS
 from suite import KEYS_OF_PENCIL, NONCES, PROGRAM, SALT, USER, hotp
 
 PASSWORD = "Type the password and press Enter; it is shown as you type.\r\n"
@@ -20,7 +21,6 @@ BOTH = "Type the password and press Enter, then one code a line; all is shown as
 CODES = "Type one code a line; it is shown as you type. Ctrl-D ends.\r\n"
 EVENTS = "Type one event a line: open, line or gone; Ctrl-D ends.\r\n"
 KEYS = ["keys", "--mechanism", "SCRAM-SHA-1", "--salt", SALT, "--count", "4096"]
-AUDITS = Path(__file__).parent / "data" / "audits"
 # The log of RFC 5802's login, up to its acceptance, and of a code.
 LOGIN_AND_CODE = "".join((AUDITS / "sha1.log").read_text().splitlines(True)[:6]) + "C CODE 755224\nS PASS 5 0\nC GONE\nE\n"
 # The log of a client that comes and goes away.

@@ -15,11 +15,11 @@ import sys
 import tempfile
 import time
 
-from audit_cases import FILES, cases
-from outside import numbered
+from audit_cases import cases
+from outside import AUDITS, numbered
 from suite import same
 
-LOGIN = (FILES / "sha1.log").read_bytes()
+LOGIN = (AUDITS / "sha1.log").read_bytes()
 MECHS = b"S MECHS SCRAM-SHA-256 SCRAM-SHA-1\n"
 GONE = MECHS + b"C GONE\nE\n"
 
@@ -73,7 +73,7 @@ def faults(program, folder):
     done = subprocess.run([*words[:3], missing], capture_output=True, text=True, timeout=60)
     same("no log", (done.returncode, done.stdout, done.stderr), (3, "", f"scramotp: cannot read {missing}\n"))
     with open("/dev/full", "wb") as full:
-        done = subprocess.run([*words[:3], FILES / "sha1.log"], stdout=full, stderr=subprocess.PIPE, text=True, timeout=60)
+        done = subprocess.run([*words[:3], AUDITS / "sha1.log"], stdout=full, stderr=subprocess.PIPE, text=True, timeout=60)
     same("a full device", (done.returncode, done.stderr), (3, "scramotp: cannot write output\n"))
 
 
