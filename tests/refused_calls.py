@@ -2,7 +2,8 @@
 """Calls of the libraries whose requests for memory are refused, one after another until a run meets none: each refused call answers
 99, nothing is lost by it, and the same call again goes on. What makes the calls is the crate bench: `Desk::begin`, `greet` and `client`
 one by one, then `serve_turn`, then `serve`, whose client is gone where memory ran out; `Hall::begin`, `greet` and `client`; the writers
-of messages, names and lines, `escape` and `Payload::bytes`; and `Book::read`, `Book::write` and `enrol`.
+of messages, names and lines, `escape` and `Payload::bytes`; and `Book::read`, `Book::write` and `enrol`. Needs `cc`, and the crate bench
+as `rt ci` or `make bench` has built it.
 
 Usage: refused_calls.py PROGRAM
 """

@@ -1,7 +1,7 @@
 #!/usr/bin/env python3
 """Commands whose requests for memory are refused, one after another until a run meets none. `audit` and `upgrade`, of logs of both
 versions: where a request that they need is refused they end with status 3, and an audit of version 2 needs one more than one of
-version 1. And every command: where it can't end well it says so, and the book is whole and has what was told before.
+version 1. And every command: where it can't end well it says so, and the book is whole and has what was told before. Needs `cc`.
 
 Usage: refused_memory.py PROGRAM
 """
