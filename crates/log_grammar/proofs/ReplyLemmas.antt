@@ -15,7 +15,7 @@ use Rattle.otp_core.specs.declared.token.kinds.HotpFields.{HotpFields}
 use Rattle.log_grammar.specs.Words.{is_code_char, IsCodeWord, IsCounter}
 use Rattle.log_grammar.specs.Logins.{LoginsAreAnswered}
 use Rattle.otp_core.specs.Attempt.{Attempt, CodeTexts, OneText, TwoTexts, counters_of, passed}
-use Rattle.otp_core.specs.Window.{IsAbove, IsCounterDue}
+use Rattle.otp_core.specs.Window.{IsAbove, IsInWindow}
 use Rattle.otp_core.specs.Reply.{IsDueReply, IsFitting, code_text}
 use Rattle.otp_core.specs.Laws.{CandidatesAreNew}
 use Rattle.otp_core.specs.declared.token.answer.Reply.{Reply}
@@ -149,7 +149,7 @@ code_word text is = record { at_least = omega (arith, is.count.0); at_most = ome
 next_is_due : (t : HotpFields) (moment : ℕ) → t.failures < t.limit → IsCounter t.next
     → IsDueReply (Hotp t) [] moment (OneText (code_text (Hotp t) t.next)) (Pass t.next)
 next_is_due t moment unlocked counter =
-    let due : IsCounterDue t.next t.look_ahead t.next = record { not_before = omega arith; within = omega arith; most = omega (arith, counter) } in
+    let due : IsInWindow t.next t.look_ahead t.next = record { not_before = omega arith; within = omega arith; most = omega (arith, counter) } in
     (unlocked, (due, refl), λ k fits. fits.0.not_before)
 
 pub next_hotp_code_passes : LoginsAreAnswered → NextHotpCodePasses
@@ -163,7 +163,7 @@ next_hotp_code_passes answered accounts mechanism name client_first server_first
 pub next_two_are_due : (t : HotpFields) (moment : ℕ) → t.failures < t.limit → IsCounter (t.next + 1)
     → IsDueReply (Hotp t) [] moment (TwoTexts (code_text (Hotp t) t.next) (code_text (Hotp t) (t.next + 1))) (Pass (t.next + 1))
 next_two_are_due t moment unlocked counter =
-    let due : IsCounterDue t.next t.sync_ahead t.next = record { not_before = omega arith; within = omega arith; most = omega (arith, counter) } in
+    let due : IsInWindow t.next t.sync_ahead t.next = record { not_before = omega arith; within = omega arith; most = omega (arith, counter) } in
     (unlocked, (t.next, refl, (due, omega (arith, counter)), refl, refl), λ k fits. omega (arith, fits.1, fits.2.0.not_before))
 
 -- the line with the codes of the next two counters can be sent

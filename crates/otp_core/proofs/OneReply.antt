@@ -6,7 +6,7 @@ use Rattle.std.specs.Prelude.{◌≤ℤ◌, ◌+ℤ◌, ◌-ℤ◌, pos}
 use Rattle.std.specs.Option.{ForSome}
 use Rattle.mac_core.proofs.Decided.{Decided, decided_by, decided_both, decided_le, decided_lt, decided_same}
 use Rattle.otp_core.specs.Attempt.{Attempt, CodeTexts, passed}
-use Rattle.otp_core.specs.Window.{IsAbove, IsCandidate, IsPairCandidate, IsCounterDue, IsStepNear, first_due, drift_after, step_at}
+use Rattle.otp_core.specs.Window.{IsAbove, IsCandidate, IsPairCandidate, IsInWindow, IsStepNear, first_in_window, drift_after, step_at}
 use Rattle.otp_core.specs.Reply.{IsDueReply, IsFitting, code_text, failures_after, limit_of}
 use Rattle.otp_core.specs.Laws.{SomeReplyIsDue}
 use Rattle.otp_core.specs.declared.token.answer.Reply.{Reply}
@@ -33,9 +33,9 @@ decided_last (Some last) w =
     (λ f. f last refl)
     (decided_lt last w)
 
-decided_counter : (first look_ahead c : ℕ) → Decided (IsCounterDue first look_ahead c)
+decided_counter : (first look_ahead c : ℕ) → Decided (IsInWindow first look_ahead c)
 decided_counter first look_ahead c =
-    decided_by ((first ≤ c) × ((c ≤ first + look_ahead) × (c ≤ 2 ^ 63 - 2))) (IsCounterDue first look_ahead c)
+    decided_by ((first ≤ c) × ((c ≤ first + look_ahead) × (c ≤ 2 ^ 63 - 2))) (IsInWindow first look_ahead c)
     (λ h. record { not_before = h.0; within = h.1.0; most = h.1.1 })
     (λ d. (d.not_before, (d.within, d.most)))
     (decided_both _ _ (decided_le first c) (decided_both _ _ (decided_le c (first + look_ahead)) (decided_le c (2 ^ 63 - 2))))
@@ -53,7 +53,7 @@ decided_near now drift back ahead max_drift w =
 
 -- whether a counter can pass is decided
 decided_candidate : (s : Fields) (h : List Attempt) (m c : ℕ) → Decided (IsCandidate s h m c)
-decided_candidate (Hotp t) h m c = decided_counter (first_due t.next (passed h)) t.look_ahead c
+decided_candidate (Hotp t) h m c = decided_counter (first_in_window t.next (passed h)) t.look_ahead c
 decided_candidate (Totp t) h m w =
     let near : Type 0 = IsStepNear (step_at t m) (drift_after t h) t.back t.ahead t.max_drift w in
     decided_by ((t.t0 ≤ m) × (near × (ForSome t.last (λ l. l < w) × IsAbove (passed h) w))) (IsCandidate (Totp t) h m w)
@@ -64,7 +64,7 @@ decided_candidate (Totp t) h m w =
     (decided_both _ _ (decided_last t.last w) (decided_above (passed h) w))))
 
 decided_pair : (s : Fields) (h : List Attempt) (w : ℕ) → Decided (IsPairCandidate s h w)
-decided_pair (Hotp t) h w = decided_both _ _ (decided_counter (first_due t.next (passed h)) t.sync_ahead w) (decided_le (w + 1) (2 ^ 63 - 2))
+decided_pair (Hotp t) h w = decided_both _ _ (decided_counter (first_in_window t.next (passed h)) t.sync_ahead w) (decided_le (w + 1) (2 ^ 63 - 2))
 decided_pair (Totp t) h w = inr (λ pair. pair)
 
 -- whether a counter fits what was said is decided

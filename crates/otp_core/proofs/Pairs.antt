@@ -4,7 +4,7 @@ use Rattle.std.specs.Prelude.{IfSome, IfNone}
 use Rattle.otp_core.specs.Code.{hotp_text_by}
 use Rattle.otp_core.specs.Attempt.{CodeTexts}
 use Rattle.otp_core.specs.Attempt.CodeTexts.{TwoTexts}
-use Rattle.otp_core.specs.Window.{IsCounterDue}
+use Rattle.otp_core.specs.Window.{IsInWindow}
 use Rattle.otp_core.specs.Reply.{IsFitting, IsDueReply, limit_of, failures_of}
 use Rattle.otp_core.specs.State.{CanMoveTo, reply_of}
 use Rattle.otp_core.specs.declared.hash.OtpHash.TheVariants.{Sha1}
@@ -15,7 +15,7 @@ use Rattle.otp_core.specs.declared.token.kinds.Fields.TheVariants.{Hotp, Totp}
 
 -- these are the counters that can be the first of a pair
 abbrev pub AreFirsts : HotpFields → ℕ → ℕ → Type 0
-AreFirsts t from end = (w : ℕ) → (IsCounterDue t.next t.sync_ahead w × (w + 1 ≤ 2 ^ 63 - 2)) ↔ ((from ≤ w) × (w < end))
+AreFirsts t from end = (w : ℕ) → (IsInWindow t.next t.sync_ahead w × (w + 1 ≤ 2 ^ 63 - 2)) ↔ ((from ≤ w) × (w < end))
 
 pub found_fits : (s : Fields) (t : HotpFields) (from end : ℕ) (first second : List ℕ) (o : Option ℕ) → s ≡ Hotp t → AreFirsts t from end
     → IfSome o (λ c. (w : ℕ) × (c ≡ w + 1) × (from ≤ w) × (w < end)

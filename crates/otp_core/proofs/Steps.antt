@@ -4,7 +4,7 @@ use Rattle.std.specs.Option.{option_map_or}
 use Rattle.otp_core.specs.Secret.{IsMoment}
 use Rattle.otp_core.specs.Attempt.{Attempt, CodeTexts, attempt_of, counters_of, passed}
 use Rattle.otp_core.specs.Attempt.CodeTexts.{OneText, TwoTexts}
-use Rattle.otp_core.specs.Window.{IsCandidate, IsPairCandidate, IsCounterDue, IsStepNear, IsAbove, first_due, greatest, step_at}
+use Rattle.otp_core.specs.Window.{IsCandidate, IsPairCandidate, IsInWindow, IsStepNear, IsAbove, first_in_window, greatest, step_at}
 use Rattle.otp_core.specs.Reply.{IsDueReply, IsFitting, code_text, limit_of, failures_of, failures_after, failures_by}
 use Rattle.otp_core.specs.History.{IsAfter, AreAlike, settings_of}
 use Rattle.otp_core.specs.Settings.{IsInRange}
@@ -109,10 +109,10 @@ pair_first_of (Some m) next w h = omega arith
 
 -- HOTP's first counter is one after what was said has passed
 pub first_after : (t : HotpFields) (h : List Attempt) (m : ℕ) (said : CodeTexts) (p : ℕ) → IsFitting (Hotp t) h m said p
-    → first_due t.next (counters_of said p ++ passed h) ≡ p + 1
+    → first_in_window t.next (counters_of said p ++ passed h) ≡ p + 1
 first_after t h m (OneText text) p fits = first_of (greatest (passed h)) t.next p fits.0.not_before
 first_after t h m (TwoTexts one other) p (w, next, pair, first, second) =
-    subst (λ (n : ℕ). first_due t.next (counters_of (TwoTexts one other) n ++ passed h) ≡ n + 1) (sym next)
+    subst (λ (n : ℕ). first_in_window t.next (counters_of (TwoTexts one other) n ++ passed h) ≡ n + 1) (sym next)
     (pair_first_of (greatest (passed h)) t.next w pair.0.not_before)
 
 -- no pair of TOTP codes fits
@@ -127,13 +127,13 @@ above_more (x ∷ counters) p c h more =
 
 -- the part of a window that depends on the settings, after a pass of p at m
 window_by : Fields → ℕ → ℕ → ℕ → ℕ → Type 0
-window_by (Hotp t) m p later c = IsCounterDue (p + 1) t.look_ahead c
+window_by (Hotp t) m p later c = IsInWindow (p + 1) t.look_ahead c
 window_by (Totp t) m p later c =
     (t.t0 ≤ later) × IsStepNear (step_at t later) (pos p -ℤ pos (step_at t m)) t.back t.ahead t.max_drift c
 
 -- and the pairs
 pairs_by : Fields → ℕ → ℕ → Type 0
-pairs_by (Hotp t) p w = IsCounterDue (p + 1) t.sync_ahead w × (w + 1 ≤ 2 ^ 63 - 2)
+pairs_by (Hotp t) p w = IsInWindow (p + 1) t.sync_ahead w × (w + 1 ≤ 2 ^ 63 - 2)
 pairs_by (Totp t) p w = ⊥
 
 -- candidates after a pass
@@ -142,9 +142,9 @@ pub pass_alike : (s t : Fields) (h : List Attempt) (m : ℕ) (said : CodeTexts) 
     → IsCandidate s (attempt_of m said (Pass p) ∷ h) later c ↔ IsCandidate (after_pass t m p) [] later c
 unfolding window_by
 pass_alike (Hotp s) (Hotp t) h m said p later c e fits =
-    let first : first_due s.next (counters_of said p ++ passed h) ≡ p + 1 = first_after s h m said p fits in (
-      (λ w. subst (λ f. window_by f m p later c) e (subst (λ n. IsCounterDue n s.look_ahead c) first w)),
-      (λ w. subst (λ n. IsCounterDue n s.look_ahead c) (sym first) (subst (λ f. window_by f m p later c) (sym e) w)),
+    let first : first_in_window s.next (counters_of said p ++ passed h) ≡ p + 1 = first_after s h m said p fits in (
+      (λ w. subst (λ f. window_by f m p later c) e (subst (λ n. IsInWindow n s.look_ahead c) first w)),
+      (λ w. subst (λ n. IsInWindow n s.look_ahead c) (sym first) (subst (λ f. window_by f m p later c) (sym e) w)),
     )
 pass_alike (Totp s) (Totp t) h m (OneText text) p later c e fits = (
   (λ w. let near = subst (λ f. window_by f m p later c) e (w.0, w.1) in
@@ -164,9 +164,9 @@ pub pairs_alike : (s t : Fields) (h : List Attempt) (m : ℕ) (said : CodeTexts)
     → IsPairCandidate s (attempt_of m said (Pass p) ∷ h) w ↔ IsPairCandidate (after_pass t m p) [] w
 unfolding pairs_by
 pairs_alike (Hotp s) (Hotp t) h m said p w e fits =
-    let first : first_due s.next (counters_of said p ++ passed h) ≡ p + 1 = first_after s h m said p fits in (
-      (λ x. subst (λ f. pairs_by f p w) e (subst (λ n. IsCounterDue n s.sync_ahead w × (w + 1 ≤ 2 ^ 63 - 2)) first x)),
-      (λ x. subst (λ n. IsCounterDue n s.sync_ahead w × (w + 1 ≤ 2 ^ 63 - 2)) (sym first) (subst (λ f. pairs_by f p w) (sym e) x)),
+    let first : first_in_window s.next (counters_of said p ++ passed h) ≡ p + 1 = first_after s h m said p fits in (
+      (λ x. subst (λ f. pairs_by f p w) e (subst (λ n. IsInWindow n s.sync_ahead w × (w + 1 ≤ 2 ^ 63 - 2)) first x)),
+      (λ x. subst (λ n. IsInWindow n s.sync_ahead w × (w + 1 ≤ 2 ^ 63 - 2)) (sym first) (subst (λ f. pairs_by f p w) (sym e) x)),
     )
 pairs_alike (Totp s) (Totp t) h m said p w e fits = ((λ x. x), (λ x. x))
 pairs_alike (Hotp s) (Totp t) h m said p w e fits = absurd (cc)

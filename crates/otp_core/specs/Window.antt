@@ -15,11 +15,11 @@ greatest [] = None
 greatest (c ∷ counters) = Some (option_map_or (λ most. max c most) (greatest counters) c)
 
 -- HOTP's first counter: one more than the greatest that passed, or the start's next where none did
-abbrev pub first_due : ℕ → List ℕ → ℕ
-first_due next counters = option_map_or (λ most. most + 1) (greatest counters) next
+abbrev pub first_in_window : ℕ → List ℕ → ℕ
+first_in_window next counters = option_map_or (λ most. most + 1) (greatest counters) next
 
 -- a counter of HOTP's window (RFC 4226, section 7.4); the greatest that can pass is 2^63 - 2
-pub record IsCounterDue (first ahead c : ℕ) : Type 0 where
+pub record IsInWindow (first ahead c : ℕ) : Type 0 where
   pub not_before : first ≤ c
   pub within : c ≤ first + ahead
   pub most : c ≤ 2 ^ 63 - 2
@@ -55,13 +55,13 @@ IsAbove (p ∷ counters) w = (p < w) × IsAbove counters w
 -- two codes in a row can pass, the first of them that of this counter: HOTP looks further ahead for them than for one
 -- (RFC 4226, section 7.4)
 abbrev pub IsPairCandidate : Fields → List Attempt → ℕ → Type 0
-IsPairCandidate (Hotp t) history w = IsCounterDue (first_due t.next (passed history)) t.sync_ahead w × (w + 1 ≤ 2 ^ 63 - 2)
+IsPairCandidate (Hotp t) history w = IsInWindow (first_in_window t.next (passed history)) t.sync_ahead w × (w + 1 ≤ 2 ^ 63 - 2)
 IsPairCandidate (Totp t) history w = ⊥
 
 -- the counter can pass at a moment, after a history from a start. A step of TOTP passes once, and
 -- after it no earlier one (RFC 6238, section 5.2).
 abbrev pub IsCandidate : Fields → List Attempt → ℕ → ℕ → Type 0
-IsCandidate (Hotp t) history moment c = IsCounterDue (first_due t.next (passed history)) t.look_ahead c
+IsCandidate (Hotp t) history moment c = IsInWindow (first_in_window t.next (passed history)) t.look_ahead c
 IsCandidate (Totp t) history moment w =
     (t.t0 ≤ moment)
     × IsStepNear (step_at t moment) (drift_after t history) t.back t.ahead t.max_drift w

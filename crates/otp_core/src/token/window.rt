@@ -2,7 +2,7 @@
 ghost use Rattle.std.specs.Prelude.{◌≡◌, ◌≤◌, ◌<◌, ◌↔◌, ◌+◌, ◌-◌, ◌^◌, ℕ, pos, ◌-ℤ◌, [], nat_abs, Option};
 ghost use Rattle.std.specs.Option.{ForSome};
 ghost use Rattle.otp_core.specs.Settings.{IsHotpInRange, IsTotpInRange, IsInRange};
-ghost use Rattle.otp_core.specs.Window.{IsCounterDue, IsStepNear, IsCandidate, step_at};
+ghost use Rattle.otp_core.specs.Window.{IsInWindow, IsStepNear, IsCandidate, step_at};
 ghost use Rattle.otp_core.specs.Secret.{IsMoment};
 
 use crate::code::step;
@@ -33,7 +33,7 @@ pub(crate) fn window(token: &Fields, moment: Moment) -> Counters
 
 fn counters_due(token: &HotpFields) -> Counters
     requires { IsHotpInRange token.now }
-    ensures { (c : ℕ) → IsCounterDue token.now.next token.now.look_ahead c ↔ ((result.first ≤ c) × (c < result.end)) }
+    ensures { (c : ℕ) → IsInWindow token.now.next token.now.look_ahead c ↔ ((result.first ≤ c) × (c < result.end)) }
 {
     Counters {
         first: token.next,
@@ -44,7 +44,7 @@ fn counters_due(token: &HotpFields) -> Counters
 /// The counters that can be the first of a pair that passes.
 pub(crate) fn pairs_due(token: &HotpFields) -> Counters
     requires { IsHotpInRange token.now }
-    ensures pairs { (w : ℕ) → (IsCounterDue token.now.next token.now.sync_ahead w × (w + 1 ≤ 2 ^ 63 - 2))
+    ensures pairs { (w : ℕ) → (IsInWindow token.now.next token.now.sync_ahead w × (w + 1 ≤ 2 ^ 63 - 2))
         ↔ ((result.first ≤ w) × (w < result.end)) }
     ensures most { result.end ≤ 2 ^ 63 }
 {
