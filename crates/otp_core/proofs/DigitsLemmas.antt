@@ -2,7 +2,7 @@
 use Rattle.std.proofs.Common.{◌≡◌, ◌+◌, ◌/◌, ◌%◌, ℕ, zero, suc, List, [], ◌∷◌, ◌++◌, length, refl, arith, rules, add-one, append_assoc, length-append}
 use Rattle.std.specs.Prelude.{All}
 use Rattle.std.specs.Char.{IsAsciiDigit}
-use Rattle.std.specs.Str.{IsUtf8}
+use Rattle.std.specs.Str.{IsUtf8, byte}
 use Rattle.std.proofs.lemmas.Str.{IsUtf8-from_ascii}
 use Rattle.std.proofs.lemmas.Grind.{common_steps}
 use Rattle.otp_core.specs.Secret.{IsDigitCount}
@@ -13,7 +13,7 @@ length-last_digits : (count number : ℕ) → length (last_digits count number) 
 unfolding last_digits
 length-last_digits zero number = refl
 length-last_digits (suc count) number =
-    omega (arith, length-last_digits count (number / 10), length-append (last_digits count (number / 10)) ((48 + number % 10) ∷ []))
+    omega (arith, length-last_digits count (number / 10), length-append (last_digits count (number / 10)) ((byte "0" + number % 10) ∷ []))
 
 -- one more digit at the end
 all_more : (xs : List ℕ) (x : ℕ) → All IsAsciiDigit xs → IsAsciiDigit x → All IsAsciiDigit (xs ++ x ∷ [])
@@ -28,7 +28,7 @@ digits-last_digits (suc count) number =
 
 -- the last of the digits that are left moves to the front of those that were found
 pub last_digits-more : (more number : ℕ) (rest : List ℕ)
-    → last_digits (more + 1) number ++ rest ≡ last_digits more (number / 10) ++ ((48 + number % 10) ∷ rest)
+    → last_digits (more + 1) number ++ rest ≡ last_digits more (number / 10) ++ ((byte "0" + number % 10) ∷ rest)
 unfolding last_digits
 last_digits-more more number rest = rw (add-one, append_assoc) refl
 

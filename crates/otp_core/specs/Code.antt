@@ -2,6 +2,7 @@
 use Rattle.std.specs.Prelude.{ℕ, zero, suc, ◌+◌, ◌-◌, ◌/◌, ◌%◌, ◌^◌, List, [], ◌∷◌, ◌++◌, length, All, slice_index}
 use Rattle.std.specs.Int.{w32, w64, from_be_bytes, to_be_bytes}
 use Rattle.std.specs.Char.{IsAsciiDigit}
+use Rattle.std.specs.Str.{byte}
 use Rattle.sha1.specs.Sha1.{sha1}
 use Rattle.sha2.specs.Sha256.{sha256}
 use Rattle.sha2.specs.Sha512.{sha512}
@@ -24,7 +25,7 @@ truncated tag =
 -- the last `count` decimal digits of a number as ASCII, leading zeros included
 unfoldable pub last_digits : ℕ → ℕ → List ℕ
 last_digits zero number = []
-last_digits (suc count) number = last_digits count (number / 10) ++ (48 + number % 10) ∷ []
+last_digits (suc count) number = last_digits count (number / 10) ++ (byte "0" + number % 10) ∷ []
 
 -- Truncate of a tag: its truncation modulo 10 ^ digits, in that many digits
 abbrev pub code_of : ℕ → List ℕ → List ℕ
