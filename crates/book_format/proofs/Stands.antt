@@ -3,7 +3,8 @@ use Rattle.std.proofs.Common.{◌≡◌, inr, ℕ, ℤ, pos, nat_abs, ◌≤◌,
 use Rattle.std.specs.Option.{ForSome}
 use Rattle.toml.specs.Data.{integer, Members, no_members, get_member}
 use Rattle.scram_text.specs.Class.{IsPlainName}
-use Rattle.otp_core.specs.Secret.{IsSecretLength, IsDigitCount, IsMoment}
+use Rattle.otp_core.specs.Secret.{IsSecretLength}
+use Rattle.otp_core.specs.Ranges.{IsDigitCount, IsMoment}
 use Rattle.otp_core.specs.Settings.{IsHotpInRange, IsTotpInRange}
 use Rattle.otp_core.specs.declared.token.kinds.HotpFields.{HotpFields}
 use Rattle.otp_core.specs.declared.token.kinds.TotpFields.{TotpFields}

@@ -1,7 +1,7 @@
 -- The words of a hall's input lines: a moment before a space, and who goes away.
 use Rattle.std.proofs.Common.{◌≡◌, ◌≢◌, ℕ, List, ◌∷◌, ◌++◌, sym, ◌∙◌}
 use Rattle.std.specs.Prelude.{codes, decimal}
-use Rattle.otp_core.specs.Secret.{IsMoment}
+use Rattle.otp_core.specs.Ranges.{IsMoment}
 use Rattle.log_grammar.specs.NumberedLines.{IsSessionNumber}
 use Rattle.log_grammar.proofs.WordLemmas.{spaceless_number, moment_fits}
 use Rattle.sasl_log.specs.Numbered.{BeginsWithNumber}

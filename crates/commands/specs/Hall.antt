@@ -4,7 +4,7 @@ use Rattle.std.specs.Str.{byte}
 use Rattle.std.specs.Io.KnownBytes.{Appends}
 use Rattle.std.specs.declared.option.Option.{Option}
 use Rattle.std.specs.declared.option.Option.TheVariants.{None}
-use Rattle.otp_core.specs.Secret.{IsMoment}
+use Rattle.otp_core.specs.Ranges.{IsMoment}
 use Rattle.scram_text.specs.Class.{IsNoncePart}
 use Rattle.book_format.specs.Book.{BookFields}
 use Rattle.account_book.specs.Store.{StoreFacts}

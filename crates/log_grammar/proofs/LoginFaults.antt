@@ -7,7 +7,7 @@ use Rattle.scram_ends.specs.Verdict.{accept, refuse}
 use Rattle.scram_ends.specs.Login.{IsAuthentic}
 use Rattle.scram_ends.specs.Laws.{AcceptsExactlyValid}
 use Rattle.otp_core.specs.Attempt.{CodeTexts}
-use Rattle.otp_core.specs.Secret.{IsMoment}
+use Rattle.otp_core.specs.Ranges.{IsMoment}
 use Rattle.otp_core.specs.declared.token.answer.Reply.{Reply}
 use Rattle.log_grammar.specs.Lines.{header, said, heard, refuses, replies, asking, log_text, IsReplyInRange, IsClientInRange, IsLogLine}
 use Rattle.log_grammar.specs.Demands.{Accounts, IsReplyBy}

@@ -2,7 +2,7 @@
 use Rattle.std.proofs.Common.{inl, inr, ℕ, List, [], ◌∷◌, ◌++◌, sym, subst}
 use Rattle.std.specs.Prelude.{flat_map}
 use Rattle.std.specs.List.{AllByRecursion, AllZip}
-use Rattle.otp_core.specs.Secret.{IsMoment}
+use Rattle.otp_core.specs.Ranges.{IsMoment}
 use Rattle.log_grammar.specs.Lines.{LogLine, IsLogInRange, IsLogLine}
 use Rattle.log_grammar.specs.Sessions.{Told, Session, session, session_lines, session_told, Login, no_login, quits_login, with_first, without_first, login_lines, login_told, Invitation, no_word, turned_away, invited, invitation_lines, invitation_told, First, no_first, quits_first, begins, first_lines, first_told, Answer, no_answer, refused, challenged, answer_lines, answer_told, Proof, no_proof, quits_proof, proves, proof_lines, proof_told, Judgement, unjudged, denied, granted, judgement_lines, judgement_told, Codes, no_code, quits_codes, asked, replied, halted_at, codes_lines, codes_told}
 use Rattle.log_grammar.specs.Demands.{Accounts, demands}

@@ -7,7 +7,7 @@ use Rattle.std.specs.Char.{IsAsciiDigit}
 use Rattle.std.specs.List.{list_all}
 use Rattle.std.proofs.lemmas.List.Elements.{All-get_or}
 use Rattle.std.proofs.lemmas.List.Sums.{list_all-from_AllPass}
-use Rattle.otp_core.specs.Secret.{IsDigitCount}
+use Rattle.otp_core.specs.Ranges.{IsDigitCount}
 use Rattle.otp_core.specs.Code.{IsCodeText}
 use Rattle.otp_core.proofs.DigitsLemmas.{IsCodeText-last_digits}
 use Rattle.otp_core.specs.declared.token.kinds.Fields.TheVariants.{Hotp}

@@ -3,7 +3,7 @@ use Rattle.std.proofs.Common.{◌≡◌, ℕ, ◌+◌, ◌<◌, List, [], ◌∷
 use Rattle.std.specs.declared.option.Option.{Option}
 use Rattle.std.specs.declared.option.Option.TheVariants.{Some}
 use Rattle.otp_core.specs.Attempt.{TwoTexts}
-use Rattle.otp_core.specs.Secret.{IsDigitCount, IsMoment}
+use Rattle.otp_core.specs.Ranges.{IsDigitCount, IsMoment}
 use Rattle.otp_core.specs.Reply.{IsDueReply, code_text}
 use Rattle.otp_core.specs.declared.token.answer.Reply.TheVariants.{Pass, Fail}
 use Rattle.otp_core.specs.declared.token.kinds.Fields.{Fields}

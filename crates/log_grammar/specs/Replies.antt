@@ -3,7 +3,7 @@
 use Rattle.std.specs.Prelude.{ℕ, ◌≡◌, ◌<◌, ◌+◌, List, [], ◌∷◌, ◌++◌, reverse}
 use Rattle.std.specs.declared.option.Option.TheVariants.{Some}
 use Rattle.otp_core.specs.Attempt.{CodeTexts, passed}
-use Rattle.otp_core.specs.Secret.{IsDigitCount, IsMoment}
+use Rattle.otp_core.specs.Ranges.{IsDigitCount, IsMoment}
 use Rattle.otp_core.specs.Window.{IsAbove}
 use Rattle.otp_core.specs.Reply.{code_text, IsFitting}
 use Rattle.otp_core.specs.declared.token.answer.Reply.TheVariants.{Pass}

@@ -1,7 +1,7 @@
 //! Small logs, judged by the definitions: which are clean, and where a log is at fault and why. Each is a theorem,
 //! on lines that need no hash.
 ghost use Rattle.std.specs.Prelude.{ℕ, ◌≡◌, ◌<◌, ◌≤◌, ◌+◌, List, [], ◌∷◌, ◌++◌, length, codes, flat_map, Some};
-ghost use Rattle.otp_core.specs.Secret.{IsDigitCount, IsMoment};
+ghost use Rattle.otp_core.specs.Ranges.{IsDigitCount, IsMoment};
 ghost use Rattle.otp_core.specs.declared.token.answer.Reply.TheVariants.{Pass, Fail};
 ghost use Rattle.otp_core.specs.declared.token.kinds.Fields.TheVariants.{Hotp, Totp};
 ghost use Rattle.otp_core.specs.declared.token.kinds.HotpFields.{HotpFields};

@@ -5,7 +5,7 @@ use Rattle.std.specs.Char.{IsAsciiDigit}
 use Rattle.std.specs.Str.{IsUtf8, byte}
 use Rattle.std.proofs.lemmas.Str.{IsUtf8-from_ascii}
 use Rattle.std.proofs.lemmas.Grind.{common_steps}
-use Rattle.otp_core.specs.Secret.{IsDigitCount}
+use Rattle.otp_core.specs.Ranges.{IsDigitCount}
 use Rattle.otp_core.specs.Code.{last_digits, IsCodeText}
 
 -- there are as many digits as asked for

@@ -1,6 +1,6 @@
 -- Histories that go on from where others led, and the one reply that is due.
 use Rattle.std.proofs.Common.{◌≡◌, ◌≤◌, ◌<◌, ◌↔◌, ◌++◌, ℕ, List, [], ◌∷◌, refl, ap, arith, ◌∙◌}
-use Rattle.otp_core.specs.Secret.{IsMoment}
+use Rattle.otp_core.specs.Ranges.{IsMoment}
 use Rattle.otp_core.specs.Attempt.{Attempt, CodeTexts, attempt_of}
 use Rattle.otp_core.specs.Window.{IsCandidate, IsPairCandidate}
 use Rattle.otp_core.specs.Reply.{IsDueReply, failures_by}

@@ -1,10 +1,11 @@
 -- Some reply is due to every attempt: whether a counter fits is decided, and those that fit are below a
 -- bound, so there is a least one or none.
-use Rattle.std.proofs.Common.{◌≡◌, ◌+◌, ◌<◌, ◌≤◌, ◌^◌, ◌-◌, ◌⊎◌, ℕ, zero, suc, List, [], ◌∷◌, Option, None, Some, ℤ, arith, inl, inr, refl, subst}
+use Rattle.std.proofs.Common.{◌≡◌, ◌+◌, ◌<◌, ◌≤◌, ◌^◌, ◌⊎◌, ℕ, zero, suc, List, [], ◌∷◌, Option, None, Some, ℤ, arith, inl, inr, refl, subst}
 use Rattle.std.proofs.lemmas.Bool.{cases_Bool, cases_lt}
 use Rattle.std.specs.Prelude.{◌≤ℤ◌, ◌+ℤ◌, ◌-ℤ◌, pos}
 use Rattle.std.specs.Option.{ForSome}
 use Rattle.mac_core.proofs.Decided.{Decided, decided_by, decided_both, decided_le, decided_lt, decided_same}
+use Rattle.otp_core.specs.Ranges.{most_counter}
 use Rattle.otp_core.specs.Attempt.{Attempt, CodeTexts, passed}
 use Rattle.otp_core.specs.Window.{IsAbove, IsCandidate, IsPairCandidate, IsInWindow, IsStepNear, first_in_window, drift_after, step_at}
 use Rattle.otp_core.specs.Reply.{IsDueReply, IsFitting, code_text, failures_after, limit_of}
@@ -35,10 +36,10 @@ decided_last (Some last) w =
 
 decided_counter : (first look_ahead c : ℕ) → Decided (IsInWindow first look_ahead c)
 decided_counter first look_ahead c =
-    decided_by ((first ≤ c) × ((c ≤ first + look_ahead) × (c ≤ 2 ^ 63 - 2))) (IsInWindow first look_ahead c)
+    decided_by ((first ≤ c) × ((c ≤ first + look_ahead) × (c ≤ most_counter))) (IsInWindow first look_ahead c)
     (λ h. record { not_before = h.0; within = h.1.0; most = h.1.1 })
     (λ d. (d.not_before, (d.within, d.most)))
-    (decided_both _ _ (decided_le first c) (decided_both _ _ (decided_le c (first + look_ahead)) (decided_le c (2 ^ 63 - 2))))
+    (decided_both _ _ (decided_le first c) (decided_both _ _ (decided_le c (first + look_ahead)) (decided_le c most_counter)))
 
 decided_near : (now : ℕ) (drift : ℤ) (back ahead max_drift w : ℕ) → Decided (IsStepNear now drift back ahead max_drift w)
 decided_near now drift back ahead max_drift w =
@@ -64,7 +65,7 @@ decided_candidate (Totp t) h m w =
     (decided_both _ _ (decided_last t.last w) (decided_above (passed h) w))))
 
 decided_pair : (s : Fields) (h : List Attempt) (w : ℕ) → Decided (IsPairCandidate s h w)
-decided_pair (Hotp t) h w = decided_both _ _ (decided_counter (first_in_window t.next (passed h)) t.sync_ahead w) (decided_le (w + 1) (2 ^ 63 - 2))
+decided_pair (Hotp t) h w = decided_both _ _ (decided_counter (first_in_window t.next (passed h)) t.sync_ahead w) (decided_le (w + 1) most_counter)
 decided_pair (Totp t) h w = inr (λ pair. pair)
 
 -- whether a counter fits what was said is decided

@@ -1,6 +1,7 @@
 -- Two codes in a row: what was found fits, and the reply by it is the one that is due.
-use Rattle.std.proofs.Common.{◌≡◌, ◌≤◌, ◌<◌, ◌+◌, ◌-◌, ◌^◌, ◌↔◌, ℕ, List, [], Option, None, Some, sym, subst, arith}
+use Rattle.std.proofs.Common.{◌≡◌, ◌≤◌, ◌<◌, ◌+◌, ◌↔◌, ℕ, List, [], Option, None, Some, sym, subst, arith}
 use Rattle.std.specs.Prelude.{IfSome, IfNone}
+use Rattle.otp_core.specs.Ranges.{most_counter}
 use Rattle.otp_core.specs.Code.{hotp_text_by}
 use Rattle.otp_core.specs.Attempt.{CodeTexts}
 use Rattle.otp_core.specs.Attempt.CodeTexts.{TwoTexts}
@@ -15,7 +16,7 @@ use Rattle.otp_core.specs.declared.token.kinds.Fields.TheVariants.{Hotp, Totp}
 
 -- these are the counters that can be the first of a pair
 abbrev pub AreFirsts : HotpFields → ℕ → ℕ → Type 0
-AreFirsts t from end = (w : ℕ) → (IsInWindow t.next t.sync_ahead w × (w + 1 ≤ 2 ^ 63 - 2)) ↔ ((from ≤ w) × (w < end))
+AreFirsts t from end = (w : ℕ) → (IsInWindow t.next t.sync_ahead w × (w + 1 ≤ most_counter)) ↔ ((from ≤ w) × (w < end))
 
 pub found_fits : (s : Fields) (t : HotpFields) (from end : ℕ) (first second : List ℕ) (o : Option ℕ) → s ≡ Hotp t → AreFirsts t from end
     → IfSome o (λ c. (w : ℕ) × (c ≡ w + 1) × (from ≤ w) × (w < end)

@@ -1,7 +1,7 @@
 -- One more attempt: from a token and its past to any start and history that are alike.
-use Rattle.std.proofs.Common.{◌≡◌, ◌≤◌, ◌<◌, ◌+◌, ◌-◌, ◌^◌, ◌↔◌, ◌++◌, ℕ, pos, ◌-ℤ◌, List, [], ◌∷◌, Option, Some, None, max, refl, sym, ap, subst, arith, ◌∙◌}
+use Rattle.std.proofs.Common.{◌≡◌, ◌≤◌, ◌<◌, ◌+◌, ◌-◌, ◌↔◌, ◌++◌, ℕ, pos, ◌-ℤ◌, List, [], ◌∷◌, Option, Some, None, max, refl, sym, ap, subst, arith, ◌∙◌}
 use Rattle.std.specs.Option.{option_map_or}
-use Rattle.otp_core.specs.Secret.{IsMoment}
+use Rattle.otp_core.specs.Ranges.{IsMoment, most_counter}
 use Rattle.otp_core.specs.Attempt.{Attempt, CodeTexts, attempt_of, counters_of, passed}
 use Rattle.otp_core.specs.Attempt.CodeTexts.{OneText, TwoTexts}
 use Rattle.otp_core.specs.Window.{IsCandidate, IsPairCandidate, IsInWindow, IsStepNear, IsAbove, first_in_window, greatest, step_at}
@@ -133,7 +133,7 @@ window_by (Totp t) m p later c =
 
 -- and the pairs
 pairs_by : Fields → ℕ → ℕ → Type 0
-pairs_by (Hotp t) p w = IsInWindow (p + 1) t.sync_ahead w × (w + 1 ≤ 2 ^ 63 - 2)
+pairs_by (Hotp t) p w = IsInWindow (p + 1) t.sync_ahead w × (w + 1 ≤ most_counter)
 pairs_by (Totp t) p w = ⊥
 
 -- candidates after a pass
@@ -165,8 +165,8 @@ pub pairs_alike : (s t : Fields) (h : List Attempt) (m : ℕ) (said : CodeTexts)
 unfolding pairs_by
 pairs_alike (Hotp s) (Hotp t) h m said p w e fits =
     let first : first_in_window s.next (counters_of said p ++ passed h) ≡ p + 1 = first_after s h m said p fits in (
-      (λ x. subst (λ f. pairs_by f p w) e (subst (λ n. IsInWindow n s.sync_ahead w × (w + 1 ≤ 2 ^ 63 - 2)) first x)),
-      (λ x. subst (λ n. IsInWindow n s.sync_ahead w × (w + 1 ≤ 2 ^ 63 - 2)) (sym first) (subst (λ f. pairs_by f p w) (sym e) x)),
+      (λ x. subst (λ f. pairs_by f p w) e (subst (λ n. IsInWindow n s.sync_ahead w × (w + 1 ≤ most_counter)) first x)),
+      (λ x. subst (λ n. IsInWindow n s.sync_ahead w × (w + 1 ≤ most_counter)) (sym first) (subst (λ f. pairs_by f p w) (sym e) x)),
     )
 pairs_alike (Totp s) (Totp t) h m said p w e fits = ((λ x. x), (λ x. x))
 pairs_alike (Hotp s) (Totp t) h m said p w e fits = absurd (cc)
@@ -234,8 +234,8 @@ after_attempt s t h m said reply is after due = record {
   };
 }
 
--- a counter after whose pass a token is in its ranges is at most 2^63 - 2
-pub counter_in_range : (t : Fields) (moment c : ℕ) (reply : Reply) → reply ≡ Pass c → IsInRange (advanced t moment reply) → c ≤ 2 ^ 63 - 2
+-- a counter after whose pass a token is in its ranges is at most the greatest that can pass
+pub counter_in_range : (t : Fields) (moment c : ℕ) (reply : Reply) → reply ≡ Pass c → IsInRange (advanced t moment reply) → c ≤ most_counter
 counter_in_range (Hotp t) moment c reply is range =
     let next = (rw is at range).next in omega (arith, next)
 counter_in_range (Totp t) moment c reply is range = (rw is at range).last c refl

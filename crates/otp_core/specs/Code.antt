@@ -7,7 +7,7 @@ use Rattle.sha1.specs.Sha1.{sha1}
 use Rattle.sha2.specs.Sha256.{sha256}
 use Rattle.sha2.specs.Sha512.{sha512}
 use Rattle.mac_core.specs.Hmac.{hmac}
-use Rattle.otp_core.specs.Secret.{IsDigitCount}
+use Rattle.otp_core.specs.Ranges.{IsDigitCount}
 use Rattle.otp_core.specs.declared.hash.OtpHash.{OtpHash}
 use Rattle.otp_core.specs.declared.hash.OtpHash.TheVariants.{Sha1, Sha256, Sha512}
 

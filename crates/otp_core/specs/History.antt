@@ -1,6 +1,6 @@
 -- Legal histories, and tokens that are where a start and a history lead.
 use Rattle.std.specs.Prelude.{ℕ, pos, ◌≡◌, ◌↔◌, List, [], ◌∷◌, None}
-use Rattle.otp_core.specs.Secret.{IsMoment}
+use Rattle.otp_core.specs.Ranges.{IsMoment}
 use Rattle.otp_core.specs.Attempt.{Attempt}
 use Rattle.otp_core.specs.Window.{IsCandidate, IsPairCandidate}
 use Rattle.otp_core.specs.Reply.{IsDueReply, failures_after}

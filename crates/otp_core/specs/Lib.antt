@@ -3,6 +3,7 @@ pub mod Code
 pub mod Fault
 pub mod History
 pub mod Laws
+pub mod Ranges
 pub mod Reply
 pub mod Secret
 pub mod Settings

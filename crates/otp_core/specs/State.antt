@@ -1,5 +1,6 @@
 -- How a reply changes a token's state.
-use Rattle.std.specs.Prelude.{ℕ, ◌+◌, ◌-◌, ◌^◌, ◌≤◌, pos, ◌-ℤ◌, [], Option, None, Some}
+use Rattle.std.specs.Prelude.{ℕ, ◌+◌, ◌≤◌, pos, ◌-ℤ◌, [], Option, None, Some}
+use Rattle.otp_core.specs.Ranges.{most_counter}
 use Rattle.otp_core.specs.Window.{step_at, IsCandidate}
 use Rattle.otp_core.specs.declared.token.answer.Reply.{Reply}
 use Rattle.otp_core.specs.declared.token.answer.Reply.TheVariants.{Pass, Fail, Locked}
@@ -8,7 +9,7 @@ use Rattle.otp_core.specs.declared.token.kinds.Fields.TheVariants.{Hotp, Totp}
 
 -- a token can go on after a pass of this counter at a moment
 abbrev pub CanMoveTo : Fields → ℕ → ℕ → Type 0
-CanMoveTo (Hotp t) moment c = c ≤ 2 ^ 63 - 2
+CanMoveTo (Hotp t) moment c = c ≤ most_counter
 CanMoveTo (Totp t) moment w = IsCandidate (Totp t) [] moment w
 
 -- the reply, by the counter that fits

@@ -1,6 +1,7 @@
 -- The counters that can pass, given the start of a token and the history since.
-use Rattle.std.specs.Prelude.{ℕ, ◌+◌, ◌-◌, ◌^◌, ◌≤◌, ◌<◌, max, ℤ, pos, ◌+ℤ◌, ◌-ℤ◌, ◌≤ℤ◌, List, [], ◌∷◌, Option, Some, None}
+use Rattle.std.specs.Prelude.{ℕ, ◌+◌, ◌≤◌, ◌<◌, max, ℤ, pos, ◌+ℤ◌, ◌-ℤ◌, ◌≤ℤ◌, List, [], ◌∷◌, Option, Some, None}
 use Rattle.std.specs.Option.{ForSome, option_map_or}
+use Rattle.otp_core.specs.Ranges.{most_counter}
 use Rattle.otp_core.specs.Code.{steps_from}
 use Rattle.otp_core.specs.Attempt.{Attempt, passed}
 use Rattle.otp_core.specs.declared.token.answer.Reply.{Reply}
@@ -18,11 +19,11 @@ greatest (c ∷ counters) = Some (option_map_or (λ most. max c most) (greatest 
 abbrev pub first_in_window : ℕ → List ℕ → ℕ
 first_in_window next counters = option_map_or (λ most. most + 1) (greatest counters) next
 
--- a counter of HOTP's window (RFC 4226, section 7.4); the greatest that can pass is 2^63 - 2
+-- a counter of HOTP's window (RFC 4226, section 7.4)
 pub record IsInWindow (first ahead c : ℕ) : Type 0 where
   pub not_before : first ≤ c
   pub within : c ≤ first + ahead
-  pub most : c ≤ 2 ^ 63 - 2
+  pub most : c ≤ most_counter
 
 -- T, TOTP's present step (RFC 6238, section 4.2)
 abbrev pub step_at : TotpFields → ℕ → ℕ
@@ -55,7 +56,7 @@ IsAbove (p ∷ counters) w = (p < w) × IsAbove counters w
 -- two codes in a row can pass, the first of them that of this counter: HOTP looks further ahead for them than for one
 -- (RFC 4226, section 7.4)
 abbrev pub IsPairCandidate : Fields → List Attempt → ℕ → Type 0
-IsPairCandidate (Hotp t) history w = IsInWindow (first_in_window t.next (passed history)) t.sync_ahead w × (w + 1 ≤ 2 ^ 63 - 2)
+IsPairCandidate (Hotp t) history w = IsInWindow (first_in_window t.next (passed history)) t.sync_ahead w × (w + 1 ≤ most_counter)
 IsPairCandidate (Totp t) history w = ⊥
 
 -- the counter can pass at a moment, after a history from a start. A step of TOTP passes once, and

@@ -1,6 +1,7 @@
 //! A token's secret, the number of digits of its codes, and moments: each within its range.
 ghost use Rattle.std.specs.Prelude.{◌≡◌, ◌≤◌, List, ℕ, length, MatchResult, MatchOption};
-ghost use Rattle.otp_core.specs.Secret.{IsSecretLength, IsDigitCount, IsMoment};
+ghost use Rattle.otp_core.specs.Secret.{IsSecretLength};
+ghost use Rattle.otp_core.specs.Ranges.{IsDigitCount, IsMoment};
 ghost use Rattle.otp_core.specs.declared.fault.OtpFault.TheVariants.{SecretLength, DigitCount};
 
 use crate::fault::OtpFault;

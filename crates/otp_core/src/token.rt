@@ -1,5 +1,6 @@
 //! Tokens of either kind, each setting within its range.
-ghost use Rattle.std.specs.Prelude.{ℕ, ◌≡◌, ◌≤◌, ◌-◌, ◌^◌, ◌∷◌, List, None, MatchResult};
+ghost use Rattle.std.specs.Prelude.{ℕ, ◌≡◌, ◌≤◌, ◌∷◌, List, None, MatchResult};
+ghost use Rattle.otp_core.specs.Ranges.{most_counter};
 ghost use Rattle.otp_core.specs.Settings.{IsInRange, IsRefusalOf, first_outside, hotp_settings, totp_settings, unlocked};
 ghost use Rattle.otp_core.specs.Attempt.{Attempt, attempt_of};
 ghost use Rattle.otp_core.specs.Attempt.CodeTexts.{OneText, TwoTexts};
@@ -106,7 +107,7 @@ impl Token {
             → IsAfter start history self.old
             → IsAfter start (attempt_of moment (OneText text.now) result ∷ history) self.new }
         ensures state { self.new ≡ advanced self.old moment result }
-        ensures counter { (c : ℕ) → result ≡ Reply.Pass c → c ≤ 2 ^ 63 - 2 }
+        ensures counter { (c : ℕ) → result ≡ Reply.Pass c → c ≤ most_counter }
     {
         prove!(moment.seconds() <= 253_402_300_799);
         answer(&mut self.fields, moment, text)
@@ -127,7 +128,7 @@ impl Token {
         ensures after { (start : TheFields) (history : List Attempt) → IsAfter start history self.old
             → IsAfter start (attempt_of moment (TwoTexts first.now second.now) result ∷ history) self.new }
         ensures state { self.new ≡ advanced self.old moment result }
-        ensures counter { (c : ℕ) → result ≡ Reply.Pass c → c ≤ 2 ^ 63 - 2 }
+        ensures counter { (c : ℕ) → result ≡ Reply.Pass c → c ≤ most_counter }
     {
         prove!(moment.seconds() <= 253_402_300_799);
         answer_pair(&mut self.fields, moment, first, second)

@@ -28,7 +28,7 @@ use Rattle.sasl_desk.specs.Desks.{IsHeld, IsAttemptOf, IsBookWith, all_spent, se
 use Rattle.sasl_desk.specs.Events.{ClientEvent}
 use Rattle.sasl_desk.specs.Guests.{guest_of}
 use Rattle.sasl_desk.specs.Halls.{HallFields, hall_of, hall_lines, numbered_bytes, IsStay, IsPhaseOf, StandsHall, AnswersIn, IsSameHall}
-use Rattle.otp_core.specs.Secret.{IsMoment}
+use Rattle.otp_core.specs.Ranges.{IsMoment}
 use Rattle.sasl_desk.specs.Keeper.{IsAttemptJudged, IsJudged, IsJudgedInRange}
 use Rattle.sasl_desk.specs.Left.{left_of, judged_lines, judged_left, SessionAnswers, AsksJudgement, IsTurnOf, IsTurnWritten}
 use Rattle.sasl_desk.specs.Marks.{mark, marked_bytes}

@@ -4,7 +4,7 @@ use Rattle.std.specs.List.{AllByRecursion}
 use Rattle.std.specs.declared.option.Option.TheVariants.{None, Some}
 use Rattle.std.proofs.lemmas.Slice.Eq.{bytes_eq-Decides}
 use Rattle.otp_core.specs.Attempt.{Attempt, CodeTexts, OneText, TwoTexts, passed, used_by, attempt_of}
-use Rattle.otp_core.specs.Secret.{IsMoment}
+use Rattle.otp_core.specs.Ranges.{IsMoment}
 use Rattle.otp_core.specs.Window.{IsCandidate, IsPairCandidate, IsAbove}
 use Rattle.otp_core.specs.Reply.{IsFitting, IsDueReply as IsReplyTo}
 use Rattle.otp_core.specs.History.{IsAfter, IsLegal}

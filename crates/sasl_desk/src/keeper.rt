@@ -4,7 +4,7 @@ ghost use Rattle.std.specs.Bool.{OnTrue, OnFalse};
 ghost use Rattle.otp_core.specs.Attempt.{Attempt, attempt_of};
 ghost use Rattle.otp_core.specs.History.{IsAfter};
 ghost use Rattle.otp_core.specs.Reply.{IsDueReply};
-ghost use Rattle.otp_core.specs.Secret.{IsMoment};
+ghost use Rattle.otp_core.specs.Ranges.{IsMoment};
 ghost use Rattle.otp_core.specs.State.{advanced};
 ghost use Rattle.otp_core.specs.declared.token.kinds.Fields.{Fields};
 ghost use Rattle.log_grammar.specs.Lines.{IsReplyInRange};

@@ -1,6 +1,6 @@
 //! Settings with types of their own, from values in their ranges.
 ghost use Rattle.std.specs.Prelude.{◌≡◌, ◌≤◌, length};
-ghost use Rattle.otp_core.specs.Secret.{IsDigitCount, IsMoment};
+ghost use Rattle.otp_core.specs.Ranges.{IsDigitCount, IsMoment};
 
 use mac_core::Tag;
 use otp_core::{Digits, Moment, Secret};

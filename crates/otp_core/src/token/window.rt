@@ -1,9 +1,9 @@
 //! The counters that can pass now, as one range.
-ghost use Rattle.std.specs.Prelude.{◌≡◌, ◌≤◌, ◌<◌, ◌↔◌, ◌+◌, ◌-◌, ◌^◌, ℕ, pos, ◌-ℤ◌, [], nat_abs, Option};
+ghost use Rattle.std.specs.Prelude.{◌≡◌, ◌≤◌, ◌<◌, ◌↔◌, ◌+◌, ◌^◌, ℕ, pos, ◌-ℤ◌, [], nat_abs, Option};
 ghost use Rattle.std.specs.Option.{ForSome};
 ghost use Rattle.otp_core.specs.Settings.{IsHotpInRange, IsTotpInRange, IsInRange};
 ghost use Rattle.otp_core.specs.Window.{IsInWindow, IsStepNear, IsCandidate, step_at};
-ghost use Rattle.otp_core.specs.Secret.{IsMoment};
+ghost use Rattle.otp_core.specs.Ranges.{IsMoment, last_moment, most_counter, most_steps, most_drift};
 
 use crate::code::step;
 use crate::secret::Moment;
@@ -44,7 +44,7 @@ fn counters_due(token: &HotpFields) -> Counters
 /// The counters that can be the first of a pair that passes.
 pub(crate) fn pairs_due(token: &HotpFields) -> Counters
     requires { IsHotpInRange token.now }
-    ensures pairs { (w : ℕ) → (IsInWindow token.now.next token.now.sync_ahead w × (w + 1 ≤ 2 ^ 63 - 2))
+    ensures pairs { (w : ℕ) → (IsInWindow token.now.next token.now.sync_ahead w × (w + 1 ≤ most_counter))
         ↔ ((result.first ≤ w) × (w < result.end)) }
     ensures most { result.end ≤ 2 ^ 63 }
 {
@@ -56,10 +56,10 @@ pub(crate) fn pairs_due(token: &HotpFields) -> Counters
 
 // By how many steps a clock is fast, and by how many it is slow; one of them is 0.
 fn fast_and_slow(drift: i64) -> (u64, u64)
-    requires { nat_abs drift ≤ 100 }
+    requires { nat_abs drift ≤ most_drift }
     ensures value { drift ≡ pos result.0 -ℤ pos result.1 }
-    ensures fast { result.0 ≤ 100 }
-    ensures slow { result.1 ≤ 100 }
+    ensures fast { result.0 ≤ most_drift }
+    ensures slow { result.1 ≤ most_drift }
 {
     if drift < 0 {
         (0, drift.unsigned_abs())
@@ -69,11 +69,11 @@ fn fast_and_slow(drift: i64) -> (u64, u64)
 }
 
 fn steps_near(now: u64, drift: i64, back: u64, ahead: u64, max_drift: u64) -> Counters
-    requires now { now ≤ 253402300799 }
-    requires drift { nat_abs drift ≤ 100 }
-    requires back { back ≤ 10 }
-    requires ahead { ahead ≤ 10 }
-    requires max_drift { max_drift ≤ 100 }
+    requires now { now ≤ last_moment }
+    requires drift { nat_abs drift ≤ most_drift }
+    requires back { back ≤ most_steps }
+    requires ahead { ahead ≤ most_steps }
+    requires max_drift { max_drift ≤ most_drift }
     ensures { (w : ℕ) → IsStepNear now drift back ahead max_drift w ↔ ((result.first ≤ w) × (w < result.end)) }
 {
     let (fast, slow) = fast_and_slow(drift);
@@ -88,7 +88,7 @@ fn steps_near(now: u64, drift: i64, back: u64, ahead: u64, max_drift: u64) -> Co
 // The steps near the present one that are above the last that passed.
 fn steps_due(token: &TotpFields, now: u64) -> Counters
     requires range { IsTotpInRange token.now }
-    requires now { now ≤ 253402300799 }
+    requires now { now ≤ last_moment }
     ensures { (w : ℕ) → (IsStepNear now token.now.drift token.now.back token.now.ahead token.now.max_drift w
         × ForSome token.now.last (λ l. l < w)) ↔ ((result.first ≤ w) × (w < result.end)) }
 {

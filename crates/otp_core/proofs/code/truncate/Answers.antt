@@ -1,6 +1,6 @@
 use Rattle.std.proofs.Common.{◌≤◌, ◌^◌, arith, lit≤}
 use Rattle.std.proofs.Math.Nat.{one-le-pow}
-use Rattle.otp_core.specs.Secret.{IsDigitCount}
+use Rattle.otp_core.specs.Ranges.{IsDigitCount}
 use Rattle.otp_core.proofs.DigitsLemmas.{IsCodeText-last_digits}
 use Rattle.otp_core.proofs.code.truncate.Goals as goal
 

@@ -1,0 +1,42 @@
+-- The ranges of numbers of digits, of moments, and of the settings and the state of tokens.
+use Rattle.std.specs.Prelude.{ℕ, ◌-◌, ◌^◌, ◌≤◌}
+
+-- a code has 6 to 8 digits (RFC 4226, section 5.3)
+abbrev pub IsDigitCount : ℕ → Type 0
+IsDigitCount count = (6 ≤ count) × (count ≤ 8)
+
+-- the last second of the year 9999
+abbrev pub last_moment : ℕ
+last_moment = 253402300799
+
+-- a moment is at most the last second of the year 9999
+abbrev pub IsMoment : ℕ → Type 0
+IsMoment seconds = seconds ≤ last_moment
+
+-- the greatest counter that can pass: the one after it is still a number that a book's text can have
+abbrev pub most_counter : ℕ
+most_counter = 2 ^ 63 - 2
+
+-- the most counters after the first that HOTP looks ahead for one code
+abbrev pub most_look_ahead : ℕ
+most_look_ahead = 100
+
+-- the most counters after the first that HOTP looks ahead for two codes in a row
+abbrev pub most_sync_ahead : ℕ
+most_sync_ahead = 1000
+
+-- the longest step of TOTP, in seconds
+abbrev pub most_step : ℕ
+most_step = 3600
+
+-- the most steps that TOTP looks back, and the most that it looks ahead
+abbrev pub most_steps : ℕ
+most_steps = 10
+
+-- the greatest max_drift of TOTP, in steps
+abbrev pub most_drift : ℕ
+most_drift = 100
+
+-- the greatest number of failures that locks a token
+abbrev pub most_limit : ℕ
+most_limit = 100
