@@ -3,7 +3,7 @@ use Rattle.std.proofs.Common.{◌≡◌, inl, inr, ℕ, zero, suc, ◌≤◌, Li
 use Rattle.std.specs.declared.option.Option.{Option}
 use Rattle.std.specs.declared.option.Option.TheVariants.{None, Some}
 use Rattle.scram_text.specs.Laws.{SpellsOneName, HasOneClientFirst}
-use Rattle.otp_core.specs.Attempt.{CodeTexts, passed}
+use Rattle.otp_core.specs.Attempt.{CodeTexts, used_in}
 use Rattle.otp_core.specs.Reply.{IsDueReply}
 use Rattle.otp_core.specs.Laws.{CandidatesAreNew}
 use Rattle.otp_core.specs.declared.token.answer.Reply.{Reply}
@@ -113,5 +113,5 @@ numbered_rise one_first names new limit accounts log more account n moment count
 
 pub none_used_twice_numbered : CandidatesAreNew → NoNumberedCounterIsUsedTwice
 none_used_twice_numbered new limit accounts log places told account s =
-    subst (λ (l : List Told). AreRising (passed (attempts_of account l))) (append-nil (reverse told))
+    subst (λ (l : List Told). AreRising (used_in (attempts_of account l))) (append-nil (reverse told))
     (all_rise new accounts account [] told s.replies tt)

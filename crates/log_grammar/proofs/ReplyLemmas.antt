@@ -14,7 +14,7 @@ use Rattle.otp_core.specs.declared.token.kinds.Fields.TheVariants.{Hotp}
 use Rattle.otp_core.specs.declared.token.kinds.HotpFields.{HotpFields}
 use Rattle.log_grammar.specs.Words.{is_code_char, IsCodeWord, IsCounter}
 use Rattle.log_grammar.specs.Logins.{LoginsAreAnswered}
-use Rattle.otp_core.specs.Attempt.{Attempt, CodeTexts, OneText, TwoTexts, counters_of, passed}
+use Rattle.otp_core.specs.Attempt.{Attempt, CodeTexts, OneText, TwoTexts, counters_of, used_in}
 use Rattle.otp_core.specs.Window.{IsAbove, IsInWindow}
 use Rattle.otp_core.specs.Reply.{IsDueReply, IsFitting, code_text}
 use Rattle.otp_core.specs.Laws.{CandidatesAreNew}
@@ -68,10 +68,10 @@ above_next (p ∷ counters) w c next above = (omega (arith, next, above.0), abov
 
 -- a counter that fits, and the one before it where two codes fit, is above all that passed
 pub fits_above : CandidatesAreNew → (token : Fields) (attempts : List Attempt) (moment : ℕ) (sent : CodeTexts) (c : ℕ)
-    → IsFitting token attempts moment sent c → IsAbove (passed attempts) c
+    → IsFitting token attempts moment sent c → IsAbove (used_in attempts) c
 fits_above new token attempts moment (OneText text) c fits = new token attempts moment c (inl fits.0)
 fits_above new token attempts moment (TwoTexts first second) c fits =
-    above_next (passed attempts) fits.0 c fits.1 (new token attempts moment fits.0 (inr fits.2))
+    above_next (used_in attempts) fits.0 c fits.1 (new token attempts moment fits.0 (inr fits.2))
 
 -- a number above what a pass used, and what passed before, is above its counter, and above what passed before
 above_used : (sent : CodeTexts) (c : ℕ) (counters : List ℕ) (d : ℕ) → IsAbove (counters_of sent c ++ counters) d → (c < d) × IsAbove counters d
@@ -79,31 +79,31 @@ above_used (OneText text) c counters d above = above
 above_used (TwoTexts first second) c counters d above = (above.0, above.1.1)
 
 -- a counter above all that passed is above those that passed in fewer attempts
-above_by : (t : Told) (reply : Option Reply) (attempts : List Attempt) (d : ℕ) → IsAbove (passed (attempts_by t reply attempts)) d → IsAbove (passed attempts) d
+above_by : (t : Told) (reply : Option Reply) (attempts : List Attempt) (d : ℕ) → IsAbove (used_in (attempts_by t reply attempts)) d → IsAbove (used_in attempts) d
 above_by t None attempts d above = above
-above_by t (Some (Pass c)) attempts d above = (above_used t.sent c (passed attempts) d above).1
+above_by t (Some (Pass c)) attempts d above = (above_used t.sent c (used_in attempts) d above).1
 above_by t (Some Fail) attempts d above = above
 above_by t (Some Locked) attempts d above = above
 
-above_taken : (account : List ℕ) (t : Told) (before : List Told) (d : ℕ) → IsAbove (passed (attempts_of account (t ∷ before))) d
-    → IsAbove (passed (attempts_of account before)) d
+above_taken : (account : List ℕ) (t : Told) (before : List Told) (d : ℕ) → IsAbove (used_in (attempts_of account (t ∷ before))) d
+    → IsAbove (used_in (attempts_of account before)) d
 above_taken account t before d above = elim (of_account t account) [
   | inl is ↦ above_by t t.reply (attempts_of account before) d (rw is.1 at above)
   | inr other ↦ rw other.0 at above
 ]
 
-above_late : (account : List ℕ) (late early : List Told) (d : ℕ) → IsAbove (passed (attempts_of account (late ++ early))) d
-    → IsAbove (passed (attempts_of account early)) d
+above_late : (account : List ℕ) (late early : List Told) (d : ℕ) → IsAbove (used_in (attempts_of account (late ++ early))) d
+    → IsAbove (used_in (attempts_of account early)) d
 above_late account [] early d above = above
 above_late account (t ∷ late) early d above = above_late account late early d (above_taken account t (late ++ early) d above)
 
 above_pass : (account : List ℕ) (t : Told) (before : List Told) (c d : ℕ) → t.account ≡ account → t.reply ≡ Some (Pass c)
-    → IsAbove (passed (attempts_of account (t ∷ before))) d → c < d
+    → IsAbove (used_in (attempts_of account (t ∷ before))) d → c < d
 above_pass account t before c d is passes above = elim (of_account t account) [
   | inl same ↦
-      let taken : IsAbove (passed (attempts_by t t.reply (attempts_of account before))) d = rw same.1 at above in
-      let by = subst (λ (r : Option Reply). IsAbove (passed (attempts_by t r (attempts_of account before))) d) passes taken in
-      (above_used t.sent c (passed (attempts_of account before)) d by).0
+      let taken : IsAbove (used_in (attempts_by t t.reply (attempts_of account before))) d = rw same.1 at above in
+      let by = subst (λ (r : Option Reply). IsAbove (used_in (attempts_by t r (attempts_of account before))) d) passes taken in
+      (above_used t.sent c (used_in (attempts_of account before)) d by).0
   | inr other ↦ absurd (other.1 is)
 ]
 
@@ -118,8 +118,8 @@ later new token account last told at d fits mine moment counter sent before rest
     let t = told_of mine moment sent (Some (Pass counter)) in
     let above = fits_above new token (attempts_of account (reverse told)) at last d fits in
     let split = tells ∙ append_assoc before (t ∷ []) rest in
-    let turned = subst (λ (l : List Told). IsAbove (passed (attempts_of account (reverse l))) d) split above in
-    let here = subst (λ (l : List Told). IsAbove (passed (attempts_of account l)) d) (turned_part before rest t) turned in
+    let turned = subst (λ (l : List Told). IsAbove (used_in (attempts_of account (reverse l))) d) split above in
+    let here = subst (λ (l : List Told). IsAbove (used_in (attempts_of account l)) d) (turned_part before rest t) turned in
     above_pass account t (reverse before) counter d same refl (above_late account (reverse rest) (t ∷ reverse before) d here)
 
 pub counters_rise : HasOneClientFirst → SpellsOneName → CandidatesAreNew → EachReplyIsDue → CountersRise

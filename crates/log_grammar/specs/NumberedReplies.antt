@@ -1,7 +1,7 @@
 -- Codes that passed in a log of version 2, in whichever of its sessions.
 use Rattle.std.specs.Prelude.{ℕ, ◌≡◌, ◌<◌, List, [], ◌∷◌, ◌++◌, reverse}
 use Rattle.std.specs.declared.option.Option.TheVariants.{Some}
-use Rattle.otp_core.specs.Attempt.{CodeTexts, passed}
+use Rattle.otp_core.specs.Attempt.{CodeTexts, used_in}
 use Rattle.otp_core.specs.Reply.{IsFitting}
 use Rattle.otp_core.specs.declared.token.kinds.Fields.{Fields}
 use Rattle.log_grammar.specs.Lines.{LogLine}
@@ -43,4 +43,4 @@ NumberedCountersRise = (limit : ℕ) (accounts : Accounts) (log more : List (Num
 -- the counters that an account's codes use in a log, both counters of two codes in a row, rise: none is used twice
 abbrev pub NoNumberedCounterIsUsedTwice : Type 0
 NoNumberedCounterIsUsedTwice = (limit : ℕ) (accounts : Accounts) (log : List (Numbered LogLine)) (places : ℕ → Place) (told : List Told) (account : List ℕ)
-    → SpellsNumbered limit (demands accounts) log places told → AreRising (passed (attempts_of account (reverse told)))
+    → SpellsNumbered limit (demands accounts) log places told → AreRising (used_in (attempts_of account (reverse told)))

@@ -2,7 +2,7 @@
 -- codes that do pass, one alone and two in a row.
 use Rattle.std.specs.Prelude.{ℕ, ◌≡◌, ◌<◌, ◌+◌, List, [], ◌∷◌, ◌++◌, reverse}
 use Rattle.std.specs.declared.option.Option.TheVariants.{Some}
-use Rattle.otp_core.specs.Attempt.{CodeTexts, passed}
+use Rattle.otp_core.specs.Attempt.{CodeTexts, used_in}
 use Rattle.otp_core.specs.Ranges.{IsDigitCount, IsMoment}
 use Rattle.otp_core.specs.Window.{IsAbove}
 use Rattle.otp_core.specs.Reply.{code_text, IsFitting}
@@ -56,7 +56,7 @@ AreRising (c ∷ before) = IsAbove before c × AreRising before
 -- the counters that an account's codes use in a log, both counters of two codes in a row, rise: none is used twice
 abbrev pub NoCounterIsUsedTwice : Type 0
 NoCounterIsUsedTwice = (accounts : Accounts) (log : List LogLine) (place : Place) (told : List Told) (account : List ℕ)
-    → Begins (demands accounts) log place told → AreRising (passed (attempts_of account (reverse told)))
+    → Begins (demands accounts) log place told → AreRising (used_in (attempts_of account (reverse told)))
 
 -- after a valid login, the code of the next counter of an account's HOTP token passes, where failures do not lock it
 -- and the counter is not used up

@@ -6,7 +6,7 @@ use Rattle.std.specs.Prelude.{◌≤ℤ◌, ◌+ℤ◌, ◌-ℤ◌, pos}
 use Rattle.std.specs.Option.{ForSome}
 use Rattle.mac_core.proofs.Decided.{Decided, decided_by, decided_both, decided_le, decided_lt, decided_same}
 use Rattle.otp_core.specs.Ranges.{most_counter}
-use Rattle.otp_core.specs.Attempt.{Attempt, CodeTexts, passed}
+use Rattle.otp_core.specs.Attempt.{Attempt, CodeTexts, used_in}
 use Rattle.otp_core.specs.Window.{IsAbove, IsCandidate, IsPairCandidate, IsInWindow, IsStepNear, first_in_window, drift_after, step_at}
 use Rattle.otp_core.specs.Reply.{IsDueReply, IsFitting, code_text, failures_after, limit_of}
 use Rattle.otp_core.specs.Laws.{SomeReplyIsDue}
@@ -54,18 +54,18 @@ decided_near now drift back ahead max_drift w =
 
 -- whether a counter can pass is decided
 decided_candidate : (s : Fields) (h : List Attempt) (m c : ℕ) → Decided (IsCandidate s h m c)
-decided_candidate (Hotp t) h m c = decided_counter (first_in_window t.next (passed h)) t.look_ahead c
+decided_candidate (Hotp t) h m c = decided_counter (first_in_window t.next (used_in h)) t.look_ahead c
 decided_candidate (Totp t) h m w =
     let near : Type 0 = IsStepNear (step_at t m) (drift_after t h) t.back t.ahead t.max_drift w in
-    decided_by ((t.t0 ≤ m) × (near × (ForSome t.last (λ l. l < w) × IsAbove (passed h) w))) (IsCandidate (Totp t) h m w)
+    decided_by ((t.t0 ≤ m) × (near × (ForSome t.last (λ l. l < w) × IsAbove (used_in h) w))) (IsCandidate (Totp t) h m w)
     (λ d. (d.0, d.1.0, d.1.1.0, d.1.1.1))
     (λ d. (d.0, (d.1, (d.2, d.3))))
     (decided_both _ _ (decided_le t.t0 m)
     (decided_both _ _ (decided_near (step_at t m) (drift_after t h) t.back t.ahead t.max_drift w)
-    (decided_both _ _ (decided_last t.last w) (decided_above (passed h) w))))
+    (decided_both _ _ (decided_last t.last w) (decided_above (used_in h) w))))
 
 decided_pair : (s : Fields) (h : List Attempt) (w : ℕ) → Decided (IsPairCandidate s h w)
-decided_pair (Hotp t) h w = decided_both _ _ (decided_counter (first_in_window t.next (passed h)) t.sync_ahead w) (decided_le (w + 1) most_counter)
+decided_pair (Hotp t) h w = decided_both _ _ (decided_counter (first_in_window t.next (used_in h)) t.sync_ahead w) (decided_le (w + 1) most_counter)
 decided_pair (Totp t) h w = inr (λ pair. pair)
 
 -- whether a counter fits what was said is decided

@@ -2,7 +2,7 @@
 use Rattle.std.proofs.Common.{◌≡◌, ◌≤◌, ◌<◌, ◌+◌, ◌-◌, ◌↔◌, ◌++◌, ℕ, pos, ◌-ℤ◌, List, [], ◌∷◌, Option, Some, None, max, refl, sym, ap, subst, arith, ◌∙◌}
 use Rattle.std.specs.Option.{option_map_or}
 use Rattle.otp_core.specs.Ranges.{IsMoment, most_counter}
-use Rattle.otp_core.specs.Attempt.{Attempt, CodeTexts, attempt_of, counters_of, passed}
+use Rattle.otp_core.specs.Attempt.{Attempt, CodeTexts, attempt_of, counters_of, used_in}
 use Rattle.otp_core.specs.Attempt.CodeTexts.{OneText, TwoTexts}
 use Rattle.otp_core.specs.Window.{IsCandidate, IsPairCandidate, IsInWindow, IsStepNear, IsAbove, first_in_window, greatest, step_at}
 use Rattle.otp_core.specs.Reply.{IsDueReply, IsFitting, code_text, limit_of, failures_of, failures_after, failures_by}
@@ -109,11 +109,11 @@ pair_first_of (Some m) next w h = omega arith
 
 -- HOTP's first counter is one after what was said has passed
 pub first_after : (t : HotpFields) (h : List Attempt) (m : ℕ) (said : CodeTexts) (p : ℕ) → IsFitting (Hotp t) h m said p
-    → first_in_window t.next (counters_of said p ++ passed h) ≡ p + 1
-first_after t h m (OneText text) p fits = first_of (greatest (passed h)) t.next p fits.0.not_before
+    → first_in_window t.next (counters_of said p ++ used_in h) ≡ p + 1
+first_after t h m (OneText text) p fits = first_of (greatest (used_in h)) t.next p fits.0.not_before
 first_after t h m (TwoTexts one other) p (w, next, pair, first, second) =
-    subst (λ (n : ℕ). first_in_window t.next (counters_of (TwoTexts one other) n ++ passed h) ≡ n + 1) (sym next)
-    (pair_first_of (greatest (passed h)) t.next w pair.0.not_before)
+    subst (λ (n : ℕ). first_in_window t.next (counters_of (TwoTexts one other) n ++ used_in h) ≡ n + 1) (sym next)
+    (pair_first_of (greatest (used_in h)) t.next w pair.0.not_before)
 
 -- no pair of TOTP codes fits
 no_pair : (t : TotpFields) (h : List Attempt) (m : ℕ) (one other : List ℕ) (c : ℕ) → IsFitting (Totp t) h m (TwoTexts one other) c → ⊥
@@ -142,7 +142,7 @@ pub pass_alike : (s t : Fields) (h : List Attempt) (m : ℕ) (said : CodeTexts) 
     → IsCandidate s (attempt_of m said (Pass p) ∷ h) later c ↔ IsCandidate (after_pass t m p) [] later c
 unfolding window_by
 pass_alike (Hotp s) (Hotp t) h m said p later c e fits =
-    let first : first_in_window s.next (counters_of said p ++ passed h) ≡ p + 1 = first_after s h m said p fits in (
+    let first : first_in_window s.next (counters_of said p ++ used_in h) ≡ p + 1 = first_after s h m said p fits in (
       (λ w. subst (λ f. window_by f m p later c) e (subst (λ n. IsInWindow n s.look_ahead c) first w)),
       (λ w. subst (λ n. IsInWindow n s.look_ahead c) (sym first) (subst (λ f. window_by f m p later c) (sym e) w)),
     )
@@ -152,7 +152,7 @@ pass_alike (Totp s) (Totp t) h m (OneText text) p later c e fits = (
       (near.0, near.1, (λ l is. let same : p ≡ l = cc in omega arith), tt)),
   (λ w. let near = subst (λ f. window_by f m p later c) (sym e) (w.0, w.1) in
       let above : p < c = w.2 p refl in
-      (near.0, near.1, (λ l is. let below : l < p = fits.0.2 l is in omega arith), (above, above_more (passed h) p c fits.0.3 above))),
+      (near.0, near.1, (λ l is. let below : l < p = fits.0.2 l is in omega arith), (above, above_more (used_in h) p c fits.0.3 above))),
 )
 pass_alike (Totp s) (Totp t) h m (TwoTexts one other) p later c e fits = absurd (no_pair s h m one other p fits)
 pass_alike (Hotp s) (Totp t) h m said p later c e fits = absurd (cc)
@@ -164,7 +164,7 @@ pub pairs_alike : (s t : Fields) (h : List Attempt) (m : ℕ) (said : CodeTexts)
     → IsPairCandidate s (attempt_of m said (Pass p) ∷ h) w ↔ IsPairCandidate (after_pass t m p) [] w
 unfolding pairs_by
 pairs_alike (Hotp s) (Hotp t) h m said p w e fits =
-    let first : first_in_window s.next (counters_of said p ++ passed h) ≡ p + 1 = first_after s h m said p fits in (
+    let first : first_in_window s.next (counters_of said p ++ used_in h) ≡ p + 1 = first_after s h m said p fits in (
       (λ x. subst (λ f. pairs_by f p w) e (subst (λ n. IsInWindow n s.sync_ahead w × (w + 1 ≤ most_counter)) first x)),
       (λ x. subst (λ n. IsInWindow n s.sync_ahead w × (w + 1 ≤ most_counter)) (sym first) (subst (λ f. pairs_by f p w) (sym e) x)),
     )

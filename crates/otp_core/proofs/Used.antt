@@ -1,7 +1,7 @@
 -- Counters that can pass are above those that have passed.
 use Rattle.std.proofs.Common.{◌≡◌, ◌≤◌, ◌<◌, ◌+◌, ◌++◌, inl, inr, ℕ, List, [], ◌∷◌, Option, Some, None, max, refl, arith}
 use Rattle.std.specs.Option.{option_map_or}
-use Rattle.otp_core.specs.Attempt.{Attempt, CodeTexts, counters_of, used_by, passed}
+use Rattle.otp_core.specs.Attempt.{Attempt, CodeTexts, counters_of, used_by, used_in}
 use Rattle.otp_core.specs.Attempt.CodeTexts.{OneText, TwoTexts}
 use Rattle.otp_core.specs.Window.{IsAbove, first_in_window, greatest}
 use Rattle.otp_core.specs.Reply.{IsDueReply, IsFitting}
@@ -30,8 +30,8 @@ below_first : (o : Option ℕ) (next c : ℕ) → option_map_or (λ m. m + 1) o 
 below_first None next c h m is = absurd (cc)
 below_first (Some g) next c h m is = let same : g ≡ m = cc in omega arith
 
-new_counter : (t : HotpFields) (history : List Attempt) (c : ℕ) → first_in_window t.next (passed history) ≤ c → IsAbove (passed history) c
-new_counter t history c reached = above_greatest (passed history) c (below_first (greatest (passed history)) t.next c reached)
+new_counter : (t : HotpFields) (history : List Attempt) (c : ℕ) → first_in_window t.next (used_in history) ≤ c → IsAbove (used_in history) c
+new_counter t history c reached = above_greatest (used_in history) c (below_first (greatest (used_in history)) t.next c reached)
 
 pub candidates-are_new : CandidatesAreNew
 candidates-are_new (Hotp t) history moment c (inl due) = new_counter t history c due.not_before
@@ -41,31 +41,31 @@ candidates-are_new (Totp t) history moment c (inr pair) = absurd pair
 
 -- a counter that fits is not before HOTP's first
 not_before : (t : HotpFields) (before : List Attempt) (m : ℕ) (said : CodeTexts) (p : ℕ) → IsFitting (Hotp t) before m said p
-    → first_in_window t.next (passed before) ≤ p
+    → first_in_window t.next (used_in before) ≤ p
 not_before t before m (OneText text) p fits = fits.0.not_before
 not_before t before m (TwoTexts one other) p (w, next, pair, first, second) = omega (arith, next, pair.0.not_before)
 
 -- a due reply never moves HOTP's first counter back
 grows_by : (t : HotpFields) (before : List Attempt) (m : ℕ) (said : CodeTexts) (reply : Reply)
-    → t.next ≤ first_in_window t.next (passed before) → IsDueReply (Hotp t) before m said reply
-    → t.next ≤ first_in_window t.next (used_by said reply ++ passed before)
+    → t.next ≤ first_in_window t.next (used_in before) → IsDueReply (Hotp t) before m said reply
+    → t.next ≤ first_in_window t.next (used_by said reply ++ used_in before)
 grows_by t before m said (Pass p) least due =
     let reached = not_before t before m said p due.1 in
-    let first : first_in_window t.next (counters_of said p ++ passed before) ≡ p + 1 = first_after t before m said p due.1 in
+    let first : first_in_window t.next (counters_of said p ++ used_in before) ≡ p + 1 = first_after t before m said p due.1 in
     omega arith
 grows_by t before m said Fail least due = least
 grows_by t before m said Locked least due = least
 
-first_grows : (t : HotpFields) (history : List Attempt) → IsLegal (Hotp t) history → t.next ≤ first_in_window t.next (passed history)
+first_grows : (t : HotpFields) (history : List Attempt) → IsLegal (Hotp t) history → t.next ≤ first_in_window t.next (used_in history)
 first_grows t [] legal = omega arith
 first_grows t (a ∷ before) legal = grows_by t before a.moment a.said a.reply (first_grows t before legal.2) legal.1
 
 pub used-stays_used : UsedStaysUsed
 used-stays_used (Hotp t) history moment c legal (inl due) =
     let least = first_grows t history legal in
-    let reached : first_in_window t.next (passed history) ≤ c = due.not_before in omega arith
+    let reached : first_in_window t.next (used_in history) ≤ c = due.not_before in omega arith
 used-stays_used (Hotp t) history moment c legal (inr pair) =
     let least = first_grows t history legal in
-    let reached : first_in_window t.next (passed history) ≤ c = pair.0.not_before in omega arith
+    let reached : first_in_window t.next (used_in history) ≤ c = pair.0.not_before in omega arith
 used-stays_used (Totp t) history moment c legal (inl due) = due.2
 used-stays_used (Totp t) history moment c legal (inr pair) = absurd pair

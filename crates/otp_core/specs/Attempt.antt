@@ -1,5 +1,6 @@
 -- Attempts at passing a token. A history is the list of those so far, the latest first.
-use Rattle.std.specs.Prelude.{ℕ, ◌-◌, List, [], ◌∷◌, ◌++◌}
+use Rattle.std.specs.Prelude.{ℕ, ◌-◌, List, [], ◌∷◌}
+use Rattle.std.specs.List.{flat_map}
 use Rattle.otp_core.specs.declared.token.answer.Reply.{Reply}
 use Rattle.otp_core.specs.declared.token.answer.Reply.TheVariants.{Pass, Fail, Locked}
 
@@ -30,6 +31,5 @@ used_by said Fail = []
 used_by said Locked = []
 
 -- the counters that a history has used, the latest first: those that passed, and of a pair also the one before
-abbrev pub passed : List Attempt → List ℕ
-passed [] = []
-passed (a ∷ before) = used_by a.said a.reply ++ passed before
+abbrev pub used_in : List Attempt → List ℕ
+used_in history = flat_map (λ a. used_by a.said a.reply) history

@@ -1,7 +1,7 @@
 -- Laws of histories.
 use Rattle.std.specs.Prelude.{ℕ, ◌≡◌, ◌≤◌, ◌<◌, ◌⊎◌, List, [], ◌++◌}
 use Rattle.std.specs.Option.{ForSome}
-use Rattle.otp_core.specs.Attempt.{Attempt, CodeTexts, passed}
+use Rattle.otp_core.specs.Attempt.{Attempt, CodeTexts, used_in}
 use Rattle.otp_core.specs.Window.{IsCandidate, IsPairCandidate, IsAbove}
 use Rattle.otp_core.specs.Reply.{IsDueReply}
 use Rattle.otp_core.specs.History.{IsAfter, IsLegal, AreAlike}
@@ -16,7 +16,7 @@ BeginsWithItself = (token : Fields) → IsAfter token [] token
 -- a counter that can pass, alone or as the first of a pair, is above each that has passed, so no counter passes twice
 abbrev pub CandidatesAreNew : Type 0
 CandidatesAreNew = (start : Fields) (history : List Attempt) (moment c : ℕ)
-    → (IsCandidate start history moment c ⊎ IsPairCandidate start history c) → IsAbove (passed history) c
+    → (IsCandidate start history moment c ⊎ IsPairCandidate start history c) → IsAbove (used_in history) c
 
 -- a counter that a token has not used: HOTP's next or one after it, or a step after TOTP's last
 abbrev pub IsNotUsed : Fields → ℕ → Type 0

@@ -1,9 +1,10 @@
 -- The counters that can pass, given the start of a token and the history since.
 use Rattle.std.specs.Prelude.{ℕ, ◌+◌, ◌≤◌, ◌<◌, max, ℤ, pos, ◌+ℤ◌, ◌-ℤ◌, ◌≤ℤ◌, List, [], ◌∷◌, Option, Some, None}
+use Rattle.std.specs.List.{AllByRecursion}
 use Rattle.std.specs.Option.{ForSome, option_map_or}
 use Rattle.otp_core.specs.Ranges.{most_counter}
 use Rattle.otp_core.specs.Code.{steps_from}
-use Rattle.otp_core.specs.Attempt.{Attempt, passed}
+use Rattle.otp_core.specs.Attempt.{Attempt, used_in}
 use Rattle.otp_core.specs.declared.token.answer.Reply.{Reply}
 use Rattle.otp_core.specs.declared.token.answer.Reply.TheVariants.{Pass, Fail, Locked}
 use Rattle.otp_core.specs.declared.token.kinds.TotpFields.{TotpFields}
@@ -50,21 +51,20 @@ pub record IsStepNear (now : ℕ) (drift : ℤ) (back ahead max_drift w : ℕ) :
 
 -- a counter above each of these
 abbrev pub IsAbove : List ℕ → ℕ → Type 0
-IsAbove [] w = Unit {0}
-IsAbove (p ∷ counters) w = (p < w) × IsAbove counters w
+IsAbove counters w = AllByRecursion (λ c. c < w) counters
 
 -- two codes in a row can pass, the first of them that of this counter: HOTP looks further ahead for them than for one
 -- (RFC 4226, section 7.4)
 abbrev pub IsPairCandidate : Fields → List Attempt → ℕ → Type 0
-IsPairCandidate (Hotp t) history w = IsInWindow (first_in_window t.next (passed history)) t.sync_ahead w × (w + 1 ≤ most_counter)
+IsPairCandidate (Hotp t) history w = IsInWindow (first_in_window t.next (used_in history)) t.sync_ahead w × (w + 1 ≤ most_counter)
 IsPairCandidate (Totp t) history w = ⊥
 
 -- the counter can pass at a moment, after a history from a start. A step of TOTP passes once, and
 -- after it no earlier one (RFC 6238, section 5.2).
 abbrev pub IsCandidate : Fields → List Attempt → ℕ → ℕ → Type 0
-IsCandidate (Hotp t) history moment c = IsInWindow (first_in_window t.next (passed history)) t.look_ahead c
+IsCandidate (Hotp t) history moment c = IsInWindow (first_in_window t.next (used_in history)) t.look_ahead c
 IsCandidate (Totp t) history moment w =
     (t.t0 ≤ moment)
     × IsStepNear (step_at t moment) (drift_after t history) t.back t.ahead t.max_drift w
     × ForSome t.last (λ l. l < w)
-    × IsAbove (passed history) w
+    × IsAbove (used_in history) w

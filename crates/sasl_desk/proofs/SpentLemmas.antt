@@ -3,7 +3,7 @@ use Rattle.std.proofs.Common.{◌≡◌, ◌≢◌, ◌<◌, ◌≤◌, ◌-◌,
 use Rattle.std.specs.List.{AllByRecursion}
 use Rattle.std.specs.declared.option.Option.TheVariants.{None, Some}
 use Rattle.std.proofs.lemmas.Slice.Eq.{bytes_eq-Decides}
-use Rattle.otp_core.specs.Attempt.{Attempt, CodeTexts, OneText, TwoTexts, passed, used_by, attempt_of}
+use Rattle.otp_core.specs.Attempt.{Attempt, CodeTexts, OneText, TwoTexts, used_in, used_by, attempt_of}
 use Rattle.otp_core.specs.Ranges.{IsMoment}
 use Rattle.otp_core.specs.Window.{IsCandidate, IsPairCandidate, IsAbove}
 use Rattle.otp_core.specs.Reply.{IsFitting, IsDueReply as IsReplyTo}
@@ -54,10 +54,10 @@ pub above_first : (xs ys : List ℕ) (c : ℕ) → IsAbove (xs ++ ys) c → IsAb
 above_first [] ys c above = tt
 above_first (x ∷ xs) ys c above = (above.0, above_first xs ys c above.1)
 
-above_earlier : (later earlier : List Attempt) (c : ℕ) → IsAbove (passed (later ++ earlier)) c → IsAbove (passed earlier) c
+above_earlier : (later earlier : List Attempt) (c : ℕ) → IsAbove (used_in (later ++ earlier)) c → IsAbove (used_in earlier) c
 above_earlier [] earlier c above = above
 above_earlier (a ∷ later) earlier c above =
-    above_earlier later earlier c (above_rest (used_by a.said a.reply) (passed (later ++ earlier)) c above)
+    above_earlier later earlier c (above_rest (used_by a.said a.reply) (used_in (later ++ earlier)) c above)
 
 -- what can pass after an attempt is above each counter that the attempt used
 now_above : LegalHistoriesJoin → CandidatesAreNew → (start : Fields) (a : Attempt) (token : Fields) → IsAfter start (a ∷ []) token
