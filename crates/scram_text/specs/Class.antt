@@ -8,9 +8,13 @@ use Rattle.std.specs.Str.{IsUtf8, byte}
 abbrev pub is_comma : ℕ → Bool
 is_comma c = c == byte ","
 
--- printable = %x21-2B / %x2D-7E, from "!" to "~" without the comma, as in nonces: "fyko+d2lbbFgONRv9qkxdawL"
+-- VCHAR = %x21-7E, from "!" to "~" (RFC 5234, appendix B.1)
+abbrev pub is_vchar : ℕ → Bool
+is_vchar c = nat_le (byte "!") c && nat_le c (byte "~")
+
+-- printable = %x21-2B / %x2D-7E, as in nonces: "fyko+d2lbbFgONRv9qkxdawL"
 abbrev pub is_printable : ℕ → Bool
-is_printable c = nat_le (byte "!") c && nat_le c (byte "~") && not (is_comma c)
+is_printable c = is_vchar c && not (is_comma c)
 
 -- a byte of a plain name or a password: %x20-7E, from " " to "~", which SASLprep leaves as it is
 abbrev pub is_plain : ℕ → Bool
