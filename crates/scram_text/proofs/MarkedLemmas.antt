@@ -1,43 +1,18 @@
 -- Messages that may begin with a mandatory extension.
-use Rattle.std.proofs.Common.{◌≡◌, inl, inr, ℕ, suc, ◌+◌, ◌-◌, ◌≤◌, Bool, true, false, ◌&&◌, List, [], ◌∷◌, ◌++◌, length, replicate, refl, sym, ◌∙◌, ap, arith, subst, append-nil, eqb}
+use Rattle.std.proofs.Common.{◌≡◌, inr, ℕ, suc, ◌+◌, ◌-◌, ◌≤◌, true, false, List, [], ◌∷◌, ◌++◌, length, replicate, refl, sym, ◌∙◌, ap, arith, subst, append-nil}
 use Rattle.std.specs.Prelude.{codes, IfSome}
-use Rattle.std.specs.List.{onto_first, AllByRecursion}
+use Rattle.std.specs.List.{AllByRecursion}
 use Rattle.std.specs.declared.option.Option.{Option}
 use Rattle.std.specs.declared.option.Option.TheVariants.{None, Some}
-use Rattle.std.proofs.lemmas.Bool.{cases_Bool, eqb-true}
-use Rattle.scram_text.specs.Class.{is_comma}
 use Rattle.scram_text.specs.Name.{LacksComma}
-use Rattle.scram_text.specs.Parts.{parts, is_headed, mext_parts, IsValue, IsHeaded}
+use Rattle.scram_text.specs.Parts.{is_headed, mext_parts, IsValue, IsHeaded}
 use Rattle.scram_text.specs.Faults.{fault, IsFirstMisfit, IsPartFault, places, first_of, marked_places}
 use Rattle.scram_text.specs.Pieces.{IsMarked, IsMextMisfit}
 use Rattle.scram_text.specs.declared.fault.TextFault.{TextFault}
 use Rattle.scram_text.specs.declared.fault.TextWhy.{TextWhy}
 use Rattle.scram_text.specs.declared.fault.TextWhy.TheVariants.{Mandatory, Extension}
-use Rattle.scram_text.proofs.PartLemmas.{parts_count, misfit_here, misfit_later}
+use Rattle.scram_text.proofs.PartLemmas.{misfit_here, misfit_later}
 use Rattle.scram_text.proofs.PlaceLemmas.{AllFit, fits_cons, places_of}
-
-and_false : (b : Bool) → (b && false) ≡ false
-and_false true = refl
-and_false false = refl
-
-first_onto : (a b : ℕ) (pieces : List (List ℕ)) → 1 ≤ length pieces → first_of (onto_first a (onto_first b pieces)) ≡ a ∷ b ∷ first_of pieces
-first_onto a b [] some = absurd (omega (arith, some))
-first_onto a b (piece ∷ pieces) some = refl
-
--- a text begins with "m=" exactly where its first part does
-pub is_headed-first : (text : List ℕ) → is_headed 109 text ≡ is_headed 109 (first_of (parts text))
-is_headed-first [] = refl
-is_headed-first (a ∷ []) = elim (cases_Bool (is_comma a)) [
-  | inl hit ↦ rw hit refl
-  | inr miss ↦ rw miss refl
-]
-is_headed-first (a ∷ b ∷ text) = elim (cases_Bool (is_comma a)) [
-  | inl hit ↦ rw (hit, eqb-true a 44 hit) refl
-  | inr miss ↦ elim (cases_Bool (is_comma b)) [
-    | inl hit ↦ rw (miss, hit, eqb-true b 44 hit) (and_false (eqb a 109))
-    | inr neither ↦ rw (miss, neither, first_onto a b (parts text) (omega (arith, parts_count text))) refl
-  ]
-]
 
 -- one more fixed place and one more part at the front
 pub places-cons : (place : TextWhy) (front back : List TextWhy) (n : ℕ) → places (place ∷ front) back (suc n) ≡ place ∷ places front back n

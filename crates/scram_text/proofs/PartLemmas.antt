@@ -2,7 +2,7 @@
 use Rattle.std.proofs.Common.{◌≡◌, inl, inr, ℕ, suc, ◌+◌, ◌-◌, ◌≤◌, Bool, true, false, not, ◌&&◌, List, [], ◌∷◌, ◌++◌, length, take, drop, get_or, refl, ◌∙◌, ap, arith, length-drop}
 use Rattle.std.specs.Prelude.{position, count_by, MatchOption}
 use Rattle.std.specs.List.{position_or_len, onto_first, list_all}
-use Rattle.std.proofs.lemmas.Bool.{cases_Bool, cases_lt, eq-eqb, eqb-true, lt-ltb, le-ltb}
+use Rattle.std.proofs.lemmas.Bool.{cases_Bool, cases_lt, eqb-true, lt-ltb, le-ltb}
 use Rattle.std.proofs.lemmas.List.Splits.{length-slice_split}
 use Rattle.std.proofs.lemmas.List.Sums.{split_at_first, passes_at_first}
 use Rattle.std.proofs.Math.Seq.{take-length}
@@ -10,7 +10,7 @@ use Rattle.std.proofs.lemmas.List.{take_all}
 use Rattle.std.specs.declared.option.Option.TheVariants.{None, Some}
 use Rattle.scram_text.specs.Class.{is_comma}
 use Rattle.scram_text.specs.Name.{LacksComma}
-use Rattle.scram_text.specs.Parts.{parts, is_headed, IsHeaded}
+use Rattle.scram_text.specs.Parts.{parts}
 use Rattle.scram_text.specs.Faults.{Fits, fault, IsFirstMisfit}
 use Rattle.scram_text.specs.declared.fault.TextFault.{TextFault}
 use Rattle.scram_text.specs.declared.fault.TextWhy.{TextWhy}
@@ -106,8 +106,3 @@ misfit_later most k place places part pieces f fits later = inr (fits, later)
 -- the last part of a text follows its last comma
 pub parts_last : (text front back : List ℕ) → text ≡ front ++ 44 ∷ back → LacksComma back → parts text ≡ parts front ++ back ∷ []
 parts_last text front back spelled lacks = rw spelled (rw (parts-append front back, parts_whole back lacks) refl)
-
--- a part that does not begin with the letter is not headed by it
-pub not_headed : (letter : ℕ) (class : List ℕ → Type 0) (part : List ℕ) → is_headed letter part ≡ false → IsHeaded letter class part → ⊥
-not_headed letter class part no_head (value, spelled, fits) =
-    let head = rw (spelled, eq-eqb letter letter refl) at no_head in cc head
