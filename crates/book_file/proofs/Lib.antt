@@ -1,1 +1,1 @@
-pub mod WholeReads
+mod WholeReads

@@ -1,1 +1,1 @@
-pub mod Decimals
+mod Decimals

@@ -1,7 +1,7 @@
 pub mod DigitsLemmas
-pub mod Joins
-pub mod OneReply
-pub mod Steps
-pub mod Used
-pub mod WindowLemmas
-pub mod Pairs
+mod Joins
+mod OneReply
+mod Steps
+mod Used
+mod WindowLemmas
+mod Pairs

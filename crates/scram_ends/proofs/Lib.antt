@@ -1,10 +1,10 @@
-pub mod OpeningLemmas
-pub mod RowLemmas
+mod OpeningLemmas
+mod RowLemmas
 pub mod VerdictLemmas
-pub mod DecisionLemmas
-pub mod ServerLemmas
+mod DecisionLemmas
+mod ServerLemmas
 pub mod WrittenLemmas
 pub mod DigestLemmas
 pub mod HonestLemmas
 pub mod ClientLemmas
-pub mod ChallengeLemmas
+mod ChallengeLemmas

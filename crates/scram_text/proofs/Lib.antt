@@ -1,16 +1,16 @@
 pub mod NameLemmas
 pub mod PartLemmas
 pub mod Base64Lemmas
-pub mod ExtensionLemmas
-pub mod PlaceLemmas
+mod ExtensionLemmas
+mod PlaceLemmas
 pub mod ClientFinalLemmas
-pub mod MarkedLemmas
-pub mod ServerFinalLemmas
-pub mod CountLemmas
+mod MarkedLemmas
+mod ServerFinalLemmas
+mod CountLemmas
 pub mod ServerFirstLemmas
 pub mod ClientFirstLemmas
 pub mod TextLemmas
 pub mod ComposeLemmas
 pub mod DecisionLemmas
 pub mod GrammarLemmas
-pub mod LawLemmas
+mod LawLemmas
