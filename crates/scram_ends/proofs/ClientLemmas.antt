@@ -22,7 +22,7 @@ use Rattle.scram_text.proofs.NameLemmas.{length-spelling}
 use Rattle.scram_text.proofs.Base64Lemmas.{length-base64, field_of_bytes}
 use Rattle.scram_text.proofs.TextLemmas.{text_nil}
 use Rattle.scram_ends.specs.Opening.{IsAuthzidOf}
-use Rattle.scram_ends.specs.Auth.{auth_front, auth_message, proof_of, signature_of}
+use Rattle.scram_ends.specs.Auth.{auth_to_challenge, auth_message, proof_of, signature_of}
 use Rattle.scram_ends.specs.Honest.{IsHonestFirst}
 use Rattle.scram_ends.specs.Stages.{Started, answered}
 use Rattle.scram_ends.specs.Client.{IsStarted, IsExpecting}
@@ -217,14 +217,14 @@ pub expecting : (w : ClientOne) (two : ClientTwo) (l : Started) (server_first pa
     → (started : IsStarted w l) → IsServerFirst server_first p
     → header ≡ w.header.items → nonce ≡ p.nonce → salt ≡ p.salt → count ≡ p.count
     → front ≡ client_final_without_proof (client_final_of header nonce [] proof)
-    → proof ≡ proof_of w.mechanism password salt count (auth_front started.first server_first ++ front)
-    → two.expected.items ≡ signature_of w.mechanism password salt count (auth_front started.first server_first ++ front)
+    → proof ≡ proof_of w.mechanism password salt count (auth_to_challenge started.first server_first ++ front)
+    → two.expected.items ≡ signature_of w.mechanism password salt count (auth_to_challenge started.first server_first ++ front)
     → IsClientFinal (client_final_text (client_final_of header nonce [] proof)) (client_final_of header nonce [] proof)
     → IsExpecting two (answered l password server_first (client_final_text (client_final_of header nonce [] proof)))
 expecting w two l server_first password header nonce salt front proof count p started is_challenge is_header is_nonce is_salt is_count is_front is_proof is_signature is_final =
     let q : ClientFinalParts = client_final_of header nonce [] proof in
-    let auth : auth_front started.first server_first ++ front ≡ auth_message started.first server_first q =
-    ap (λ (text : List ℕ). auth_front started.first server_first ++ text) is_front in
+    let auth : auth_to_challenge started.first server_first ++ front ≡ auth_message started.first server_first q =
+    ap (λ (text : List ℕ). auth_to_challenge started.first server_first ++ text) is_front in
     record {
       honest = record {
         first = started.first;

@@ -9,12 +9,12 @@ use Rattle.scram_ends.specs.Entry.{Keys, password_keys}
 
 -- AuthMessage as far as the challenge: client-first-bare, comma, server-first, comma. A message's text
 -- is that of its parts, so each is here as it was sent.
-abbrev pub auth_front : ClientFirstParts → List ℕ → List ℕ
-auth_front first challenge = bare_text first ++ byte "," ∷ [] ++ challenge ++ byte "," ∷ []
+abbrev pub auth_to_challenge : ClientFirstParts → List ℕ → List ℕ
+auth_to_challenge first challenge = bare_text first ++ byte "," ∷ [] ++ challenge ++ byte "," ∷ []
 
 -- AuthMessage: after these, client-final-without-proof
 abbrev pub auth_message : ClientFirstParts → List ℕ → ClientFinalParts → List ℕ
-auth_message first challenge final = auth_front first challenge ++ client_final_without_proof final
+auth_message first challenge final = auth_to_challenge first challenge ++ client_final_without_proof final
 
 -- ClientSignature = HMAC(StoredKey, AuthMessage)
 abbrev pub client_signature : Mechanism → Keys → List ℕ → List ℕ

@@ -1,11 +1,12 @@
 -- What a client stands for at each of its steps, and why it ends a login.
-use Rattle.std.specs.Prelude.{ℕ, ◌≡◌, ◌≢◌, ◌≤◌, ◌<◌, ◌⊎◌, true, false, List, ◌++◌, length}
+use Rattle.std.specs.Prelude.{ℕ, ◌≡◌, ◌≢◌, ◌≤◌, ◌<◌, ◌⊎◌, true, false, List, ◌++◌}
 use Rattle.std.specs.declared.result.Result.{Result}
 use Rattle.std.specs.declared.result.Result.TheVariants.{Ok, Err}
 use Rattle.scram_text.specs.Messages.{ClientFirstParts, header_text, bare_text, ServerFirstParts, IsServerFirst, server_first_mandatory, verified, failed, ServerFinalParts, IsServerFinal, server_final_mandatory}
 use Rattle.scram_text.specs.Faults.{IsServerFirstFault, IsServerFinalFault}
 use Rattle.scram_text.specs.declared.fault.WriteFault.{WriteFault}
 use Rattle.scram_ends.specs.Stages.{Started, Answered}
+use Rattle.scram_ends.specs.Opening.{IsLonger}
 use Rattle.scram_ends.specs.Honest.{IsHonestFirst, IsHonest, honest_signature}
 use Rattle.scram_ends.specs.declared.client.Limits.{Limits}
 use Rattle.scram_ends.specs.declared.client.ClientOne.{ClientOne}
@@ -31,10 +32,6 @@ pub record IsExpecting (w : ClientTwo) (l : Answered) : Type 0 where
   pub signature : List ℕ
   pub signed : signature ≡ honest_signature l honest
   pub expected : w.expected.items ≡ signature
-
--- the nonce is the client's own, followed by something of the server's
-abbrev pub IsLonger : List ℕ → List ℕ → Type 0
-IsLonger own nonce = (more : List ℕ) × (nonce ≡ own ++ more) × (1 ≤ length more)
 
 -- a client within these limits, with this nonce of its own, answers the challenge
 pub record IsAnswerable (limits : Limits) (own server_first : List ℕ) (challenge : ServerFirstParts) : Type 0 where

@@ -31,6 +31,10 @@ pub record IsTakenUp (first : ClientFirstParts) (name : List ℕ) (authzid : Opt
   pub is_name : IsNameOf name first.name
   pub is_authzid : IsAuthzidOf authzid first.authzid
 
+-- the nonce is the client's own, followed by something of the server's
+abbrev pub IsLonger : List ℕ → List ℕ → Type 0
+IsLonger own nonce = (more : List ℕ) × (nonce ≡ own ++ more) × (1 ≤ length more)
+
 -- the parts of the first two messages, and the names in plain bytes
 pub record Opening : Type 0 where
   pub first : ClientFirstParts
@@ -45,7 +49,7 @@ pub record IsOpening (e : Entry) (client_first server_first : List ℕ) (o : Ope
   pub taken_up : IsTakenUp o.first o.name o.authzid
   pub is_challenge : IsServerFirst server_first o.challenge
   pub not_mandatory : server_first_mandatory o.challenge ≡ false
-  pub longer : (own : List ℕ) × (o.challenge.nonce ≡ o.first.nonce ++ own) × (1 ≤ length own)
+  pub longer : IsLonger o.first.nonce o.challenge.nonce
   pub salt : o.challenge.salt ≡ e.salt
   pub count : o.challenge.count ≡ e.count
 

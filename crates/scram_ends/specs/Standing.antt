@@ -8,7 +8,7 @@ use Rattle.scram_text.specs.Messages.{header_text}
 use Rattle.scram_text.specs.declared.fault.WriteFault.{WriteFault}
 use Rattle.scram_ends.specs.Entry.{Keys}
 use Rattle.scram_ends.specs.Stages.{Challenged}
-use Rattle.scram_ends.specs.Auth.{auth_front}
+use Rattle.scram_ends.specs.Auth.{auth_to_challenge}
 use Rattle.scram_ends.specs.Opening.{Opening, IsOpening, IsAllowed}
 use Rattle.scram_ends.specs.declared.signing.Signing.{Signing}
 use Rattle.scram_ends.specs.declared.server.ServerWait.{ServerWait}
@@ -36,7 +36,7 @@ pub record StandsFor (w : ServerWait) (l : Challenged) : Type 0 where
   pub nonce : w.nonce.items ≡ opening.challenge.nonce
   pub header : w.header.items ≡ header_text opening.first
   pub allowed : IsTrue w.allowed ↔ IsAllowed l.entry opening.name opening.authzid
-  pub signing : IsSigningFor w.signing l.mechanism l.entry.keys (auth_front opening.first l.server_first)
+  pub signing : IsSigningFor w.signing l.mechanism l.entry.keys (auth_to_challenge opening.first l.server_first)
   pub unspent : w.spent ≡ None
 
 -- the value is spent: its message could not be written, for this reason. It stands for no login.

@@ -1,12 +1,12 @@
 //! A server's place in a recorded login, for an audit. A recorded challenge may have extensions and a
 //! longer own part of the nonce, which `server_first` does not write, so it is taken as it is.
-ghost use Rattle.std.specs.Prelude.{◌≡◌, ◌≤◌, ◌↔◌, ℕ, List, ◌++◌, length, IsTrue, IfOk, IfErr};
+ghost use Rattle.std.specs.Prelude.{◌≡◌, ◌↔◌, ℕ, List, IsTrue, IfOk, IfErr};
 ghost use Rattle.std.specs.Bool.{OnTrue, OnFalse};
 ghost use Rattle.scram_text.specs.Messages.{ClientFirstParts, IsClientFirst, ServerFirstParts, IsServerFirst};
 ghost use Rattle.scram_text.specs.Shown.{ShowsServerFirst};
 ghost use Rattle.scram_ends.specs.Entry.{entry_of};
 ghost use Rattle.scram_ends.specs.Stages.{challenged_login};
-ghost use Rattle.scram_ends.specs.Opening.{IsTakenUp, Opening, IsOpening};
+ghost use Rattle.scram_ends.specs.Opening.{IsTakenUp, IsLonger, Opening, IsOpening};
 ghost use Rattle.scram_ends.specs.First.{IsRecordedFault};
 ghost use Rattle.scram_ends.specs.Standing.{StandsFor};
 ghost use Rattle.scram_ends.specs.Faults.{recorded_number};
@@ -99,7 +99,7 @@ fn is_challenge_to(view: &KeysView<'_>, nonce: &[u8], challenge: &ServerFirst<'_
 
 // Whether the nonce begins with the client's and is longer.
 fn is_longer(nonce: &[u8], client: &[u8]) -> bool
-    ensures { IsTrue result ↔ ((own : List ℕ) × (nonce.now ≡ client.now ++ own) × (1 ≤ length own)) }
+    ensures { IsTrue result ↔ IsLonger client.now nonce.now }
 {
     nonce.len() > client.len() && nonce.starts_with(client)
 }

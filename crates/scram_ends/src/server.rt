@@ -17,7 +17,7 @@ ghost use Rattle.scram_text.specs.Shown.{ShowsClientFinal};
 ghost use Rattle.scram_text.specs.Appended.{UnchangedOnErr, LacksRoom};
 ghost use Rattle.scram_ends.specs.Entry.{entry_of};
 ghost use Rattle.scram_ends.specs.Stages.{Challenged, challenged_login};
-ghost use Rattle.scram_ends.specs.Auth.{auth_front};
+ghost use Rattle.scram_ends.specs.Auth.{auth_to_challenge};
 ghost use Rattle.scram_ends.specs.Opening.{IsTakenUp, IsAllowed, Opening, IsOpening};
 ghost use Rattle.scram_ends.specs.Verdict.{Due, refuse, IsDue, IsWeighed, due_of, due_text, final_due, verdict_of};
 ghost use Rattle.scram_ends.specs.Login.{IsValidLogin};
@@ -161,7 +161,7 @@ fn signing_for(
     challenge: &[u8],
 ) -> Option<Signing>
     ensures { (first : ClientFirstParts) → bare.now ≡ bare_text first
-        → IsSigningFor result mechanism (entry_of view.now).keys (auth_front first challenge.now) }
+        → IsSigningFor result mechanism (entry_of view.now).keys (auth_to_challenge first challenge.now) }
 {
     match &view.keys {
         Some(keys) => Some(Signing::new(mechanism, keys, bare, challenge)),

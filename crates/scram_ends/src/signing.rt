@@ -5,7 +5,7 @@ ghost use Rattle.std.specs.Str.{byte};
 ghost use Rattle.mac_core.specs.Mechanism.{length_by, hmac_by, IsScramMac};
 ghost use Rattle.scram_text.specs.Messages.{ClientFirstParts, bare_text};
 ghost use Rattle.scram_ends.specs.Entry.{Keys, keys_of};
-ghost use Rattle.scram_ends.specs.Auth.{auth_front, server_signature, IsProof};
+ghost use Rattle.scram_ends.specs.Auth.{auth_to_challenge, server_signature, IsProof};
 ghost use Rattle.scram_ends.specs.Standing.{IsSigning};
 
 use crate::fixed::are_same;
@@ -29,7 +29,7 @@ impl Signing {
         challenge: &[u8],
     ) -> Signing
         ensures { (first : ClientFirstParts) → bare.now ≡ bare_text first
-            → IsSigning result mechanism (keys_of keys.now) (auth_front first challenge.now) }
+            → IsSigning result mechanism (keys_of keys.now) (auth_to_challenge first challenge.now) }
     {
         Signing {
             mechanism,

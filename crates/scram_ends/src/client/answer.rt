@@ -6,7 +6,7 @@ ghost use Rattle.scram_text.specs.Messages.{ClientFirstParts, bare_text, ServerF
 ghost use Rattle.scram_text.specs.Shown.{ShowsServerFirst};
 ghost use Rattle.scram_text.specs.Appended.{UnchangedOnErr, LacksRoom};
 ghost use Rattle.scram_ends.specs.Stages.{Started, answered};
-ghost use Rattle.scram_ends.specs.Auth.{auth_front, proof_of, signature_of};
+ghost use Rattle.scram_ends.specs.Auth.{auth_to_challenge, proof_of, signature_of};
 ghost use Rattle.scram_ends.specs.Honest.{IsHonest};
 ghost use Rattle.scram_ends.specs.Client.{IsStarted, IsAnswerable, IsExpecting, IsChallengeFault, HasAnswered, IfSpent, IfBack};
 
@@ -123,10 +123,10 @@ impl ClientOne {
         requires { 1 ≤ challenge.now.count }
         ensures proof { (first : ClientFirstParts) → self.now.bare.items ≡ bare_text first
             → result.proof.items ≡ proof_of self.now.mechanism password.now challenge.now.salt
-            challenge.now.count (auth_front first server_first.now ++ client_final_without_proof.now) }
+            challenge.now.count (auth_to_challenge first server_first.now ++ client_final_without_proof.now) }
         ensures expected { (first : ClientFirstParts) → self.now.bare.items ≡ bare_text first
             → result.expected.items ≡ signature_of self.now.mechanism password.now challenge.now.salt
-            challenge.now.count (auth_front first server_first.now ++ client_final_without_proof.now) }
+            challenge.now.count (auth_to_challenge first server_first.now ++ client_final_without_proof.now) }
         ensures len { length result.proof.items ≡ length_by self.now.mechanism }
         ensures bytes { (i : ℕ) → slice_index result.proof.items i < 256 }
     {
@@ -148,7 +148,7 @@ impl ClientOne {
     fn sign(&self, key: &Tag, server_first: &[u8], client_final_without_proof: &[u8]) -> Tag
         ensures value { (first : ClientFirstParts) → self.now.bare.items ≡ bare_text first
             → result.items ≡ hmac_by self.now.mechanism key.now.items
-            (auth_front first server_first.now ++ client_final_without_proof.now) }
+            (auth_to_challenge first server_first.now ++ client_final_without_proof.now) }
         ensures len { length result.items ≡ length_by self.now.mechanism }
     {
         let mut mac = running(self.mechanism, key, self.bare.as_slice(), server_first);
