@@ -1,9 +1,6 @@
 //! Values from outside: RFC 4226, section 5.4 and appendix D, and RFC 6238, appendix B; the codes of a
 //! few other counters are from Python's hmac.
 use mac_core::{HSha1, HSha256, HSha512, HashFn, Prepared, Tag};
-use otp_core::laws::{
-    begins_with_itself, candidates_are_new, histories_join, only_one_reply_is_due, used_stays_used,
-};
 use otp_core::{
     Code, Digits, Fields, HotpFields, Moment, OtpFault, OtpHash, Reply, Secret, Setting, Token,
     TotpFields, hotp, hotp_with, step, truncate,
@@ -530,9 +527,4 @@ fn unlock_opens_again(rt: HostRuntime) {
     assert_eq!(rt; token.attempt(now, b"755224"), Reply::Locked);
     token.unlock();
     assert_eq!(rt; token.attempt(now, b"755224"), Reply::Pass(0));
-    begins_with_itself();
-    candidates_are_new();
-    used_stays_used();
-    histories_join();
-    only_one_reply_is_due();
 }
