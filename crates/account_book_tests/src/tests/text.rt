@@ -89,13 +89,11 @@ accounts.b.sha1 = 1",
             Some(1),
         ),
     ] {
-        match Book::read(rt.alloc(), text.as_bytes()) {
-            Ok(_) => assert!(rt; false, "a book: {text}"),
-            Err(fault) => {
-                assert_eq!(rt; fault.number(), number, "{text}");
-                assert_eq!(rt; fault.account, account, "{text}");
-            }
-        }
+        let fault = Book::read(rt.alloc(), text.as_bytes())
+            .err()
+            .expect(&rt, text);
+        assert_eq!(rt; fault.number(), number, "{text}");
+        assert_eq!(rt; fault.account, account, "{text}");
     }
     Ok(())
 }
