@@ -1,4 +1,5 @@
 //! Logins as they were sent: what each client was given, and the four messages.
+use super::{SHA1, SHA256};
 use mac_core::Mechanism;
 
 #[derive(Clone, Copy)]
@@ -17,24 +18,14 @@ pub(super) const PUBLISHED: [Exchange; 2] = [
         name: "user",
         password: "pencil",
         nonce: "fyko+d2lbbFgONRv9qkxdawL",
-        messages: [
-            "n,,n=user,r=fyko+d2lbbFgONRv9qkxdawL",
-            "r=fyko+d2lbbFgONRv9qkxdawL3rfcNHYJY1ZVvWVs7j,s=QSXCR+Q6sek8bf92,i=4096",
-            "c=biws,r=fyko+d2lbbFgONRv9qkxdawL3rfcNHYJY1ZVvWVs7j,p=v0X8v3Bz2T0CJGbJQyF0X+HI4Ts=",
-            "v=rmF9pqV8S7suAoZWja4dJRkFsKQ=",
-        ],
+        messages: SHA1,
     },
     Exchange {
         mechanism: Mechanism::ScramSha256,
         name: "user",
         password: "pencil",
         nonce: "rOprNGfwEbeRWgbNEkqO",
-        messages: [
-            "n,,n=user,r=rOprNGfwEbeRWgbNEkqO",
-            "r=rOprNGfwEbeRWgbNEkqO%hvYDpWUa2RaTCAfuxFIlj)hNlF$k0,s=W22ZaJ0SNY7soEsUEjb6gQ==,i=4096",
-            "c=biws,r=rOprNGfwEbeRWgbNEkqO%hvYDpWUa2RaTCAfuxFIlj)hNlF$k0,p=dHzbZapWIk4jUhN+Ute9ytag9zjfMHgsqmmiz7AndVQ=",
-            "v=6rriTRBi23WpRR/wtup+mMhUZUn/dB5nLTJRsjl95G4=",
-        ],
+        messages: SHA256,
     },
 ];
 
