@@ -1,8 +1,10 @@
 -- The tables of the format. A row has a key, the kind of its value with its range, and the field that it is; rows
 -- stand in the order in which their faults come.
-use Rattle.std.specs.Prelude.{ℕ, ◌≡◌, ◌-◌, ◌^◌, pos, List, [], ◌∷◌, codes, if◌then◌else◌, Option, Result, Ok, Err}
+use Rattle.std.specs.Prelude.{ℕ, ◌+◌, pos, List, [], ◌∷◌, codes, if◌then◌else◌, Option, Result, Ok, Err}
 use Rattle.std.specs.Str.{bytes_eq}
 use Rattle.toml.specs.Data.{Data, string, integer, table, Members, get_member}
+use Rattle.scram_text.specs.Parts.{most_count}
+use Rattle.otp_core.specs.Ranges.{last_moment, most_counter, most_look_ahead, most_sync_ahead, most_step, most_steps, most_drift, most_limit}
 use Rattle.otp_core.specs.declared.token.kinds.Fields.{Fields}
 use Rattle.otp_core.specs.declared.token.kinds.Fields.TheVariants.{Hotp, Totp}
 use Rattle.otp_core.specs.declared.token.kinds.HotpFields.{HotpFields}
@@ -20,7 +22,7 @@ mech len = record {
   marks = [];
   rows =
       row "salt" (bytes Salt 1 64) (λ m. m.salt)
-      ∷ row "count" (number Count 1 4294967295) (λ m. m.count)
+      ∷ row "count" (number Count 1 most_count) (λ m. m.count)
       ∷ row "stored" (bytes KeyLength len len) (λ m. m.keys.stored.items)
       ∷ row "server" (bytes KeyLength len len) (λ m. m.keys.server.items)
       ∷ [];
@@ -35,10 +37,10 @@ hotp = record {
   rows =
       row "secret" (bytes Token 10 64) (λ t. t.secret)
       ∷ row "digits" (number Token 6 8) (λ t. t.digits)
-      ∷ row "next" (number Token 0 (2 ^ 63 - 1)) (λ t. t.next)
-      ∷ row "look_ahead" (number Token 0 100) (λ t. t.look_ahead)
-      ∷ row_or 0 "sync_ahead" (number Token 0 1000) (λ t. t.sync_ahead)
-      ∷ row "limit" (number Token 1 100) (λ t. t.limit)
+      ∷ row "next" (number Token 0 (most_counter + 1)) (λ t. t.next)
+      ∷ row "look_ahead" (number Token 0 most_look_ahead) (λ t. t.look_ahead)
+      ∷ row_or 0 "sync_ahead" (number Token 0 most_sync_ahead) (λ t. t.sync_ahead)
+      ∷ row "limit" (number Token 1 most_limit) (λ t. t.limit)
       ∷ row_to "failures" (number Token 0) "limit" (λ t. t.failures)
       ∷ [];
   make = λ secret digits next look_ahead sync_ahead limit failures. record {
@@ -60,14 +62,14 @@ totp = record {
       row "hash" hash (λ t. t.hash)
       ∷ row "secret" (bytes Token 10 64) (λ t. t.secret)
       ∷ row "digits" (number Token 6 8) (λ t. t.digits)
-      ∷ row "t0" (number Token 0 253402300799) (λ t. t.t0)
-      ∷ row "step" (number Token 1 3600) (λ t. t.step)
-      ∷ row "back" (number Token 0 10) (λ t. t.back)
-      ∷ row "ahead" (number Token 0 10) (λ t. t.ahead)
-      ∷ row "max_drift" (number Token 0 100) (λ t. t.max_drift)
-      ∷ optional "last" (number Token 0 (2 ^ 63 - 2)) (λ t. t.last)
+      ∷ row "t0" (number Token 0 last_moment) (λ t. t.t0)
+      ∷ row "step" (number Token 1 most_step) (λ t. t.step)
+      ∷ row "back" (number Token 0 most_steps) (λ t. t.back)
+      ∷ row "ahead" (number Token 0 most_steps) (λ t. t.ahead)
+      ∷ row "max_drift" (number Token 0 most_drift) (λ t. t.max_drift)
+      ∷ optional "last" (number Token 0 most_counter) (λ t. t.last)
       ∷ row_to "drift" (signed Token) "max_drift" (λ t. t.drift)
-      ∷ row "limit" (number Token 1 100) (λ t. t.limit)
+      ∷ row "limit" (number Token 1 most_limit) (λ t. t.limit)
       ∷ row_to "failures" (number Token 0) "limit" (λ t. t.failures)
       ∷ [];
   make = λ hash secret digits t0 step back ahead max_drift last drift limit failures. record {
@@ -139,7 +141,7 @@ document = record {
   marks = (codes "format", integer (pos 1)) ∷ [];
   rows =
       row "decoy_key" (bytes KeyLength 32 32) (λ t. t.decoy_key)
-      ∷ row "decoy_count" (number Count 1 4294967295) (λ t. t.decoy_count)
+      ∷ row "decoy_count" (number Count 1 most_count) (λ t. t.decoy_count)
       ∷ optional "accounts" any_table (λ t. t.accounts)
       ∷ [];
   make = λ decoy_key decoy_count accounts. record { decoy_key = decoy_key; decoy_count = decoy_count; accounts = accounts };

@@ -12,13 +12,10 @@ ghost use Rattle.command_line.specs.Options.{option_name};
 
 use crate::fault::Fault;
 use mac_core::Mechanism;
-use otp_core::{Digits, Moment, OtpHash, Secret};
+use otp_core::{Digits, LAST_MOMENT, Moment, OtpHash, Secret};
 use scram_text::{NoncePart, PlainName, Salt};
 use std::alloc::Global;
 use std::fmt;
-
-/// The last second that a moment may be, in the year 9999, since the start of 1970.
-const LAST_MOMENT: u64 = 253_402_300_799;
 
 /// An option whose value the program judges, or takes as it is.
 #[derive(Clone, Copy, Debug)]

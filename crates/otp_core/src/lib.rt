@@ -24,5 +24,7 @@ mod token;
 pub use code::{Code, hotp, hotp_with, step, truncate};
 pub use fault::{OtpFault, Setting};
 pub use hash::OtpHash;
-pub use secret::{Digits, Moment, Secret};
-pub use token::{Fields, HotpFields, MOST_COUNTER, MOST_STEP, Reply, Token, TotpFields};
+pub use secret::{Digits, LAST_MOMENT, Moment, Secret};
+pub use token::{
+    Fields, HotpFields, MOST_COUNTER, MOST_LIMIT, MOST_STEP, Reply, Token, TotpFields,
+};

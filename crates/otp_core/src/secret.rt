@@ -97,6 +97,9 @@ impl Digits {
     }
 }
 
+/// The last moment, in seconds since 1970-01-01 00:00 UTC: the last second of the year 9999.
+pub const LAST_MOMENT: u64 = 253_402_300_799;
+
 /// A moment: whole seconds since 1970-01-01 00:00 UTC, at most 253402300799, the last second of
 /// the year 9999. Contracts see it as that number.
 #[derive(Clone, Copy, Debug, PartialEq, Eq)]
@@ -122,7 +125,7 @@ impl Moment {
             (¬ (IsMoment seconds))
             (λ moment. (moment ≡ seconds) × IsMoment seconds) }
     {
-        if seconds <= 253_402_300_799 {
+        if seconds <= LAST_MOMENT {
             Some(Moment { seconds })
         } else {
             None

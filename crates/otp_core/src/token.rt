@@ -15,10 +15,10 @@ mod kinds;
 mod window;
 
 use crate::fault::OtpFault;
-use crate::secret::Moment;
+use crate::secret::{LAST_MOMENT, Moment};
 pub use answer::Reply;
 use answer::{answer, answer_pair};
-pub use kinds::{Fields, HotpFields, MOST_COUNTER, MOST_STEP, TotpFields};
+pub use kinds::{Fields, HotpFields, MOST_COUNTER, MOST_LIMIT, MOST_STEP, TotpFields};
 use std::marker::Model;
 
 /// A token: settings and state of one kind, each within its range. Contracts see it as its
@@ -109,7 +109,7 @@ impl Token {
         ensures state { self.new ≡ advanced self.old moment result }
         ensures counter { (c : ℕ) → result ≡ Reply.Pass c → c ≤ most_counter }
     {
-        prove!(moment.seconds() <= 253_402_300_799);
+        prove!(moment.seconds() <= LAST_MOMENT);
         answer(&mut self.fields, moment, text)
     }
 
@@ -130,7 +130,7 @@ impl Token {
         ensures state { self.new ≡ advanced self.old moment result }
         ensures counter { (c : ℕ) → result ≡ Reply.Pass c → c ≤ most_counter }
     {
-        prove!(moment.seconds() <= 253_402_300_799);
+        prove!(moment.seconds() <= LAST_MOMENT);
         answer_pair(&mut self.fields, moment, first, second)
     }
 

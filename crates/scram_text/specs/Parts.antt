@@ -57,10 +57,14 @@ abbrev pub mext_parts : Option (List ℕ) → List (List ℕ)
 mext_parts None = []
 mext_parts (Some value) = (codes "m=" ++ value) ∷ []
 
--- an iteration count: %x31-39 *DIGIT, which is a number from 1, and at most 4294967295 here
+-- the greatest iteration count here
+abbrev pub most_count : ℕ
+most_count = 4294967295
+
+-- an iteration count: %x31-39 *DIGIT, which is a number from 1, and at most the greatest here
 pub record IsCount (count : ℕ) : Type 0 where
   pub at_least : 1 ≤ count
-  pub at_most : count ≤ 4294967295
+  pub at_most : count ≤ most_count
 
 -- the value is the decimal text of a count
 abbrev pub SpellsCount : List ℕ → Type 0

@@ -9,7 +9,7 @@ ghost use Rattle.book_format.specs.Tables.{hotp};
 use crate::fault::BookWhy;
 use crate::field::{bytes_of, known_keys, number_of, number_or_zero};
 use crate::token::setting::{digits_of, secret_of};
-use otp_core::{HotpFields, MOST_COUNTER, Token};
+use otp_core::{HotpFields, MOST_COUNTER, MOST_LIMIT, Token};
 use toml::Table;
 
 /// Reads the settings and the state of a HOTP token, from a table whose `kind`
@@ -37,7 +37,7 @@ pub(super) fn hotp_of(table: &Table) -> Result<HotpFields, BookWhy>
     let next = number_of(table, "next", 0, MOST_COUNTER + 1, BookWhy::Token)?;
     let look_ahead = number_of(table, "look_ahead", 0, 100, BookWhy::Token)?;
     let sync_ahead = number_or_zero(table, "sync_ahead", 1000, BookWhy::Token)?;
-    let limit = number_of(table, "limit", 1, 100, BookWhy::Token)?;
+    let limit = number_of(table, "limit", 1, MOST_LIMIT, BookWhy::Token)?;
     let failures = number_of(table, "failures", 0, limit, BookWhy::Token)?;
     Ok(HotpFields {
         secret: secret_of(&secret),

@@ -1,8 +1,9 @@
 //! A TOTP token: `hash`, `secret`, `digits`, `t0`, `step`, `back`, `ahead`, `max_drift`, `last`, `drift`,
 //! `limit`, `failures`.
-ghost use Rattle.std.specs.Prelude.{◌≡◌, ◌≤◌, ◌-◌, ◌^◌, codes, nat_abs, IfOk};
+ghost use Rattle.std.specs.Prelude.{◌≡◌, ◌≤◌, codes, nat_abs, IfOk};
 ghost use Rattle.std.specs.Option.{ForSome};
 ghost use Rattle.toml.specs.View.{table_view};
+ghost use Rattle.otp_core.specs.Ranges.{most_counter};
 ghost use Rattle.otp_core.specs.Settings.{IsTotpInRange};
 ghost use Rattle.otp_core.specs.declared.token.kinds.Fields.TheVariants.{Totp};
 ghost use Rattle.book_format.specs.Keys.{is_among, has_only};
@@ -14,7 +15,7 @@ ghost use Rattle.book_format.specs.declared.fault.BookWhy.TheVariants as why;
 use crate::fault::BookWhy;
 use crate::field::{at, bytes_of, known_keys, needed, number_in, number_of, text_of};
 use crate::token::setting::{digits_of, moment_of, secret_of};
-use otp_core::{MOST_COUNTER, MOST_STEP, OtpHash, Token, TotpFields};
+use otp_core::{LAST_MOMENT, MOST_COUNTER, MOST_LIMIT, MOST_STEP, OtpHash, Token, TotpFields};
 use toml::Table;
 
 /// Reads the settings and the state of a TOTP token, from a table whose `kind` says that it is one.
@@ -27,14 +28,14 @@ pub(super) fn totp_of(table: &Table) -> Result<TotpFields, BookWhy>
     let hash = hash_of(table, "hash")?;
     let secret = bytes_of(table, "secret", 10, 64, BookWhy::Token)?;
     let digits = number_of(table, "digits", 6, 8, BookWhy::Token)?;
-    let t0 = number_of(table, "t0", 0, 253_402_300_799, BookWhy::Token)?;
+    let t0 = number_of(table, "t0", 0, LAST_MOMENT, BookWhy::Token)?;
     let step = number_of(table, "step", 1, MOST_STEP, BookWhy::Token)?;
     let back = number_of(table, "back", 0, 10, BookWhy::Token)?;
     let ahead = number_of(table, "ahead", 0, 10, BookWhy::Token)?;
     let max_drift = number_of(table, "max_drift", 0, 100, BookWhy::Token)?;
     let last = last_at(table)?;
     let drift = drift_of(table, "drift", max_drift)?;
-    let limit = number_of(table, "limit", 1, 100, BookWhy::Token)?;
+    let limit = number_of(table, "limit", 1, MOST_LIMIT, BookWhy::Token)?;
     let failures = number_of(table, "failures", 0, limit, BookWhy::Token)?;
     Ok(TotpFields {
         hash,
@@ -107,8 +108,8 @@ fn hash_named(name: &str) -> Result<OtpHash, BookWhy>
 
 // The last step, or None where there is no key `last`.
 fn last_at(table: &Table) -> Result<Option<u64>, BookWhy>
-    ensures value { result ≡ read_some (codes "last") (number why.Token 0 (2 ^ 63 - 2)) (table_view table.now) }
-    ensures range { IfOk result (λ last. ForSome last (λ l. l ≤ 2 ^ 63 - 2)) }
+    ensures value { result ≡ read_some (codes "last") (number why.Token 0 most_counter) (table_view table.now) }
+    ensures range { IfOk result (λ last. ForSome last (λ l. l ≤ most_counter)) }
 {
     match at(table, "last") {
         Some(value) => Ok(Some(number_in(value, 0, MOST_COUNTER, BookWhy::Token)?)),

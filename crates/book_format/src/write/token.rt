@@ -1,8 +1,9 @@
 //! The values that a token is written as.
-ghost use Rattle.std.specs.Prelude.{◌≡◌, ◌≤◌, ◌-◌, ◌^◌, None, IfOk, OnOk, codes, option_map, pos};
+ghost use Rattle.std.specs.Prelude.{◌≡◌, ◌≤◌, None, IfOk, OnOk, codes, option_map, pos};
 ghost use Rattle.std.specs.Option.{ForSome};
 ghost use Rattle.toml.specs.Data.{integer};
 ghost use Rattle.toml.specs.View.{view, table_view};
+ghost use Rattle.otp_core.specs.Ranges.{most_counter};
 ghost use Rattle.otp_core.specs.Settings.{IsHotpInRange, IsTotpInRange};
 ghost use Rattle.book_format.specs.Keys.{hash_name};
 ghost use Rattle.book_format.specs.Put.{put_some};
@@ -87,7 +88,7 @@ fn settings_table(alloc: Global, fields: &TotpFields) -> Result<Table, AllocErro
 }
 
 fn put_last(alloc: Global, table: &mut Table, last: Option<u64>) -> Result<(), AllocError>
-    requires { ForSome last (λ l. l ≤ 2 ^ 63 - 2) }
+    requires { ForSome last (λ l. l ≤ most_counter) }
     ensures { OnOk result (table_view table.new
         ≡ put_some (codes "last") (option_map (λ n. integer (pos n)) last) (table_view table.old)) }
 {

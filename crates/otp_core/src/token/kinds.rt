@@ -6,8 +6,8 @@ use crate::fault::Setting;
 use crate::hash::OtpHash;
 use crate::secret::{Digits, Moment, Secret};
 
-// The greatest `limit` of a token.
-const MOST_LIMIT: u64 = 100;
+/// The greatest `limit` of a token.
+pub const MOST_LIMIT: u64 = 100;
 
 /// The greatest counter that can pass, 2^63-2: the one after it is still a number that a book's text can have.
 pub const MOST_COUNTER: u64 = 9_223_372_036_854_775_806;
