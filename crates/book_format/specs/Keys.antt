@@ -1,16 +1,8 @@
--- The keys of a table, and the names of hash functions.
-use Rattle.std.specs.Prelude.{ℕ, List, [], ◌∷◌, Bool, true, ◌&&◌, codes}
+-- The keys of a table.
+use Rattle.std.specs.Prelude.{ℕ, List, Bool, true, ◌&&◌}
 use Rattle.std.specs.List.{list_any}
 use Rattle.std.specs.Str.{bytes_eq}
-use Rattle.otp_core.specs.declared.hash.OtpHash.{OtpHash}
-use Rattle.otp_core.specs.declared.hash.OtpHash.TheVariants.{Sha1, Sha256, Sha512}
 use Rattle.toml.specs.Data.{Members, no_members, member}
-
--- the name of a hash function
-abbrev pub hash_name : OtpHash → List ℕ
-hash_name Sha1 = codes "sha1"
-hash_name Sha256 = codes "sha256"
-hash_name Sha512 = codes "sha512"
 
 -- a key is one of these
 abbrev pub is_among : List (List ℕ) → List ℕ → Bool

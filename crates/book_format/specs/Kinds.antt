@@ -1,15 +1,13 @@
 -- The kinds of values of the format: texts, whole numbers, bytes, names. Of each, the fault of a value of another
 -- type comes before that of a value out of its range.
-use Rattle.std.specs.Prelude.{ℕ, ◌≡◌, ◌≤◌, ◌&&◌, ◌+◌, nat_le, ℤ, pos, negsuc, nat_abs, Bool, true, false, if◌then◌else◌, List, [], ◌∷◌, length, map, codes, is_some, Option, ok_or, Result, Ok, Err}
-use Rattle.std.specs.List.{list_all}
-use Rattle.std.specs.Str.{bytes_eq}
+use Rattle.std.specs.Prelude.{ℕ, ◌≡◌, ◌≤◌, ◌&&◌, ◌+◌, nat_le, ℤ, pos, negsuc, nat_abs, Bool, true, if◌then◌else◌, List, [], ◌∷◌, length, map, is_some, ok_or, Result, Ok, Err}
+use Rattle.std.specs.List.{AllByRecursion, list_all}
 use Rattle.hex.specs.Hex.{decode_of, encode_lower}
 use Rattle.toml.specs.Data.{Data, string, integer, array, table, Items, no_items, item, Members, as_str}
 use Rattle.toml.specs.View.{items_of}
 use Rattle.scram_text.specs.Class.{is_plain, IsPlainName}
+use Rattle.otp_core.specs.Hash.{hash_name, hash_named}
 use Rattle.otp_core.specs.declared.hash.OtpHash.{OtpHash}
-use Rattle.otp_core.specs.declared.hash.OtpHash.TheVariants.{Sha1, Sha256, Sha512}
-use Rattle.book_format.specs.Keys.{hash_name}
 use Rattle.book_format.specs.Rows.{◌>>=◌, demand, table_of, Kind}
 use Rattle.book_format.specs.declared.fault.BookWhy.{BookWhy}
 use Rattle.book_format.specs.declared.fault.BookWhy.TheVariants.{Key, Name, Token}
@@ -60,16 +58,8 @@ unfoldable pub text_in : Data → Result (List ℕ) BookWhy
 text_in d = ok_or (as_str d) Key
 
 -- the hash function of this name
-abbrev pub hash_named : List ℕ → Result OtpHash BookWhy
-hash_named name =
-    if bytes_eq name (codes "sha1") then Ok Sha1
-    else if bytes_eq name (codes "sha256") then Ok Sha256
-    else if bytes_eq name (codes "sha512") then Ok Sha512
-    else Err Token
-
--- the name of a hash function
 unfoldable pub hash_in : Data → Result OtpHash BookWhy
-hash_in d = text_in d >>= hash_named
+hash_in d = text_in d >>= λ name. ok_or (hash_named name) Token
 
 -- hash functions, by their names
 abbrev pub hash : Kind OtpHash

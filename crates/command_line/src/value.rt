@@ -7,7 +7,7 @@ ghost use Rattle.scram_text.specs.Class.{IsNoncePart, IsPlainName, IsSalt};
 ghost use Rattle.otp_core.specs.Secret.{IsSecretLength};
 ghost use Rattle.otp_core.specs.Ranges.{IsMoment};
 ghost use Rattle.command_line.specs.Number.{IsPlainNumber};
-ghost use Rattle.book_format.specs.Keys.{hash_name};
+ghost use Rattle.otp_core.specs.Hash.{hash_name};
 ghost use Rattle.command_line.specs.Options.{option_name};
 
 use crate::fault::Fault;
@@ -257,14 +257,9 @@ pub fn hash(name: &str) -> Result<OtpHash, Fault>
     ensures err { IfErr result (λ fault. (fault ≡ Fault.BadValue OptionName.Hash)
         × ((hash : OtpHash) → name.now ≢ hash_name hash)) }
 {
-    if name == "sha1" {
-        Ok(OtpHash::Sha1)
-    } else if name == "sha256" {
-        Ok(OtpHash::Sha256)
-    } else if name == "sha512" {
-        Ok(OtpHash::Sha512)
-    } else {
-        Err(Fault::BadValue(OptionName::Hash))
+    match OtpHash::of_name(name) {
+        Some(hash) => Ok(hash),
+        None => Err(Fault::BadValue(OptionName::Hash)),
     }
 }
 

@@ -5,8 +5,8 @@ use Rattle.std.specs.declared.option.Option.TheVariants.{None, Some}
 use Rattle.hex.specs.Hex.{decode_of}
 use Rattle.clap.specs.declared.parser.matches.ArgMatches.{ArgMatches}
 use Rattle.otp_core.specs.Code.{hotp_text_by, steps_from}
+use Rattle.otp_core.specs.Hash.{hash_name}
 use Rattle.otp_core.specs.declared.hash.OtpHash.TheVariants.{Sha1}
-use Rattle.book_format.specs.Keys.{hash_name}
 use Rattle.command_line.specs.declared.value.OptionName.TheVariants as option
 use Rattle.commands.specs.Words.{value_of, given_value}
 use Rattle.commands.specs.declared.moving_factor.MovingFactor.{MovingFactor}

@@ -1,6 +1,7 @@
 pub mod Attempt
 pub mod Code
 pub mod Fault
+pub mod Hash
 pub mod History
 pub mod Laws
 pub mod Ranges

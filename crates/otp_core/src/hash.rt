@@ -1,6 +1,7 @@
 //! The hash function of a token, chosen at run time.
-ghost use Rattle.std.specs.Prelude.{◌≡◌};
+ghost use Rattle.std.specs.Prelude.{◌≡◌, ◌≢◌, IfSome, IfNone};
 ghost use Rattle.otp_core.specs.Code.{hotp_text_by};
+ghost use Rattle.otp_core.specs.Hash.{hash_name, hash_named};
 
 use crate::code::{Code, hotp};
 use crate::secret::{Digits, Secret};
@@ -20,6 +21,31 @@ pub enum OtpHash {
 }
 
 impl OtpHash {
+    /// The hash function's name: `sha1`, `sha256` or `sha512`.
+    pub fn name(self) -> &'static str
+        ensures { result.now ≡ hash_name self }
+    {
+        match self {
+            OtpHash::Sha1 => "sha1",
+            OtpHash::Sha256 => "sha256",
+            OtpHash::Sha512 => "sha512",
+        }
+    }
+
+    /// The hash function of this name, or None where there is none.
+    pub fn of_name(name: &str) -> Option<OtpHash>
+        ensures value { result ≡ hash_named name.now }
+        ensures some { IfSome result (λ hash. name.now ≡ hash_name hash) }
+        ensures none { IfNone result ((hash : OtpHash) → name.now ≢ hash_name hash) }
+    {
+        match name {
+            "sha1" => Some(OtpHash::Sha1),
+            "sha256" => Some(OtpHash::Sha256),
+            "sha512" => Some(OtpHash::Sha512),
+            _ => None,
+        }
+    }
+
     /// The HOTP value of `counter` under `secret` (RFC 4226, section 5.3),
     /// with this hash function.
     pub fn hotp(self, secret: &Secret, counter: u64, digits: Digits) -> Code

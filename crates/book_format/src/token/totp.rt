@@ -7,7 +7,7 @@ ghost use Rattle.otp_core.specs.Ranges.{most_counter};
 ghost use Rattle.otp_core.specs.Settings.{IsTotpInRange};
 ghost use Rattle.otp_core.specs.declared.token.kinds.Fields.TheVariants.{Totp};
 ghost use Rattle.book_format.specs.Keys.{is_among, has_only};
-ghost use Rattle.book_format.specs.Kinds.{number, signed, hash, hash_named};
+ghost use Rattle.book_format.specs.Kinds.{number, signed, hash};
 ghost use Rattle.book_format.specs.Rows.{demand, read_at, read_some, read_table, table_keys};
 ghost use Rattle.book_format.specs.Tables.{totp};
 ghost use Rattle.book_format.specs.declared.fault.BookWhy.TheVariants as why;
@@ -92,18 +92,7 @@ fn hash_of(table: &Table, key: &str) -> Result<OtpHash, BookWhy>
     ensures { result ≡ read_at key.now hash (table_view table.now) }
 {
     let name = text_of(table, key)?;
-    hash_named(name)
-}
-
-fn hash_named(name: &str) -> Result<OtpHash, BookWhy>
-    ensures { result ≡ hash_named name.now }
-{
-    match name {
-        "sha1" => Ok(OtpHash::Sha1),
-        "sha256" => Ok(OtpHash::Sha256),
-        "sha512" => Ok(OtpHash::Sha512),
-        _ => Err(BookWhy::Token),
-    }
+    OtpHash::of_name(name).ok_or(BookWhy::Token)
 }
 
 // The last step, or None where there is no key `last`.

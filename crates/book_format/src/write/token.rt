@@ -5,13 +5,12 @@ ghost use Rattle.toml.specs.Data.{integer};
 ghost use Rattle.toml.specs.View.{view, table_view};
 ghost use Rattle.otp_core.specs.Ranges.{most_counter};
 ghost use Rattle.otp_core.specs.Settings.{IsHotpInRange, IsTotpInRange};
-ghost use Rattle.book_format.specs.Keys.{hash_name};
 ghost use Rattle.book_format.specs.Put.{put_some};
 ghost use Rattle.book_format.specs.Rows.{Stands, in_table, written};
 ghost use Rattle.book_format.specs.Tables as tables;
 
 use super::put::{put_hex, put_number, put_text};
-use otp_core::{Fields, HotpFields, OtpHash, Token, TotpFields};
+use otp_core::{Fields, HotpFields, Token, TotpFields};
 use std::alloc::{AllocError, Global};
 use toml::{Table, Value};
 
@@ -68,7 +67,7 @@ fn settings_table(alloc: Global, fields: &TotpFields) -> Result<Table, AllocErro
 {
     let mut table = Table::new(alloc);
     put_text(alloc, &mut table, "kind", "totp")?;
-    put_text(alloc, &mut table, "hash", hash_name(fields.hash))?;
+    put_text(alloc, &mut table, "hash", fields.hash.name())?;
     put_hex(alloc, &mut table, "secret", fields.secret.bytes())?;
     put_number(
         alloc,
@@ -95,15 +94,5 @@ fn put_last(alloc: Global, table: &mut Table, last: Option<u64>) -> Result<(), A
     match last {
         Some(last) => put_number(alloc, table, "last", last as i64),
         None => Ok(()),
-    }
-}
-
-fn hash_name(hash: OtpHash) -> &'static str
-    ensures { result.now ≡ hash_name hash }
-{
-    match hash {
-        OtpHash::Sha1 => "sha1",
-        OtpHash::Sha256 => "sha256",
-        OtpHash::Sha512 => "sha512",
     }
 }
