@@ -50,13 +50,13 @@ pub record Table (T : Type 0) : Type 1 where
   pub make : Maker rows T
 
 -- the keys of rows
-abbrev pub keys_of : {T : Type 0} → List (Row T) → List (List ℕ)
-keys_of [] = []
-keys_of (r ∷ rows) = r.key ∷ keys_of rows
+abbrev pub row_keys : {T : Type 0} → List (Row T) → List (List ℕ)
+row_keys [] = []
+row_keys (r ∷ rows) = r.key ∷ row_keys rows
 
 -- the keys that a table may have
 abbrev pub table_keys : {T : Type 0} → Table T → List (List ℕ)
-table_keys t = map (λ mark. mark.0) t.marks ++ keys_of t.rows
+table_keys t = map (λ mark. mark.0) t.marks ++ row_keys t.rows
 
 -- each mark is there
 abbrev pub HasMarks : List (List ℕ × Data) → Members → Type 0
