@@ -1,5 +1,6 @@
 -- What a book shows a SCRAM server of a name: an account's keys, or a decoy.
 use Rattle.std.specs.Prelude.{ℕ, List, [], ◌∷◌, ◌++◌, take, option_map, option_and_then, unwrap_or, Option}
+use Rattle.std.specs.Str.{byte}
 use Rattle.std.specs.declared.option.Option.TheVariants.{None, Some}
 use Rattle.mac_core.specs.Mechanism.{hmac_by, name_of}
 use Rattle.mac_core.specs.declared.mechanism.Mechanism.{Mechanism}
@@ -22,7 +23,7 @@ keys_entry act_as keys = record { salt = keys.salt; count = keys.count; keys = S
 -- the salt of a decoy: the first 16 bytes of the HMAC-SHA-256, under the book's decoy key, of the mechanism's
 -- name, a byte 00 and the name. So a name without keys has one salt for each mechanism, as an account has.
 abbrev pub decoy_salt : BookFields → Mechanism → List ℕ → List ℕ
-decoy_salt book m name = take 16 (hmac_by ScramSha256 book.decoy_key (name_of m ++ 0 ∷ name))
+decoy_salt book m name = take 16 (hmac_by ScramSha256 book.decoy_key (name_of m ++ byte "\0" ∷ name))
 
 -- a decoy, with the book's count for decoys and no keys
 abbrev pub decoy_entry : BookFields → Mechanism → List ℕ → Entry
