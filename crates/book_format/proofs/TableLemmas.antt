@@ -8,6 +8,7 @@ use Rattle.std.proofs.lemmas.Slice.Eq.{bytes_eq-Decides}
 use Rattle.hex.proofs.HexLemmas.{decode_of-ok}
 use Rattle.toml.specs.Data.{Data, string, integer, table, Members, no_members, member, get_member, as_integer}
 use Rattle.scram_text.specs.Class.{IsPlainName}
+use Rattle.scram_text.specs.Parts.{most_count}
 use Rattle.otp_core.specs.declared.token.kinds.Fields.{Fields}
 use Rattle.otp_core.specs.declared.token.kinds.Fields.TheVariants.{Hotp, Totp}
 use Rattle.book_format.specs.Account.{AccountFields, AreKeys, IsAccount}
@@ -179,14 +180,13 @@ keys_in_range len d keys h =
     let stored = h.2.rows.1.1.0 in
     let server = h.2.rows.1.1.1.0 in
     let (text, value, enough, few) = bytes_range Salt 1 64 salt.0 keys.salt salt.2 in
-    let counts = number_range Count 1 4294967295 count.0 keys.count count.2 in
+    let counts = number_range Count 1 most_count count.0 keys.count count.2 in
     let (text1, value1, enough1, few1) = bytes_range KeyLength len len stored.0 keys.keys.stored.items stored.2 in
     let (text2, value2, enough2, few2) = bytes_range KeyLength len len server.0 keys.keys.server.items server.2 in
     record {
       salt = record { at_least = enough; at_most = few };
       salt_bytes = (decode_of-ok text keys.salt value).3;
-      some_count = counts.0;
-      most_count = counts.1;
+      count = record { at_least = counts.0; at_most = counts.1 };
       stored = omega (arith, enough1, few1);
       server = omega (arith, enough2, few2);
     }
@@ -223,5 +223,5 @@ of_table_in_range (Some ms) entries h = accounts_in_range ms entries h
 pub in_range : (ms : Members) (book : BookFields) → IsBookTree ms book → IsBook book
 in_range ms book h =
     let count = h.top.rows.1.0 in
-    let range = number_range Count 1 4294967295 count.0 book.decoy_count count.2 in
-    record { some_count = range.0; most_count = range.1; accounts = of_table_in_range h.named book.accounts h.accounts }
+    let range = number_range Count 1 most_count count.0 book.decoy_count count.2 in
+    record { count = record { at_least = range.0; at_most = range.1 }; accounts = of_table_in_range h.named book.accounts h.accounts }

@@ -3,6 +3,7 @@ use Rattle.std.specs.Prelude.{ℕ, ◌≤◌, ◌≡◌, List, length, Option}
 use Rattle.std.specs.Option.{ForSome}
 use Rattle.hex.specs.Hex.{IsBytes}
 use Rattle.scram_text.specs.Class.{IsSalt}
+use Rattle.scram_text.specs.Parts.{IsCount}
 use Rattle.book_format.specs.declared.account.MechKeys.{MechKeys}
 use Rattle.otp_core.specs.declared.token.kinds.Fields.{Fields}
 
@@ -18,8 +19,7 @@ pub record AccountFields : Type 0 where
 pub record AreKeys (len : ℕ) (keys : MechKeys) : Type 0 where
   pub salt : IsSalt keys.salt
   pub salt_bytes : IsBytes keys.salt
-  pub some_count : 1 ≤ keys.count
-  pub most_count : keys.count ≤ 4294967295
+  pub count : IsCount keys.count
   pub stored : length keys.keys.stored.items ≡ len
   pub server : length keys.keys.server.items ≡ len
 

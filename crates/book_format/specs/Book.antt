@@ -1,5 +1,7 @@
 -- The contents of an account book, and their ranges.
-use Rattle.std.specs.Prelude.{ℕ, ◌≤◌, List, [], ◌∷◌}
+use Rattle.std.specs.Prelude.{ℕ, List}
+use Rattle.std.specs.List.{AllByRecursion}
+use Rattle.scram_text.specs.Parts.{IsCount}
 use Rattle.book_format.specs.Account.{AccountFields, IsAccount}
 
 -- a book: what decoys are made from, and the accounts by their names, in byte order of the names
@@ -10,11 +12,9 @@ pub record BookFields : Type 0 where
 
 -- each account is in its ranges
 abbrev pub AreAccounts : List (List ℕ × AccountFields) → Type 0
-AreAccounts [] = Unit {0}
-AreAccounts (entry ∷ entries) = IsAccount entry.1 × AreAccounts entries
+AreAccounts entries = AllByRecursion (λ entry. IsAccount entry.1) entries
 
 -- a book is in its ranges. By their types the decoy key has 32 bytes, and the names ascend.
 pub record IsBook (book : BookFields) : Type 0 where
-  pub some_count : 1 ≤ book.decoy_count
-  pub most_count : book.decoy_count ≤ 4294967295
+  pub count : IsCount book.decoy_count
   pub accounts : AreAccounts book.accounts

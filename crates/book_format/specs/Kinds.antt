@@ -102,8 +102,7 @@ name_list_in d = Err Key
 
 -- each is a plain name
 abbrev pub AreNames : List (List ℕ) → Type 0
-AreNames [] = Unit {0}
-AreNames (name ∷ names) = IsPlainName name × AreNames names
+AreNames names = AllByRecursion IsPlainName names
 
 -- names, as in `["root"]`
 abbrev pub names_tree : List (List ℕ) → Data

@@ -7,8 +7,7 @@ use Rattle.account_book.proofs.book.Book.enrol.Goals as goal
 pub invariant_of-self-inside : goal.invariant_of-self-inside
 invariant_of-self-inside c =
     record {
-      some_count = c.self-inside.invariant.some_count;
-      most_count = c.self-inside.invariant.most_count;
+      count = c.self-inside.invariant.count;
       accounts = all_inserted c.insert.result _ _ _ _ _ c.insert.ensures.entries c.insert.ensures.err
           c.self-inside.invariant.accounts
           (record {

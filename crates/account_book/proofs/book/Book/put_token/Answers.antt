@@ -10,8 +10,7 @@ invariant_of-self-inside c =
     let account = subst IsAccount (sym c.account.view_is)
     (subst (λ o. IfSome o IsAccount) (sym c.in-Some.ensures.value) (found _ _ c.self-inside.invariant.accounts)) in
     record {
-      some_count = c.self-inside.invariant.some_count;
-      most_count = c.self-inside.invariant.most_count;
+      count = c.self-inside.invariant.count;
       accounts = subst AreAccounts (sym (c.get_mut.follows.holds _).0)
           (all_set _ _ _ c.self-inside.invariant.accounts (token_put _ _ account));
     }

@@ -7,8 +7,7 @@ use Rattle.account_book.proofs.book.Book.remove.Goals as goal
 pub invariant_of-self-inside : goal.invariant_of-self-inside
 invariant_of-self-inside c =
     record {
-      some_count = c.self-inside.invariant.some_count;
-      most_count = c.self-inside.invariant.most_count;
+      count = c.self-inside.invariant.count;
       accounts = subst AreAccounts (sym c.remove.ensures.entries) (all_removed _ _ c.self-inside.invariant.accounts);
     }
 

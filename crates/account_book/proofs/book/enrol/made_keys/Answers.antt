@@ -7,8 +7,7 @@ pub returns-clause-range : goal.returns-clause-range
 returns-clause-range c = record {
   salt = subst IsSalt (sym c.copy.ensures) c.bytes-bytes.ensures.fits;
   salt_bytes = subst IsBytes (c.bytes-bytes.ensures.value ∙ sym c.copy.ensures) c.are_bytes.ensures;
-  some_count = c.requires;
-  most_count = omega (arith, c.ranges.count.fits);
+  count = record { at_least = c.requires; at_most = omega (arith, c.ranges.count.fits) };
   stored = c.scram_keys.ensures.stored_len;
   server = c.scram_keys.ensures.server_len;
 }
