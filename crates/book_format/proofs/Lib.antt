@@ -1,11 +1,11 @@
-pub mod Binds
-pub mod Fields
-pub mod Lists
-pub mod Entries
+mod Binds
+mod Fields
+mod Lists
+mod Entries
 mod RowLemmas
 mod KindLemmas
 mod TableLemmas
-pub mod Whole
-mod Stands
+mod Whole
+mod WritesItself
 mod PutLemmas
 mod Printable

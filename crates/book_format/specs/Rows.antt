@@ -26,8 +26,8 @@ pub record Kind (V : Type 0) : Type 1 where
   pub write : V → Data
 
 -- what a V is written as is that V's value
-abbrev pub Stands : {V : Type 0} → Kind V → V → Type 0
-Stands k v = k.Is (k.write v) v
+abbrev pub WritesItself : {V : Type 0} → Kind V → V → Type 0
+WritesItself k v = k.Is (k.write v) v
 
 -- a row of the table of a T: a key, what the table has there, or its fault, what is written there, and which field it is
 pub record Row (T : Type 0) : Type 1 where

@@ -5,7 +5,7 @@ ghost use Rattle.toml.specs.View.{view, table_view};
 ghost use Rattle.book_format.specs.Account.{AreKeys, IsAccount};
 ghost use Rattle.book_format.specs.Put.{put_some};
 ghost use Rattle.book_format.specs.Kinds.{AreNames, names_tree};
-ghost use Rattle.book_format.specs.Rows.{Stands, in_table};
+ghost use Rattle.book_format.specs.Rows.{WritesItself, in_table};
 ghost use Rattle.book_format.specs.Tables as tables;
 
 use super::put::{put, put_count, put_hex};
@@ -20,7 +20,7 @@ use toml::{Table, Value};
 #[tactic(auto, unfolding(crate::specs::Rows::written))]
 pub(super) fn account_value(alloc: Global, account: &Account) -> Result<Value, AllocError>
     ensures tree { IfOk result (λ v. view v ≡ (in_table tables.account).write account.now) }
-    ensures stands { OnOk result (IsAccount account.now → Stands (in_table tables.account) account.now) }
+    ensures itself { OnOk result (IsAccount account.now → WritesItself (in_table tables.account) account.now) }
 {
     let mut table = Table::new(alloc);
     put_keys(alloc, &mut table, "sha1", &account.sha1)?;
@@ -43,8 +43,8 @@ fn put_keys(
 ) -> Result<(), AllocError>
     ensures tree { OnOk result (table_view table.new
         ≡ put_some key.now (option_map (in_table (tables.mech 20)).write keys.now) (table_view table.old)) }
-    ensures stands { OnOk result ((len : ℕ) → ForSome keys.now (AreKeys len)
-        → ForSome keys.now (Stands (in_table (tables.mech len)))) }
+    ensures itself { OnOk result ((len : ℕ) → ForSome keys.now (AreKeys len)
+        → ForSome keys.now (WritesItself (in_table (tables.mech len)))) }
 {
     match keys {
         Some(keys) => put(alloc, table, key, mech_value(alloc, keys)?),
@@ -55,7 +55,7 @@ fn put_keys(
 fn put_token(alloc: Global, table: &mut Table, token: &Option<Token>) -> Result<(), AllocError>
     ensures tree { OnOk result (table_view table.new
         ≡ put_some (codes "token") (option_map tables.token.write token.now) (table_view table.old)) }
-    ensures stands { OnOk result (ForSome token.now (Stands tables.token)) }
+    ensures itself { OnOk result (ForSome token.now (WritesItself tables.token)) }
 {
     match token {
         Some(token) => put(alloc, table, "token", token_value(alloc, token)?),
@@ -66,7 +66,7 @@ fn put_token(alloc: Global, table: &mut Table, token: &Option<Token>) -> Result<
 #[tactic(auto, unfolding(crate::specs::Rows::written))]
 fn mech_value(alloc: Global, keys: &MechKeys) -> Result<Value, AllocError>
     ensures tree { IfOk result (λ v. view v ≡ (in_table (tables.mech 20)).write keys.now) }
-    ensures stands { OnOk result ((len : ℕ) → AreKeys len keys.now → Stands (in_table (tables.mech len)) keys.now) }
+    ensures itself { OnOk result ((len : ℕ) → AreKeys len keys.now → WritesItself (in_table (tables.mech len)) keys.now) }
 {
     let mut table = Table::new(alloc);
     put_hex(alloc, &mut table, "salt", keys.salt.bytes())?;

@@ -6,7 +6,7 @@ ghost use Rattle.toml.specs.View.{view, table_view};
 ghost use Rattle.otp_core.specs.Ranges.{most_counter};
 ghost use Rattle.otp_core.specs.Settings.{IsHotpInRange, IsTotpInRange};
 ghost use Rattle.book_format.specs.Put.{put_some};
-ghost use Rattle.book_format.specs.Rows.{Stands, in_table, written};
+ghost use Rattle.book_format.specs.Rows.{WritesItself, in_table, written};
 ghost use Rattle.book_format.specs.Tables as tables;
 
 use super::put::{put_hex, put_number, put_text};
@@ -17,7 +17,7 @@ use toml::{Table, Value};
 /// The value of a token.
 pub(super) fn token_value(alloc: Global, token: &Token) -> Result<Value, AllocError>
     ensures tree { IfOk result (λ v. view v ≡ tables.token.write token.now) }
-    ensures stands { OnOk result (Stands tables.token token.now) }
+    ensures itself { OnOk result (WritesItself tables.token token.now) }
 {
     match token.fields() {
         Fields::Hotp(fields) => hotp_value(alloc, fields),
@@ -29,7 +29,7 @@ pub(super) fn token_value(alloc: Global, token: &Token) -> Result<Value, AllocEr
 fn hotp_value(alloc: Global, fields: &HotpFields) -> Result<Value, AllocError>
     requires { IsHotpInRange fields.now }
     ensures tree { IfOk result (λ v. view v ≡ (in_table tables.hotp).write fields.now) }
-    ensures stands { OnOk result (Stands (in_table tables.hotp) fields.now) }
+    ensures itself { OnOk result (WritesItself (in_table tables.hotp) fields.now) }
 {
     let mut table = Table::new(alloc);
     put_text(alloc, &mut table, "kind", "hotp")?;
@@ -51,7 +51,7 @@ fn hotp_value(alloc: Global, fields: &HotpFields) -> Result<Value, AllocError>
 fn totp_value(alloc: Global, fields: &TotpFields) -> Result<Value, AllocError>
     requires { IsTotpInRange fields.now }
     ensures tree { IfOk result (λ v. view v ≡ (in_table tables.totp).write fields.now) }
-    ensures stands { OnOk result (Stands (in_table tables.totp) fields.now) }
+    ensures itself { OnOk result (WritesItself (in_table tables.totp) fields.now) }
 {
     let mut table = settings_table(alloc, fields)?;
     put_last(alloc, &mut table, fields.last)?;
@@ -63,7 +63,7 @@ fn totp_value(alloc: Global, fields: &TotpFields) -> Result<Value, AllocError>
 fn settings_table(alloc: Global, fields: &TotpFields) -> Result<Table, AllocError>
     requires { IsTotpInRange fields.now }
     ensures tree { IfOk result (λ t. table_view t ≡ written tables.totp (record fields.now { last = None })) }
-    ensures stands { OnOk result (Stands (in_table tables.totp) fields.now) }
+    ensures itself { OnOk result (WritesItself (in_table tables.totp) fields.now) }
 {
     let mut table = Table::new(alloc);
     put_text(alloc, &mut table, "kind", "totp")?;

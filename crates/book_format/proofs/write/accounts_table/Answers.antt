@@ -6,7 +6,7 @@ use Rattle.book_format.specs.Account.{AccountFields}
 use Rattle.book_format.specs.Book.{AreAccounts}
 use Rattle.book_format.specs.Written.{accounts_tree}
 use Rattle.book_format.proofs.PutLemmas.{put_above}
-use Rattle.book_format.proofs.Stands.{account_among, accounts_stand}
+use Rattle.book_format.proofs.WritesItself.{account_among, one_more_account}
 use Rattle.book_format.proofs.write.accounts_table.Goals as goal
 
 pub loop-name-init : goal.loop-name-init
@@ -21,9 +21,9 @@ loop-name-preserved c =
     let left = c.next.new.self in
     let all : c.args.accounts.now.entries ≡ done ++ e ∷ left = l.invariant.1 ∙ ap (λ es. done ++ es) c.in-Some.ensures.steps in
     let last = put_above done e left (subst (λ es. IsStrictlySortedBy (slice_cmp nat_cmp) (keys_of es)) all c.iter-name-items.ensures.ordered) in
-    let tree = c.in_ok-account_value.ensures.stands (account_among done e left (subst AreAccounts all c.requires)) in (
+    let tree = c.in_ok-account_value.ensures.itself (account_among done e left (subst AreAccounts all c.requires)) in (
       done ++ e ∷ [],
       all ∙ sym (append_assoc done (e ∷ []) left),
       c.in_ok-put.ensures ∙ rw (c.text.ensures.value, c.in_ok-account_value.ensures.tree, l.invariant.2) last,
-      accounts_stand done e l.invariant.3 c.text.ensures.fits tree,
+      one_more_account done e l.invariant.3 c.text.ensures.fits tree,
     )

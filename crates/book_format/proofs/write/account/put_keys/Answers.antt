@@ -2,7 +2,7 @@ use Rattle.std.proofs.Common.{◌≡◌, ℕ, Option, Some, Result, Ok, Err, sub
 use Rattle.std.specs.Option.{ForSome}
 use Rattle.std.specs.Result.{OnOk}
 use Rattle.book_format.specs.Account.{AreKeys}
-use Rattle.book_format.specs.Rows.{Stands, in_table}
+use Rattle.book_format.specs.Rows.{WritesItself, in_table}
 use Rattle.book_format.specs.Tables.{mech}
 use Rattle.book_format.specs.declared.account.MechKeys.{MechKeys}
 use Rattle.book_format.proofs.write.account.put_keys.Goals as goal
@@ -11,14 +11,14 @@ on_any : {A E : Type 0} (P : Type 0) (r : Result A E) → P → OnOk r P
 on_any P (Ok x) p = p
 on_any P (Err e) p = tt
 
--- the keys stand where they are in their ranges
-each : (m : MechKeys) (o : Option MechKeys) → o ≡ Some m → ((len : ℕ) → AreKeys len m → Stands (in_table (mech len)) m)
-    → (len : ℕ) → ForSome o (AreKeys len) → ForSome o (Stands (in_table (mech len)))
-each m o is stands len fits k there = subst (λ k. Stands (in_table (mech len)) k) (same m k o is there) (stands len (fits m is))
+-- keys in their ranges write themselves
+each : (m : MechKeys) (o : Option MechKeys) → o ≡ Some m → ((len : ℕ) → AreKeys len m → WritesItself (in_table (mech len)) m)
+    → (len : ℕ) → ForSome o (AreKeys len) → ForSome o (WritesItself (in_table (mech len)))
+each m o is itself len fits k there = subst (λ k. WritesItself (in_table (mech len)) k) (same m k o is there) (itself len (fits m is))
   where
     same : (m k : MechKeys) (o : Option MechKeys) → o ≡ Some m → o ≡ Some k → m ≡ k
     same m k o one two = cc (one, two)
 
-pub returns-in_ok-mech_value-in-Some-clause-stands : goal.returns-in_ok-mech_value-in-Some-clause-stands
-returns-in_ok-mech_value-in-Some-clause-stands c =
-    on_any _ c.put.result (each c.in-Some.keys c.args.keys.now c.in-Some.is c.in_ok-mech_value-in-Some.ensures.stands)
+pub returns-in_ok-mech_value-in-Some-clause-itself : goal.returns-in_ok-mech_value-in-Some-clause-itself
+returns-in_ok-mech_value-in-Some-clause-itself c =
+    on_any _ c.put.result (each c.in-Some.keys c.args.keys.now c.in-Some.is c.in_ok-mech_value-in-Some.ensures.itself)

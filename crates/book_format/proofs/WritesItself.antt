@@ -1,10 +1,11 @@
 -- The trees that are written are those of their values.
-use Rattle.std.proofs.Common.{◌≡◌, inr, ℕ, ℤ, pos, nat_abs, ◌≤◌, ◌-◌, ◌^◌, List, [], ◌∷◌, ◌++◌, length, codes, true, Option, Some, None, Ok, option_map, refl, arith}
+use Rattle.std.proofs.Common.{◌≡◌, inr, ℕ, ℤ, pos, nat_abs, ◌≤◌, List, [], ◌∷◌, ◌++◌, length, codes, true, Option, Some, None, Ok, option_map, refl, arith}
 use Rattle.std.specs.Option.{ForSome}
 use Rattle.toml.specs.Data.{integer, Members, no_members, get_member}
 use Rattle.scram_text.specs.Class.{IsPlainName}
+use Rattle.scram_text.specs.Parts.{most_count}
 use Rattle.otp_core.specs.Secret.{IsSecretLength}
-use Rattle.otp_core.specs.Ranges.{IsDigitCount, IsMoment}
+use Rattle.otp_core.specs.Ranges.{IsDigitCount, IsMoment, last_moment, most_counter}
 use Rattle.otp_core.specs.Settings.{IsHotpInRange, IsTotpInRange}
 use Rattle.otp_core.specs.declared.token.kinds.HotpFields.{HotpFields}
 use Rattle.otp_core.specs.declared.token.kinds.TotpFields.{TotpFields}
@@ -13,7 +14,7 @@ use Rattle.book_format.specs.Book.{BookFields, AreAccounts, IsBook}
 use Rattle.book_format.specs.Keys.{is_among, has_only}
 use Rattle.book_format.specs.Kinds.{number, number_in, signed_in, AreNames}
 use Rattle.book_format.specs.Put.{put_some}
-use Rattle.book_format.specs.Rows.{Kind, Stands, Table, HasMarks, HasRows, HasSome, IsTable, entries, table_keys, in_table, number_at, written}
+use Rattle.book_format.specs.Rows.{Kind, WritesItself, Table, HasMarks, HasRows, HasSome, IsTable, entries, table_keys, in_table, number_at, written}
 use Rattle.book_format.specs.Tables.{mech, hotp, totp, token, account, document}
 use Rattle.book_format.specs.Trees.{AreAccountTrees, IsBookTree}
 use Rattle.book_format.specs.Written.{accounts_tree, book_tree}
@@ -23,17 +24,17 @@ use Rattle.book_format.proofs.KindLemmas.{ComesBack, number_again, signed_again,
 use Rattle.book_format.proofs.PutLemmas.{HasAll, are_new, has_all, none_yet, all_known, known_all}
 
 -- a table is written as that of its T, where what is written at each key makes it so
-stands : {T : Type 0} (t : Table T) (x : T) → are_new (entries t x) ≡ true → all_known (is_among (table_keys t)) (entries t x) ≡ true
+writes_itself : {T : Type 0} (t : Table T) (x : T) → are_new (entries t x) ≡ true → all_known (is_among (table_keys t)) (entries t x) ≡ true
     → ((ms : Members) → HasAll (entries t x) ms → HasMarks t.marks ms × HasRows t.rows ms x) → IsTable t (written t x) x
 unfolding written has_only
-stands t x new known each =
+writes_itself t x new known each =
     let (marks, rows) = each (written t x) (has_all (entries t x) no_members new (none_yet (entries t x))) in
     record { marks = marks; known = known_all (is_among (table_keys t)) (entries t x) no_members known refl; rows = rows }
 
 -- where a key that may be missing has what an option is written as
-some_stands : {V : Type 0} (k : Kind V) (key : List ℕ) (ms : Members) (o : Option V) → get_member key ms ≡ option_map k.write o → ForSome o (Stands k) → HasSome key k ms o
-some_stands k key ms None at h = at
-some_stands k key ms (Some v) at h = (k.write v, at, h v refl)
+some_writes_itself : {V : Type 0} (k : Kind V) (key : List ℕ) (ms : Members) (o : Option V) → get_member key ms ≡ option_map k.write o → ForSome o (WritesItself k) → HasSome key k ms o
+some_writes_itself k key ms None at h = at
+some_writes_itself k key ms (Some v) at h = (k.write v, at, h v refl)
 
 -- the number at another key is the bound
 bound_again : (key : List ℕ) (ms : Members) (most n : ℕ) → get_member key ms ≡ Some (integer (pos most)) → n ≤ most
@@ -44,18 +45,18 @@ sides_again : (key : List ℕ) (ms : Members) (most : ℕ) (z : ℤ) → get_mem
     → signed_in Token (number_at key ms) (integer z) ≡ Ok z
 sides_again key ms most z there few = rw there (signed_again Token most z few)
 
-pub mech_stands : (len : ℕ) (m : MechKeys) → AreKeys len m → ComesBack m.salt → ComesBack m.keys.stored.items → ComesBack m.keys.server.items
-    → Stands (in_table (mech len)) m
-mech_stands len m fits salt stored server =
+pub mech_writes_itself : (len : ℕ) (m : MechKeys) → AreKeys len m → ComesBack m.salt → ComesBack m.keys.stored.items → ComesBack m.keys.server.items
+    → WritesItself (in_table (mech len)) m
+mech_writes_itself len m fits salt stored server =
     let lengths : (n : ℕ) → n ≡ len → (len ≤ n) × (n ≤ len) = λ n is. (omega (arith, is), omega (arith, is)) in (
       _,
       refl,
-      stands (mech len) m refl refl (λ ms at. (
+      writes_itself (mech len) m refl refl (λ ms at. (
         tt,
         (
           (_, at.0, bytes_again Salt 1 64 m.salt salt fits.salt.at_least fits.salt.at_most),
           (
-            (_, at.1.0, number_again Count 1 4294967295 m.count fits.some_count fits.most_count),
+            (_, at.1.0, number_again Count 1 most_count m.count fits.count.at_least fits.count.at_most),
             (
               (_, at.1.1.0, bytes_again KeyLength len len _ stored (lengths _ fits.stored).0 (lengths _ fits.stored).1),
               ((_, at.1.1.1.0, bytes_again KeyLength len len _ server (lengths _ fits.server).0 (lengths _ fits.server).1), tt),
@@ -65,12 +66,12 @@ mech_stands len m fits salt stored server =
       )),
     )
 
-pub hotp_stands : (t : HotpFields) → IsHotpInRange t → IsSecretLength (length t.secret) → IsDigitCount t.digits → ComesBack t.secret
-    → Stands (in_table hotp) t
-hotp_stands t fits secret digits back = (
+pub hotp_writes_itself : (t : HotpFields) → IsHotpInRange t → IsSecretLength (length t.secret) → IsDigitCount t.digits → ComesBack t.secret
+    → WritesItself (in_table hotp) t
+hotp_writes_itself t fits secret digits back = (
   _,
   refl,
-  stands hotp t refl refl (λ ms at.
+  writes_itself hotp t refl refl (λ ms at.
       let rows = at.1 in (
         (at.0, tt),
         (
@@ -95,16 +96,16 @@ hotp_stands t fits secret digits back = (
       )),
 )
 
-last_stands : (ms : Members) (last : Option ℕ) → get_member (codes "last") ms ≡ option_map (λ n. integer (pos n)) last → ForSome last (λ l. l ≤ 2 ^ 63 - 2)
-    → HasSome (codes "last") (number Token 0 (2 ^ 63 - 2)) ms last
-last_stands ms last there few = some_stands (number Token 0 (2 ^ 63 - 2)) (codes "last") ms last there (λ l is. number_again Token 0 _ l (omega arith) (few l is))
+last_writes_itself : (ms : Members) (last : Option ℕ) → get_member (codes "last") ms ≡ option_map (λ n. integer (pos n)) last → ForSome last (λ l. l ≤ most_counter)
+    → HasSome (codes "last") (number Token 0 most_counter) ms last
+last_writes_itself ms last there few = some_writes_itself (number Token 0 most_counter) (codes "last") ms last there (λ l is. number_again Token 0 _ l (omega arith) (few l is))
 
-pub totp_stands : (t : TotpFields) → IsTotpInRange t → IsSecretLength (length t.secret) → IsDigitCount t.digits → IsMoment t.t0 → ComesBack t.secret
-    → Stands (in_table totp) t
-totp_stands t fits secret digits t0 back = (
+pub totp_writes_itself : (t : TotpFields) → IsTotpInRange t → IsSecretLength (length t.secret) → IsDigitCount t.digits → IsMoment t.t0 → ComesBack t.secret
+    → WritesItself (in_table totp) t
+totp_writes_itself t fits secret digits t0 back = (
   _,
   refl,
-  stands totp t refl refl (λ ms at.
+  writes_itself totp t refl refl (λ ms at.
       let first = at.1 in
       let then = first.1.1.1.1.1.1.1 in (
         (at.0, tt),
@@ -115,7 +116,7 @@ totp_stands t fits secret digits t0 back = (
             (
               (_, first.1.1.0, number_again Token 6 8 t.digits digits.0 digits.1),
               (
-                (_, first.1.1.1.0, number_again Token 0 253402300799 t.t0 (omega arith) t0),
+                (_, first.1.1.1.0, number_again Token 0 last_moment t.t0 (omega arith) t0),
                 (
                   (_, first.1.1.1.1.0, number_again Token 1 3600 t.step fits.some_step fits.step),
                   (
@@ -125,7 +126,7 @@ totp_stands t fits secret digits t0 back = (
                       (
                         (_, then.0, number_again Token 0 100 t.max_drift (omega arith) fits.max_drift),
                         (
-                          last_stands ms t.last then.1.0 fits.last,
+                          last_writes_itself ms t.last then.1.0 fits.last,
                           (
                             (_, then.1.1.0, sides_again (codes "max_drift") ms t.max_drift t.drift then.0 fits.drift),
                             (
@@ -156,20 +157,20 @@ pub last_put_last : (t : TotpFields) → put_some (codes "last") (option_map (λ
     ≡ written totp t
 last_put_last t = with_last t t.last
 
-pub account_stands : (a : AccountFields) → IsAccount a → AreNames a.act_as → ForSome a.sha1 (Stands (in_table (mech 20)))
-    → ForSome a.sha256 (Stands (in_table (mech 32))) → ForSome a.token (Stands token) → Stands (in_table account) a
-account_stands a fits plain sha1 sha256 of_token = (
+pub account_writes_itself : (a : AccountFields) → IsAccount a → AreNames a.act_as → ForSome a.sha1 (WritesItself (in_table (mech 20)))
+    → ForSome a.sha256 (WritesItself (in_table (mech 32))) → ForSome a.token (WritesItself token) → WritesItself (in_table account) a
+account_writes_itself a fits plain sha1 sha256 of_token = (
   _,
   refl,
-  stands account a refl refl (λ ms at. (
+  writes_itself account a refl refl (λ ms at. (
     tt,
     (
-      some_stands (in_table (mech 20)) (codes "sha1") ms a.sha1 at.0 sha1,
+      some_writes_itself (in_table (mech 20)) (codes "sha1") ms a.sha1 at.0 sha1,
       (
-        some_stands (in_table (mech 32)) (codes "sha256") ms a.sha256 at.1.0 sha256,
+        some_writes_itself (in_table (mech 32)) (codes "sha256") ms a.sha256 at.1.0 sha256,
         (
           inr (_, at.1.1.0, record { there = refl; plain = plain; few = fits.names }),
-          (some_stands token (codes "token") ms a.token at.1.1.1.0 of_token, tt),
+          (some_writes_itself token (codes "token") ms a.token at.1.1.1.0 of_token, tt),
         ),
       ),
     ),
@@ -183,23 +184,23 @@ account_among [] e more h = h.0
 account_among (first ∷ done) e more h = account_among done e more h.1
 
 -- one more account after the others
-pub accounts_stand : (done : List (List ℕ × AccountFields)) (e : List ℕ × AccountFields) → AreAccountTrees (accounts_tree done) done
-    → IsPlainName e.0 → Stands (in_table account) e.1 → AreAccountTrees (accounts_tree (done ++ e ∷ [])) (done ++ e ∷ [])
+pub one_more_account : (done : List (List ℕ × AccountFields)) (e : List ℕ × AccountFields) → AreAccountTrees (accounts_tree done) done
+    → IsPlainName e.0 → WritesItself (in_table account) e.1 → AreAccountTrees (accounts_tree (done ++ e ∷ [])) (done ++ e ∷ [])
 unfolding accounts_tree
-accounts_stand [] e h plain tree = (refl, plain, tree, tt)
-accounts_stand (first ∷ done) e h plain tree = (h.0, h.1, h.2, accounts_stand done e h.3 plain tree)
+one_more_account [] e h plain tree = (refl, plain, tree, tt)
+one_more_account (first ∷ done) e h plain tree = (h.0, h.1, h.2, one_more_account done e h.3 plain tree)
 
-pub book_stands : (b : BookFields) → IsBook b → length b.decoy_key ≡ 32 → ComesBack b.decoy_key
+pub book_writes_itself : (b : BookFields) → IsBook b → length b.decoy_key ≡ 32 → ComesBack b.decoy_key
     → AreAccountTrees (accounts_tree b.accounts) b.accounts → IsBookTree (book_tree b) b
 unfolding book_tree
-book_stands b fits key back accounts = record {
+book_writes_itself b fits key back accounts = record {
   named = Some (accounts_tree b.accounts);
-  top = stands document _ refl refl (λ ms at. (
+  top = writes_itself document _ refl refl (λ ms at. (
     (at.0, tt),
     (
       (_, at.1.0, bytes_again KeyLength 32 32 b.decoy_key back (omega (arith, key)) (omega (arith, key))),
       (
-        (_, at.1.1.0, number_again Count 1 4294967295 b.decoy_count fits.some_count fits.most_count),
+        (_, at.1.1.0, number_again Count 1 most_count b.decoy_count fits.count.at_least fits.count.at_most),
         ((_, at.1.1.1.0, refl), tt),
       ),
     ),
