@@ -7,6 +7,7 @@ use Rattle.hex.specs.Hex.{decode_of, encode_lower}
 use Rattle.toml.specs.Data.{Data, string, integer, array, Items, no_items, item, as_str}
 use Rattle.toml.specs.View.{items_of}
 use Rattle.scram_text.specs.Class.{IsPlainName, is_plain}
+use Rattle.otp_core.specs.Hash.{hash_name}
 use Rattle.otp_core.specs.declared.hash.OtpHash.{OtpHash}
 use Rattle.otp_core.specs.declared.hash.OtpHash.TheVariants.{Sha1, Sha256, Sha512}
 use Rattle.book_format.specs.Kinds.{kind, such, number_in, signed_in, decoded, bytes_in, text_in, hash_in, are_texts, item_count, plain_name_of, names_in, names_of, name_list_in, AreNames, IsNameList, name_list}
