@@ -26,6 +26,6 @@ mod store;
 pub use book::{Book, EnrolFault};
 pub use book_format::{Account, BookFault, BookWhy, MechKeys};
 pub use mac_core::Mechanism;
-pub use otp_core::{Reply, Token};
+pub use otp_core::{Reply, Sent, Token};
 pub use scram_ends::KeysView;
 pub use store::{BookStore, StoreFault};

@@ -2,10 +2,11 @@
 use Rattle.std.proofs.Common.{◌≡◌, inl, inr, ℕ, Bool, true, false, List, [], ◌∷◌, ◌++◌, refl, sym, ◌∙◌, ap}
 use Rattle.std.specs.Prelude.{flat_map, map}
 use Rattle.std.specs.List.{AllByRecursion}
-use Rattle.log_grammar.specs.Lines.{LogLine, header, said, heard, cont, resp, auth, auth_with, mechs}
-use Rattle.log_grammar.specs.Sessions.{Told, Session, session, session_lines, session_told, Login, no_login, quits_login, with_first, without_first, login_lines, Invitation, no_word, turned_away, invited, invitation_lines, First, no_first, quits_first, begins, first_lines, Answer, no_answer, refused, challenged, answer_lines, Proof, no_proof, quits_proof, proves, Judgement, unjudged, denied, granted, Codes, no_code, quits_codes, asked, replied, halted_at, Quit, departs, aborts, spoils, Farewell, silent, farewell}
-use Rattle.log_grammar.specs.Demands.{Demands, no_demands, FarewellMeets, QuitMeets, CodesMeet, JudgementMeets, ProofMeets, AnswerMeets, FirstMeets, InvitationMeets, LoginMeets, SessionMeets, AreReplies}
-use Rattle.log_grammar.specs.Places.{Place, before_all, between, offered, asks_bare, waits_first, got_first, waits_final, got_final, waits_code, got_code, leaving, over, halted, closing_place, farewell_place, quit_place, codes_place, judgement_place, proof_place, answer_place, first_place, invitation_place, login_place, session_place}
+use Rattle.log_grammar.specs.Lines.{LogLine, header, said, heard, bad, gone, cont, accepts, replies, halt, resp, auth, auth_with, mechs, abort, asking}
+use Rattle.log_grammar.specs.Told.{Told, told_of}
+use Rattle.log_grammar.specs.Places.{Place, before_all, between, offered, asks_bare, waits_first, got_first, waits_final, got_final, waits_code, got_code, leaving, over, halted}
+use Rattle.log_grammar.specs.Demands.{Demands, no_demands, AreReplies}
+use Rattle.log_grammar.specs.Sessions.{Part, line, line_due, line_telling, closing, refusal, Farewell, parting, Quit, quitting, Codes, after_ok, Judgement, after_final, Proof, after_challenge, Answer, after_first, First, after_empty, Invitation, after_auth, Login, after_mechs, Session, session_part, session_lines, session_told, SessionMeets, silent, farewell, departs, aborts, spoils, no_code, quits_codes, asked, replied, halted_at, unjudged, denied, granted, no_proof, quits_proof, proves, no_answer, refused, challenged, no_first, quits_first, begins, no_word, turned_away, invited, no_login, quits_login, with_first, without_first, session}
 use Rattle.log_grammar.specs.Clean.{OnlyLastOpen, place_after, Begins}
 
 -- a place with no account named
@@ -25,22 +26,22 @@ bare_place over = over
 bare_place halted = halted
 
 -- a session with no account named
-abbrev pub bare_answer : Answer → Answer
+abbrev bare_answer : Answer → Answer
 bare_answer no_answer = no_answer
 bare_answer (refused text closed) = refused text closed
 bare_answer (challenged account text p) = challenged [] text p
 
-abbrev pub bare_first : First → First
+abbrev bare_first : First → First
 bare_first no_first = no_first
 bare_first (quits_first q) = quits_first q
 bare_first (begins first a) = begins first (bare_answer a)
 
-abbrev pub bare_invitation : Invitation → Invitation
+abbrev bare_invitation : Invitation → Invitation
 bare_invitation no_word = no_word
 bare_invitation (turned_away text closed) = turned_away text closed
 bare_invitation (invited text f) = invited text (bare_first f)
 
-abbrev pub bare_login : Login → Login
+abbrev bare_login : Login → Login
 bare_login no_login = no_login
 bare_login (quits_login q) = quits_login q
 bare_login (with_first m first a) = with_first m first (bare_answer a)
@@ -49,157 +50,109 @@ bare_login (without_first m i) = without_first m (bare_invitation i)
 abbrev pub bare : Session → Session
 bare (session names l) = session names (bare_login l)
 
--- a session has the same lines with no account named
-answer_same : (a : Answer) → answer_lines (bare_answer a) ≡ answer_lines a
-answer_same no_answer = refl
-answer_same (refused text closed) = refl
-answer_same (challenged account text p) = refl
+-- what was told, with no account named
+abbrev pub bare_told : Told → Told
+bare_told t = told_of [] t.moment t.sent t.reply
 
-first_same : (f : First) → first_lines (bare_first f) ≡ first_lines f
-first_same no_first = refl
-first_same (quits_first q) = refl
-first_same (begins first a) = ap (λ (l : List LogLine). heard (resp first) ∷ l) (answer_same a)
+-- a part of a session and the same with no account named: the lines are the same, and nothing is demanded of it
+pub record IsBareOf (bare own : Part) : Type 0 where
+  pub lines : bare.lines ≡ own.lines
+  pub place : bare.place ≡ bare_place own.place
+  pub told : bare.told ≡ map bare_told own.told
+  pub meets : bare.Meets no_demands
 
-invitation_same : (i : Invitation) → invitation_lines (bare_invitation i) ≡ invitation_lines i
-invitation_same no_word = refl
-invitation_same (turned_away text closed) = refl
-invitation_same (invited text f) = ap (λ (l : List LogLine). said (cont text) ∷ l) (first_same f)
+pub bare_line : (l : LogLine) (b own : Part) → IsBareOf b own → IsBareOf (line l b) (line l own)
+bare_line l b own is = record { lines = ap (λ (t : List LogLine). l ∷ t) is.lines; place = is.place; told = is.told; meets = is.meets }
 
-login_same : (l : Login) → login_lines (bare_login l) ≡ login_lines l
-login_same no_login = refl
-login_same (quits_login q) = refl
-login_same (with_first m first a) = ap (λ (l : List LogLine). heard (auth_with m first) ∷ l) (answer_same a)
-login_same (without_first m i) = ap (λ (l : List LogLine). heard (auth m) ∷ l) (invitation_same i)
+bare_due : (B Own : Demands → Type 0) (l : LogLine) (b own : Part) → B no_demands → IsBareOf b own → IsBareOf (line_due B l b) (line_due Own l own)
+bare_due B Own l b own due is =
+    record { lines = ap (λ (t : List LogLine). l ∷ t) is.lines; place = is.place; told = is.told; meets = (due, is.meets) }
 
-pub session_same : (s : Session) → session_lines (bare s) ≡ session_lines s
-session_same (session names l) = ap (λ (t : List LogLine). said (mechs names) ∷ t) (login_same l)
+bare_telling : (t : Told) (l : LogLine) (b own : Part) → IsBareOf b own → IsBareOf (line_telling (bare_told t) l b) (line_telling t l own)
+bare_telling t l b own is =
+    record { lines = ap (λ (ls : List LogLine). l ∷ ls) is.lines; place = is.place; told = ap (λ (ts : List Told). bare_told t ∷ ts) is.told; meets = is.meets }
 
--- a session with no account named has the same place, with no account named in it
-pub closing_bare : (closed : Bool) → closing_place closed ≡ bare_place (closing_place closed)
-closing_bare true = refl
-closing_bare false = refl
+pub bare_closing : (closed : Bool) → IsBareOf (closing closed) (closing closed)
+bare_closing true = record { lines = refl; place = refl; told = refl; meets = tt }
+bare_closing false = record { lines = refl; place = refl; told = refl; meets = tt }
 
-farewell_bare : (f : Farewell) → farewell_place f ≡ bare_place (farewell_place f)
-farewell_bare silent = refl
-farewell_bare (farewell text closed) = closing_bare closed
+bare_refusal : (B Own : Demands → Type 0) (text : List ℕ) (closed : Bool) → B no_demands → IsBareOf (refusal B text closed) (refusal Own text closed)
+bare_refusal B Own text closed due = record { lines = refl; place = (bare_closing closed).place; told = refl; meets = due }
 
-quit_bare : (q : Quit) → quit_place q ≡ bare_place (quit_place q)
-quit_bare (departs closed) = closing_bare closed
-quit_bare (aborts f) = farewell_bare f
-quit_bare (spoils f) = farewell_bare f
+bare_farewell : (f : Farewell) → IsBareOf (parting f) (parting f)
+bare_farewell silent = record { lines = refl; place = refl; told = refl; meets = tt }
+bare_farewell (farewell text closed) = bare_refusal (λ d. d.farewell text) (λ d. d.farewell text) text closed tt
 
-codes_bare : (account : List ℕ) (c : Codes) → codes_place [] c ≡ bare_place (codes_place account c)
-codes_bare account no_code = refl
-codes_bare account (quits_codes q) = quit_bare q
-codes_bare account (asked sent) = refl
-codes_bare account (replied sent moment reply more) = codes_bare account more
-codes_bare account (halted_at sent) = refl
+bare_quit : (q : Quit) → IsBareOf (quitting q) (quitting q)
+bare_quit (departs closed) = bare_line gone _ _ (bare_closing closed)
+bare_quit (aborts f) = bare_line (heard abort) _ _ (bare_farewell f)
+bare_quit (spoils f) = bare_line bad _ _ (bare_farewell f)
 
-judgement_bare : (m account first challenge last : List ℕ) (j : Judgement)
-    → judgement_place m [] first challenge last j ≡ bare_place (judgement_place m account first challenge last j)
-judgement_bare m account first challenge last unjudged = refl
-judgement_bare m account first challenge last (denied text closed) = closing_bare closed
-judgement_bare m account first challenge last (granted text c) = codes_bare account c
+bare_codes : (account : List ℕ) (c : Codes) → IsBareOf (after_ok [] c) (after_ok account c)
+bare_codes account no_code = record { lines = refl; place = refl; told = refl; meets = tt }
+bare_codes account (quits_codes q) = bare_quit q
+bare_codes account (asked sent) = record { lines = refl; place = refl; told = refl; meets = tt }
+bare_codes account (replied sent moment reply more) =
+    bare_line (heard (asking sent)) _ _ (bare_telling (told_of account moment sent reply) (said (replies moment reply)) _ _ (bare_codes account more))
+bare_codes account (halted_at sent) = record { lines = refl; place = refl; told = refl; meets = tt }
 
-proof_bare : (m account first challenge : List ℕ) (p : Proof)
-    → proof_place m [] first challenge p ≡ bare_place (proof_place m account first challenge p)
-proof_bare m account first challenge no_proof = refl
-proof_bare m account first challenge (quits_proof q) = quit_bare q
-proof_bare m account first challenge (proves last j) = judgement_bare m account first challenge last j
+bare_judgement : (m account first challenge last : List ℕ) (j : Judgement)
+    → IsBareOf (after_final m [] first challenge last j) (after_final m account first challenge last j)
+bare_judgement m account first challenge last unjudged = record { lines = refl; place = refl; told = refl; meets = tt }
+bare_judgement m account first challenge last (denied text closed) =
+    bare_refusal (λ d. d.denied m [] first challenge last text) (λ d. d.denied m account first challenge last text) text closed tt
+bare_judgement m account first challenge last (granted text c) =
+    bare_due (λ d. d.granted m [] first challenge last text) (λ d. d.granted m account first challenge last text) (said (accepts text)) _ _ tt
+    (bare_codes account c)
 
-answer_bare : (m first : List ℕ) (a : Answer) → answer_place m first (bare_answer a) ≡ bare_place (answer_place m first a)
-answer_bare m first no_answer = refl
-answer_bare m first (refused text closed) = closing_bare closed
-answer_bare m first (challenged account text p) = proof_bare m account first text p
+bare_proof : (m account first challenge : List ℕ) (p : Proof) → IsBareOf (after_challenge m [] first challenge p) (after_challenge m account first challenge p)
+bare_proof m account first challenge no_proof = record { lines = refl; place = refl; told = refl; meets = tt }
+bare_proof m account first challenge (quits_proof q) = bare_quit q
+bare_proof m account first challenge (proves last j) = bare_line (heard (resp last)) _ _ (bare_judgement m account first challenge last j)
 
-first_bare : (m : List ℕ) (f : First) → first_place m (bare_first f) ≡ bare_place (first_place m f)
-first_bare m no_first = refl
-first_bare m (quits_first q) = quit_bare q
-first_bare m (begins first a) = answer_bare m first a
+of_answer : (m first : List ℕ) (a : Answer) → IsBareOf (after_first m first (bare_answer a)) (after_first m first a)
+of_answer m first no_answer = record { lines = refl; place = refl; told = refl; meets = tt }
+of_answer m first (refused text closed) = bare_refusal (λ d. d.refused m first text) (λ d. d.refused m first text) text closed tt
+of_answer m first (challenged account text p) =
+    bare_due (λ d. d.challenged m [] first text) (λ d. d.challenged m account first text) (said (cont text)) _ _ refl (bare_proof m account first text p)
 
-invitation_bare : (m : List ℕ) (i : Invitation) → invitation_place m (bare_invitation i) ≡ bare_place (invitation_place m i)
-invitation_bare m no_word = refl
-invitation_bare m (turned_away text closed) = closing_bare closed
-invitation_bare m (invited text f) = first_bare m f
+of_first : (m : List ℕ) (f : First) → IsBareOf (after_empty m (bare_first f)) (after_empty m f)
+of_first m no_first = record { lines = refl; place = refl; told = refl; meets = tt }
+of_first m (quits_first q) = bare_quit q
+of_first m (begins first a) = bare_line (heard (resp first)) _ _ (of_answer m first a)
 
-login_bare : (l : Login) → login_place (bare_login l) ≡ bare_place (login_place l)
-login_bare no_login = refl
-login_bare (quits_login q) = quit_bare q
-login_bare (with_first m first a) = answer_bare m first a
-login_bare (without_first m i) = invitation_bare m i
+of_invitation : (m : List ℕ) (i : Invitation) → IsBareOf (after_auth m (bare_invitation i)) (after_auth m i)
+of_invitation m no_word = record { lines = refl; place = refl; told = refl; meets = tt }
+of_invitation m (turned_away text closed) = bare_refusal (λ d. d.turned_away m text) (λ d. d.turned_away m text) text closed tt
+of_invitation m (invited text f) = bare_due (λ d. d.invited m text) (λ d. d.invited m text) (said (cont text)) _ _ tt (of_first m f)
 
-pub session_bare : (s : Session) → session_place (bare s) ≡ bare_place (session_place s)
-session_bare (session names l) = login_bare l
+of_login : (l : Login) → IsBareOf (after_mechs (bare_login l)) (after_mechs l)
+of_login no_login = record { lines = refl; place = refl; told = refl; meets = tt }
+of_login (quits_login q) = bare_quit q
+of_login (with_first m first a) = bare_line (heard (auth_with m first)) _ _ (of_answer m first a)
+of_login (without_first m i) = bare_line (heard (auth m)) _ _ (of_invitation m i)
 
--- a session with no account named meets `no_demands`
-farewell_aside : (f : Farewell) → FarewellMeets no_demands f
-farewell_aside silent = tt
-farewell_aside (farewell text closed) = tt
-
-quit_aside : (q : Quit) → QuitMeets no_demands q
-quit_aside (departs closed) = tt
-quit_aside (aborts f) = farewell_aside f
-quit_aside (spoils f) = farewell_aside f
-
-codes_aside : (c : Codes) → CodesMeet no_demands c
-codes_aside no_code = tt
-codes_aside (quits_codes q) = quit_aside q
-codes_aside (asked sent) = tt
-codes_aside (replied sent moment reply more) = codes_aside more
-codes_aside (halted_at sent) = tt
-
-judgement_aside : (m account first challenge last : List ℕ) (j : Judgement) → JudgementMeets no_demands m account first challenge last j
-judgement_aside m account first challenge last unjudged = tt
-judgement_aside m account first challenge last (denied text closed) = tt
-judgement_aside m account first challenge last (granted text c) = (tt, codes_aside c)
-
-proof_aside : (m account first challenge : List ℕ) (p : Proof) → ProofMeets no_demands m account first challenge p
-proof_aside m account first challenge no_proof = tt
-proof_aside m account first challenge (quits_proof q) = quit_aside q
-proof_aside m account first challenge (proves last j) = judgement_aside m account first challenge last j
-
-answer_aside : (m first : List ℕ) (a : Answer) → AnswerMeets no_demands m first (bare_answer a)
-answer_aside m first no_answer = tt
-answer_aside m first (refused text closed) = tt
-answer_aside m first (challenged account text p) = (refl, proof_aside m [] first text p)
-
-first_aside : (m : List ℕ) (f : First) → FirstMeets no_demands m (bare_first f)
-first_aside m no_first = tt
-first_aside m (quits_first q) = quit_aside q
-first_aside m (begins first a) = answer_aside m first a
-
-invitation_aside : (m : List ℕ) (i : Invitation) → InvitationMeets no_demands m (bare_invitation i)
-invitation_aside m no_word = tt
-invitation_aside m (turned_away text closed) = tt
-invitation_aside m (invited text f) = (tt, first_aside m f)
-
-login_aside : (l : Login) → LoginMeets no_demands (bare_login l)
-login_aside no_login = tt
-login_aside (quits_login q) = quit_aside q
-login_aside (with_first m first a) = answer_aside m first a
-login_aside (without_first m i) = invitation_aside m i
-
-pub session_aside : (s : Session) → SessionMeets no_demands (bare s)
-session_aside (session names l) = (tt, login_aside l)
+pub of_session : (s : Session) → IsBareOf (session_part (bare s)) (session_part s)
+of_session (session names l) = bare_due (λ d. d.mechs names) (λ d. d.mechs names) (said (mechs names)) _ _ tt (of_login l)
 
 -- sessions with no account named
 all_lines : (sessions : List Session) → flat_map session_lines (map bare sessions) ≡ flat_map session_lines sessions
 all_lines [] = refl
-all_lines (s ∷ sessions) = ap (λ (l : List LogLine). l ++ flat_map session_lines (map bare sessions)) (session_same s)
+all_lines (s ∷ sessions) = ap (λ (l : List LogLine). l ++ flat_map session_lines (map bare sessions)) (of_session s).lines
     ∙ ap (λ (l : List LogLine). session_lines s ++ l) (all_lines sessions)
 
 all_aside : (sessions : List Session) → AllByRecursion (SessionMeets no_demands) (map bare sessions)
 all_aside [] = tt
-all_aside (s ∷ sessions) = (session_aside s, all_aside sessions)
+all_aside (s ∷ sessions) = ((of_session s).meets, all_aside sessions)
 
 all_closed : (sessions : List Session) → OnlyLastOpen sessions → OnlyLastOpen (map bare sessions)
 all_closed [] closed = tt
 all_closed (s ∷ []) closed = tt
-all_closed (s ∷ t ∷ more) closed = (session_bare s ∙ ap bare_place closed.0, all_closed (t ∷ more) closed.1)
+all_closed (s ∷ t ∷ more) closed = ((of_session s).place ∙ ap bare_place closed.0, all_closed (t ∷ more) closed.1)
 
 all_after : (sessions : List Session) → place_after (map bare sessions) ≡ bare_place (place_after sessions)
 all_after [] = refl
-all_after (s ∷ []) = session_bare s
+all_after (s ∷ []) = (of_session s).place
 all_after (s ∷ t ∷ more) = all_after (t ∷ more)
 
 pub no_demand : (before told : List Told) → AreReplies no_demands before told

@@ -3,67 +3,67 @@ use Rattle.std.proofs.Common.{◌≡◌, ◌+◌, ℕ, suc, Bool, true, false, L
 use Rattle.std.specs.Prelude.{flat_map, count_by}
 use Rattle.std.proofs.lemmas.List.Sums.{sum_by-append}
 use Rattle.log_grammar.specs.Lines.{LogLine, header, said, mechs}
-use Rattle.log_grammar.specs.Sessions.{Session, session, session_lines, Login, no_login, quits_login, with_first, without_first, login_lines, Invitation, no_word, turned_away, invited, invitation_lines, First, no_first, quits_first, begins, first_lines, Answer, no_answer, refused, challenged, answer_lines, Proof, no_proof, quits_proof, proves, proof_lines, Judgement, unjudged, denied, granted, judgement_lines, Codes, no_code, quits_codes, asked, replied, halted_at, codes_lines, Quit, departs, aborts, spoils, quit_lines, Farewell, silent, farewell, farewell_lines, closing_lines}
+use Rattle.log_grammar.specs.Sessions.{closing, Farewell, parting, Quit, quitting, Codes, after_ok, Judgement, after_final, Proof, after_challenge, Answer, after_first, First, after_empty, Invitation, after_auth, Login, after_mechs, Session, session_lines, silent, farewell, departs, aborts, spoils, no_code, quits_codes, asked, replied, halted_at, unjudged, denied, granted, no_proof, quits_proof, proves, no_answer, refused, challenged, no_first, quits_first, begins, no_word, turned_away, invited, no_login, quits_login, with_first, without_first, session}
 use Rattle.log_grammar.specs.Counts.{is_offer, counts_of}
 
 -- no line begins a session
 abbrev None : List LogLine → Type 0
 None lines = count_by is_offer lines ≡ 0
 
-closing : (closed : Bool) → None (closing_lines closed)
-closing true = refl
-closing false = refl
+of_closing : (closed : Bool) → None (closing closed).lines
+of_closing true = refl
+of_closing false = refl
 
-goodbye : (f : Farewell) → None (farewell_lines f)
-goodbye silent = refl
-goodbye (farewell text closed) = closing closed
+of_farewell : (f : Farewell) → None (parting f).lines
+of_farewell silent = refl
+of_farewell (farewell text closed) = of_closing closed
 
-quit : (q : Quit) → None (quit_lines q)
-quit (departs closed) = closing closed
-quit (aborts f) = goodbye f
-quit (spoils f) = goodbye f
+of_quit : (q : Quit) → None (quitting q).lines
+of_quit (departs closed) = of_closing closed
+of_quit (aborts f) = of_farewell f
+of_quit (spoils f) = of_farewell f
 
-of_codes : (c : Codes) → None (codes_lines c)
-of_codes no_code = refl
-of_codes (quits_codes q) = quit q
-of_codes (asked sent) = refl
-of_codes (replied sent moment reply more) = of_codes more
-of_codes (halted_at sent) = refl
+of_codes : (account : List ℕ) (c : Codes) → None (after_ok account c).lines
+of_codes account no_code = refl
+of_codes account (quits_codes q) = of_quit q
+of_codes account (asked sent) = refl
+of_codes account (replied sent moment reply more) = of_codes account more
+of_codes account (halted_at sent) = refl
 
-of_judgement : (j : Judgement) → None (judgement_lines j)
-of_judgement unjudged = refl
-of_judgement (denied text closed) = closing closed
-of_judgement (granted text c) = of_codes c
+of_judgement : (m account first challenge last : List ℕ) (j : Judgement) → None (after_final m account first challenge last j).lines
+of_judgement m account first challenge last unjudged = refl
+of_judgement m account first challenge last (denied text closed) = of_closing closed
+of_judgement m account first challenge last (granted text c) = of_codes account c
 
-of_proof : (p : Proof) → None (proof_lines p)
-of_proof no_proof = refl
-of_proof (quits_proof q) = quit q
-of_proof (proves last j) = of_judgement j
+of_proof : (m account first challenge : List ℕ) (p : Proof) → None (after_challenge m account first challenge p).lines
+of_proof m account first challenge no_proof = refl
+of_proof m account first challenge (quits_proof q) = of_quit q
+of_proof m account first challenge (proves last j) = of_judgement m account first challenge last j
 
-of_answer : (a : Answer) → None (answer_lines a)
-of_answer no_answer = refl
-of_answer (refused text closed) = closing closed
-of_answer (challenged account text p) = of_proof p
+of_answer : (m first : List ℕ) (a : Answer) → None (after_first m first a).lines
+of_answer m first no_answer = refl
+of_answer m first (refused text closed) = of_closing closed
+of_answer m first (challenged account text p) = of_proof m account first text p
 
-of_first : (f : First) → None (first_lines f)
-of_first no_first = refl
-of_first (quits_first q) = quit q
-of_first (begins first a) = of_answer a
+of_first : (m : List ℕ) (f : First) → None (after_empty m f).lines
+of_first m no_first = refl
+of_first m (quits_first q) = of_quit q
+of_first m (begins first a) = of_answer m first a
 
-of_invitation : (i : Invitation) → None (invitation_lines i)
-of_invitation no_word = refl
-of_invitation (turned_away text closed) = closing closed
-of_invitation (invited text f) = of_first f
+of_invitation : (m : List ℕ) (i : Invitation) → None (after_auth m i).lines
+of_invitation m no_word = refl
+of_invitation m (turned_away text closed) = of_closing closed
+of_invitation m (invited text f) = of_first m f
 
-of_login : (l : Login) → None (login_lines l)
+of_login : (l : Login) → None (after_mechs l).lines
 of_login no_login = refl
-of_login (quits_login q) = quit q
-of_login (with_first m first a) = of_answer a
-of_login (without_first m i) = of_invitation i
+of_login (quits_login q) = of_quit q
+of_login (with_first m first a) = of_answer m first a
+of_login (without_first m i) = of_invitation m i
 
 of_session : (s : Session) → count_by is_offer (session_lines s) ≡ 1
 of_session (session names l) =
-    sum_by-append (λ x. cond (is_offer x) 1 0) (said (mechs names) ∷ []) (login_lines l) ∙ ap (λ (n : ℕ). 1 + n) (of_login l)
+    sum_by-append (λ x. cond (is_offer x) 1 0) (said (mechs names) ∷ []) (after_mechs l).lines ∙ ap (λ (n : ℕ). 1 + n) (of_login l)
 
 one_more : (n : ℕ) → 1 + n ≡ suc n
 one_more n = omega arith

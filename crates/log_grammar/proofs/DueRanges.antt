@@ -11,7 +11,7 @@ use Rattle.otp_core.specs.declared.token.answer.Reply.TheVariants.{Pass, Fail, L
 use Rattle.otp_core.specs.declared.token.kinds.Fields.{Fields}
 use Rattle.otp_core.specs.declared.token.kinds.Fields.TheVariants.{Hotp, Totp}
 use Rattle.log_grammar.specs.Lines.{IsReplyInRange}
-use Rattle.log_grammar.specs.Reasons.{DueRepliesCanBeWritten}
+use Rattle.log_grammar.specs.laws.Reasons.{DueRepliesCanBeWritten}
 
 counter_in_range : (token : Fields) (attempts : List Attempt) (moment : ℕ) (sent : CodeTexts) (reply : Reply) → IsInRange token → IsMoment moment
     → IsDueReply token attempts moment sent reply → IsReplyInRange (Some reply)

@@ -4,13 +4,13 @@ use Rattle.std.specs.List.{AllByRecursion, AllZip}
 use Rattle.scram_text.specs.Laws.{SpellsOneName, HasOneClientFirst}
 use Rattle.log_grammar.specs.Lines.{LogLine, IsLogLine}
 use Rattle.log_grammar.specs.Bytes.{LacksLf, ended_by_lf, IsCut}
-use Rattle.log_grammar.specs.Sessions.{Told}
-use Rattle.log_grammar.specs.Demands.{Accounts, demands}
+use Rattle.log_grammar.specs.Told.{Told}
 use Rattle.log_grammar.specs.Places.{Place, before_all, halted}
+use Rattle.log_grammar.specs.Demands.{Accounts, demands}
 use Rattle.log_grammar.specs.Clean.{Begins}
 use Rattle.log_grammar.specs.Why.{is_cut, no_line, out_of_order, class_of, LineClass, IsClassDue}
-use Rattle.log_grammar.specs.Laws.{ClassesFollowThePlace}
-use Rattle.log_grammar.specs.Examples.{AreWhole}
+use Rattle.log_grammar.specs.laws.LogLaws.{ClassesFollowThePlace}
+use Rattle.log_grammar.specs.laws.Examples.{AreWhole}
 use Rattle.log_grammar.proofs.CutLemmas.{cut_one_way, first_lack, among, whole}
 use Rattle.log_grammar.proofs.FaultLemmas.{Lead, start, clean_at, end_is_cut, rest_is_cut, rest_is_long, long_text_why, last_why}
 use Rattle.log_grammar.specs.Versions.{both, IsClean, IsWhy}

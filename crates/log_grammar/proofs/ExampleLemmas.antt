@@ -9,14 +9,14 @@ use Rattle.scram_text.specs.Parts.{authzid_text}
 use Rattle.log_grammar.specs.Words.{IsMechName}
 use Rattle.log_grammar.specs.Lines.{LogLine, header, said, heard, bad, gone, ended, mechs, cont, accepts, refuses, halt, auth, auth_with, abort, IsLogLine}
 use Rattle.log_grammar.specs.Bytes.{LacksLf, ended_by_lf}
-use Rattle.log_grammar.specs.Sessions.{Told}
-use Rattle.log_grammar.specs.Demands.{Accounts, demands, NamesMechanism, AreReplies}
-use Rattle.log_grammar.specs.Places.{Place, before_all, between, offered, asks_bare, waits_first, got_first, leaving, over, MayEnd}
-use Rattle.log_grammar.specs.Steps.{Goes, told_at}
+use Rattle.log_grammar.specs.Told.{Told}
+use Rattle.log_grammar.specs.Places.{Place, MayEnd, before_all, between, offered, asks_bare, waits_first, got_first, leaving, over}
+use Rattle.log_grammar.specs.Demands.{Accounts, NamesMechanism, demands, AreReplies}
+use Rattle.log_grammar.specs.laws.Steps.{Goes, told_at}
 use Rattle.log_grammar.specs.Clean.{Begins}
 use Rattle.log_grammar.specs.Versions.{IsClean, IsWhy}
 use Rattle.log_grammar.specs.Why.{is_cut, no_line, out_of_order, other_mechs, other_challenge, other_outcome, refused_with, LineClass, IsClassDue, IsDueAt}
-use Rattle.log_grammar.specs.Examples.{first_text, offer_text, first_alone, one_session, bare_no, AreWhole}
+use Rattle.log_grammar.specs.laws.Examples.{first_text, offer_text, first_alone, one_session, bare_no, AreWhole}
 use Rattle.log_grammar.proofs.ClassLemmas.{classes_due}
 use Rattle.log_grammar.proofs.EdgeLemmas.{part_is_cut, long_part_is_no_line, long_line_is_no_line}
 use Rattle.log_grammar.proofs.FaultLemmas.{Lead, start, lead_on, clean_at, unended_is_cut, first_text_why, last_why}

@@ -1,75 +1,74 @@
-pub mod PayloadLemmas
+mod PayloadLemmas
 pub mod WordLemmas
 pub mod LineLemmas
-pub mod DecisionLemmas
+mod DecisionLemmas
 pub mod CutLemmas
-pub mod SessionParts
-pub mod Growth
+mod Growth
 pub mod Shortening
-pub mod LogSteps
+mod LogSteps
 pub mod Snoc
 pub mod KindLemmas
-pub mod KindFaults
-pub mod EitherLemmas
-pub mod Readings
+mod KindFaults
+mod EitherLemmas
+mod Readings
 pub mod AccountLemmas
-pub mod FrontLemmas
+mod FrontLemmas
 pub mod WhyLemmas
-pub mod Aside
+mod Aside
 pub mod ClassLemmas
 pub mod TextBytes
 pub mod Openings
-pub mod Opened
+mod Opened
 pub mod Completions
 pub mod Demanded
-pub mod Standings
+mod Standings
 pub mod KindOne
 pub mod KindTwo
 pub mod VersionLemmas
 pub mod FaultLemmas
-pub mod ExampleLemmas
-pub mod BookLemmas
-pub mod EdgeLemmas
-pub mod CountLemmas
-pub mod MomentLemmas
+mod ExampleLemmas
+mod BookLemmas
+mod EdgeLemmas
+mod CountLemmas
+mod MomentLemmas
 pub mod LoginLemmas
-pub mod ReplyLemmas
-pub mod UsedCounters
-pub mod TwoCodes
-pub mod SessionLines
-pub mod OutcomeLemmas
+mod ReplyLemmas
+mod UsedCounters
+mod TwoCodes
+mod SessionLines
+mod OutcomeLemmas
 pub mod LineBytes
 pub mod HeadlineLemmas
-pub mod LoginCodes
+mod LoginCodes
 pub mod Mended
-pub mod LoginFaults
-pub mod DueRanges
-pub mod DueLines
+mod LoginFaults
+mod DueRanges
+mod DueLines
 pub mod Owns
-pub mod Stays
-pub mod NumberedMarks
+mod Stays
+mod NumberedTold
 pub mod NumberedLogSteps
 pub mod NumberedCuts
-pub mod NumberedReadings
-pub mod OwnPlaces
-pub mod NumberedExampleLemmas
+mod NumberedReadings
+mod OwnPlaces
+mod NumberedExampleLemmas
 pub mod StepKinds
 pub mod OpenCounts
-pub mod NumberedAside
+mod NumberedAside
 pub mod NumberedClassLemmas
 pub mod NumberedLineLemmas
 pub mod NumberedStandings
 pub mod NumberedEnds
-pub mod Closings
-pub mod NumberedCompletions
+mod Closings
+mod NumberedCompletions
 pub mod NumberedFronts
 pub mod Renumbered
-pub mod UpgradeLemmas
+mod UpgradeLemmas
 pub mod BothVersions
-pub mod UpgradedTexts
-pub mod UpgradedFaults
+mod UpgradedTexts
+mod UpgradedFaults
 pub mod NumberedHeadlineLemmas
-pub mod NumberedReplyLemmas
-pub mod UpgradedExampleLemmas
-pub mod NumberedMended
-pub mod UpgradedLoginLemmas
+mod NumberedReplyLemmas
+mod UpgradedExampleLemmas
+mod NumberedMended
+mod UpgradedLoginLemmas

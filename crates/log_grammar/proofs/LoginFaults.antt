@@ -9,12 +9,12 @@ use Rattle.scram_ends.specs.Laws.{AcceptsExactlyValid}
 use Rattle.otp_core.specs.Attempt.{CodeTexts}
 use Rattle.otp_core.specs.Ranges.{IsMoment}
 use Rattle.otp_core.specs.declared.token.answer.Reply.{Reply}
-use Rattle.log_grammar.specs.Lines.{header, said, heard, refuses, replies, asking, log_text, IsReplyInRange, IsClientInRange, IsLogLine}
-use Rattle.log_grammar.specs.Demands.{Accounts, IsReplyBy}
+use Rattle.log_grammar.specs.Lines.{header, said, heard, refuses, replies, asking, log_text, IsReplyInRange, IsClientInRange, IsLogLine, log_bytes}
 use Rattle.log_grammar.specs.Places.{got_final, got_code}
+use Rattle.log_grammar.specs.Demands.{Accounts, IsReplyBy}
 use Rattle.log_grammar.specs.Why.{other_outcome, other_reply, accepted, of_words, of_replies}
 use Rattle.log_grammar.specs.Versions.{IsWhy}
-use Rattle.log_grammar.specs.Logins.{IsLoginTo, login_log, tried_log, log_bytes, RefusedLoginsAreAtFault, OtherRepliesAreAtFault}
+use Rattle.log_grammar.specs.laws.Logins.{IsLoginTo, login_log, tried_log, RefusedLoginsAreAtFault, OtherRepliesAreAtFault}
 use Rattle.log_grammar.proofs.ClassLemmas.{classes_due}
 use Rattle.log_grammar.proofs.WhyLemmas.{Known, one_verdict, reply_once}
 use Rattle.log_grammar.proofs.LineBytes.{text_lacks, reply_line}

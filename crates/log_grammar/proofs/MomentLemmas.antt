@@ -1,12 +1,13 @@
 -- The moments of a log's replies are in their range, since its lines are.
-use Rattle.std.proofs.Common.{inl, inr, ℕ, List, [], ◌∷◌, ◌++◌, sym, subst}
+use Rattle.std.proofs.Common.{inl, inr, ℕ, Bool, true, false, List, [], ◌∷◌, ◌++◌, sym, subst}
 use Rattle.std.specs.Prelude.{flat_map}
 use Rattle.std.specs.List.{AllByRecursion, AllZip}
 use Rattle.otp_core.specs.Ranges.{IsMoment}
 use Rattle.log_grammar.specs.Lines.{LogLine, IsLogInRange, IsLogLine}
-use Rattle.log_grammar.specs.Sessions.{Told, Session, session, session_lines, session_told, Login, no_login, quits_login, with_first, without_first, login_lines, login_told, Invitation, no_word, turned_away, invited, invitation_lines, invitation_told, First, no_first, quits_first, begins, first_lines, first_told, Answer, no_answer, refused, challenged, answer_lines, answer_told, Proof, no_proof, quits_proof, proves, proof_lines, proof_told, Judgement, unjudged, denied, granted, judgement_lines, judgement_told, Codes, no_code, quits_codes, asked, replied, halted_at, codes_lines, codes_told}
-use Rattle.log_grammar.specs.Demands.{Accounts, demands}
+use Rattle.log_grammar.specs.Told.{Told}
 use Rattle.log_grammar.specs.Places.{Place}
+use Rattle.log_grammar.specs.Demands.{Accounts, demands}
+use Rattle.log_grammar.specs.Sessions.{Part, closing, Farewell, parting, Quit, quitting, Codes, after_ok, Judgement, after_final, Proof, after_challenge, Answer, after_first, First, after_empty, Invitation, after_auth, Login, after_mechs, Session, session_part, session_lines, session_told, silent, farewell, departs, aborts, spoils, no_code, quits_codes, asked, replied, halted_at, unjudged, denied, granted, no_proof, quits_proof, proves, no_answer, refused, challenged, no_first, quits_first, begins, no_word, turned_away, invited, no_login, quits_login, with_first, without_first, session}
 use Rattle.log_grammar.specs.Clean.{Begins, AreLines}
 use Rattle.log_grammar.proofs.Snoc.{all_append}
 
@@ -18,45 +19,62 @@ Ranged lines = AllByRecursion IsLogInRange lines
 abbrev pub Timed : List Told → Type 0
 Timed told = AllByRecursion (λ t. IsMoment t.moment) told
 
-of_codes : (account : List ℕ) (c : Codes) → Ranged (codes_lines c) → Timed (codes_told account c)
+-- where the lines are in their ranges, what they tell is at moments
+abbrev InTime : Part → Type 0
+InTime part = Ranged part.lines → Timed part.told
+
+of_farewell : (f : Farewell) → InTime (parting f)
+of_farewell silent h = tt
+of_farewell (farewell text closed) h = tt
+
+pub of_closing : (closed : Bool) → InTime (closing closed)
+of_closing true h = tt
+of_closing false h = tt
+
+of_quit : (q : Quit) → InTime (quitting q)
+of_quit (departs closed) h = of_closing closed h.1
+of_quit (aborts f) h = of_farewell f h.1
+of_quit (spoils f) h = of_farewell f h.1
+
+of_codes : (account : List ℕ) (c : Codes) → InTime (after_ok account c)
 of_codes account no_code h = tt
-of_codes account (quits_codes q) h = tt
+of_codes account (quits_codes q) h = of_quit q h
 of_codes account (asked sent) h = tt
 of_codes account (replied sent moment reply more) h = (h.1.0.0, of_codes account more h.1.1)
 of_codes account (halted_at sent) h = tt
 
-of_judgement : (account : List ℕ) (j : Judgement) → Ranged (judgement_lines j) → Timed (judgement_told account j)
-of_judgement account unjudged h = tt
-of_judgement account (denied text closed) h = tt
-of_judgement account (granted text c) h = of_codes account c h.1
+of_judgement : (m account first challenge last : List ℕ) (j : Judgement) → InTime (after_final m account first challenge last j)
+of_judgement m account first challenge last unjudged h = tt
+of_judgement m account first challenge last (denied text closed) h = tt
+of_judgement m account first challenge last (granted text c) h = of_codes account c h.1
 
-of_proof : (account : List ℕ) (p : Proof) → Ranged (proof_lines p) → Timed (proof_told account p)
-of_proof account no_proof h = tt
-of_proof account (quits_proof q) h = tt
-of_proof account (proves last j) h = of_judgement account j h.1
+of_proof : (m account first challenge : List ℕ) (p : Proof) → InTime (after_challenge m account first challenge p)
+of_proof m account first challenge no_proof h = tt
+of_proof m account first challenge (quits_proof q) h = of_quit q h
+of_proof m account first challenge (proves last j) h = of_judgement m account first challenge last j h.1
 
-of_answer : (a : Answer) → Ranged (answer_lines a) → Timed (answer_told a)
-of_answer no_answer h = tt
-of_answer (refused text closed) h = tt
-of_answer (challenged account text p) h = of_proof account p h.1
+of_answer : (m first : List ℕ) (a : Answer) → InTime (after_first m first a)
+of_answer m first no_answer h = tt
+of_answer m first (refused text closed) h = tt
+of_answer m first (challenged account text p) h = of_proof m account first text p h.1
 
-of_first : (f : First) → Ranged (first_lines f) → Timed (first_told f)
-of_first no_first h = tt
-of_first (quits_first q) h = tt
-of_first (begins first a) h = of_answer a h.1
+of_first : (m : List ℕ) (f : First) → InTime (after_empty m f)
+of_first m no_first h = tt
+of_first m (quits_first q) h = of_quit q h
+of_first m (begins first a) h = of_answer m first a h.1
 
-of_invitation : (i : Invitation) → Ranged (invitation_lines i) → Timed (invitation_told i)
-of_invitation no_word h = tt
-of_invitation (turned_away text closed) h = tt
-of_invitation (invited text f) h = of_first f h.1
+of_invitation : (m : List ℕ) (i : Invitation) → InTime (after_auth m i)
+of_invitation m no_word h = tt
+of_invitation m (turned_away text closed) h = tt
+of_invitation m (invited text f) h = of_first m f h.1
 
-of_login : (l : Login) → Ranged (login_lines l) → Timed (login_told l)
+of_login : (l : Login) → InTime (after_mechs l)
 of_login no_login h = tt
-of_login (quits_login q) h = tt
-of_login (with_first m first a) h = of_answer a h.1
-of_login (without_first m i) h = of_invitation i h.1
+of_login (quits_login q) h = of_quit q h
+of_login (with_first m first a) h = of_answer m first a h.1
+of_login (without_first m i) h = of_invitation m i h.1
 
-pub of_session : (s : Session) → Ranged (session_lines s) → Timed (session_told s)
+pub of_session : (s : Session) → InTime (session_part s)
 of_session (session names l) h = of_login l h.1
 
 parted : {A : Type 0} (P : A → Type 0) (front back : List A) → AllByRecursion P (front ++ back) → AllByRecursion P front × AllByRecursion P back

@@ -2,13 +2,13 @@
 use Rattle.std.proofs.Common.{◌≡◌, ◌∙◌, ◌≤◌, inl, inr, ℕ, suc, zero, List, [], ◌∷◌, ◌++◌, refl, sym, subst, arith}
 use Rattle.std.specs.List.{AllByRecursion}
 use Rattle.log_grammar.specs.Lines.{LogLine, said, heard, gone, ended, refuses, abort}
-use Rattle.log_grammar.specs.Sessions.{Told}
-use Rattle.log_grammar.specs.Demands.{Accounts, Demands, demands, AreReplies}
+use Rattle.log_grammar.specs.Told.{Told}
 use Rattle.log_grammar.specs.Places.{Place, between, offered, leaving, over}
-use Rattle.log_grammar.specs.Steps.{told_at}
+use Rattle.log_grammar.specs.Demands.{Accounts, Demands, demands, AreReplies}
+use Rattle.log_grammar.specs.laws.Steps.{told_at}
 use Rattle.log_grammar.specs.Numbered.{Numbered, numbered, HasRoom, MayFollow, SpellsNumbered}
-use Rattle.log_grammar.specs.NumberedSteps.{GoesIn, put, GoesNumbered}
-use Rattle.log_grammar.specs.NumberedExamples.{offer, turns_away, two_at_once, IsWholeForTwo, BeginsNoneForTwo}
+use Rattle.log_grammar.specs.laws.NumberedSteps.{GoesIn, put, GoesNumbered}
+use Rattle.log_grammar.specs.laws.NumberedExamples.{offer, turns_away, two_at_once, IsWholeForTwo, BeginsNoneForTwo}
 use Rattle.log_grammar.proofs.NumberedLogSteps.{numbered_on, no_line_yet}
 use Rattle.log_grammar.proofs.Owns.{put_other, no_element}
 use Rattle.log_grammar.proofs.Snoc.{last_same}
@@ -87,14 +87,14 @@ whole_for_two accounts =
     (p9, s9, inl all_closed)
 
 pub no_third : (accounts : Accounts) → BeginsNoneForTwo accounts (offer 1 ∷ offer 2 ∷ offer 3 ∷ [])
-no_third accounts rest places told s = let room = s.room (offer 1 ∷ offer 2 ∷ []) (offer 3) rest refl in omega (arith, room.1)
+no_third accounts rest places told s = let room = s.sessions.room (offer 1 ∷ offer 2 ∷ []) (offer 3) rest refl in omega (arith, room.1)
 
 pub no_gap : (accounts : Accounts) → BeginsNoneForTwo accounts (offer 1 ∷ offer 3 ∷ [])
-no_gap accounts rest places told s = let room = s.room (offer 1 ∷ []) (offer 3) rest refl in omega (arith, room.0)
+no_gap accounts rest places told s = let room = s.sessions.room (offer 1 ∷ []) (offer 3) rest refl in omega (arith, room.0)
 
 pub no_early_busy : (accounts : Accounts) → BeginsNoneForTwo accounts (offer 1 ∷ turns_away 2 ∷ [])
-no_early_busy accounts rest places told s = let room = s.room (offer 1 ∷ []) (turns_away 2) rest refl in omega (arith, room.1)
+no_early_busy accounts rest places told s = let room = s.sessions.room (offer 1 ∷ []) (turns_away 2) rest refl in omega (arith, room.1)
 
 pub no_line_before_end : (accounts : Accounts) → BeginsNoneForTwo accounts (offer 1 ∷ offer 2 ∷ turns_away 3 ∷ numbered 1 gone ∷ [])
 no_line_before_end accounts rest places told s =
-    let next = s.next (offer 1 ∷ offer 2 ∷ []) (turns_away 3) (numbered 1 gone) rest refl in omega (arith, next.0)
+    let next = s.sessions.next (offer 1 ∷ offer 2 ∷ []) (turns_away 3) (numbered 1 gone) rest refl in omega (arith, next.0)

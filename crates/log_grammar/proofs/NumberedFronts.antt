@@ -4,14 +4,14 @@ use Rattle.std.specs.Prelude.{codes}
 use Rattle.std.specs.List.{AllZip}
 use Rattle.log_grammar.specs.Lines.{LogLine, said, ended, halt, busy}
 use Rattle.log_grammar.specs.Bytes.{ended_by_lf, IsCut}
-use Rattle.log_grammar.specs.Sessions.{Told}
-use Rattle.log_grammar.specs.Demands.{Accounts, AreFit, Demands, demands, AreReplies}
+use Rattle.log_grammar.specs.Told.{Told}
 use Rattle.log_grammar.specs.Places.{Place, before_all, between, got_code, over, halted}
-use Rattle.log_grammar.specs.Steps.{Goes, told_at}
+use Rattle.log_grammar.specs.Demands.{Accounts, AreFit, Demands, demands, AreReplies}
+use Rattle.log_grammar.specs.laws.Steps.{Goes, told_at}
 use Rattle.log_grammar.specs.Numbered.{Numbered, numbered, place_at, lines_at, begun, MayFollow, SpellsNumbered}
-use Rattle.log_grammar.specs.NumberedCounts.{is_closed}
+use Rattle.log_grammar.specs.laws.NumberedCounts.{is_closed}
 use Rattle.log_grammar.specs.NumberedLines.{IsSessionNumber, IsNumberedLine}
-use Rattle.log_grammar.specs.NumberedSteps.{GoesIn, put}
+use Rattle.log_grammar.specs.laws.NumberedSteps.{GoesIn, put}
 use Rattle.log_grammar.specs.Kinds.{BeginsCleanOf}
 use Rattle.log_grammar.specs.KindTwo.{two}
 use Rattle.log_grammar.proofs.Completions.{Ground, spelt_end}
@@ -116,7 +116,7 @@ ranged_of limit accounts texts log places told are s n is = elim (given_or_not (
   | inl none ↦ let wrong = sym (ap is_closed (s.after n ∙ ap place_at none)) ∙ is in absurd (cc wrong)
   | inr given ↦
       let first = given_first given.0 in
-      let found = of_number_stands n log first.0 first.1 (s.lines n ∙ ap lines_at given.1 ∙ first.2) in
+      let found = of_number_stands n log first.0 first.1 (s.sessions.lines n ∙ ap lines_at given.1 ∙ first.2) in
       let text = read_at texts found.0 (numbered n first.0) found.1 (subst (λ (l : List (Numbered LogLine)). AllZip IsNumberedLine texts l) found.2 are) in
       text.1.number
 ]

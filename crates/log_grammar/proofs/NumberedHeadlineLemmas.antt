@@ -5,21 +5,21 @@ use Rattle.std.specs.declared.option.Option.{Option}
 use Rattle.std.specs.declared.option.Option.TheVariants.{None, Some}
 use Rattle.std.proofs.lemmas.Bool.Decides.{eqb_tells}
 use Rattle.otp_core.specs.Ranges.{IsMoment}
-use Rattle.log_grammar.specs.Lines.{LogLine, second_header, said, ended, busy, halt, log_text}
+use Rattle.log_grammar.specs.Lines.{LogLine, second_header, said, ended, busy, halt, log_text, EndsWith}
 use Rattle.log_grammar.specs.Bytes.{LacksLf, ended_by_lf, IsCut}
-use Rattle.log_grammar.specs.Sessions.{Told, closing_lines}
-use Rattle.log_grammar.specs.Demands.{Accounts, demands}
-use Rattle.log_grammar.specs.Histories.{IsHistory}
+use Rattle.log_grammar.specs.Told.{Told}
 use Rattle.log_grammar.specs.Places.{between, halted}
+use Rattle.log_grammar.specs.Demands.{Accounts, demands}
+use Rattle.log_grammar.specs.Sessions.{closing}
+use Rattle.log_grammar.specs.laws.Histories.{IsHistory}
 use Rattle.log_grammar.specs.Numbered.{Numbered, of_number, Stay, stays, turned, lines_at, told_in, place_at, SpellsNumbered, MayEndNumbered}
-use Rattle.log_grammar.specs.NumberedLines.{numbered_text, IsNumberedLine}
+use Rattle.log_grammar.specs.NumberedLines.{numbered_text, IsNumberedLine, IsNumberedWritable}
 use Rattle.log_grammar.specs.Kinds.{IsCleanOf}
 use Rattle.log_grammar.specs.KindTwo.{EndsTwo, two}
-use Rattle.log_grammar.specs.Outcomes.{EndsWith}
-use Rattle.log_grammar.specs.NumberedHeadline.{IsNumberedWritable, IsClosedStay, IsHaltedStay, IsNumberedLogOf, CleanNumberedLogsAreThoseOfSessions}
+use Rattle.log_grammar.specs.laws.NumberedHeadline.{IsClosedStay, IsHaltedStay, IsNumberedLogOf, CleanNumberedLogsAreThoseOfSessions}
 use Rattle.log_grammar.proofs.AccountLemmas.{each_account}
 use Rattle.log_grammar.proofs.HeadlineLemmas.{closed_at, is_closed, halted_at_end, is_halted}
-use Rattle.log_grammar.proofs.MomentLemmas.{Ranged, Timed, of_session}
+use Rattle.log_grammar.proofs.MomentLemmas.{Ranged, Timed, of_session, of_closing}
 use Rattle.log_grammar.proofs.NumberedLineLemmas.{numbered_lacks}
 use Rattle.log_grammar.proofs.Snoc.{last_same}
 
@@ -59,36 +59,36 @@ of_number_ranged n (x ∷ log) all = elim (eqb_tells n x.number) [
 timed_in : (o : Option Stay) → Ranged (lines_at o) → Timed (told_in o)
 timed_in None h = tt
 timed_in (Some (stays s)) h = of_session s h
-timed_in (Some (turned closed)) h = tt
+timed_in (Some (turned closed)) h = of_closing closed h.1
 
 -- what was told under a number without the first of all
-timed_rest : (n : ℕ) (t : Numbered Told) (marks : List (Numbered Told)) → Timed (of_number n (t ∷ marks)) → Timed (of_number n marks)
-timed_rest n t marks h = elim (eqb_tells n t.number) [
+timed_rest : (n : ℕ) (t : Numbered Told) (numbered_told : List (Numbered Told)) → Timed (of_number n (t ∷ numbered_told)) → Timed (of_number n numbered_told)
+timed_rest n t numbered_told h = elim (eqb_tells n t.number) [
   | inl same ↦ (rw same.0 at h).1
   | inr other ↦ rw other.0 at h
 ]
 
-timed_first : (t : Numbered Told) (marks : List (Numbered Told)) → Timed (of_number t.number (t ∷ marks)) → IsMoment t.value.moment
-timed_first t marks h = elim (eqb_tells t.number t.number) [
+timed_first : (t : Numbered Told) (numbered_told : List (Numbered Told)) → Timed (of_number t.number (t ∷ numbered_told)) → IsMoment t.value.moment
+timed_first t numbered_told h = elim (eqb_tells t.number t.number) [
   | inl same ↦ (rw same.0 at h).0
   | inr other ↦ absurd (other.1 refl)
 ]
 
 -- what was told under all numbers
-timed_marks : (marks : List (Numbered Told)) → ((n : ℕ) → Timed (of_number n marks)) → Timed (map (λ t. t.value) marks)
+timed_marks : (numbered_told : List (Numbered Told)) → ((n : ℕ) → Timed (of_number n numbered_told)) → Timed (map (λ t. t.value) numbered_told)
 timed_marks [] each = tt
-timed_marks (t ∷ marks) each = (timed_first t marks (each t.number), timed_marks marks (λ n. timed_rest n t marks (each n)))
+timed_marks (t ∷ numbered_told) each = (timed_first t numbered_told (each t.number), timed_marks numbered_told (λ n. timed_rest n t numbered_told (each n)))
 
-pub timed_numbers : (log : List (Numbered LogLine)) (stay : ℕ → Option Stay) (marks : List (Numbered Told)) → AllByRecursion IsNumberedWritable log
-    → ((n : ℕ) → of_number n log ≡ lines_at (stay n)) → ((n : ℕ) → of_number n marks ≡ told_in (stay n)) → Timed (map (λ t. t.value) marks)
-timed_numbers log stay marks written lines marked =
-    timed_marks marks (λ n. subst Timed (sym (marked n)) (timed_in (stay n) (subst Ranged (lines n) (of_number_ranged n log written))))
+pub timed_numbers : (log : List (Numbered LogLine)) (stay : ℕ → Option Stay) (numbered_told : List (Numbered Told)) → AllByRecursion IsNumberedWritable log
+    → ((n : ℕ) → of_number n log ≡ lines_at (stay n)) → ((n : ℕ) → of_number n numbered_told ≡ told_in (stay n)) → Timed (map (λ t. t.value) numbered_told)
+timed_numbers log stay numbered_told written lines told_of_each =
+    timed_marks numbered_told (λ n. subst Timed (sym (told_of_each n)) (timed_in (stay n) (subst Ranged (lines n) (of_number_ranged n log written))))
 
 -- a number is at the place after `E` exactly where that is its last line
 no_end_yet : EndsWith (said busy ∷ []) (ended ∷ []) → ⊥
 no_end_yet (before, same) = let wrong = (last_same [] before (said busy) ended same).1 in cc wrong
 
-no_halt : (closed : Bool) → EndsWith (said busy ∷ closing_lines closed) (said halt ∷ []) → ⊥
+no_halt : (closed : Bool) → EndsWith (said busy ∷ (closing closed).lines) (said halt ∷ []) → ⊥
 no_halt true (before, same) = let wrong = (last_same (said busy ∷ []) before ended (said halt) same).1 in cc wrong
 no_halt false (before, same) = let wrong = (last_same [] before (said busy) (said halt) same).1 in cc wrong
 
@@ -121,7 +121,7 @@ of_ends : (limit : ℕ) (accounts : Accounts) (bytes : List ℕ) (texts : List (
 of_ends limit accounts bytes [] cut ends = absurd ends
 of_ends limit accounts bytes (first ∷ texts) cut (is, log, places, told, are, s, may) =
     let written = written_of texts log are in
-    let moments = timed_numbers log s.stay s.marks written s.lines s.marked in
+    let moments = timed_numbers log s.stay s.numbered_told written s.sessions.lines s.sessions.told_of_each in
     let replies = subst (λ (t : List Told). (account : List ℕ) → IsHistory (accounts.token account) account t) s.tells
     ((each_account accounts told (subst Timed (sym s.tells) moments)).0 s.replies) in
     let over = elim may as (λ m. ((n : ℕ) → IsClosedStay (s.stay n)) ⊎ ((n : ℕ) × IsHaltedStay (s.stay n))) [
@@ -134,14 +134,9 @@ of_ends limit accounts bytes (first ∷ texts) cut (is, log, places, told, are, 
         spelled = cut.bytes_are ∙ append-nil (ended_by_lf (first ∷ texts)) ∙ ap ended_by_lf same;
         written = written;
         stay = s.stay;
-        lines = s.lines;
-        good = s.good;
-        room = s.room;
-        next = s.next;
+        numbered_told = s.numbered_told;
+        sessions = s.sessions;
         over = over;
-        marks = s.marks;
-        marked = s.marked;
-        order = s.order;
         histories = replies;
       },
     )
@@ -153,18 +148,13 @@ clean_of limit accounts bytes log l =
     let texts = log_text second_header ∷ map numbered_text log in
     let cut : IsCut bytes texts [] =
     record { bytes_are = l.spelled ∙ sym (append-nil (ended_by_lf texts)); lines = (refl, each_lacks log l.written); after = refl } in
-    let told = map (λ (t : Numbered Told). t.value) l.marks in
+    let told = map (λ (t : Numbered Told). t.value) l.numbered_told in
     let places = λ (n : ℕ). place_at (l.stay n) in
-    let moments = timed_numbers log l.stay l.marks l.written l.lines l.marked in
+    let moments = timed_numbers log l.stay l.numbered_told l.written l.sessions.lines l.sessions.told_of_each in
     let spells : SpellsNumbered limit (demands accounts) log places told = record {
       stay = l.stay;
-      lines = l.lines;
-      good = l.good;
-      room = l.room;
-      next = l.next;
-      marks = l.marks;
-      marked = l.marked;
-      order = l.order;
+      numbered_told = l.numbered_told;
+      sessions = l.sessions;
       tells = refl;
       replies = (each_account accounts told moments).1 l.histories;
       after = λ n. refl;

@@ -2,24 +2,22 @@
 use Rattle.std.proofs.Common.{◌≡◌, inl, inr, ℕ, ◌+◌, ◌≤◌, List, [], ◌∷◌, ◌++◌, length, reverse, take, refl, sym, ◌∙◌, ap, subst, arith}
 use Rattle.std.specs.List.{AllByRecursion, AllZip}
 use Rattle.std.proofs.lemmas.Bool.{cases_lt}
-use Rattle.log_grammar.specs.Lines.{LogLine, second_header, said, mechs, cont, accepts, refuses, replies, log_text}
+use Rattle.log_grammar.specs.Lines.{LogLine, second_header, said, mechs, cont, accepts, refuses, replies, log_text, IsWritable}
 use Rattle.log_grammar.specs.Bytes.{LacksLf, ended_by_lf, IsCut}
-use Rattle.log_grammar.specs.Sessions.{Told}
-use Rattle.log_grammar.specs.Demands.{Accounts, AreFit, demands, AreReplies}
+use Rattle.log_grammar.specs.Told.{Told}
 use Rattle.log_grammar.specs.Places.{Place, asks_bare, got_first, got_final, got_code, leaving}
-use Rattle.log_grammar.specs.Steps.{Goes, told_at}
+use Rattle.log_grammar.specs.Demands.{Accounts, AreFit, demands, AreReplies}
+use Rattle.log_grammar.specs.laws.Steps.{Goes, told_at}
 use Rattle.log_grammar.specs.Why.{Why, is_cut, no_line, out_of_order, other_mechs, other_challenge, other_outcome, other_reply, accepted, refused_with, class_of, LineClass, of_mechs, of_words, of_replies, IsDueAt, IsWrongWord, IsWrongReply, IsWrong}
 use Rattle.log_grammar.specs.Kinds.{IsWhyOf, BeginsCleanOf}
 use Rattle.log_grammar.specs.KindTwo.{StandsTwo, IsWrongAfterFirst, two}
 use Rattle.log_grammar.specs.Numbered.{Numbered, numbered, SpellsNumbered}
 use Rattle.log_grammar.specs.NumberedClasses.{RoomFor, MayFollowBy, IsNumberDueAt}
-use Rattle.log_grammar.specs.NumberedLines.{HasNumber, numbered_text, IsNumberedLine}
-use Rattle.log_grammar.specs.NumberedLogLaws.{NumberedFrontsBeginClean}
-use Rattle.log_grammar.specs.NumberedSteps.{put, GoesNumbered}
-use Rattle.log_grammar.specs.Headline.{IsWritable}
-use Rattle.log_grammar.specs.NumberedHeadline.{IsNumberedWritable}
-use Rattle.log_grammar.specs.Reasons.{SaysWhatIsDue, NamesWhatIsDue}
-use Rattle.log_grammar.specs.NumberedReasons.{IsNumberedMended, WhatIsDueMayStandUnderItsNumber, EachNumberedLineThatIsDueMayStand}
+use Rattle.log_grammar.specs.NumberedLines.{HasNumber, numbered_text, IsNumberedLine, IsNumberedWritable}
+use Rattle.log_grammar.specs.laws.NumberedLogLaws.{NumberedFrontsBeginClean}
+use Rattle.log_grammar.specs.laws.NumberedSteps.{put, GoesNumbered}
+use Rattle.log_grammar.specs.laws.Reasons.{SaysWhatIsDue, NamesWhatIsDue}
+use Rattle.log_grammar.specs.laws.NumberedReasons.{IsNumberedMended, WhatIsDueMayStandUnderItsNumber, EachNumberedLineThatIsDueMayStand}
 use Rattle.log_grammar.proofs.CutLemmas.{cut_one_way, first_lack}
 use Rattle.log_grammar.proofs.DueLines.{NamesOneLine, says_once, named, goes_ok, word_of}
 use Rattle.log_grammar.proofs.KindFaults.{FaultText, at_text}

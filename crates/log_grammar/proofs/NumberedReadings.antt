@@ -2,14 +2,14 @@
 -- the lines of this number alone.
 use Rattle.std.proofs.Common.{◌≡◌, inl, inr, ℕ, zero, suc, ◌≤◌, List, [], ◌∷◌, ◌++◌, length, reverse, sym, ◌∙◌, ap, subst, arith, append_assoc, append-nil}
 use Rattle.log_grammar.specs.Lines.{LogLine, said, busy}
-use Rattle.log_grammar.specs.Sessions.{Told}
-use Rattle.log_grammar.specs.Demands.{Demands, AreReplies}
+use Rattle.log_grammar.specs.Told.{Told}
 use Rattle.log_grammar.specs.Places.{Place, between}
-use Rattle.log_grammar.specs.Steps.{Goes, told_at}
+use Rattle.log_grammar.specs.Demands.{Demands, AreReplies}
+use Rattle.log_grammar.specs.laws.Steps.{Goes, told_at}
 use Rattle.log_grammar.specs.Numbered.{Numbered, SpellsNumbered}
-use Rattle.log_grammar.specs.NumberedSteps.{GoesIn, GoesNumbered}
+use Rattle.log_grammar.specs.laws.NumberedSteps.{GoesIn, GoesNumbered}
 use Rattle.log_grammar.proofs.NumberedCuts.{numbered_before}
-use Rattle.log_grammar.proofs.NumberedMarks.{values_of, no_marks}
+use Rattle.log_grammar.proofs.NumberedTold.{values_of, no_marks}
 use Rattle.log_grammar.proofs.Opened.{Opened, opened_by}
 use Rattle.log_grammar.proofs.Owns.{at_each}
 use Rattle.log_grammar.proofs.Readings.{OneAccount, goes_once}
@@ -35,7 +35,7 @@ told_alike told other p q x a b = ap (λ (t : List Told). t ++ told_at p x) a �
 pub nothing_begun : (limit : ℕ) (d : Demands) (places : ℕ → Place) (told : List Told) → SpellsNumbered limit d [] places told
     → ((n : ℕ) → places n ≡ between) × (told ≡ [])
 nothing_begun limit d places told s =
-    (λ n. s.after n ∙ no_lines_at (s.stay n) (sym (s.lines n)), s.tells ∙ ap values_of (no_marks s.marks s.order))
+    (λ n. s.after n ∙ no_lines_at (s.stay n) (sym (s.sessions.lines n)), s.tells ∙ ap values_of (no_marks s.numbered_told s.sessions.order))
 
 -- the places and what was told follow from the lines
 pub numbered_once : (limit : ℕ) (d : Demands) → OneAccount d → (k : ℕ) (log : List (Numbered LogLine)) (p q : ℕ → Place) (told other : List Told) → length log ≤ k

@@ -10,14 +10,14 @@ use Rattle.otp_core.specs.declared.token.answer.Reply.{Reply}
 use Rattle.otp_core.specs.declared.token.answer.Reply.TheVariants.{Pass}
 use Rattle.otp_core.specs.declared.token.kinds.Fields.{Fields}
 use Rattle.log_grammar.specs.Lines.{LogLine}
-use Rattle.log_grammar.specs.Sessions.{Told}
+use Rattle.log_grammar.specs.Told.{Told}
+use Rattle.log_grammar.specs.Places.{Place, waits_code, got_code}
 use Rattle.log_grammar.specs.Demands.{Accounts, Demands, attempts_of, IsReplyBy, demands, AreReplies}
-use Rattle.log_grammar.specs.Places.{Place, got_code, waits_code}
-use Rattle.log_grammar.specs.Steps.{told_at}
-use Rattle.log_grammar.specs.Replies.{passes, AreRising}
+use Rattle.log_grammar.specs.laws.Steps.{told_at}
+use Rattle.log_grammar.specs.laws.Replies.{passes, AreRising}
 use Rattle.log_grammar.specs.Numbered.{Numbered, numbered, SpellsNumbered}
-use Rattle.log_grammar.specs.NumberedSteps.{GoesIn}
-use Rattle.log_grammar.specs.NumberedReplies.{IsNumberedCodeOf, EachNumberedPassIsACode, NumberedCountersRise, NoNumberedCounterIsUsedTwice}
+use Rattle.log_grammar.specs.laws.NumberedSteps.{GoesIn}
+use Rattle.log_grammar.specs.laws.NumberedReplies.{IsNumberedCodeOf, EachNumberedPassIsACode, NumberedCountersRise, NoNumberedCounterIsUsedTwice}
 use Rattle.log_grammar.proofs.FrontLemmas.{one_account}
 use Rattle.log_grammar.proofs.NumberedCuts.{numbered_before}
 use Rattle.log_grammar.proofs.NumberedReadings.{numbered_once}

@@ -9,13 +9,13 @@ use Rattle.scram_ends.specs.declared.verdict.Refusal.{Refusal}
 use Rattle.otp_core.specs.Attempt.{CodeTexts}
 use Rattle.otp_core.specs.declared.token.answer.Reply.{Reply}
 use Rattle.log_grammar.specs.Lines.{LogLine, said, mechs, cont, refuses, replies, halt}
-use Rattle.log_grammar.specs.Sessions.{Told}
-use Rattle.log_grammar.specs.Demands.{Accounts, demands, IsVerdict, AreReplies}
+use Rattle.log_grammar.specs.Told.{Told}
 use Rattle.log_grammar.specs.Places.{Place, between, offered, asks_bare, got_first, got_final, got_code, leaving, over, halted}
-use Rattle.log_grammar.specs.Steps.{Goes, told_at}
+use Rattle.log_grammar.specs.Demands.{Accounts, IsVerdict, demands, AreReplies}
+use Rattle.log_grammar.specs.laws.Steps.{Goes, told_at}
 use Rattle.log_grammar.specs.Clean.{Begins}
-use Rattle.log_grammar.specs.Logins.{IsLoginTo}
-use Rattle.log_grammar.specs.Outcomes.{FirstLinesBeginLogs, EachOfferIsDue, IsChallengeDue, EachChallengeIsDue, IsRefusalDue, EachRefusalIsDue, IsReplied, EachReplyIsDue, EachHaltEndsACode}
+use Rattle.log_grammar.specs.laws.Logins.{IsLoginTo}
+use Rattle.log_grammar.specs.laws.Outcomes.{FirstLinesBeginLogs, EachOfferIsDue, IsChallengeDue, EachChallengeIsDue, IsRefusalDue, EachRefusalIsDue, IsReplied, EachReplyIsDue, EachHaltEndsACode}
 use Rattle.log_grammar.proofs.LogSteps.{goes_on}
 use Rattle.log_grammar.proofs.Snoc.{with_last, length-last}
 use Rattle.log_grammar.proofs.FrontLemmas.{stood_before}

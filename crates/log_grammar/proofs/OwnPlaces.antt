@@ -2,11 +2,11 @@
 use Rattle.std.proofs.Common.{◌≡◌, inl, inr, ℕ, zero, suc, ◌+◌, ◌≤◌, List, length, sym, ◌∙◌, ap, subst, arith}
 use Rattle.std.specs.declared.option.Option.{Option}
 use Rattle.log_grammar.specs.Lines.{LogLine}
-use Rattle.log_grammar.specs.Sessions.{Told}
-use Rattle.log_grammar.specs.Demands.{Demands}
+use Rattle.log_grammar.specs.Told.{Told}
 use Rattle.log_grammar.specs.Places.{Place}
+use Rattle.log_grammar.specs.Demands.{Demands}
 use Rattle.log_grammar.specs.Numbered.{Numbered, Stay, of_number, lines_at, place_at, MeetsAt, SpellsNumbered}
-use Rattle.log_grammar.specs.NumberedSteps.{GoesIn}
+use Rattle.log_grammar.specs.laws.NumberedSteps.{GoesIn}
 use Rattle.log_grammar.proofs.NumberedReadings.{goes_in_once}
 use Rattle.log_grammar.proofs.Readings.{OneAccount}
 use Rattle.log_grammar.proofs.Snoc.{last_same, length-last}
@@ -41,4 +41,4 @@ stay_once d one (suc k) p q short meets also same = elim (number_cut d p meets) 
 pub own_place : (limit : ℕ) (d : Demands) → OneAccount d → (log other : List (Numbered LogLine)) (p q : ℕ → Place) (told also : List Told)
     → SpellsNumbered limit d log p told → SpellsNumbered limit d other q also → (n m : ℕ) → of_number n log ≡ of_number m other → p n ≡ q m
 own_place limit d one log other p q told also s r n m same =
-    s.after n ∙ stay_once d one (length (lines_at (s.stay n))) (s.stay n) (r.stay m) (omega arith) (s.good n) (r.good m) (sym (s.lines n) ∙ same ∙ r.lines m) ∙ sym (r.after m)
+    s.after n ∙ stay_once d one (length (lines_at (s.stay n))) (s.stay n) (r.stay m) (omega arith) (s.sessions.good n) (r.sessions.good m) (sym (s.sessions.lines n) ∙ same ∙ r.sessions.lines m) ∙ sym (r.after m)

@@ -2,17 +2,17 @@
 -- again lines that a log may begin with.
 use Rattle.std.proofs.Common.{◌≡◌, inl, inr, ℕ, zero, suc, ◌≤◌, List, [], ◌∷◌, ◌++◌, length, sym, ◌∙◌, ap, subst, arith}
 use Rattle.log_grammar.specs.Lines.{LogLine, header, said, heard, bad, gone, ended, mechs, cont, accepts, refuses, replies, halt, auth, auth_with, resp, abort, code, sync}
-use Rattle.log_grammar.specs.Sessions.{Told}
-use Rattle.log_grammar.specs.Demands.{Demands}
+use Rattle.log_grammar.specs.Told.{Told}
 use Rattle.log_grammar.specs.Places.{Place, before_all, between, offered, asks_bare, waits_first, got_first, waits_final, got_final, waits_code, got_code, leaving, over, halted}
-use Rattle.log_grammar.specs.Steps.{FromOffered, FromInvitation, FromWaitsFirst, FromFirst, FromWaitsFinal, FromFinal, FromWaitsCode, FromCode, FromLeaving, FromBetween, FromOver, FromStart, Goes, told_at}
+use Rattle.log_grammar.specs.Demands.{Demands}
+use Rattle.log_grammar.specs.laws.Steps.{FromOffered, FromInvitation, FromWaitsFirst, FromFirst, FromWaitsFinal, FromFinal, FromWaitsCode, FromCode, FromLeaving, FromBetween, FromOver, FromStart, Goes, told_at}
 use Rattle.log_grammar.specs.Clean.{Begins}
 use Rattle.log_grammar.proofs.LogSteps.{before_last}
 use Rattle.log_grammar.proofs.Snoc.{some_last, last_same, length-last}
 
 -- a challenge is that of one account
 abbrev pub OneAccount : Demands → Type 0
-OneAccount d = (m first account other text : List ℕ) → d.challenged m first account text → d.challenged m first other text → account ≡ other
+OneAccount d = (m first account other text : List ℕ) → d.challenged m account first text → d.challenged m other first text → account ≡ other
 
 offered_once : (line : LogLine) (p q : Place) → FromOffered line p → FromOffered line q → p ≡ q
 offered_once (heard (auth m)) p q h k = h ∙ sym k

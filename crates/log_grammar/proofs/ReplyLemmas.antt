@@ -13,7 +13,7 @@ use Rattle.otp_core.proofs.DigitsLemmas.{IsCodeText-last_digits}
 use Rattle.otp_core.specs.declared.token.kinds.Fields.TheVariants.{Hotp}
 use Rattle.otp_core.specs.declared.token.kinds.HotpFields.{HotpFields}
 use Rattle.log_grammar.specs.Words.{is_code_char, IsCodeWord, IsCounter}
-use Rattle.log_grammar.specs.Logins.{LoginsAreAnswered}
+use Rattle.log_grammar.specs.laws.Logins.{LoginsAreAnswered}
 use Rattle.otp_core.specs.Attempt.{Attempt, CodeTexts, OneText, TwoTexts, counters_of, used_in}
 use Rattle.otp_core.specs.Window.{IsAbove, IsInWindow}
 use Rattle.otp_core.specs.Reply.{IsDueReply, IsFitting, code_text}
@@ -23,12 +23,12 @@ use Rattle.otp_core.specs.declared.token.answer.Reply.TheVariants.{Pass, Fail, L
 use Rattle.otp_core.specs.declared.token.kinds.Fields.{Fields}
 use Rattle.scram_text.specs.Laws.{SpellsOneName, HasOneClientFirst}
 use Rattle.log_grammar.specs.Lines.{LogLine}
-use Rattle.log_grammar.specs.Sessions.{Told, told_of}
+use Rattle.log_grammar.specs.Told.{Told, told_of}
+use Rattle.log_grammar.specs.Places.{Place, waits_code, got_code}
 use Rattle.log_grammar.specs.Demands.{Accounts, attempts_by, attempts_of, IsReplyBy, demands}
-use Rattle.log_grammar.specs.Places.{Place, got_code, waits_code}
 use Rattle.log_grammar.specs.Clean.{Begins}
-use Rattle.log_grammar.specs.Outcomes.{IsReplied, EachReplyIsDue}
-use Rattle.log_grammar.specs.Replies.{passes, IsCodeOf, EachPassIsACode, CountersRise, NextHotpCodePasses, NextTwoHotpCodesPass}
+use Rattle.log_grammar.specs.laws.Outcomes.{IsReplied, EachReplyIsDue}
+use Rattle.log_grammar.specs.laws.Replies.{passes, IsCodeOf, EachPassIsACode, CountersRise, NextHotpCodePasses, NextTwoHotpCodesPass}
 use Rattle.log_grammar.proofs.LogSteps.{turned}
 use Rattle.log_grammar.proofs.OutcomeLemmas.{told_first}
 use Rattle.log_grammar.proofs.FrontLemmas.{one_reading}

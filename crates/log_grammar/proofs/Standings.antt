@@ -5,10 +5,10 @@ use Rattle.mac_core.proofs.Decided.{Decided, decided_both, decided_same}
 use Rattle.scram_ends.specs.Verdict.{Due}
 use Rattle.otp_core.specs.Attempt.{CodeTexts, OneText, TwoTexts}
 use Rattle.log_grammar.specs.Lines.{LogLine, header, said, heard, bad, gone, ended, mechs, cont, accepts, refuses, replies, halt, auth, auth_with, resp, abort, code, sync}
-use Rattle.log_grammar.specs.Sessions.{Told, told_of}
-use Rattle.log_grammar.specs.Demands.{Accounts, demands, IsVerdict, IsReplyDue, AreReplies, attempts_of}
+use Rattle.log_grammar.specs.Told.{Told, told_of}
 use Rattle.log_grammar.specs.Places.{Place, before_all, between, offered, asks_bare, waits_first, got_first, waits_final, got_final, waits_code, got_code, leaving, over, halted}
-use Rattle.log_grammar.specs.Steps.{Goes, told_at}
+use Rattle.log_grammar.specs.Demands.{Accounts, IsVerdict, attempts_of, IsReplyDue, demands, AreReplies}
+use Rattle.log_grammar.specs.laws.Steps.{Goes, told_at}
 use Rattle.log_grammar.specs.Why.{Why, other_mechs, other_challenge, other_outcome, other_reply, refused_with, outcome_of, LineClass, of_abort, of_code, of_sync, of_bad, of_gone, class_of, IsQuitting, IsDueAt, IsWrongWord, IsWrongReply, IsWrong}
 use Rattle.log_grammar.proofs.Openings.{offered_decided, login_decided}
 use Rattle.log_grammar.proofs.Opened.{Opened}

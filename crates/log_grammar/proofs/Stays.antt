@@ -3,18 +3,14 @@ use Rattle.std.proofs.Common.{◌≡◌, ◌⊎◌, inl, inr, ℕ, true, false, 
 use Rattle.std.specs.declared.option.Option.{Option}
 use Rattle.std.specs.declared.option.Option.TheVariants.{None, Some}
 use Rattle.log_grammar.specs.Lines.{LogLine, said, ended, mechs, busy}
-use Rattle.log_grammar.specs.Sessions.{session, Login, no_login}
-use Rattle.log_grammar.specs.Demands.{Demands}
 use Rattle.log_grammar.specs.Places.{Place, between, over}
-use Rattle.log_grammar.specs.Steps.{Goes, told_at}
-use Rattle.log_grammar.specs.Numbered.{Stay, stays, turned, lines_at, told_in, place_at, MeetsAt}
-use Rattle.log_grammar.specs.NumberedSteps.{GoesIn}
-use Rattle.log_grammar.proofs.SessionParts.{Part}
+use Rattle.log_grammar.specs.Demands.{Demands}
+use Rattle.log_grammar.specs.Sessions.{Login, no_login, session}
+use Rattle.log_grammar.specs.laws.Steps.{Goes, told_at}
+use Rattle.log_grammar.specs.Numbered.{Stay, stays, turned, stay_part, lines_at, told_in, place_at, MeetsAt}
+use Rattle.log_grammar.specs.laws.NumberedSteps.{GoesIn}
 use Rattle.log_grammar.proofs.Growth.{Grown, session_on}
 use Rattle.log_grammar.proofs.Shortening.{session_cut}
-
-abbrev pub stay_part : Demands → Part (Option Stay)
-stay_part d = record { lines = lines_at; place = place_at; tells = told_in; Meets = MeetsAt d }
 
 -- a number that was given and is closed
 pub record IsClosed (p : Option Stay) : Type 0 where
@@ -23,20 +19,20 @@ pub record IsClosed (p : Option Stay) : Type 0 where
   pub at : place_at p ≡ between
 
 -- a number's first line, MECHS
-offered_on : (d : Demands) (line : LogLine) (next : Place) → Goes d between line next → Grown (stay_part d) None line next (told_at between line)
+offered_on : (d : Demands) (line : LogLine) (next : Place) → Goes d between line next → Grown d stay_part None line next (told_at between line)
 offered_on d (said (mechs names)) next h =
     record { tree = Some (stays (session names no_login)); lines = refl; at = sym h.1; tells = refl; good = (h.0, tt) }
 offered_on d line next h = absurd h
 
 -- the `E` of a number that was turned away
 turned_on : (d : Demands) (line : LogLine) (next : Place) → Goes d over line next
-    → Grown (stay_part d) (Some (turned false)) line next (told_at over line)
+    → Grown d stay_part (Some (turned false)) line next (told_at over line)
 turned_on d ended next h = record { tree = Some (turned true); lines = refl; at = sym h; tells = refl; good = tt }
 turned_on d line next h = absurd h
 
 -- a number is closed, or its lines go on by a line that may stand at its place
 pub number_on : (d : Demands) (p : Option Stay) (line : LogLine) (next : Place) → MeetsAt d p → GoesIn d (place_at p) line next
-    → IsClosed p ⊎ Grown (stay_part d) p line next (told_at (place_at p) line)
+    → IsClosed p ⊎ Grown d stay_part p line next (told_at (place_at p) line)
 number_on d None line next meets (inl h) = inr (offered_on d line next h)
 number_on d None line next meets (inr b) =
     inr (record { tree = Some (turned false); lines = ap (λ (l : LogLine). l ∷ []) (sym b.1); at = sym b.2; tells = refl; good = tt })

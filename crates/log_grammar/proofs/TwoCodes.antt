@@ -11,12 +11,12 @@ use Rattle.otp_core.specs.declared.token.kinds.Fields.TheVariants.{Hotp, Totp}
 use Rattle.otp_core.specs.declared.token.kinds.HotpFields.{HotpFields}
 use Rattle.otp_core.specs.declared.token.kinds.TotpFields.{TotpFields}
 use Rattle.log_grammar.specs.Words.{IsCodeWord, IsCounter}
-use Rattle.log_grammar.specs.Lines.{heard, sync}
+use Rattle.log_grammar.specs.Lines.{heard, sync, log_bytes}
 use Rattle.log_grammar.specs.Demands.{Accounts, IsReplyBy}
 use Rattle.log_grammar.specs.Why.{other_reply}
 use Rattle.log_grammar.specs.Versions.{IsWhy}
-use Rattle.log_grammar.specs.Logins.{IsLoginTo, login_log, log_bytes, OtherRepliesAreAtFault}
-use Rattle.log_grammar.specs.Replies.{passes, next_two}
+use Rattle.log_grammar.specs.laws.Logins.{IsLoginTo, login_log, OtherRepliesAreAtFault}
+use Rattle.log_grammar.specs.laws.Replies.{passes, next_two}
 use Rattle.log_grammar.proofs.ReplyLemmas.{next_two_are_due, two_words}
 
 -- a pass by the counter of the first

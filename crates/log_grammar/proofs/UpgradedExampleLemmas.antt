@@ -4,19 +4,17 @@ use Rattle.std.specs.Prelude.{codes, decimal, if◌then◌else◌}
 use Rattle.std.proofs.lemmas.Fmt.{decimal_digit}
 use Rattle.std.specs.List.{AllByRecursion}
 use Rattle.scram_text.specs.Laws.{SpellsOneName, HasOneClientFirst}
-use Rattle.log_grammar.specs.Lines.{LogLine, header, second_header, log_text, said, heard, bad, gone, ended, mechs, cont, accepts, refuses, halt, auth, auth_with, abort, IsLogLine}
+use Rattle.log_grammar.specs.Lines.{LogLine, header, second_header, log_text, said, heard, bad, gone, ended, mechs, cont, accepts, refuses, halt, auth, auth_with, abort, IsLogLine, IsWritable, log_bytes}
 use Rattle.log_grammar.specs.Bytes.{LacksLf, ended_by_lf}
 use Rattle.log_grammar.specs.Demands.{Accounts}
 use Rattle.log_grammar.specs.Why.{Why, is_cut, no_line, out_of_order, other_mechs, other_challenge, other_outcome, refused_with}
 use Rattle.log_grammar.specs.KindTwo.{IsFirstText, IsWrongAfterFirst}
 use Rattle.log_grammar.specs.Versions.{most_open, both, IsClean, IsWhy}
-use Rattle.log_grammar.specs.Headline.{IsWritable}
 use Rattle.log_grammar.specs.Numbered.{is_end as closes}
 use Rattle.log_grammar.specs.NumberedLines.{HasNumber, numbered_text, IsNoNumberedLine}
-use Rattle.log_grammar.specs.Logins.{log_bytes}
 use Rattle.log_grammar.specs.Upgrades.{renumbered, upgraded_text, CanBeNumbered}
-use Rattle.log_grammar.specs.Examples.{first_text}
-use Rattle.log_grammar.specs.UpgradedExamples.{second_text, one_numbered, numbered_no}
+use Rattle.log_grammar.specs.laws.Examples.{first_text}
+use Rattle.log_grammar.specs.laws.UpgradedExamples.{second_text, one_numbered, numbered_no}
 use Rattle.log_grammar.proofs.ExampleLemmas.{abort_is_cut, abort_is_early, aborted_is_clean, accepted_why, auth_is_cut, bad_is_clean, bad_is_cut, bad_no_is_cut, end_is_missing, first_is_clean, gone_is_clean, gone_is_cut, halt_is_early, invited_is_clean, invited_is_cut, invited_why, is_abort, is_auth, is_auth_with, is_bad, is_cont, is_end, is_error, is_gone, is_halt, is_no, is_offer, is_ok, is_other_offer, is_plain_auth, left_is_cut, message_why, no_is_cut, not_first_why, not_offered_is_clean, offer_is_cut, other_offer_why, plain_is_cut, plain_no_is_cut, refused_is_clean, refused_is_cut, refused_no_is_cut, turned_away_why, two_are_clean}
 use Rattle.log_grammar.proofs.CutLemmas.{whole}
 use Rattle.log_grammar.proofs.HeadlineLemmas.{is_header}
@@ -176,19 +174,19 @@ not_first_why_upgraded one_first once accounts =
     at_fault_too accounts (said (mechs (codes "SCRAM-SHA-256 SCRAM-SHA-1")) ∷ heard (auth_with (codes "SCRAM-SHA-1") []) ∷ said (cont []) ∷ []) 4 (other_outcome (refused_with [])) (is_offer, (is_auth_with, (is_cont, tt))) (tt, (tt, (tt, tt))) (omega arith) (not_first_why one_first once accounts)
 
 -- a text after the first line that is no numbered line
-after_first : (accounts : Accounts) (text : List ℕ) (why : Why) → LacksLf text → IsNoNumberedLine text → IsWrongAfterFirst most_open accounts [] text why
+after_header : (accounts : Accounts) (text : List ℕ) (why : Why) → LacksLf text → IsNoNumberedLine text → IsWrongAfterFirst most_open accounts [] text why
     → IsWhy accounts (ended_by_lf (second_text ∷ text ∷ [])) 2 why
-after_first accounts text why lacks none wrong =
+after_header accounts text why lacks none wrong =
     text_at_fault (both accounts) (shorter_both accounts) (ended_by_lf (second_text ∷ text ∷ [])) (second_text ∷ []) text [] [] why
     (whole (second_text ∷ text ∷ []) (refl, (lacks, tt))) (inr (headed_two most_open accounts).begins)
     (λ stands. let last = last_is_numbered most_open accounts second_text [] text (second_stands accounts (text ∷ []) stands) in none last.0 last.1)
     (inr (refl, ([], tt, wrong)))
 
 pub second_again : (accounts : Accounts) → IsWhy accounts (ended_by_lf (second_text ∷ second_text ∷ [])) 2 out_of_order
-second_again accounts = after_first accounts second_text out_of_order refl (unnumbered_is_none second_header) (inl (inr refl, refl))
+second_again accounts = after_header accounts second_text out_of_order refl (unnumbered_is_none second_header) (inl (inr refl, refl))
 
 pub first_after_second : (accounts : Accounts) → IsWhy accounts (ended_by_lf (second_text ∷ first_text ∷ [])) 2 out_of_order
-first_after_second accounts = after_first accounts first_text out_of_order refl (unnumbered_is_none header) (inl (inl refl, refl))
+first_after_second accounts = after_header accounts first_text out_of_order refl (unnumbered_is_none header) (inl (inl refl, refl))
 
 -- a line without a number
 no_first : IsFirstText (codes "C ABORT") → ⊥
@@ -196,7 +194,7 @@ no_first (inl is) = let wrong : 67 ≡ 83 = ap (λ (l : List ℕ). get_or l 0 0)
 no_first (inr is) = let wrong : 67 ≡ 83 = ap (λ (l : List ℕ). get_or l 0 0) is in omega (arith, wrong)
 
 pub abort_unnumbered : (accounts : Accounts) → IsWhy accounts (ended_by_lf (second_text ∷ codes "C ABORT" ∷ [])) 2 no_line
-abort_unnumbered accounts = after_first accounts (codes "C ABORT") no_line refl (unnumbered_is_none (heard abort)) (inr (inl (no_first, unnumbered_is_none (heard abort), refl)))
+abort_unnumbered accounts = after_header accounts (codes "C ABORT") no_line refl (unnumbered_is_none (heard abort)) (inr (inl (no_first, unnumbered_is_none (heard abort), refl)))
 
 -- a first line with a number
 no_numbered_first : IsNoNumberedLine (codes "1 SCRAMLOG 1")
@@ -214,4 +212,4 @@ no_first_either (inl is) = let wrong : 49 ≡ 83 = ap (λ (l : List ℕ). get_or
 no_first_either (inr is) = let wrong : 49 ≡ 83 = ap (λ (l : List ℕ). get_or l 0 0) is in omega (arith, wrong)
 
 pub header_numbered : (accounts : Accounts) → IsWhy accounts (ended_by_lf (second_text ∷ codes "1 SCRAMLOG 1" ∷ [])) 2 no_line
-header_numbered accounts = after_first accounts (codes "1 SCRAMLOG 1") no_line refl no_numbered_first (inr (inl (no_first_either, no_numbered_first, refl)))
+header_numbered accounts = after_header accounts (codes "1 SCRAMLOG 1") no_line refl no_numbered_first (inr (inl (no_first_either, no_numbered_first, refl)))

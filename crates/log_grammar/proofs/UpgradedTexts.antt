@@ -3,17 +3,18 @@ use Rattle.std.proofs.Common.{◌≡◌, inl, inr, ℕ, ◌+◌, ◌≤◌, Bool
 use Rattle.std.specs.Prelude.{if◌then◌else◌, decimal, flat_map}
 use Rattle.std.specs.List.{AllByRecursion, AllZip}
 use Rattle.std.proofs.lemmas.Bool.{cases_Bool}
-use Rattle.log_grammar.specs.Lines.{LogLine, header, second_header, log_text, IsLogLine}
+use Rattle.log_grammar.specs.Lines.{LogLine, header, second_header, log_text, IsLogLine, IsWritable}
 use Rattle.log_grammar.specs.Bytes.{LacksLf}
-use Rattle.log_grammar.specs.Sessions.{Session, session, session_lines, Told, closing_lines, Farewell, silent, farewell, farewell_lines, Quit, departs, aborts, spoils, quit_lines, Codes, no_code, quits_codes, asked, replied, halted_at, codes_lines, Judgement, unjudged, denied, granted, judgement_lines, Proof, no_proof, quits_proof, proves, proof_lines, Answer, no_answer, refused, challenged, answer_lines, First, no_first, quits_first, begins, first_lines, Invitation, no_word, turned_away, invited, invitation_lines, Login, no_login, quits_login, with_first, without_first, login_lines}
-use Rattle.log_grammar.specs.Demands.{Demands}
+use Rattle.log_grammar.specs.Told.{Told}
 use Rattle.log_grammar.specs.Places.{Place}
+use Rattle.log_grammar.specs.Demands.{Demands}
+use Rattle.log_grammar.specs.Sessions.{closing, Farewell, parting, Quit, quitting, Codes, after_ok, Judgement, after_final, Proof, after_challenge, Answer, after_first, First, after_empty, Invitation, after_auth, Login, after_mechs, Session, session_lines, silent, farewell, departs, aborts, spoils, no_code, quits_codes, asked, replied, halted_at, unjudged, denied, granted, no_proof, quits_proof, proves, no_answer, refused, challenged, no_first, quits_first, begins, no_word, turned_away, invited, no_login, quits_login, with_first, without_first, session}
 use Rattle.log_grammar.specs.Clean.{Spells}
 use Rattle.log_grammar.specs.Counts.{counts_of}
 use Rattle.log_grammar.specs.Numbered.{Numbered, numbered, is_end}
 use Rattle.log_grammar.specs.NumberedLines.{IsSessionNumber, HasNumber, numbered_text, IsNumberedLine}
-use Rattle.log_grammar.specs.Headline.{IsWritable}
-use Rattle.log_grammar.specs.Upgrades.{renumbered, CanBeNumbered, UpgradedLogsHaveTheSameCounts}
+use Rattle.log_grammar.specs.Upgrades.{renumbered, CanBeNumbered}
+use Rattle.log_grammar.specs.laws.UpgradedLogs.{UpgradedLogsHaveTheSameCounts}
 use Rattle.log_grammar.proofs.LineBytes.{number_lacks, log_lacks}
 use Rattle.log_grammar.proofs.LineLemmas.{one_log_line}
 use Rattle.log_grammar.proofs.NumberedLineLemmas.{numbered_written, number_is}
@@ -26,56 +27,56 @@ use Rattle.log_grammar.proofs.WordLemmas.{after_space, after-word, spaceless_num
 abbrev AreSession : List LogLine → Type 0
 AreSession lines = AllByRecursion HasNumber lines
 
-of_closing : (closed : Bool) → AreSession (closing_lines closed)
+of_closing : (closed : Bool) → AreSession (closing closed).lines
 of_closing true = (tt, tt)
 of_closing false = tt
 
-of_farewell : (f : Farewell) → AreSession (farewell_lines f)
+of_farewell : (f : Farewell) → AreSession (parting f).lines
 of_farewell silent = tt
 of_farewell (farewell text closed) = (tt, of_closing closed)
 
-of_quit : (q : Quit) → AreSession (quit_lines q)
+of_quit : (q : Quit) → AreSession (quitting q).lines
 of_quit (departs closed) = (tt, of_closing closed)
 of_quit (aborts f) = (tt, of_farewell f)
 of_quit (spoils f) = (tt, of_farewell f)
 
-of_codes : (c : Codes) → AreSession (codes_lines c)
-of_codes no_code = tt
-of_codes (quits_codes q) = of_quit q
-of_codes (asked sent) = (tt, tt)
-of_codes (replied sent moment reply more) = (tt, (tt, of_codes more))
-of_codes (halted_at sent) = (tt, (tt, tt))
+of_codes : (account : List ℕ) (c : Codes) → AreSession (after_ok account c).lines
+of_codes account no_code = tt
+of_codes account (quits_codes q) = of_quit q
+of_codes account (asked sent) = (tt, tt)
+of_codes account (replied sent moment reply more) = (tt, (tt, of_codes account more))
+of_codes account (halted_at sent) = (tt, (tt, tt))
 
-of_judgement : (j : Judgement) → AreSession (judgement_lines j)
-of_judgement unjudged = tt
-of_judgement (denied text closed) = (tt, of_closing closed)
-of_judgement (granted text c) = (tt, of_codes c)
+of_judgement : (m account first challenge last : List ℕ) (j : Judgement) → AreSession (after_final m account first challenge last j).lines
+of_judgement m account first challenge last unjudged = tt
+of_judgement m account first challenge last (denied text closed) = (tt, of_closing closed)
+of_judgement m account first challenge last (granted text c) = (tt, of_codes account c)
 
-of_proof : (p : Proof) → AreSession (proof_lines p)
-of_proof no_proof = tt
-of_proof (quits_proof q) = of_quit q
-of_proof (proves last j) = (tt, of_judgement j)
+of_proof : (m account first challenge : List ℕ) (p : Proof) → AreSession (after_challenge m account first challenge p).lines
+of_proof m account first challenge no_proof = tt
+of_proof m account first challenge (quits_proof q) = of_quit q
+of_proof m account first challenge (proves last j) = (tt, of_judgement m account first challenge last j)
 
-of_answer : (a : Answer) → AreSession (answer_lines a)
-of_answer no_answer = tt
-of_answer (refused text closed) = (tt, of_closing closed)
-of_answer (challenged account text p) = (tt, of_proof p)
+of_answer : (m first : List ℕ) (a : Answer) → AreSession (after_first m first a).lines
+of_answer m first no_answer = tt
+of_answer m first (refused text closed) = (tt, of_closing closed)
+of_answer m first (challenged account text p) = (tt, of_proof m account first text p)
 
-of_first : (f : First) → AreSession (first_lines f)
-of_first no_first = tt
-of_first (quits_first q) = of_quit q
-of_first (begins first a) = (tt, of_answer a)
+of_first : (m : List ℕ) (f : First) → AreSession (after_empty m f).lines
+of_first m no_first = tt
+of_first m (quits_first q) = of_quit q
+of_first m (begins first a) = (tt, of_answer m first a)
 
-of_invitation : (i : Invitation) → AreSession (invitation_lines i)
-of_invitation no_word = tt
-of_invitation (turned_away text closed) = (tt, of_closing closed)
-of_invitation (invited text f) = (tt, of_first f)
+of_invitation : (m : List ℕ) (i : Invitation) → AreSession (after_auth m i).lines
+of_invitation m no_word = tt
+of_invitation m (turned_away text closed) = (tt, of_closing closed)
+of_invitation m (invited text f) = (tt, of_first m f)
 
-of_login : (l : Login) → AreSession (login_lines l)
+of_login : (l : Login) → AreSession (after_mechs l).lines
 of_login no_login = tt
 of_login (quits_login q) = of_quit q
-of_login (with_first mechanism first a) = (tt, of_answer a)
-of_login (without_first mechanism i) = (tt, of_invitation i)
+of_login (with_first m first a) = (tt, of_answer m first a)
+of_login (without_first m i) = (tt, of_invitation m i)
 
 of_session : (s : Session) → AreSession (session_lines s)
 of_session (session names l) = (tt, of_login l)

@@ -9,9 +9,9 @@ use Rattle.otp_core.specs.Laws.{CandidatesAreNew}
 use Rattle.otp_core.specs.declared.token.answer.Reply.{Reply}
 use Rattle.otp_core.specs.declared.token.answer.Reply.TheVariants.{Pass, Fail, Locked}
 use Rattle.otp_core.specs.declared.token.kinds.Fields.{Fields}
-use Rattle.log_grammar.specs.Sessions.{Told}
+use Rattle.log_grammar.specs.Told.{Told}
 use Rattle.log_grammar.specs.Demands.{Accounts, attempts_by, attempts_of, IsReplyBy, demands, AreReplies}
-use Rattle.log_grammar.specs.Replies.{AreRising, NoCounterIsUsedTwice}
+use Rattle.log_grammar.specs.laws.Replies.{AreRising, NoCounterIsUsedTwice}
 use Rattle.log_grammar.proofs.LogSteps.{turned}
 use Rattle.log_grammar.proofs.AccountLemmas.{of_account}
 use Rattle.log_grammar.proofs.ReplyLemmas.{fits_above}

@@ -2,9 +2,9 @@
 use Rattle.std.specs.Prelude.{ℕ, List}
 use Rattle.std.specs.List.{AllZip}
 use Rattle.log_grammar.specs.Lines.{LogLine, IsLogLine}
-use Rattle.log_grammar.specs.Sessions.{Told}
-use Rattle.log_grammar.specs.Demands.{Accounts, demands}
+use Rattle.log_grammar.specs.Told.{Told}
 use Rattle.log_grammar.specs.Places.{Place, MayEnd}
+use Rattle.log_grammar.specs.Demands.{Accounts, demands}
 use Rattle.log_grammar.specs.Clean.{Spells, Begins}
 use Rattle.log_grammar.specs.Why.{Why, IsWrongText}
 use Rattle.log_grammar.specs.Kinds.{LogKind}

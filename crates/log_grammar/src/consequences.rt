@@ -3,11 +3,11 @@ ghost use Rattle.std.specs.Prelude.{ℕ, ◌≡◌, ◌⊎◌, ◌↔◌, List, 
 ghost use Rattle.log_grammar.specs.Payload.{IsMessage};
 ghost use Rattle.log_grammar.specs.Lines.{Line, LogLine, client_text, resp, IsLine, IsLogLine, IsNoLogLine};
 ghost use Rattle.log_grammar.specs.Bytes.{ended_by_lf, IsCut};
-ghost use Rattle.log_grammar.specs.Sessions.{Told};
-ghost use Rattle.log_grammar.specs.Demands.{Accounts, demands, AreReplies};
-ghost use Rattle.log_grammar.specs.Histories.{IsHistory};
+ghost use Rattle.log_grammar.specs.Told.{Told};
 ghost use Rattle.log_grammar.specs.Places.{Place};
-ghost use Rattle.log_grammar.specs.Steps.{Goes, told_at};
+ghost use Rattle.log_grammar.specs.Demands.{Accounts, demands, AreReplies};
+ghost use Rattle.log_grammar.specs.laws.Histories.{IsHistory};
+ghost use Rattle.log_grammar.specs.laws.Steps.{Goes, told_at};
 ghost use Rattle.log_grammar.specs.Clean.{Spells, Begins, AreLines};
 ghost use Rattle.log_grammar.specs.Versions.{IsFront, IsClean, IsFaultLine, IsWhy};
 ghost use Rattle.log_grammar.specs.Why.{Why};

@@ -7,18 +7,19 @@ ghost use Rattle.otp_core.specs.declared.token.kinds.Fields.TheVariants.{Hotp, T
 ghost use Rattle.otp_core.specs.declared.token.kinds.HotpFields.{HotpFields};
 ghost use Rattle.otp_core.specs.declared.token.kinds.TotpFields.{TotpFields};
 ghost use Rattle.log_grammar.specs.Words.{IsCodeWord, IsCounter};
-ghost use Rattle.log_grammar.specs.Lines.{LogLine, header, said, heard, gone, ended, mechs, cont, accepts, replies, auth_with, resp, code, sync, IsLogLine};
+ghost use Rattle.log_grammar.specs.Lines.{LogLine, header, said, heard, gone, ended, mechs, cont, accepts, replies, auth_with, resp, code, sync, IsLogLine, log_bytes};
 ghost use Rattle.log_grammar.specs.Bytes.{LacksLf, ended_by_lf};
 ghost use Rattle.log_grammar.specs.Counts.{counts_of};
-ghost use Rattle.log_grammar.specs.Sessions.{Told, Session, session_lines};
-ghost use Rattle.log_grammar.specs.Demands.{Accounts, demands};
+ghost use Rattle.log_grammar.specs.Told.{Told};
 ghost use Rattle.log_grammar.specs.Places.{Place, halted};
+ghost use Rattle.log_grammar.specs.Demands.{Accounts, demands};
+ghost use Rattle.log_grammar.specs.Sessions.{Session, session_lines};
 ghost use Rattle.log_grammar.specs.Clean.{Begins};
 ghost use Rattle.log_grammar.specs.Versions.{IsClean, IsWhy};
 ghost use Rattle.log_grammar.specs.Why.{LineClass, IsClassDue, is_cut, no_line, out_of_order, other_mechs, other_challenge, other_outcome, other_reply, refused_with};
-ghost use Rattle.log_grammar.specs.Logins.{IsLoginTo, login_log, log_bytes};
-ghost use Rattle.log_grammar.specs.Replies.{passes, next_two};
-ghost use Rattle.log_grammar.specs.Examples.{first_text, offer_text, first_alone, one_session, bare_no, AreWhole};
+ghost use Rattle.log_grammar.specs.laws.Logins.{IsLoginTo, login_log};
+ghost use Rattle.log_grammar.specs.laws.Replies.{passes, next_two};
+ghost use Rattle.log_grammar.specs.laws.Examples.{first_text, offer_text, first_alone, one_session, bare_no, AreWhole};
 
 use crate::laws::classes_follow_the_place;
 use crate::logins::other_answers_to_logins_are_at_fault;

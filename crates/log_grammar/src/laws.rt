@@ -1,5 +1,6 @@
 //! Laws of lines and logs, for proofs that rest on this crate: each is the promise of a function that does nothing.
-ghost use Rattle.log_grammar.specs.Laws.{EscapesOneMessage, IsOneLine, IsOneLogLine, LineIsDecided, LogLineIsDecided, WrittenLinesAreRead, LinesLackLf, AreCut, AreCutOneWay, GoesOnByALine, GoesOnByNoOther, HasOneReading, FrontsBeginWithFronts, CleanLogsAreFronts, EachAccountHasItsHistory, MomentsAreInRange, HasOneFaultLine, HasOneWhy, EachLogIsJudged, ClassesFollowThePlace, FrontsBeginClean};
+ghost use Rattle.log_grammar.specs.laws.LineLaws.{EscapesOneMessage, IsOneLine, IsOneLogLine, LineIsDecided, LogLineIsDecided, WrittenLinesAreRead, LinesLackLf, AreCut, AreCutOneWay};
+ghost use Rattle.log_grammar.specs.laws.LogLaws.{GoesOnByALine, GoesOnByNoOther, HasOneReading, FrontsBeginWithFronts, CleanLogsAreFronts, EachAccountHasItsHistory, MomentsAreInRange, HasOneFaultLine, HasOneWhy, EachLogIsJudged, ClassesFollowThePlace, FrontsBeginClean};
 
 use otp_core::laws::{only_one_reply_is_due, some_reply_is_due};
 use scram_ends::laws::{at_most_one_verdict_is_due, some_verdict_is_due};

@@ -2,10 +2,10 @@
 ghost use Rattle.std.specs.Prelude.{ℕ, List, [], ◌∷◌, ◌++◌, codes};
 ghost use Rattle.mac_core.specs.declared.mechanism.Mechanism.{Mechanism};
 ghost use Rattle.scram_text.specs.Class.{IsPlainName};
-ghost use Rattle.log_grammar.specs.Lines.{LogLine, said, halt};
+ghost use Rattle.log_grammar.specs.Lines.{LogLine, said, halt, log_bytes};
 ghost use Rattle.log_grammar.specs.Demands.{Accounts, IsFit};
 ghost use Rattle.log_grammar.specs.Versions.{IsClean};
-ghost use Rattle.log_grammar.specs.Logins.{EachOkEndsALogin, LoginsAreClean, LoginsMayHalt, LoginsAreAnswered, HasPassword, PasswordsLogIn, RefusedLoginsAreAtFault, OtherRepliesAreAtFault, log_bytes};
+ghost use Rattle.log_grammar.specs.laws.Logins.{EachOkEndsALogin, LoginsAreClean, LoginsMayHalt, LoginsAreAnswered, HasPassword, PasswordsLogIn, RefusedLoginsAreAtFault, OtherRepliesAreAtFault};
 
 use otp_core::laws::only_one_reply_is_due;
 use scram_ends::honest_login;

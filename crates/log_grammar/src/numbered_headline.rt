@@ -1,5 +1,5 @@
 //! What it means that a log of version 2 is clean: it is that of sessions.
-ghost use Rattle.log_grammar.specs.NumberedHeadline.{CleanNumberedLogsAreThoseOfSessions};
+ghost use Rattle.log_grammar.specs.laws.NumberedHeadline.{CleanNumberedLogsAreThoseOfSessions};
 
 /// A log of version 2 is clean exactly where it is `SCRAMLOG 2` and numbered lines, each ended by an LF, such that the lines of
 /// each number are a session that meets its demands, or one that BUSY turned away; numbers are given in turn, to MECHS where

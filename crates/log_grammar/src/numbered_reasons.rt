@@ -1,5 +1,5 @@
 //! What the reason of a fault says of a log of version 2: which line may stand in the place of the one at fault.
-ghost use Rattle.log_grammar.specs.NumberedReasons.{WhatIsDueMayStandUnderItsNumber, EachNumberedLineThatIsDueMayStand};
+ghost use Rattle.log_grammar.specs.laws.NumberedReasons.{WhatIsDueMayStandUnderItsNumber, EachNumberedLineThatIsDueMayStand};
 
 use crate::numbered_logs::numbered_fronts_begin_clean;
 

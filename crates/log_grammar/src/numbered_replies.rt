@@ -1,5 +1,5 @@
 //! Codes that passed in a log of version 2.
-ghost use Rattle.log_grammar.specs.NumberedReplies.{EachNumberedPassIsACode, NumberedCountersRise, NoNumberedCounterIsUsedTwice};
+ghost use Rattle.log_grammar.specs.laws.NumberedReplies.{EachNumberedPassIsACode, NumberedCountersRise, NoNumberedCounterIsUsedTwice};
 
 use otp_core::laws::candidates_are_new;
 use scram_text::laws::{has_one_client_first, spells_one_name};

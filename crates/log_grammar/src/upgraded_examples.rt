@@ -4,8 +4,8 @@ ghost use Rattle.log_grammar.specs.Bytes.{ended_by_lf};
 ghost use Rattle.log_grammar.specs.Demands.{Accounts};
 ghost use Rattle.log_grammar.specs.Versions.{IsClean, IsWhy};
 ghost use Rattle.log_grammar.specs.Why.{is_cut, no_line, out_of_order, other_mechs, other_challenge, other_outcome, refused_with};
-ghost use Rattle.log_grammar.specs.Examples.{first_text};
-ghost use Rattle.log_grammar.specs.UpgradedExamples.{second_text, one_numbered, numbered_no};
+ghost use Rattle.log_grammar.specs.laws.Examples.{first_text};
+ghost use Rattle.log_grammar.specs.laws.UpgradedExamples.{second_text, one_numbered, numbered_no};
 
 use scram_text::laws::{has_one_client_first, spells_one_name};
 

@@ -1,5 +1,5 @@
 //! Logs of one login, upgraded: each is judged as the log of version 1 is.
-ghost use Rattle.log_grammar.specs.UpgradedLogins.{UpgradedLoginsAreClean, UpgradedLoginsMayHalt, UpgradedLoginsAreAnswered, UpgradedRefusalsAreAtFault, UpgradedRepliesAreAtFault};
+ghost use Rattle.log_grammar.specs.laws.UpgradedLogins.{UpgradedLoginsAreClean, UpgradedLoginsMayHalt, UpgradedLoginsAreAnswered, UpgradedRefusalsAreAtFault, UpgradedRepliesAreAtFault};
 
 use crate::logins::{logins_are_clean, other_answers_to_logins_are_at_fault};
 use crate::upgrades::{upgraded_logs_are_clean, upgraded_logs_have_the_same_fault};

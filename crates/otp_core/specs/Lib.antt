@@ -10,3 +10,4 @@ pub mod Secret
 pub mod Settings
 pub mod State
 pub mod Window
+pub mod Sent

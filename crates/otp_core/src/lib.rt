@@ -19,12 +19,14 @@ mod fault;
 mod hash;
 pub mod laws;
 mod secret;
+mod sent;
 mod token;
 
 pub use code::{Code, hotp, hotp_with, step, truncate};
 pub use fault::{OtpFault, Setting};
 pub use hash::OtpHash;
 pub use secret::{Digits, LAST_MOMENT, Moment, Secret};
+pub use sent::Sent;
 pub use token::{
     Fields, HotpFields, MOST_COUNTER, MOST_LIMIT, MOST_STEP, Reply, Token, TotpFields,
 };

@@ -13,11 +13,11 @@ use Rattle.scram_ends.specs.Opening.{IsOpening}
 use Rattle.scram_ends.specs.Stages.{challenged_login}
 use Rattle.scram_ends.specs.Verdict.{Due, accept, refuse, IsDue, due_text, final_due}
 use Rattle.scram_ends.specs.declared.verdict.Refusal.{Refusal}
-use Rattle.log_grammar.specs.Laws.{IsOneLine}
+use Rattle.log_grammar.specs.laws.LineLaws.{IsOneLine}
 use Rattle.log_grammar.specs.Lines.{LogLine, header, second_header, said, heard, bad, gone, ended, mechs, cont, accepts, refuses, ClientLine, auth, auth_with, resp, abort, code, sync, from_client}
-use Rattle.log_grammar.specs.Demands.{Accounts, Demands, demands, NamesMechanism, IsFirstOf, IsChallenged, IsVerdict}
 use Rattle.log_grammar.specs.Places.{Place, between, offered, asks_bare, waits_first, got_first, waits_final, got_final, waits_code, leaving, over}
-use Rattle.log_grammar.specs.Steps.{Goes}
+use Rattle.log_grammar.specs.Demands.{Accounts, Demands, NamesMechanism, IsFirstOf, IsChallenged, IsVerdict, demands}
+use Rattle.log_grammar.specs.laws.Steps.{Goes}
 use Rattle.log_grammar.proofs.Openings.{one_name, login_of}
 use Rattle.log_grammar.proofs.WhyLemmas.{mechanism_once, one_verdict}
 use Rattle.sasl_desk.specs.Alone.{AsksTheSame, AskTheSame, up_to_acceptance, HaveSameEntries}
@@ -133,7 +133,7 @@ ShapeAt accounts (asks_bare mechanism) lines next =
     ⊎ (((m : Mechanism) × NamesMechanism mechanism m) × ((lines ≡ said (cont []) ∷ []) × (next ≡ waits_first mechanism)))
 ShapeAt accounts (got_first mechanism first) lines next =
     (((name : List ℕ) → IsFirstOf mechanism first name → ⊥) × IsRefusal [] lines next)
-    ⊎ ((account : List ℕ) × (text : List ℕ) × IsChallenged accounts mechanism first account text
+    ⊎ ((account : List ℕ) × (text : List ℕ) × IsChallenged accounts mechanism account first text
     × ((lines ≡ said (cont text) ∷ []) × (next ≡ waits_final mechanism account first text)))
 ShapeAt accounts (got_final mechanism account first challenge last) lines next =
     ((why : Refusal) × IsVerdict accounts mechanism account first challenge last (refuse why) × IsRefusal (due_text (refuse why)) lines next)

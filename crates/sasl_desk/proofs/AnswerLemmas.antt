@@ -17,8 +17,8 @@ use Rattle.scram_ends.specs.declared.server.ServerWait.{ServerWait}
 use Rattle.scram_ends.specs.declared.first.FirstFault.{FirstFault}
 use Rattle.scram_ends.specs.declared.verdict.Refusal.{Refusal}
 use Rattle.scram_ends.specs.declared.verdict.Verdict.{Verdict}
-use Rattle.log_grammar.specs.Demands.{Accounts, NamesMechanism, IsFirstOf}
 use Rattle.log_grammar.specs.Places.{Place, between, asks_bare, waits_first, got_first, waits_final, got_final, waits_code, leaving, over}
+use Rattle.log_grammar.specs.Demands.{Accounts, NamesMechanism, IsFirstOf}
 use Rattle.sasl_log.proofs.LoginLemmas.{stands_same, challenge_of}
 use Rattle.sasl_desk.specs.Waiting.{waiting_of}
 use Rattle.sasl_desk.specs.Sessions.{answer_of, verdict_answer, IsTurnedAway, IsAnswer}

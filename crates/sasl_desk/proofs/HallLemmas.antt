@@ -15,12 +15,12 @@ use Rattle.account_book.specs.Store.{StoreFacts}
 use Rattle.log_grammar.specs.Books.{accounts_in}
 use Rattle.log_grammar.specs.Bytes.{ended_by_lf}
 use Rattle.log_grammar.specs.Lines.{LogLine, heard, asking, log_text}
-use Rattle.log_grammar.specs.Sessions.{Told, told_of}
+use Rattle.log_grammar.specs.Told.{Told, told_of}
+use Rattle.log_grammar.specs.Places.{Place, between, waits_code, got_code, halted}
 use Rattle.log_grammar.specs.Demands.{Accounts, demands}
-use Rattle.log_grammar.specs.Places.{Place, between, got_code, waits_code, halted}
 use Rattle.log_grammar.specs.Numbered.{Numbered, numbered, of_number}
 use Rattle.log_grammar.specs.NumberedLines.{numbered_text}
-use Rattle.log_grammar.specs.NumberedCounts.{is_closed}
+use Rattle.log_grammar.specs.laws.NumberedCounts.{is_closed}
 use Rattle.log_grammar.proofs.LineBytes.{reply_line}
 use Rattle.log_grammar.proofs.Shortening.{code_goes}
 use Rattle.log_grammar.proofs.Snoc.{same_cons}
@@ -31,7 +31,7 @@ use Rattle.sasl_desk.specs.Halls.{HallFields, hall_of, hall_lines, numbered_byte
 use Rattle.otp_core.specs.Ranges.{IsMoment}
 use Rattle.sasl_desk.specs.Keeper.{IsAttemptJudged, IsJudged, IsJudgedInRange}
 use Rattle.sasl_desk.specs.Left.{left_of, judged_lines, judged_left, SessionAnswers, AsksJudgement, IsTurnOf, IsTurnWritten}
-use Rattle.sasl_desk.specs.Marks.{mark, marked_bytes}
+use Rattle.sasl_desk.specs.Prefix.{prefix, prefixed_bytes}
 use Rattle.sasl_desk.specs.Runs.{Asked, hears, Call, call_of, own_part, IsTurnTaken, IsRun}
 use Rattle.sasl_desk.specs.Sessions.{StandsAt, IsLeftAt, IsRecord, turn_lines}
 use Rattle.sasl_desk.specs.Spent.{AreSpent, SpentStaysSpent}
@@ -54,12 +54,12 @@ use Rattle.sasl_desk.proofs.RunLemmas.{left_rests}
 use Rattle.sasl_desk.proofs.StandLemmas.{book_after_told, held_at_turn, left_going, kept_held, spent_after, halt_written, taken_by_turn, taken_by_reply, taken_by_halt, stored_by_halt, turn_saves, saves_by_code, asked_by_code, quiet_by_code, failed_by, open_goes_on}
 
 -- numbered lines, as a turn writes them
-marked_texts : (n : ℕ) (lines : List LogLine) → map (λ line. mark (Some n) ++ log_text line) lines ≡ map numbered_text (map (numbered n) lines)
-marked_texts n [] = refl
-marked_texts n (line ∷ lines) = same_cons _ _ _ _ (append_assoc (decimal n) (32 ∷ []) (log_text line)) (marked_texts n lines)
+prefixed_texts : (n : ℕ) (lines : List LogLine) → map (λ line. prefix (Some n) ++ log_text line) lines ≡ map numbered_text (map (numbered n) lines)
+prefixed_texts n [] = refl
+prefixed_texts n (line ∷ lines) = same_cons _ _ _ _ (append_assoc (decimal n) (32 ∷ []) (log_text line)) (prefixed_texts n lines)
 
-pub marked_numbered : (n : ℕ) (lines : List LogLine) → marked_bytes (Some n) lines ≡ numbered_bytes (map (numbered n) lines)
-marked_numbered n lines = ap ended_by_lf (marked_texts n lines)
+pub marked_numbered : (n : ℕ) (lines : List LogLine) → prefixed_bytes (Some n) lines ≡ numbered_bytes (map (numbered n) lines)
+marked_numbered n lines = ap ended_by_lf (prefixed_texts n lines)
 
 -- an open session has not been turned away
 run_of : (accounts : Accounts) (calls : List Call) (at : Place) → is_closed at ≡ false → IsStay accounts calls at → IsRun accounts calls at

@@ -10,19 +10,18 @@ use Rattle.book_format.specs.Book.{BookFields}
 use Rattle.account_book.specs.Store.{StoreFacts}
 use Rattle.log_grammar.specs.Books.{accounts_in}
 use Rattle.log_grammar.specs.Lines.{LogLine, said, busy, halt}
-use Rattle.log_grammar.specs.Sessions.{Told}
-use Rattle.log_grammar.specs.Demands.{Accounts, Demands, demands}
+use Rattle.log_grammar.specs.Told.{Told}
 use Rattle.log_grammar.specs.Places.{Place, before_all, between, over, halted}
-use Rattle.log_grammar.specs.Numbered.{Numbered, numbered, of_number, closed_in, MayFollow, SpellsNumbered}
-use Rattle.log_grammar.specs.NumberedLines.{IsSessionNumber}
-use Rattle.log_grammar.specs.NumberedCounts.{is_closed}
-use Rattle.log_grammar.specs.NumberedSteps.{put, GoesIn}
+use Rattle.log_grammar.specs.Demands.{Accounts, Demands, demands}
+use Rattle.log_grammar.specs.Numbered.{Numbered, numbered, of_number, closed_in, MayFollow, SpellsNumbered, FollowsLast}
+use Rattle.log_grammar.specs.NumberedLines.{IsSessionNumber, IsNumberedWritable}
+use Rattle.log_grammar.specs.laws.NumberedCounts.{is_closed}
+use Rattle.log_grammar.specs.laws.NumberedSteps.{put, GoesIn}
 use Rattle.log_grammar.proofs.NumberedCuts.{numbered_before}
 use Rattle.log_grammar.proofs.OpenCounts.{open_was_begun}
 use Rattle.log_grammar.proofs.Owns.{at_each, put_here, put_other, begun_append, closed_append}
 use Rattle.log_grammar.proofs.Snoc.{all_append}
 use Rattle.log_grammar.proofs.NumberedFronts.{halt_leads, no_busy_line}
-use Rattle.log_grammar.specs.NumberedHeadline.{IsNumberedWritable}
 use Rattle.sasl_log.proofs.PermutedSlots.{all_permuted, count_permuted}
 use Rattle.sasl_desk.specs.Desks.{IsHeld, IsStoredAt, IsBookWith, all_spent}
 use Rattle.sasl_desk.specs.Events.{ClientEvent}
@@ -40,7 +39,6 @@ use Rattle.sasl_desk.specs.declared.turn.Left.TheVariants.{Going, Over, Halted}
 use Rattle.sasl_desk.proofs.GuestLemmas.{count_here, count_other, count_last, one_of, none_of, all_with}
 use Rattle.sasl_desk.proofs.HallPaths.{IsTurnLine, turn_number, turn_begun}
 use Rattle.sasl_desk.proofs.PathLemmas.{client_turn}
-use Rattle.sasl_log.specs.OpenSessions.{FollowsLast}
 
 -- the calls of a number, with one more
 pub of_number_here : {X : Type 0} (n : ℕ) (x : X) (xs : List (Numbered X)) → of_number n (numbered n x ∷ xs) ≡ x ∷ of_number n xs

@@ -3,13 +3,13 @@ use Rattle.std.proofs.Common.{◌≡◌, true, false, ℕ, List, refl, sym, subs
 use Rattle.std.specs.Prelude.{IfOk}
 use Rattle.std.specs.declared.result.Result.{Result}
 use Rattle.std.specs.declared.result.Result.TheVariants.{Ok, Err}
-use Rattle.log_grammar.specs.Laws.{IsOneLine}
+use Rattle.log_grammar.specs.laws.LineLaws.{IsOneLine}
 use Rattle.otp_core.specs.Attempt.{CodeTexts, OneText, TwoTexts}
 use Rattle.log_grammar.specs.Lines.{LogLine, heard, bad, ClientLine, asking, from_client, IsLine}
-use Rattle.log_grammar.specs.Demands.{Accounts}
 use Rattle.log_grammar.specs.Places.{Place}
+use Rattle.log_grammar.specs.Demands.{Accounts}
 use Rattle.sasl_desk.specs.Events.{ClientEvent, sends, goes_away}
-use Rattle.sasl_desk.specs.Keeper.{texts_of}
+use Rattle.otp_core.specs.Sent.{texts_of}
 use Rattle.sasl_desk.specs.Turns.{is_due}
 use Rattle.sasl_desk.specs.Sessions.{IsLineOf, IsRecord, IsLineRecord, IsHeard, IsLineHeard, AsksFor, AsksForEvent, TakesMemory, SentWhatTakesMemory}
 use Rattle.sasl_desk.specs.declared.session.Session.{Session}

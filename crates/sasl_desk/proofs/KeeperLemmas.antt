@@ -15,8 +15,8 @@ use Rattle.account_book.specs.Store.{StoreFacts}
 use Rattle.account_book.specs.Tokens.{token_at, with_token, IsAttempt}
 use Rattle.account_book.proofs.MapLemmas.{is_changed}
 use Rattle.account_book.proofs.TokenLemmas.{tokens_go_back, tokens_stay}
+use Rattle.log_grammar.specs.Told.{Told, told_of}
 use Rattle.log_grammar.specs.Demands.{Accounts, IsReplyDue}
-use Rattle.log_grammar.specs.Sessions.{Told, told_of}
 use Rattle.sasl_log.proofs.TokenLemmas.{reply_by, book_after}
 use Rattle.sasl_log.specs.Tokens.{IsBookAfter}
 use Rattle.sasl_desk.specs.Keeper.{IsAttemptJudged, NeedsSave, IsKept, SavesText}

@@ -1,21 +1,21 @@
-pub mod AloneLemmas
-pub mod AnswerLemmas
-pub mod GuestLemmas
-pub mod HallGreetings
+mod AloneLemmas
+mod AnswerLemmas
+mod GuestLemmas
+mod HallGreetings
 pub mod HallLaws
-pub mod HallLemmas
-pub mod HallPaths
+mod HallLemmas
+mod HallPaths
 pub mod HallSteps
-pub mod HeardLemmas
-pub mod KeeperLemmas
-pub mod LeftLemmas
-pub mod PathLemmas
-pub mod RecordLemmas
-pub mod RestartLemmas
+mod HeardLemmas
+mod KeeperLemmas
+mod LeftLemmas
+mod PathLemmas
+mod RecordLemmas
+mod RestartLemmas
 pub mod RunLemmas
-pub mod ServeLemmas
-pub mod SpentLemmas
-pub mod StandLemmas
-pub mod TurnLemmas
-pub mod UnlockLemmas
-pub mod WritableLemmas
+mod ServeLemmas
+mod SpentLemmas
+mod StandLemmas
+mod TurnLemmas
+mod UnlockLemmas
+mod WritableLemmas

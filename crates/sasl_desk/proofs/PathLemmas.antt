@@ -3,12 +3,12 @@ use Rattle.std.proofs.Common.{◌≡◌, true, ℕ, List, [], ◌∷◌, ◌++�
 use Rattle.std.specs.List.{AllByRecursion}
 use Rattle.std.specs.declared.option.Option.{Option}
 use Rattle.std.specs.declared.option.Option.TheVariants.{None, Some}
-use Rattle.log_grammar.specs.Laws.{GoesOnByALine}
+use Rattle.log_grammar.specs.laws.LogLaws.{GoesOnByALine}
 use Rattle.log_grammar.specs.Lines.{LogLine, said, heard, bad, gone, replies}
-use Rattle.log_grammar.specs.Sessions.{Told}
-use Rattle.log_grammar.specs.Demands.{Accounts, Demands, demands, AreReplies}
+use Rattle.log_grammar.specs.Told.{Told}
 use Rattle.log_grammar.specs.Places.{Place, got_code}
-use Rattle.log_grammar.specs.Steps.{Goes, told_at}
+use Rattle.log_grammar.specs.Demands.{Accounts, Demands, demands, AreReplies}
+use Rattle.log_grammar.specs.laws.Steps.{Goes, told_at}
 use Rattle.log_grammar.specs.Clean.{Begins}
 use Rattle.sasl_desk.specs.Events.{ClientEvent, sends, goes_away}
 use Rattle.sasl_desk.specs.Turns.{is_client_turn, record_place, IsPath}

@@ -7,8 +7,8 @@ use Rattle.account_book.specs.Store.{StoreFacts}
 use Rattle.book_format.specs.Book.{BookFields}
 use Rattle.log_grammar.specs.Books.{accounts_in}
 use Rattle.log_grammar.specs.Lines.{LogLine, header, second_header, said, heard, bad, gone, ended, mechs}
-use Rattle.log_grammar.specs.Demands.{Accounts}
 use Rattle.log_grammar.specs.Places.{Place}
+use Rattle.log_grammar.specs.Demands.{Accounts}
 use Rattle.log_grammar.specs.Counts.{is_offer}
 use Rattle.sasl_desk.specs.Events.{ClientEvent, sends, goes_away}
 use Rattle.sasl_desk.specs.Sessions.{IsRecord}

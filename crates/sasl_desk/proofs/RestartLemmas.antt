@@ -7,23 +7,22 @@ use Rattle.account_book.specs.Store.{StoreFacts}
 use Rattle.account_book.specs.Laws.{TokensAreApart, AddedIsApart}
 use Rattle.otp_core.specs.Laws.{BeginsWithItself, CandidatesAreNew}
 use Rattle.log_grammar.specs.Books.{accounts_in}
-use Rattle.log_grammar.specs.Laws.{HasOneReading, GoesOnByNoOther}
-use Rattle.log_grammar.specs.Lines.{LogLine, said, halt, log_text}
-use Rattle.log_grammar.specs.Sessions.{Told}
+use Rattle.log_grammar.specs.laws.LogLaws.{HasOneReading, GoesOnByNoOther}
+use Rattle.log_grammar.specs.Lines.{LogLine, said, halt, log_text, log_bytes}
+use Rattle.log_grammar.specs.Told.{Told}
+use Rattle.log_grammar.specs.Places.{Place, MayEnd, got_code, halted}
 use Rattle.log_grammar.specs.Demands.{Accounts, Demands, demands}
-use Rattle.log_grammar.specs.Places.{Place, got_code, halted, MayEnd}
-use Rattle.log_grammar.specs.Steps.{Goes}
+use Rattle.log_grammar.specs.laws.Steps.{Goes}
 use Rattle.log_grammar.specs.Clean.{Begins, AreLines}
 use Rattle.log_grammar.specs.Versions.{IsFront, IsClean}
 use Rattle.log_grammar.proofs.FaultLemmas.{lines_front, lines_clean}
 use Rattle.log_grammar.proofs.HeadlineLemmas.{are_lines, each_lacks}
-use Rattle.log_grammar.specs.Logins.{log_bytes}
 use Rattle.sasl_desk.specs.Keeper.{IsAttemptJudged}
 use Rattle.sasl_desk.specs.Sessions.{CanBeWritten}
 use Rattle.sasl_desk.specs.Runs.{Call, run_lines}
 use Rattle.sasl_desk.specs.Spent.{AreDifferent, IsUsedUp, AreSpent, spent_by, SpentStaysSpent}
 use Rattle.sasl_desk.specs.Desks.{IsHeld, IsLostAfter, IsStoredAt, IsStateAt, all_spent, Stands, phase_of, session_phase}
-use Rattle.log_grammar.specs.NumberedLaws.{HasOneNumberedReading}
+use Rattle.log_grammar.specs.laws.NumberedLaws.{HasOneNumberedReading}
 use Rattle.sasl_desk.specs.Halls.{hall_lines}
 use Rattle.sasl_desk.specs.Restarts.{Run, IsDeskRunOf, HallRun, IsHallRunOf, Change, ran, hosts, judged, unlocks, adds, IsChange, AreChanges, spent_by_change, spent_in}
 use Rattle.sasl_desk.specs.declared.desk.Desk.{Desk}

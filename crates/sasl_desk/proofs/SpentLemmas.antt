@@ -6,7 +6,7 @@ use Rattle.std.proofs.lemmas.Slice.Eq.{bytes_eq-Decides}
 use Rattle.otp_core.specs.Attempt.{Attempt, CodeTexts, OneText, TwoTexts, used_in, used_by, attempt_of}
 use Rattle.otp_core.specs.Ranges.{IsMoment}
 use Rattle.otp_core.specs.Window.{IsCandidate, IsPairCandidate, IsAbove}
-use Rattle.otp_core.specs.Reply.{IsFitting, IsDueReply as IsReplyTo}
+use Rattle.otp_core.specs.Reply.{IsFitting, IsDueReply}
 use Rattle.otp_core.specs.History.{IsAfter, IsLegal}
 use Rattle.otp_core.specs.Laws.{CandidatesAreNew, LegalHistoriesJoin}
 use Rattle.otp_core.specs.declared.token.answer.Reply.{Reply}
@@ -15,8 +15,8 @@ use Rattle.otp_core.specs.declared.token.kinds.Fields.{Fields}
 use Rattle.book_format.specs.Book.{BookFields}
 use Rattle.account_book.specs.Tokens.{token_at}
 use Rattle.log_grammar.specs.Books.{accounts_in}
-use Rattle.log_grammar.specs.Sessions.{Told, told_of}
-use Rattle.log_grammar.specs.Demands.{IsReplyBy, attempts_of}
+use Rattle.log_grammar.specs.Told.{Told, told_of}
+use Rattle.log_grammar.specs.Demands.{attempts_of, IsReplyBy}
 use Rattle.sasl_log.specs.Tokens.{LeadsTo, IsBookAfter}
 use Rattle.sasl_desk.specs.Spent.{IsUsedUp, AreSpent, counters_by, with_name, SpentStaysSpent}
 
@@ -152,8 +152,8 @@ spent_by_two join fresh old new name moment first second c start ps has is (w, n
     }
 
 -- the reply that is due is this one
-due_is : (start : Fields) (moment : ℕ) (sent : CodeTexts) (r : Reply) → IsReplyBy (Some start) [] moment sent (Some r) → IsReplyTo start [] moment sent r
-due_is start moment sent r (reply, same, due) = subst (λ (x : Reply). IsReplyTo start [] moment sent x) (sym (reply_inside r reply same)) due
+due_is : (start : Fields) (moment : ℕ) (sent : CodeTexts) (r : Reply) → IsReplyBy (Some start) [] moment sent (Some r) → IsDueReply start [] moment sent r
+due_is start moment sent r (reply, same, due) = subst (λ (x : Reply). IsDueReply start [] moment sent x) (sym (reply_inside r reply same)) due
 
 none_due : (moment : ℕ) (sent : CodeTexts) (r : Reply) → IsReplyBy None [] moment sent (Some r) → ⊥
 none_due moment sent r same = cc

@@ -13,20 +13,18 @@ use Rattle.book_format.specs.Book.{BookFields}
 use Rattle.book_format.specs.Trees.{IsBookText}
 use Rattle.account_book.specs.Store.{StoreFacts, IsLost}
 use Rattle.log_grammar.specs.Books.{accounts_in}
-use Rattle.log_grammar.specs.Laws.{GoesOnByALine}
-use Rattle.log_grammar.specs.Lines.{LogLine, header, said, heard, mechs, replies, halt, asking}
+use Rattle.log_grammar.specs.laws.LogLaws.{GoesOnByALine}
+use Rattle.log_grammar.specs.Lines.{LogLine, header, said, heard, mechs, replies, halt, asking, log_bytes, IsWritable}
 use Rattle.log_grammar.specs.Words.{offered_names}
-use Rattle.log_grammar.specs.Sessions.{Told, told_of}
-use Rattle.log_grammar.specs.Demands.{Accounts, demands, IsReplyDue}
+use Rattle.log_grammar.specs.Told.{Told, told_of}
 use Rattle.log_grammar.specs.Places.{Place, before_all, between, offered, waits_code, got_code, halted}
+use Rattle.log_grammar.specs.Demands.{Accounts, IsReplyDue, demands}
 use Rattle.log_grammar.specs.Clean.{Begins}
 use Rattle.log_grammar.proofs.LineBytes.{reply_line}
 use Rattle.log_grammar.proofs.Shortening.{code_goes}
 use Rattle.log_grammar.proofs.Snoc.{all_append}
 use Rattle.log_grammar.proofs.Mended.{two_names}
-use Rattle.log_grammar.specs.Logins.{log_bytes}
 use Rattle.sasl_log.specs.Logins.{KeepsEntries}
-use Rattle.log_grammar.specs.Headline.{IsWritable}
 use Rattle.sasl_log.specs.Tokens.{IsBookAfter}
 use Rattle.sasl_desk.specs.Events.{ClientEvent}
 use Rattle.sasl_desk.specs.Turns.{is_client_turn, IsPath}

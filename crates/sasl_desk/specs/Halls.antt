@@ -9,15 +9,13 @@ use Rattle.book_format.specs.Trees.{IsBookText}
 use Rattle.account_book.specs.Store.{StoreFacts}
 use Rattle.log_grammar.specs.Books.{accounts_in}
 use Rattle.log_grammar.specs.Bytes.{ended_by_lf}
-use Rattle.log_grammar.specs.Lines.{LogLine, second_header, said, ended, busy}
-use Rattle.log_grammar.specs.Sessions.{Told}
-use Rattle.log_grammar.specs.Demands.{Accounts, demands}
+use Rattle.log_grammar.specs.Lines.{LogLine, second_header, said, ended, busy, log_bytes}
+use Rattle.log_grammar.specs.Told.{Told}
 use Rattle.log_grammar.specs.Places.{Place, between, offered, waits_first, waits_final, waits_code}
+use Rattle.log_grammar.specs.Demands.{Accounts, demands}
 use Rattle.log_grammar.specs.Numbered.{Numbered, numbered, of_number, begun, closed_in, SpellsNumbered}
-use Rattle.log_grammar.specs.NumberedLines.{numbered_text}
-use Rattle.log_grammar.specs.NumberedCounts.{is_closed}
-use Rattle.log_grammar.specs.Logins.{log_bytes}
-use Rattle.log_grammar.specs.NumberedHeadline.{IsNumberedWritable}
+use Rattle.log_grammar.specs.NumberedLines.{numbered_text, IsNumberedWritable}
+use Rattle.log_grammar.specs.laws.NumberedCounts.{is_closed}
 use Rattle.sasl_desk.specs.Desks.{session_phase, IsStoredAt, IsHeld, IsBookWith, IsAttemptOf, all_spent, is_saving}
 use Rattle.sasl_desk.specs.Guests.{is_of}
 use Rattle.sasl_desk.specs.Keeper.{IsAttemptJudged}

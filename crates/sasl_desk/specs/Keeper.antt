@@ -11,18 +11,11 @@ use Rattle.book_format.specs.Trees.{IsBookText}
 use Rattle.account_book.specs.Store.{StoreFacts, IsSaved, IsLost}
 use Rattle.account_book.specs.Tokens.{IsAnswered}
 use Rattle.log_grammar.specs.Lines.{IsReplyInRange}
-use Rattle.log_grammar.specs.Sessions.{Told, told_of}
-use Rattle.sasl_desk.specs.declared.sent.Sent.{Sent}
-use Rattle.sasl_desk.specs.declared.sent.Sent.TheVariants.{One, Two}
+use Rattle.log_grammar.specs.Told.{Told, told_of}
 use Rattle.sasl_desk.specs.declared.fault.DeskFault.{DeskFault}
 use Rattle.sasl_desk.specs.declared.fault.DeskFault.TheVariants.{Halted, Unwritable, NoNumber, NoMemory}
 use Rattle.sasl_desk.specs.declared.keeper.Judged.{Judged}
 use Rattle.sasl_desk.specs.declared.keeper.Judged.TheVariants.{Replied, Lost}
-
--- the texts that a client sent
-abbrev pub texts_of : Sent → CodeTexts
-texts_of (One text) = OneText text.now
-texts_of (Two first second) = TwoTexts first.now second.now
 
 -- an attempt was judged: the reply is the one that is due, and the book is the old one in which the account's token has moved
 -- by it, and nothing else

@@ -7,7 +7,7 @@ pub mod Halls
 pub mod Inputs
 pub mod Keeper
 pub mod Left
-pub mod Marks
+pub mod Prefix
 pub mod Outputs
 pub mod Records
 pub mod Restarts

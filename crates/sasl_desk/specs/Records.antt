@@ -3,8 +3,8 @@
 use Rattle.std.specs.Prelude.{ℕ, ◌≡◌, ◌⊎◌, Bool, true, false, List, [], ◌∷◌, ◌++◌, length, filter}
 use Rattle.log_grammar.specs.Lines.{LogLine, heard, bad, gone}
 use Rattle.log_grammar.specs.Counts.{is_offer}
-use Rattle.log_grammar.specs.Demands.{Accounts}
 use Rattle.log_grammar.specs.Places.{Place}
+use Rattle.log_grammar.specs.Demands.{Accounts}
 use Rattle.sasl_desk.specs.Sessions.{IsRecord}
 use Rattle.sasl_desk.specs.Halls.{busy_lines}
 use Rattle.sasl_desk.specs.Runs.{Asked, greets, hears, Call, call_of, run_lines, IsRun}

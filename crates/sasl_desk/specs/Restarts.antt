@@ -7,9 +7,9 @@ use Rattle.account_book.specs.Accounts.{account_at, IsAdded}
 use Rattle.account_book.specs.Store.{StoreFacts}
 use Rattle.account_book.specs.Tokens.{IsUnlocked}
 use Rattle.log_grammar.specs.Books.{accounts_in}
-use Rattle.log_grammar.specs.Sessions.{Told}
-use Rattle.log_grammar.specs.Demands.{demands}
+use Rattle.log_grammar.specs.Told.{Told}
 use Rattle.log_grammar.specs.Places.{Place}
+use Rattle.log_grammar.specs.Demands.{demands}
 use Rattle.log_grammar.specs.Clean.{Begins}
 use Rattle.log_grammar.specs.Numbered.{Numbered, SpellsNumbered}
 use Rattle.sasl_desk.specs.Keeper.{IsAttemptJudged}

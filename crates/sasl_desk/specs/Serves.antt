@@ -4,9 +4,8 @@ use Rattle.std.specs.Prelude.{ℕ, ◌≡◌, ◌⊎◌, ◌+◌, ◌<◌, ◌�
 use Rattle.std.specs.Io.KnownBytes.{Appends}
 use Rattle.book_format.specs.Book.{BookFields}
 use Rattle.account_book.specs.Store.{StoreFacts}
-use Rattle.log_grammar.specs.Lines.{LogLine, bad}
+use Rattle.log_grammar.specs.Lines.{LogLine, bad, log_bytes}
 use Rattle.log_grammar.specs.Places.{Place}
-use Rattle.log_grammar.specs.Logins.{log_bytes}
 use Rattle.sasl_log.specs.Source.{SourceFacts}
 use Rattle.sasl_log.specs.Sink.{SinkFacts}
 use Rattle.sasl_desk.specs.Events.{sends, goes_away}

@@ -8,12 +8,12 @@ ghost use Rattle.otp_core.specs.Ranges.{IsMoment};
 ghost use Rattle.otp_core.specs.State.{advanced};
 ghost use Rattle.otp_core.specs.declared.token.kinds.Fields.{Fields};
 ghost use Rattle.log_grammar.specs.Lines.{IsReplyInRange};
-ghost use Rattle.sasl_desk.specs.Keeper.{SavesText, IsNotBegun, IsJudged, IsJudgedInRange, IsToBeSaved, texts_of};
+ghost use Rattle.otp_core.specs.Sent.{texts_of};
+ghost use Rattle.sasl_desk.specs.Keeper.{SavesText, IsNotBegun, IsJudged, IsJudgedInRange, IsToBeSaved};
 
 use crate::fault::DeskFault;
-use crate::sent::Sent;
 use account_book::{Book, BookStore};
-use otp_core::{Moment, Reply, Token};
+use otp_core::{Moment, Reply, Sent, Token};
 use scram_text::PlainName;
 use std::alloc::{AllocError, Global};
 

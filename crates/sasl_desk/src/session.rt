@@ -5,8 +5,8 @@
 ghost use Rattle.std.specs.Prelude.{◌≡◌, [], IfOk, IfErr, OnErr};
 ghost use Rattle.log_grammar.specs.Lines as grammar;
 ghost use Rattle.log_grammar.specs.Lines.{from_client};
-ghost use Rattle.log_grammar.specs.Demands.{Accounts};
 ghost use Rattle.log_grammar.specs.Places.{Place};
+ghost use Rattle.log_grammar.specs.Demands.{Accounts};
 ghost use Rattle.sasl_log.specs.Logins.{KeepsEntries};
 ghost use Rattle.sasl_log.specs.Shown.{client_shown};
 ghost use Rattle.sasl_log.specs.Texts.{CanBeLine};

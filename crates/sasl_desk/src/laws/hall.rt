@@ -5,7 +5,7 @@ ghost use Rattle.book_format.specs.Trees.{IsBookText};
 ghost use Rattle.log_grammar.specs.Books.{accounts_in};
 ghost use Rattle.log_grammar.specs.Lines.{LogLine, said, halt};
 ghost use Rattle.log_grammar.specs.Numbered.{Numbered, numbered, of_number};
-ghost use Rattle.log_grammar.specs.Sessions.{Told};
+ghost use Rattle.log_grammar.specs.Told.{Told};
 ghost use Rattle.log_grammar.specs.Versions.{IsFront, IsClean};
 ghost use Rattle.sasl_desk.specs.Alone.{AskTheSame, HaveSameEntries, up_to_acceptance};
 ghost use Rattle.sasl_desk.specs.Desks.{all_spent};

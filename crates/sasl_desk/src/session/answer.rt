@@ -1,7 +1,7 @@
 //! Answers that need neither a book nor memory.
 ghost use Rattle.std.specs.Prelude.{◌≡◌, ℕ, List, []};
-ghost use Rattle.log_grammar.specs.Demands.{Accounts};
 ghost use Rattle.log_grammar.specs.Places.{Place, asks_bare, over};
+ghost use Rattle.log_grammar.specs.Demands.{Accounts};
 ghost use Rattle.sasl_desk.specs.Sessions.{lines_of_answer, verdict_answer, CanBeWritten, IsTurnedAway, IsAnswer};
 
 use crate::session::Session;

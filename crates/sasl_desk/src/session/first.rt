@@ -3,8 +3,8 @@ ghost use Rattle.std.specs.Prelude.{◌≡◌, ℕ, List, [], IfOk, OnErr};
 ghost use Rattle.std.specs.declared.option.Option.{Option};
 ghost use Rattle.scram_text.specs.Messages.{ClientFirstParts, IsClientFirst};
 ghost use Rattle.scram_ends.specs.Opening.{IsTakenUp};
-ghost use Rattle.log_grammar.specs.Demands.{Accounts, NamesMechanism};
 ghost use Rattle.log_grammar.specs.Places.{got_first};
+ghost use Rattle.log_grammar.specs.Demands.{Accounts, NamesMechanism};
 ghost use Rattle.sasl_log.specs.Logins.{KeepsEntries};
 ghost use Rattle.sasl_desk.specs.Sessions.{lines_of_answer, CanBeWritten, IsAnswer};
 

@@ -3,8 +3,8 @@ ghost use Rattle.std.specs.Prelude.{◌≡◌, true, false, ℕ, List, [], IfOk,
 ghost use Rattle.mac_core.specs.Mechanism.{name_of};
 ghost use Rattle.log_grammar.specs.Lines as grammar;
 ghost use Rattle.log_grammar.specs.Lines.{bad, gone, abort, from_client};
-ghost use Rattle.log_grammar.specs.Demands.{Accounts};
 ghost use Rattle.log_grammar.specs.Places.{Place, offered, waits_first, waits_code};
+ghost use Rattle.log_grammar.specs.Demands.{Accounts};
 ghost use Rattle.sasl_log.specs.Logins.{KeepsEntries};
 ghost use Rattle.sasl_log.specs.Shown.{client_shown};
 ghost use Rattle.sasl_log.specs.Texts.{CanBeLine};
@@ -12,7 +12,6 @@ ghost use Rattle.sasl_desk.specs.Events.{ClientEvent};
 ghost use Rattle.sasl_desk.specs.Turns.{is_client_turn, is_due, BearsMessage};
 ghost use Rattle.sasl_desk.specs.Sessions.{IsWaitingAt, IsRecord, turn_lines, heard_lines, CanBeWritten, IsTurn, IsLineTurn, IsLineHeard, IsOfCode, AsksFor};
 
-use crate::sent::Sent;
 use crate::session::Session;
 use crate::session::answer::{departure, invitation, refusal};
 use crate::session::first::{first_answer, opening};
@@ -20,6 +19,7 @@ use crate::session::turn::{Heard, Recorded, Turn};
 use crate::session::waiting::Waiting;
 use account_book::Book;
 use mac_core::Mechanism;
+use otp_core::Sent;
 use sasl_log::ClientLine;
 use scram_text::{NoncePart, PlainName};
 use std::alloc::{Allocator, Global};

@@ -2,8 +2,8 @@
 ghost use Rattle.std.specs.Prelude.{◌≡◌, ◌<◌, ◌+◌, ℕ, List, [], IfOk, IfErr, vec_len, vec_capacity};
 ghost use Rattle.mac_core.specs.Mechanism.{name_of};
 ghost use Rattle.scram_ends.specs.Standing.{StandsFor};
-ghost use Rattle.log_grammar.specs.Demands.{Accounts};
 ghost use Rattle.log_grammar.specs.Places.{got_final};
+ghost use Rattle.log_grammar.specs.Demands.{Accounts};
 ghost use Rattle.sasl_desk.specs.Waiting.{WaitingFields, waiting_of, login_of, IsChallenging};
 
 use crate::session::answer::outcome;

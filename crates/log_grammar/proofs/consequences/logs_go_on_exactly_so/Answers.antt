@@ -1,11 +1,11 @@
 use Rattle.std.proofs.Common.{◌≡◌, List, ◌++◌, [], ◌∷◌, reverse, sym, subst}
 use Rattle.log_grammar.specs.Lines.{LogLine}
-use Rattle.log_grammar.specs.Sessions.{Told}
-use Rattle.log_grammar.specs.Demands.{Accounts, demands, AreReplies}
+use Rattle.log_grammar.specs.Told.{Told}
 use Rattle.log_grammar.specs.Places.{Place}
-use Rattle.log_grammar.specs.Steps.{Goes, told_at}
+use Rattle.log_grammar.specs.Demands.{Accounts, demands, AreReplies}
+use Rattle.log_grammar.specs.laws.Steps.{Goes, told_at}
 use Rattle.log_grammar.specs.Clean.{Begins}
-use Rattle.log_grammar.specs.Laws.{GoesOnByALine, StoodBefore}
+use Rattle.log_grammar.specs.laws.LogLaws.{GoesOnByALine, StoodBefore}
 use Rattle.log_grammar.proofs.consequences.logs_go_on_exactly_so.Goals as goal
 
 abbrev Stands : Accounts → Place → List Told → LogLine → Place → List Told → Type 0

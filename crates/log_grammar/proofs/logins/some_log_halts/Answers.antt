@@ -2,7 +2,7 @@ use Rattle.std.specs.Prelude.{[], ◌∷◌, ◌++◌, codes}
 use Rattle.mac_core.specs.Mechanism.{name_of}
 use Rattle.otp_core.specs.Attempt.{OneText}
 use Rattle.log_grammar.specs.Lines.{heard, code}
-use Rattle.log_grammar.specs.Logins.{login_log}
+use Rattle.log_grammar.specs.laws.Logins.{login_log}
 use Rattle.log_grammar.proofs.LoginLemmas.{a_code}
 use Rattle.log_grammar.proofs.logins.some_log_halts.Goals as goal
 

@@ -1,15 +1,16 @@
 use Rattle.std.proofs.Common.{◌≡◌, ℕ, List, ◌++◌, [], ◌∷◌, sym, ◌∙◌, ap, subst}
 use Rattle.log_grammar.specs.Lines.{LogLine}
-use Rattle.log_grammar.specs.Sessions.{Told}
-use Rattle.log_grammar.specs.Demands.{Accounts, Demands, demands}
+use Rattle.log_grammar.specs.Told.{Told}
 use Rattle.log_grammar.specs.Places.{Place}
-use Rattle.log_grammar.specs.Steps.{told_at}
+use Rattle.log_grammar.specs.Demands.{Accounts, Demands, demands}
+use Rattle.log_grammar.specs.laws.Steps.{told_at}
 use Rattle.log_grammar.specs.Numbered.{Numbered, numbered, SpellsNumbered}
-use Rattle.log_grammar.specs.NumberedSteps.{put, GoesNumbered, StoodNumbered}
-use Rattle.log_grammar.specs.NumberedLaws.{GoesOnByANumberedLine}
+use Rattle.log_grammar.specs.laws.NumberedSteps.{put, GoesNumbered, StoodNumbered}
+use Rattle.log_grammar.specs.laws.NumberedLaws.{GoesOnByANumberedLine}
 use Rattle.log_grammar.proofs.NumberedReadings.{goes_moved}
 use Rattle.log_grammar.proofs.Owns.{at_each, put_here, put_other}
 use Rattle.log_grammar.proofs.numbered.numbered_logs_go_on_exactly_so.Goals as goal
+use Rattle.log_grammar.proofs.NumberedLogSteps.{with_places}
 
 abbrev Stands : ℕ → Demands → List (Numbered LogLine) → (ℕ → Place) → List Told → ℕ → LogLine → (ℕ → Place) → List Told → Type 0
 Stands limit d log places told n line next all =
@@ -23,23 +24,6 @@ there limit d log places told n line next all s same also = (
   s.tells ∙ ap (λ (t : List Told). t ++ told_at (s.before n) line) also ∙ ap (λ (p : Place). told ++ told_at p line) (same n),
 )
 
--- the places of a log are said point by point
-placed : (limit : ℕ) (d : Demands) (log : List (Numbered LogLine)) (places other : ℕ → Place) (told : List Told) → SpellsNumbered limit d log places told
-    → ((n : ℕ) → places n ≡ other n) → SpellsNumbered limit d log other told
-placed limit d log places other told s same = record {
-  stay = s.stay;
-  lines = s.lines;
-  good = s.good;
-  room = s.room;
-  next = s.next;
-  marks = s.marks;
-  marked = s.marked;
-  order = s.order;
-  tells = s.tells;
-  replies = s.replies;
-  after = λ n. sym (same n) ∙ s.after n;
-}
-
 back : GoesOnByANumberedLine → (limit : ℕ) (accounts : Accounts) (log : List (Numbered LogLine)) (places : ℕ → Place) (told : List Told) (n : ℕ) (line : LogLine)
     (next : ℕ → Place) (all : List Told) → SpellsNumbered limit (demands accounts) log places told → Stands limit (demands accounts) log places told n line next all
     → SpellsNumbered limit (demands accounts) (log ++ numbered n line ∷ []) next all
@@ -49,7 +33,7 @@ back on limit accounts log places told n line next all s stands =
     let same = at_each (λ (m : ℕ). put n (next n) places m ≡ next m) n (put_here n (next n) places)
     (λ m other. put_other n (next n) places m other ∙ sym (stands.1 m (λ e. other (sym e)))) in
     subst (λ (t : List Told). SpellsNumbered limit (demands accounts) more next t) (sym stands.2)
-    (placed limit (demands accounts) more (put n (next n) places) next (told ++ told_at (places n) line) longer same)
+    (with_places limit (demands accounts) more (put n (next n) places) next (told ++ told_at (places n) line) same longer)
 
 pub returns : goal.returns
 returns c = λ limit accounts log places told n line next all s. (

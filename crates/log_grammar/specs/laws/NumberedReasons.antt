@@ -8,9 +8,8 @@ use Rattle.log_grammar.specs.Why.{Why, other_challenge}
 use Rattle.log_grammar.specs.Kinds.{IsWhyOf, BeginsCleanOf}
 use Rattle.log_grammar.specs.KindTwo.{two}
 use Rattle.log_grammar.specs.Numbered.{Numbered, numbered}
-use Rattle.log_grammar.specs.NumberedLines.{numbered_text, IsNumberedLine}
-use Rattle.log_grammar.specs.NumberedHeadline.{IsNumberedWritable}
-use Rattle.log_grammar.specs.Reasons.{SaysWhatIsDue, NamesWhatIsDue}
+use Rattle.log_grammar.specs.NumberedLines.{numbered_text, IsNumberedLine, IsNumberedWritable}
+use Rattle.log_grammar.specs.laws.Reasons.{SaysWhatIsDue, NamesWhatIsDue}
 
 -- line k is one of the texts, and a line of some number; and a line of this number that says what the reason names as due, in
 -- its place, makes the first k lines begin a clean log

@@ -3,22 +3,18 @@
 use Rattle.std.specs.Prelude.{ℕ, ◌≡◌, ◌⊎◌, ◌↔◌, List, [], ◌∷◌, ◌++◌, flat_map}
 use Rattle.std.specs.List.{AllByRecursion}
 use Rattle.otp_core.specs.Attempt.{CodeTexts}
-use Rattle.log_grammar.specs.Lines.{LogLine, header, said, ended, halt, mechs, log_text, IsLogLine}
+use Rattle.log_grammar.specs.Lines.{LogLine, header, said, ended, halt, mechs, log_bytes, EndsWith, IsWritable}
 use Rattle.log_grammar.specs.Bytes.{IsCut}
-use Rattle.log_grammar.specs.Sessions.{Session, session_lines, Told, session_told}
-use Rattle.log_grammar.specs.Demands.{Accounts, AreFit, IsFirstOf, demands, SessionMeets}
-use Rattle.log_grammar.specs.Histories.{IsHistory}
+use Rattle.log_grammar.specs.Told.{Told}
 use Rattle.log_grammar.specs.Places.{got_code}
+use Rattle.log_grammar.specs.Demands.{Accounts, AreFit, IsFirstOf, demands}
+use Rattle.log_grammar.specs.Sessions.{Session, session_lines, session_told, SessionMeets}
+use Rattle.log_grammar.specs.laws.Histories.{IsHistory}
 use Rattle.log_grammar.specs.Clean.{Begins}
 use Rattle.log_grammar.specs.KindOne.{one}
 use Rattle.log_grammar.specs.Kinds.{IsCleanOf, BeginsCleanOf, IsFirstToBeginNoCleanOf}
 use Rattle.log_grammar.specs.Versions.{both, IsFront, IsFaultLine}
-use Rattle.log_grammar.specs.Logins.{log_bytes}
-use Rattle.log_grammar.specs.Outcomes.{EndsWith, IsSentBy}
-
--- a line that can be written: in its ranges, and at most 6200 bytes after `S ` or `C `
-abbrev pub IsWritable : LogLine → Type 0
-IsWritable line = IsLogLine (log_text line) line
+use Rattle.log_grammar.specs.laws.Outcomes.{IsSentBy}
 
 -- the session is closed: `E` is its last line
 abbrev pub IsClosed : Session → Type 0

@@ -6,7 +6,7 @@ use Rattle.std.specs.declared.option.Option.TheVariants.{None, Some}
 use Rattle.otp_core.specs.History.{IsLegal}
 use Rattle.otp_core.specs.declared.token.answer.Reply.{Reply}
 use Rattle.otp_core.specs.declared.token.kinds.Fields.{Fields}
-use Rattle.log_grammar.specs.Sessions.{Told}
+use Rattle.log_grammar.specs.Told.{Told}
 use Rattle.log_grammar.specs.Demands.{attempts_of}
 
 -- where this is told of this account, there was no reply, since it has no token

@@ -5,10 +5,10 @@ use Rattle.otp_core.specs.Attempt.{CodeTexts, used_in}
 use Rattle.otp_core.specs.Reply.{IsFitting}
 use Rattle.otp_core.specs.declared.token.kinds.Fields.{Fields}
 use Rattle.log_grammar.specs.Lines.{LogLine}
-use Rattle.log_grammar.specs.Sessions.{Told}
+use Rattle.log_grammar.specs.Told.{Told}
+use Rattle.log_grammar.specs.Places.{Place, waits_code, got_code}
 use Rattle.log_grammar.specs.Demands.{Accounts, attempts_of, demands}
-use Rattle.log_grammar.specs.Places.{Place, got_code, waits_code}
-use Rattle.log_grammar.specs.Replies.{passes, AreRising}
+use Rattle.log_grammar.specs.laws.Replies.{passes, AreRising}
 use Rattle.log_grammar.specs.Numbered.{Numbered, numbered, SpellsNumbered}
 
 -- after these lines a number waits for the reply to a code, or to two in a row, of an account that has a token; the code is

@@ -11,13 +11,13 @@ use Rattle.otp_core.specs.declared.token.kinds.Fields.{Fields}
 use Rattle.otp_core.specs.declared.token.kinds.Fields.TheVariants.{Hotp}
 use Rattle.otp_core.specs.declared.token.kinds.HotpFields.{HotpFields}
 use Rattle.log_grammar.specs.Words.{IsCounter}
-use Rattle.log_grammar.specs.Lines.{LogLine, said, heard, gone, ended, replies, code, sync}
-use Rattle.log_grammar.specs.Sessions.{Told}
+use Rattle.log_grammar.specs.Lines.{LogLine, said, heard, gone, ended, replies, code, sync, log_bytes}
+use Rattle.log_grammar.specs.Told.{Told}
+use Rattle.log_grammar.specs.Places.{Place, waits_code, got_code}
 use Rattle.log_grammar.specs.Demands.{Accounts, attempts_of, demands}
-use Rattle.log_grammar.specs.Places.{Place, got_code, waits_code}
 use Rattle.log_grammar.specs.Clean.{Begins}
 use Rattle.log_grammar.specs.Versions.{IsClean}
-use Rattle.log_grammar.specs.Logins.{IsLoginTo, login_log, log_bytes}
+use Rattle.log_grammar.specs.laws.Logins.{IsLoginTo, login_log}
 
 -- the line that lets a code, or two in a row, pass
 abbrev pub passes : (moment counter : ℕ) → LogLine

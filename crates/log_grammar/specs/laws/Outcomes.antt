@@ -7,12 +7,12 @@ use Rattle.scram_ends.specs.declared.verdict.Refusal.{Refusal}
 use Rattle.otp_core.specs.Attempt.{CodeTexts}
 use Rattle.otp_core.specs.declared.token.answer.Reply.{Reply}
 use Rattle.log_grammar.specs.Words.{offered_names}
-use Rattle.log_grammar.specs.Lines.{LogLine, said, heard, mechs, cont, refuses, replies, halt, auth, auth_with, resp, asking}
-use Rattle.log_grammar.specs.Sessions.{Told, told_of}
-use Rattle.log_grammar.specs.Demands.{Accounts, demands, NamesMechanism, IsFirstOf, IsChallenged, IsVerdict, IsReplyDue}
+use Rattle.log_grammar.specs.Lines.{LogLine, said, heard, mechs, cont, refuses, replies, halt, auth, auth_with, resp, asking, EndsWith}
+use Rattle.log_grammar.specs.Told.{Told, told_of}
 use Rattle.log_grammar.specs.Places.{Place, between, offered, asks_bare, waits_first, got_first, waits_final, got_final, waits_code, got_code, leaving, over, halted}
+use Rattle.log_grammar.specs.Demands.{Accounts, NamesMechanism, IsFirstOf, IsChallenged, IsVerdict, IsReplyDue, demands}
 use Rattle.log_grammar.specs.Clean.{Begins}
-use Rattle.log_grammar.specs.Logins.{IsLoginTo}
+use Rattle.log_grammar.specs.laws.Logins.{IsLoginTo}
 
 -- the first lines of what a log may begin with are such lines too, and what was told in them comes first: so each
 -- law of a log's last line holds for every line of it
@@ -20,10 +20,6 @@ abbrev pub FirstLinesBeginLogs : Type 0
 FirstLinesBeginLogs = (accounts : Accounts) (lines more : List LogLine) (place : Place) (told : List Told)
     → Begins (demands accounts) (lines ++ more) place told
     → (at : Place) × (before : List Told) × (rest : List Told) × Begins (demands accounts) lines at before × (told ≡ before ++ rest)
-
--- the log ends with these lines
-abbrev pub EndsWith : List LogLine → List LogLine → Type 0
-EndsWith log lines = (before : List LogLine) × (log ≡ before ++ lines)
 
 -- the lines by which a client sends its first message: in `C AUTH`, or after an empty challenge
 abbrev pub IsSentBy : (mechanism first : List ℕ) → List LogLine → Type 0
@@ -61,7 +57,7 @@ IsChallengeDue accounts log text next told =
     ((mechanism : List ℕ) × Begins (demands accounts) log (asks_bare mechanism) told
     × ((m : Mechanism) × NamesMechanism mechanism m) × (text ≡ []) × (next ≡ waits_first mechanism))
     ⊎ ((mechanism : List ℕ) × (first : List ℕ) × (name : List ℕ) × Begins (demands accounts) log (got_first mechanism first) told
-    × IsChallenged accounts mechanism first name text × (next ≡ waits_final mechanism name first text))
+    × IsChallenged accounts mechanism name first text × (next ≡ waits_final mechanism name first text))
 
 -- `S CONT` may stand exactly where it is one of these challenges
 abbrev pub EachChallengeIsDue : Type 0

@@ -3,15 +3,15 @@
 -- open, and which classes of lines are due at each number.
 use Rattle.std.specs.Prelude.{ℕ, ◌≡◌, ◌≢◌, ◌≤◌, ◌+◌, ◌↔◌, ◌⊎◌, false, List, [], ◌∷◌, ◌++◌}
 use Rattle.log_grammar.specs.Lines.{LogLine, said, busy}
-use Rattle.log_grammar.specs.Sessions.{Told}
-use Rattle.log_grammar.specs.Demands.{Accounts, demands}
+use Rattle.log_grammar.specs.Told.{Told}
 use Rattle.log_grammar.specs.Places.{Place}
-use Rattle.log_grammar.specs.Steps.{told_at}
+use Rattle.log_grammar.specs.Demands.{Accounts, demands}
+use Rattle.log_grammar.specs.laws.Steps.{told_at}
 use Rattle.log_grammar.specs.Why.{LineClass}
 use Rattle.log_grammar.specs.Numbered.{Numbered, numbered, of_number, begun, closed_in, SpellsNumbered}
 use Rattle.log_grammar.specs.NumberedClasses.{IsNumberClassDue, IsNumberDueAt}
-use Rattle.log_grammar.specs.NumberedCounts.{is_closed, open_up_to}
-use Rattle.log_grammar.specs.NumberedSteps.{put, GoesNumbered, StoodNumbered}
+use Rattle.log_grammar.specs.laws.NumberedCounts.{is_closed, open_up_to}
+use Rattle.log_grammar.specs.laws.NumberedSteps.{put, GoesNumbered, StoodNumbered}
 
 -- where a number may have a line, the log goes on with it, and no other number's place changes
 abbrev pub GoesOnByANumberedLine : Type 0

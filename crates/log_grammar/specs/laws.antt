@@ -1,0 +1,23 @@
+-- What follows from the definitions in the folder above: each law is the promise of a function that does nothing.
+pub mod LineLaws
+pub mod Steps
+pub mod Histories
+pub mod LogLaws
+pub mod Logins
+pub mod Outcomes
+pub mod Replies
+pub mod Headline
+pub mod Reasons
+pub mod Examples
+pub mod NumberedSteps
+pub mod NumberedCounts
+pub mod NumberedLaws
+pub mod NumberedLineLaws
+pub mod NumberedLogLaws
+pub mod NumberedHeadline
+pub mod NumberedReasons
+pub mod NumberedReplies
+pub mod NumberedExamples
+pub mod UpgradedLogs
+pub mod UpgradedLogins
+pub mod UpgradedExamples
