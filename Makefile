@@ -6,7 +6,7 @@ CPU ?= x86-64-v2
 JOBS ?= $(shell nproc)
 PROGRAM = crates/scramotp/out/scramotp
 # What the program stands on.
-LIBRARIES = mac_core otp_core scram_text scram_ends book_format account_book book_file command_line log_grammar sasl_log sasl_desk commands
+LIBRARIES = mac_core otp_core scram_text scram_ends book_format account_book book_file command_line command_words log_grammar sasl_log sasl_desk account_commands commands
 SOURCES = crates.txt HANDLES $(shell find crates \( -name out -prune \) -o \( -name '*.rt' -o -name '*.antt' \) -print)
 # Succeeds where the program is built and newer than its sources.
 IS_FRESH = test -x $(PROGRAM) && test -z "$$(find $(SOURCES) -newer $(PROGRAM))"

@@ -1,5 +1,5 @@
 //! What a command on the command line needs: the values of options, judged, and the faults that end a command
-//! without its answer, with their texts and exit statuses.
+//! without its answer, with their texts and exit statuses, and how a text from outside is shown.
 //!
 //! ```rust
 //! use command_line::Fault;
@@ -13,6 +13,8 @@
 #![tactic(auto)]
 
 mod fault;
+mod shown;
 pub mod value;
 
 pub use fault::Fault;
+pub use shown::Shown;

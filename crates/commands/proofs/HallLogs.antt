@@ -98,8 +98,3 @@ says_nothing line opened done (goes n m) is = done n m goes_away is
 pub put_or_failed : {P Q N H : Type 0} → P ⊎ Q → (Q → H) → P ⊎ (N ⊎ H)
 put_or_failed (inl failed) heard = inl failed
 put_or_failed (inr put) heard = inr (inr (heard put))
-
-pub heard_by : {P N H L : Type 0} → (H → L) → P ⊎ (N ⊎ H) → P ⊎ (N ⊎ L)
-heard_by line (inl failed) = inl failed
-heard_by line (inr (inl none)) = inr (inl none)
-heard_by line (inr (inr heard)) = inr (inr (line heard))

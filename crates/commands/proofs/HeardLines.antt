@@ -1,14 +1,21 @@
 -- What a hall hears of its input's lines, one after another.
-use Rattle.std.proofs.Common.{◌≡◌, ◌⊎◌, inl, inr, ℕ, ◌≤◌, true, Bool, List, [], ◌∷◌, ◌++◌, length, Option}
-use Rattle.std.specs.Io.KnownBytes.{IsAtEnd}
+use Rattle.std.proofs.Common.{◌≡◌, ◌⊎◌, inl, inr, ℕ, ◌≤◌, Bool, List, [], ◌∷◌, ◌++◌, length, Option, append-nil, sym, subst}
+use Rattle.std.specs.Io.KnownBytes.{Appends, IsAtEnd}
+use Rattle.book_format.specs.Book.{BookFields}
 use Rattle.account_book.specs.Store.{StoreFacts}
+use Rattle.command_line.specs.declared.fault.Fault.{Fault}
+use Rattle.log_grammar.specs.Books.{accounts_in}
+use Rattle.log_grammar.specs.Numbered.{Numbered}
+use Rattle.log_grammar.specs.Versions.{IsFront}
 use Rattle.sasl_log.specs.Sink.{SinkFacts}
-use Rattle.sasl_desk.specs.Halls.{hall_shown}
+use Rattle.sasl_desk.specs.Halls.{HallFields, hall_shown, hall_bytes, StandsHall}
+use Rattle.sasl_desk.specs.Runs.{Call}
 use Rattle.sasl_desk.specs.declared.hall.Hall.{Hall}
-use Rattle.commands.specs.Hall.{IsBadEvent, Hears, HearsLine, latest_first, HearsUpTo, HearsFirstLines, MeetsBadEvent}
-use Rattle.commands.specs.Input.{line_bytes, TakesLine}
+use Rattle.commands.specs.Hall.{InputEvent, IsBadEvent, AreCallsFor, IsHallLogOf, Hears, HearsLine, latest_first, HearsUpTo, HearsFirstLines, MeetsBadEvent, PrintsHallLog}
+use Rattle.account_commands.specs.Input.{line_bytes, TakesLine}
+use Rattle.commands.specs.PrintedLog.{IsLogFault, StopsAfter}
 use Rattle.commands.proofs.HallLogs.{hears_nothing, hears_more}
-use Rattle.commands.proofs.InputLines.{none_left, with_first, some_lines}
+use Rattle.account_commands.proofs.InputLines.{none_left, with_first, some_lines}
 
 -- a hall has come to a place in its input: what it hears from there on, it hears from the start, after the lines so far
 abbrev pub HasCome : {S : Type 0} → (S → StoreFacts) → (first : Option (List ℕ)) → (start : Hall S) → (log : SinkFacts) → (left : Option (List ℕ)) → (now : Hall S)
@@ -42,8 +49,8 @@ at_end facts first start a left now b come end =
 
 -- a fault before the next line was read
 pub before_line : {S : Type 0} (facts : S → StoreFacts) (first : Option (List ℕ)) (start : Hall S) (a : SinkFacts) (left : Option (List ℕ)) (now : Hall S) (b : SinkFacts)
-    → HasCome facts first start a left now b → HearsFirstLines facts first start a now b
-before_line facts first start a left now b come =
+    (fault : Fault) → HasCome facts first start a left now b → HearsFirstLines facts first start a now b fault
+before_line facts first start a left now b fault come =
     let more = some_lines left in
     inr (more.0, come more.0 now b (record { lines = []; events = []; are = more.1; said = tt; heard = hears_nothing facts now b }))
 
@@ -58,14 +65,14 @@ unheard facts first start a left now b line has_lf rest new c come takes some no
 
 -- a fault at a line
 pub at_line : {S : Type 0} (facts : S → StoreFacts) (first : Option (List ℕ)) (start : Hall S) (a : SinkFacts) (left : Option (List ℕ)) (now : Hall S) (b : SinkFacts)
-    (line : List ℕ) (has_lf : Bool) (rest : Option (List ℕ)) (new : Hall S) (c : SinkFacts) → HasCome facts first start a left now b
+    (line : List ℕ) (has_lf : Bool) (rest : Option (List ℕ)) (new : Hall S) (c : SinkFacts) (fault : Fault) → HasCome facts first start a left now b
     → TakesLine left line has_lf rest → 1 ≤ length (line_bytes line has_lf)
-    → ((c.failed ≡ true) ⊎ (Hears facts [] now b new c ⊎ HearsLine facts line now b new c)) → HearsFirstLines facts first start a new c
-at_line facts first start a left now b line has_lf rest new c come takes some (inl failed) = inl failed
-at_line facts first start a left now b line has_lf rest new c come takes some (inr (inl none)) =
+    → (IsLogFault c fault ⊎ (Hears facts [] now b new c ⊎ HearsLine facts line now b new c)) → HearsFirstLines facts first start a new c fault
+at_line facts first start a left now b line has_lf rest new c fault come takes some (inl failed) = inl failed
+at_line facts first start a left now b line has_lf rest new c fault come takes some (inr (inl none)) =
     let found = unheard facts first start a left now b line has_lf rest new c come takes some none in inr (line ∷ found.0, found.1)
-at_line facts first start a left now b line has_lf rest new c come takes some (inr (inr heard)) =
-    before_line facts first start a rest new c (after_line facts first start a left now b line has_lf rest new c come takes some heard)
+at_line facts first start a left now b line has_lf rest new c fault come takes some (inr (inr heard)) =
+    before_line facts first start a rest new c fault (after_line facts first start a left now b line has_lf rest new c come takes some heard)
 
 -- a bad event
 pub bad_line : {S : Type 0} (facts : S → StoreFacts) (first : Option (List ℕ)) (start : Hall S) (a : SinkFacts) (left : Option (List ℕ)) (now : Hall S) (b : SinkFacts)
@@ -75,3 +82,29 @@ pub bad_line : {S : Type 0} (facts : S → StoreFacts) (first : Option (List ℕ
 bad_line facts first start a left now b line has_lf rest come takes some bad =
     let found = unheard facts first start a left now b line has_lf rest now b come takes some (hears_nothing facts now b) in
     (line, found.0, found.1, bad)
+
+-- what a hall heard of its input is printed, where its log is, and that is a front
+pub prints_log : {S : Type 0} (facts : S → StoreFacts) (book : BookFields) (input given before after : Option (List ℕ)) (last : List (List ℕ)) (old new : Hall S)
+    (log log' : SinkFacts) → ((start : BookFields) (calls : List (Numbered Call)) (hall : HallFields S) → StandsHall facts start calls hall → IsFront (accounts_in start) (hall_bytes calls))
+    → given ≡ before → after ≡ log'.given → IsHallLogOf facts book given [] old log → HearsUpTo facts input last old log new log'
+    → PrintsHallLog book input last before after
+prints_log facts book input given before after last old new log log' front was is begun heard =
+    let hall = heard.heard book given [] begun in record {
+      lines = heard.lines;
+      events = heard.events;
+      are = heard.are;
+      said = heard.said;
+      calls = hall.calls;
+      heard = subst (λ (events : List InputEvent). AreCallsFor events hall.calls) (append-nil (latest_first heard.events)) hall.heard;
+      is_front = front book hall.calls (hall_shown new) hall.stands;
+      printed = subst (λ (o : Option (List ℕ)). Appends before o (hall_bytes hall.calls)) (sym is)
+          (subst (λ (o : Option (List ℕ)). Appends o log'.given (hall_bytes hall.calls)) was hall.logged);
+    }
+
+pub stops_after : {S : Type 0} (facts : S → StoreFacts) (book : BookFields) (input given before after : Option (List ℕ)) (old new : Hall S) (log log' : SinkFacts)
+    (fault : Fault) → ((start : BookFields) (calls : List (Numbered Call)) (hall : HallFields S) → StandsHall facts start calls hall → IsFront (accounts_in start) (hall_bytes calls))
+    → given ≡ before → after ≡ log'.given → IsHallLogOf facts book given [] old log → HearsFirstLines facts input old log new log' fault
+    → StopsAfter fault before after ((last : List (List ℕ)) × PrintsHallLog book input last before after)
+stops_after facts book input given before after old new log log' fault front was is begun (inl (output, failed)) = inl output
+stops_after facts book input given before after old new log log' fault front was is begun (inr (last, heard)) =
+    inr (inr (last, prints_log facts book input given before after last old new log log' front was is begun heard))

@@ -3,8 +3,6 @@ pub mod EventWords
 pub mod Faults
 pub mod HallLogs
 pub mod HeardLines
-pub mod InputLines
-pub mod LinesInTurn
 pub mod LoginGoesOn
 pub mod LoginLemmas
 pub mod NonceLemmas

@@ -1,11 +1,12 @@
 -- The log of a login after one more call of its desk.
-use Rattle.std.proofs.Common.{◌≡◌, inl, inr, ℕ, List, [], ◌∷◌, ◌++◌, refl, sym, ◌∙◌, ap, subst}
+use Rattle.std.proofs.Common.{◌≡◌, inl, inr, ℕ, Option, List, [], ◌∷◌, ◌++◌, refl, sym, ◌∙◌, ap, subst}
 use Rattle.std.specs.Io.KnownBytes.{Appends}
 use Rattle.std.proofs.KnownBytes.{Appends-trans}
 use Rattle.book_format.specs.Book.{BookFields}
 use Rattle.account_book.specs.Store.{StoreFacts}
-use Rattle.log_grammar.specs.Lines.{LogLine}
-use Rattle.log_grammar.specs.Logins.{log_bytes}
+use Rattle.log_grammar.specs.Books.{accounts_in}
+use Rattle.log_grammar.specs.Lines.{LogLine, log_bytes}
+use Rattle.log_grammar.specs.Versions.{IsFront}
 use Rattle.sasl_log.specs.Source.{SourceFacts}
 use Rattle.sasl_log.specs.Sink.{SinkFacts}
 use Rattle.sasl_desk.specs.Inputs.{event_read}
@@ -21,6 +22,7 @@ use Rattle.command_line.specs.Fault.{IsUnwritten}
 use Rattle.command_line.specs.declared.fault.Fault.{Fault}
 use Rattle.command_line.specs.declared.fault.Fault.TheVariants.{NoMemory as OutOfMemory}
 use Rattle.commands.specs.Login.{IsDeskLog, StaysItsLog, IsLogAfterFault, IsFaultOf, IsFaultInTurn}
+use Rattle.commands.specs.PrintedLog.{HasLog, StopsAfter}
 
 -- the log took the lines of one more call
 one_more : {S : Type 0} (facts : S → StoreFacts) (old new : Desk S) (asked : Asked) (lines : List LogLine) (log log' : SinkFacts)
@@ -60,37 +62,55 @@ served_log facts moment old new input input' wire wire' log log' served =
     one_more facts old new _ served.done.lines log log' served.done.answers.stands served.done.written.by_log
 
 -- a turn was not served
-undone_log : {S : Type 0} (facts : S → StoreFacts) (asked : Asked) (old new : Desk S) (wire wire' log log' : SinkFacts) (fault : ServeFault)
-    → IsUndone facts asked old new wire wire' log log' fault → IsLogAfterFault facts old log new log'
-undone_log facts asked old new wire wire' log log' Halted (same, unsent, unlogged) = inr (same_log facts old new log log' same unlogged)
-undone_log facts asked old new wire wire' log log' NoMemory (same, unsent, unlogged) = inr (same_log facts old new log log' same unlogged)
-undone_log facts asked old new wire wire' log log' Unwritable never = absurd never
-undone_log facts asked old new wire wire' log log' WriteFault undone =
+undone_log : {S : Type 0} (facts : S → StoreFacts) (asked : Asked) (old new : Desk S) (wire wire' log log' : SinkFacts) (path : List ℕ) (why : ServeFault)
+    (fault : Fault) → IsFaultOf path why fault → IsUndone facts asked old new wire wire' log log' why → IsLogAfterFault facts old log new log' fault
+undone_log facts asked old new wire wire' log log' path Halted fault is (same, unsent, unlogged) = inr (same_log facts old new log log' same unlogged)
+undone_log facts asked old new wire wire' log log' path NoMemory fault is (same, unsent, unlogged) = inr (same_log facts old new log log' same unlogged)
+undone_log facts asked old new wire wire' log log' path Unwritable fault is never = absurd never
+undone_log facts asked old new wire wire' log log' path WriteFault fault is undone =
     inr (one_more facts old new asked undone.lines log log' undone.answers.stands undone.logged)
-undone_log facts asked old new wire wire' log log' LogFault undone = inl undone.failed
+undone_log facts asked old new wire wire' log log' path LogFault fault is undone = inl (is, undone.failed)
 
-unchanged_log : {S : Type 0} (facts : S → StoreFacts) (old new : Service S) → new ≡ old → IsLogAfterFault facts old.desk old.log new.desk new.log
-unchanged_log {S} facts old new same =
-    subst (λ (s : Service S). IsLogAfterFault facts old.desk old.log s.desk s.log) (sym same) (inr (λ start before l. l))
+unchanged_log : {S : Type 0} (facts : S → StoreFacts) (old new : Service S) (fault : Fault) → new ≡ old
+    → IsLogAfterFault facts old.desk old.log new.desk new.log fault
+unchanged_log {S} facts old new fault same =
+    subst (λ (s : Service S). IsLogAfterFault facts old.desk old.log s.desk s.log fault) (sym same) (inr (λ start before l. l))
 
-pub unserved_log : {S : Type 0} (facts : S → StoreFacts) (moment : ℕ) (old new : Service S) (fault : ServeFault)
-    → IsTurnFault facts moment old new fault → IsLogAfterFault facts old.desk old.log new.desk new.log
-unserved_log facts moment old new Halted same = unchanged_log facts old new same
-unserved_log facts moment old new NoMemory (read, reads, undone) = undone_log facts (hears (event_read read) moment) old.desk new.desk old.wire new.wire old.log new.log NoMemory undone
-unserved_log facts moment old new Unwritable (read, reads, undone) = absurd undone
-unserved_log facts moment old new WriteFault (read, reads, undone) =
-    undone_log facts (hears (event_read read) moment) old.desk new.desk old.wire new.wire old.log new.log WriteFault undone
-unserved_log facts moment old new LogFault (read, reads, undone) = undone_log facts (hears (event_read read) moment) old.desk new.desk old.wire new.wire old.log new.log LogFault undone
+pub unserved_log : {S : Type 0} (facts : S → StoreFacts) (moment : ℕ) (old new : Service S) (path : List ℕ) (why : ServeFault) (fault : Fault)
+    → IsTurnFault facts moment old new why → IsFaultOf path why fault → IsLogAfterFault facts old.desk old.log new.desk new.log fault
+unserved_log facts moment old new path Halted fault same is = unchanged_log facts old new fault same
+unserved_log facts moment old new path NoMemory fault (read, reads, undone) is =
+    undone_log facts (hears (event_read read) moment) old.desk new.desk old.wire new.wire old.log new.log path NoMemory fault is undone
+unserved_log facts moment old new path Unwritable fault (read, reads, undone) is = absurd undone
+unserved_log facts moment old new path WriteFault fault (read, reads, undone) is =
+    undone_log facts (hears (event_read read) moment) old.desk new.desk old.wire new.wire old.log new.log path WriteFault fault is undone
+unserved_log facts moment old new path LogFault fault (read, reads, undone) is =
+    undone_log facts (hears (event_read read) moment) old.desk new.desk old.wire new.wire old.log new.log path LogFault fault is undone
 
 -- what stays its log twice, stays its log
 pub stays_twice : {S : Type 0} (facts : S → StoreFacts) (old middle new : Desk S) (a b c : SinkFacts) → StaysItsLog facts old a middle b
     → StaysItsLog facts middle b new c → StaysItsLog facts old a new c
 stays_twice facts old middle new a b c first second start before l = second start before (first start before l)
 
-pub fails_then : {S : Type 0} (facts : S → StoreFacts) (old middle new : Desk S) (a b c : SinkFacts) → StaysItsLog facts old a middle b
-    → IsLogAfterFault facts middle b new c → IsLogAfterFault facts old a new c
-fails_then facts old middle new a b c first (inl failed) = inl failed
-fails_then facts old middle new a b c first (inr second) = inr (stays_twice facts old middle new a b c first second)
+pub fails_then : {S : Type 0} (facts : S → StoreFacts) (old middle new : Desk S) (a b c : SinkFacts) (fault : Fault) → StaysItsLog facts old a middle b
+    → IsLogAfterFault facts middle b new c fault → IsLogAfterFault facts old a new c fault
+fails_then facts old middle new a b c fault first (inl failed) = inl failed
+fails_then facts old middle new a b c fault first (inr second) = inr (stays_twice facts old middle new a b c first second)
+
+-- what was logged is printed, where the log is, and that is a front
+pub stops_after : {S : Type 0} (facts : S → StoreFacts) (book : BookFields) (given before after : Option (List ℕ)) (old new : Desk S) (log log' : SinkFacts) (fault : Fault)
+    → ((start : BookFields) (calls : List Call) (desk : Desk S) → Stands facts start calls desk → IsFront (accounts_in start) (log_bytes (run_lines calls)))
+    → given ≡ before → after ≡ log'.given → IsDeskLog facts book given old log → IsLogAfterFault facts old log new log' fault
+    → StopsAfter fault before after (HasLog IsFront book before after)
+stops_after facts book given before after old new log log' fault front was is begun (inl (output, failed)) = inl output
+stops_after facts book given before after old new log log' fault front was is begun (inr stays) =
+    let desk = stays book given begun in
+    let bytes = log_bytes (run_lines desk.calls) in
+    inr (inr (
+      bytes,
+      front book desk.calls new desk.stands,
+      subst (λ (o : Option (List ℕ)). Appends before o bytes) (sym is) (subst (λ (o : Option (List ℕ)). Appends o log'.given bytes) was desk.logged),
+    ))
 
 -- being out of memory is a fault of any file
 unwritten : (path : List ℕ) (fault : Fault) → fault ≡ OutOfMemory → IsUnwritten path fault

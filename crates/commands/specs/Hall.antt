@@ -1,5 +1,5 @@
 -- The input of the command `hall`, and the log that it prints.
-use Rattle.std.specs.Prelude.{ℕ, ◌≡◌, ◌⊎◌, true, List, [], ◌∷◌, ◌++◌, codes, decimal, IfSome}
+use Rattle.std.specs.Prelude.{ℕ, ◌≡◌, ◌⊎◌, List, [], ◌∷◌, ◌++◌, codes, decimal, IfSome}
 use Rattle.std.specs.Str.{byte}
 use Rattle.std.specs.Io.KnownBytes.{Appends}
 use Rattle.std.specs.declared.option.Option.{Option}
@@ -8,6 +8,7 @@ use Rattle.otp_core.specs.Ranges.{IsMoment}
 use Rattle.scram_text.specs.Class.{IsNoncePart}
 use Rattle.book_format.specs.Book.{BookFields}
 use Rattle.account_book.specs.Store.{StoreFacts}
+use Rattle.command_line.specs.declared.fault.Fault.{Fault}
 use Rattle.log_grammar.specs.Numbered.{Numbered}
 use Rattle.log_grammar.specs.NumberedLines.{IsSessionNumber}
 use Rattle.sasl_log.specs.Sink.{SinkFacts}
@@ -17,8 +18,9 @@ use Rattle.log_grammar.specs.Versions.{IsFront}
 use Rattle.sasl_desk.specs.Halls.{HallFields, hall_shown, hall_bytes, phase_in, StandsHall}
 use Rattle.sasl_desk.specs.Runs.{greets, hears, Call}
 use Rattle.sasl_desk.specs.declared.hall.Hall.{Hall}
-use Rattle.commands.specs.HeldBook.{Held, IsReadBook}
-use Rattle.commands.specs.Input.{AreLinesOf}
+use Rattle.account_commands.specs.HeldBook.{Held, IsReadBook}
+use Rattle.account_commands.specs.Input.{AreLinesOf}
+use Rattle.commands.specs.PrintedLog.{IsLogFault}
 
 -- what happens to a hall: a client comes, and this is the server's part of its nonce; or the client of the session of this number
 -- says a line at this moment; or it goes away
@@ -120,10 +122,10 @@ pub record HearsUpTo {S : Type 0} (facts : S → StoreFacts) (input : Option (Li
 abbrev pub HearsAllLines : {S : Type 0} → (S → StoreFacts) → Option (List ℕ) → (old : Hall S) → (log : SinkFacts) → (new : Hall S) → (log' : SinkFacts) → Type 0
 HearsAllLines facts input old log new log' = HearsUpTo facts input [] old log new log'
 
--- a fault came: the log has failed, or the hall has heard what the first lines of the input say, and its log has that
-abbrev pub HearsFirstLines : {S : Type 0} → (S → StoreFacts) → Option (List ℕ) → (old : Hall S) → (log : SinkFacts) → (new : Hall S) → (log' : SinkFacts) → Type 0
-HearsFirstLines facts input old log new log' =
-    (log'.failed ≡ true) ⊎ ((last : List (List ℕ)) × HearsUpTo facts input last old log new log')
+-- a fault came: it is that the log has failed, or the hall has heard what the first lines of the input say, and its log has that
+abbrev pub HearsFirstLines : {S : Type 0} → (S → StoreFacts) → Option (List ℕ) → (old : Hall S) → (log : SinkFacts) → (new : Hall S) → (log' : SinkFacts) → Fault → Type 0
+HearsFirstLines facts input old log new log' fault =
+    IsLogFault log' fault ⊎ ((last : List (List ℕ)) × HearsUpTo facts input last old log new log')
 
 -- the next line of the input says no event to the hall as it is after the lines before it
 abbrev pub MeetsBadEvent : {S : Type 0} → (S → StoreFacts) → Option (List ℕ) → (old : Hall S) → (log : SinkFacts) → (new : Hall S) → (log' : SinkFacts) → Type 0
@@ -142,8 +144,8 @@ pub record PrintsHallLog (book : BookFields) (input : Option (List ℕ)) (last :
   pub is_front : IsFront (accounts_in book) (hall_bytes calls)
   pub printed : Appends old new (hall_bytes calls)
 
--- so it was with each line of an input, and with a book whose text was read from a file, of which this is what it has
-pub record RunsHall {File : Type 0} (bytes_of : File → Option (List ℕ)) (input old new : Option (List ℕ)) : Type 0 where
+-- so it was with a book whose text was read from a file, of which this is what it has
+pub record RunsHall {File : Type 0} (bytes_of : File → Option (List ℕ)) (input : Option (List ℕ)) (last : List (List ℕ)) (old new : Option (List ℕ)) : Type 0 where
   pub held : Held
   pub is_read : IsReadBook bytes_of held
-  pub printed : PrintsHallLog held.book input [] old new
+  pub printed : PrintsHallLog held.book input last old new

@@ -1,14 +1,8 @@
 pub mod Audit
 pub mod ClientEnd
-pub mod Code
-pub mod Enrol
 pub mod Hall
-pub mod HeldBook
-pub mod Input
-pub mod Keys
 pub mod Login
 pub mod Nonces
 pub mod PrintedLog
 pub mod Sent
 pub mod Verify
-pub mod Words

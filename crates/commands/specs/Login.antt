@@ -13,9 +13,8 @@ use Rattle.command_line.specs.Fault.{IsUnwritten}
 use Rattle.command_line.specs.declared.fault.Fault.{Fault}
 use Rattle.command_line.specs.declared.fault.Fault.TheVariants.{Socket, CannotWriteOutput, NoMemory}
 use Rattle.log_grammar.specs.Bytes.{LacksLf}
-use Rattle.log_grammar.specs.Lines.{IsLine, from_server, replies}
-use Rattle.log_grammar.specs.Logins.{log_bytes}
-use Rattle.log_grammar.specs.Versions.{IsClean}
+use Rattle.log_grammar.specs.Demands.{Accounts}
+use Rattle.log_grammar.specs.Lines.{IsLine, from_server, replies, log_bytes}
 use Rattle.sasl_log.specs.Sink.{SinkFacts}
 use Rattle.sasl_log.specs.Source.{SourceFacts}
 use Rattle.sasl_desk.specs.Desks.{Stands}
@@ -24,9 +23,9 @@ use Rattle.sasl_desk.specs.declared.desk.Desk.{Desk}
 use Rattle.sasl_desk.specs.declared.fault.ServeFault.{ServeFault}
 use Rattle.sasl_desk.specs.declared.fault.ServeFault.TheVariants as serve
 use Rattle.commands.specs.ClientEnd.{IsLoggedIn}
-use Rattle.commands.specs.HeldBook.{Held, IsReadBook}
-use Rattle.commands.specs.Input.{AreLinesOf, LinesInTurn}
-use Rattle.commands.specs.PrintedLog.{HasLog, IsUnsavedOrUnlogged}
+use Rattle.account_commands.specs.HeldBook.{Held, IsReadBook}
+use Rattle.account_commands.specs.Input.{AreLinesOf, LinesInTurn}
+use Rattle.commands.specs.PrintedLog.{HasLog, IsLogFault, IsUnsavedOrUnlogged}
 use Rattle.commands.specs.Sent.{Says}
 use Rattle.commands.specs.declared.login.client_end.User.{User}
 use Rattle.commands.specs.declared.login.socket.Wire.{Wire}
@@ -42,9 +41,9 @@ abbrev pub StaysItsLog : {S : Type 0} → (S → StoreFacts) → (old : Desk S) 
 StaysItsLog facts old log new log' =
     (start : BookFields) (before : Option (List ℕ)) → IsDeskLog facts start before old log → IsDeskLog facts start before new log'
 
--- what holds of the log after a fault: it has failed, or it is still the desk's
-abbrev pub IsLogAfterFault : {S : Type 0} → (S → StoreFacts) → (old : Desk S) → (log : SinkFacts) → (new : Desk S) → (log' : SinkFacts) → Type 0
-IsLogAfterFault facts old log new log' = (log'.failed ≡ true) ⊎ StaysItsLog facts old log new log'
+-- what holds of the log after a fault: the fault is that it has failed, or it is still the desk's
+abbrev pub IsLogAfterFault : {S : Type 0} → (S → StoreFacts) → (old : Desk S) → (log : SinkFacts) → (new : Desk S) → (log' : SinkFacts) → Fault → Type 0
+IsLogAfterFault facts old log new log' fault = IsLogFault log' fault ⊎ StaysItsLog facts old log new log'
 
 -- a source gives no line of at most so many bytes with its LF: it has failed, or it has ended, or these bytes have no LF
 pub record GivesNoLine (most : ℕ) (old new : SourceFacts) : Type 0 where
@@ -107,8 +106,9 @@ pub record IsInAndPasses (user : User) (nonce password : List ℕ) (input left :
   pub is_in : IsLoggedIn user nonce password old.untold there.untold
   pub passes : SendsLines input left there true new
 
--- a desk over a book whose text was read from a file, of which this is what it has, has logged a clean log, and that is printed
-pub record PrintsLogin {File : Type 0} (bytes_of : File → Option (List ℕ)) (old new : Option (List ℕ)) : Type 0 where
+-- a desk over a book whose text was read from a file, of which this is what it has, has logged such a log, as a clean log, and that
+-- is printed
+pub record PrintsLogin {File : Type 0} (bytes_of : File → Option (List ℕ)) (Is : Accounts → List ℕ → Type 0) (old new : Option (List ℕ)) : Type 0 where
   pub held : Held
   pub is_read : IsReadBook bytes_of held
-  pub printed : HasLog IsClean held.book old new
+  pub printed : HasLog Is held.book old new

@@ -1,21 +1,23 @@
 -- What the command `verify` prints, and what is saved before.
-use Rattle.std.specs.Prelude.{ℕ, ◌≡◌, ◌⊎◌, Bool, true, false, List, [], ◌∷◌, ◌++◌, codes}
+use Rattle.std.specs.Prelude.{ℕ, ◌≡◌, ◌⊎◌, Bool, true, false, List, [], ◌∷◌, ◌++◌}
 use Rattle.std.specs.Str.{byte}
 use Rattle.std.specs.Fmt.{decimal}
 use Rattle.std.specs.Io.KnownBytes.{Appends}
 use Rattle.std.specs.declared.option.Option.{Option}
+use Rattle.std.specs.declared.option.Option.TheVariants.{Some}
 use Rattle.otp_core.specs.Attempt.{CodeTexts}
 use Rattle.otp_core.specs.declared.token.answer.Reply.{Reply}
 use Rattle.otp_core.specs.declared.token.answer.Reply.TheVariants.{Pass, Fail, Locked}
 use Rattle.account_book.specs.Store.{StoreFacts}
 use Rattle.book_file.specs.Text.{IsWritten}
+use Rattle.log_grammar.specs.Lines.{reply_text}
 use Rattle.clap.specs.declared.parser.matches.ArgMatches.{ArgMatches}
 use Rattle.command_line.specs.declared.value.OptionName.TheVariants as option
-use Rattle.commands.specs.HeldBook.{Held, held_shown, IsReadBook, IsReplySaved, IsReplyUnsaved}
-use Rattle.commands.specs.Input.{LinesInTurn}
+use Rattle.account_commands.specs.HeldBook.{Held, held_shown, IsReadBook, IsReplySaved, IsReplyUnsaved}
+use Rattle.account_commands.specs.Input.{LinesInTurn}
 use Rattle.commands.specs.Sent.{Says}
-use Rattle.commands.specs.Words.{given_value}
-use Rattle.commands.specs.declared.held_book.HeldBook.{HeldBook}
+use Rattle.command_words.specs.Values.{given_value}
+use Rattle.account_commands.specs.declared.held_book.HeldBook.{HeldBook}
 
 -- the reply says that the code is right
 abbrev pub is_passed : Reply → Bool
@@ -23,11 +25,9 @@ is_passed (Pass counter) = true
 is_passed Fail = false
 is_passed Locked = false
 
--- the line of a reply to a code at a moment: PASS with moment and counter, FAIL or LOCKED with the moment
+-- the line that is printed for a reply to a code at a moment
 abbrev pub printed_reply : Reply → ℕ → List ℕ
-printed_reply (Pass counter) moment = codes "PASS " ++ (decimal moment ++ (byte " " ∷ decimal counter ++ byte "\n" ∷ []))
-printed_reply Fail moment = codes "FAIL " ++ (decimal moment ++ byte "\n" ∷ [])
-printed_reply Locked moment = codes "LOCKED " ++ (decimal moment ++ byte "\n" ∷ [])
+printed_reply reply moment = reply_text moment (Some reply) ++ byte "\n" ∷ []
 
 -- the book that a run of `verify` holds, and what it has printed, where that is known
 pub record VerifyRun : Type 0 where

@@ -1,22 +1,23 @@
 //! The command `hall`: lets up to 64 users in at a time, over one book, by the events of its input, and prints the log.
-ghost use Rattle.std.specs.Prelude.{[], OnOk};
+ghost use Rattle.std.specs.Prelude.{ℕ, List, [], IfErr, OnOk};
 ghost use Rattle.commands.specs.Hall.{PrintsHallLog, RunsHall};
+ghost use Rattle.commands.specs.PrintedLog.{StopsAfter};
 
 mod event;
 mod logged_hall;
 
-use crate::held_book;
-use crate::held_book::HeldBook;
-use crate::input::Lines;
 use crate::printed_log::PrintedLog;
-use crate::progress::Watched;
-use crate::prompt::{EVENTS, Typed, ask};
-use crate::words::given;
 use account_book::BookStore;
+use account_commands::held_book;
+use account_commands::held_book::HeldBook;
+use account_commands::input::Lines;
+use account_commands::progress::Watched;
+use account_commands::prompt::{EVENTS, Typed, ask};
 use book_file::Lockable;
 use clap::ArgMatches;
 use command_line::Fault;
 use command_line::value::OptionName;
+use command_words::given;
 use logged_hall::LoggedHall;
 use sasl_desk::laws::hall::log_is_a_front;
 use std::alloc::Global;
@@ -41,7 +42,9 @@ where
     I: Typed,
     O: Write + Drop,
     E: Watched,
-    ensures { OnOk result.0 (RunsHall R.File.remaining (I.remaining input.old) (O.contents output) (O.contents result.1)) }
+    ensures ok { OnOk result.0 (RunsHall R.File.remaining (I.remaining input.old) [] (O.contents output) (O.contents result.1)) }
+    ensures err { IfErr result.0 (λ fault. StopsAfter fault (O.contents output) (O.contents result.1)
+        ((last : List (List ℕ)) × RunsHall R.File.remaining (I.remaining input.old) last (O.contents output) (O.contents result.1))) }
 {
     match held_book::open(rt, given(words, OptionName::Book), faults) {
         Ok(held) => {
@@ -63,7 +66,9 @@ where
     S: BookStore + Drop,
     I: BufRead,
     O: Write + Drop,
-    ensures { OnOk result.0 (PrintsHallLog held.entry.book (I.remaining input.old) [] (O.contents output) (O.contents result.1)) }
+    ensures ok { OnOk result.0 (PrintsHallLog held.entry.book (I.remaining input.old) [] (O.contents output) (O.contents result.1)) }
+    ensures err { IfErr result.0 (λ fault. StopsAfter fault (O.contents output) (O.contents result.1)
+        ((last : List (List ℕ)) × PrintsHallLog held.entry.book (I.remaining input.old) last (O.contents output) (O.contents result.1))) }
 {
     log_is_a_front::<S>();
     let mut lines = Lines::new(input);

@@ -6,28 +6,16 @@
 #![tactic(auto)]
 
 mod audit;
-mod code;
 mod desk_fault;
-mod enrol;
-mod file;
 mod hall;
-mod held_book;
-mod input;
-mod keys;
 mod login;
-mod moving_factor;
 mod printed_log;
 mod program;
-mod progress;
-mod prompt;
-mod random;
+mod reply;
 mod sent;
-mod shown;
-mod unlock;
 mod upgrade;
 mod verify;
-mod words;
 
+pub use account_commands::progress::Watched;
+pub use account_commands::prompt::Typed;
 pub use program::{USAGE, run};
-pub use progress::Watched;
-pub use prompt::Typed;

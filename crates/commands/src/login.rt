@@ -1,13 +1,13 @@
 //! The command `login`: logs a user in to a service over a book, and prints the service's log.
-ghost use Rattle.std.specs.Prelude.{◌≡◌, true, ℕ, List, Option, Ok, IfOk, OnOk, OnErr};
+ghost use Rattle.std.specs.Prelude.{◌≡◌, true, ℕ, List, Option, Ok, IfOk, IfErr, OnOk};
 ghost use Rattle.book_format.specs.Book.{BookFields};
-ghost use Rattle.log_grammar.specs.Versions.{IsClean};
+ghost use Rattle.log_grammar.specs.Versions.{IsClean, IsFront};
 ghost use Rattle.sasl_desk.specs.Desks.{phase_of};
 ghost use Rattle.sasl_desk.specs.declared.desk.state.Phase.TheVariants as Phase;
 ghost use Rattle.commands.specs.declared.login.client_end.Stage.{Stage};
-ghost use Rattle.commands.specs.HeldBook.{held_shown, IsReadBook};
+ghost use Rattle.account_commands.specs.HeldBook.{held_shown, IsReadBook};
 ghost use Rattle.commands.specs.Login.{IsDeskLog, StaysItsLog, IsLogAfterFault, talked_by, IsInAndPasses, PrintsLogin};
-ghost use Rattle.commands.specs.PrintedLog.{HasLog};
+ghost use Rattle.commands.specs.PrintedLog.{HasLog, StopsAfter};
 
 mod client_end;
 mod code_line;
@@ -16,22 +16,22 @@ mod nonces;
 mod socket;
 mod talk;
 
-use crate::held_book;
-use crate::held_book::HeldBook;
-use crate::input::Lines;
 use crate::printed_log::PrintedLog;
-use crate::progress::Watched;
-use crate::prompt::{LOGIN, Typed, ask};
-use crate::words::{given, optional};
 use account_book::BookStore;
+use account_commands::held_book;
+use account_commands::held_book::HeldBook;
+use account_commands::input::Lines;
+use account_commands::progress::Watched;
+use account_commands::prompt::{LOGIN, Typed, ask};
 use book_file::{FileStore, Lockable};
 use clap::ArgMatches;
 use client_end::{ClientEnd, User};
 use command_line::value::OptionName;
 use command_line::{Fault, value};
+use command_words::{given, optional};
 use moments::Moments;
 use otp_core::Moment;
-use sasl_desk::laws::log_is_clean;
+use sasl_desk::laws::{log_is_a_front, log_is_clean};
 use sasl_log::{Sink, Source};
 use scram_text::{NoncePart, Password};
 use socket::Ends;
@@ -86,7 +86,9 @@ where
     I: Typed,
     O: Write + Drop,
     E: Watched,
-    ensures { OnOk result.0 (PrintsLogin R.File.remaining (O.contents output) (O.contents result.1)) }
+    ensures ok { OnOk result.0 (PrintsLogin R.File.remaining IsClean (O.contents output) (O.contents result.1)) }
+    ensures err { IfErr result.0 (λ fault. StopsAfter fault (O.contents output) (O.contents result.1)
+        (PrintsLogin R.File.remaining IsFront (O.contents output) (O.contents result.1))) }
 {
     let login = match prepare(rt, words, input, faults) {
         Ok(login) => login,
@@ -143,7 +145,9 @@ where
     I: BufRead,
     C: sasl_desk::Clock + Drop,
     O: Write + Drop,
-    ensures { OnOk result.0 (HasLog IsClean login.entry.held.book (O.contents output) (O.contents result.1)) }
+    ensures ok { OnOk result.0 (HasLog IsClean login.entry.held.book (O.contents output) (O.contents result.1)) }
+    ensures err { IfErr result.0 (λ fault. StopsAfter fault (O.contents output) (O.contents result.1)
+        (HasLog IsFront login.entry.held.book (O.contents output) (O.contents result.1))) }
 {
     let Prepared {
         held,
@@ -152,6 +156,7 @@ where
         own,
         moment: _,
     } = login;
+    log_is_a_front::<S>();
     match Talk::begin(alloc, held, ends.wires(), PrintedLog::new(output), clock) {
         Ok(mut talk) => {
             let passed = converse(alloc, &mut talk, ends, own, client, &mut lines);
@@ -187,7 +192,7 @@ where
     ensures closed { OnOk result (phase_of talk.new.desk.state ≡ Phase.Closed) }
     ensures clean { OnOk result ((start : BookFields) (before : Option (List ℕ)) → IsDeskLog S.facts start before talk.old.desk (L.facts talk.old.log)
         → HasLog IsClean start before (L.facts talk.new.log).given) }
-    ensures after_fault { OnErr result (IsLogAfterFault S.facts talk.old.desk (L.facts talk.old.log) talk.new.desk (L.facts talk.new.log)) }
+    ensures after_fault { IfErr result (IsLogAfterFault S.facts talk.old.desk (L.facts talk.old.log) talk.new.desk (L.facts talk.new.log)) }
 {
     log_is_clean::<S>();
     talk.greet(alloc, own)?;
@@ -211,7 +216,7 @@ where
     ensures client { talk.new.wires.of_client ≡ talk.old.wires.of_client }
     ensures log { OnOk result (StaysItsLog S.facts talk.old.desk (L.facts talk.old.log) talk.new.desk (L.facts talk.new.log)) }
     ensures closed { OnOk result (phase_of talk.new.desk.state ≡ Phase.Closed) }
-    ensures after_fault { OnErr result (IsLogAfterFault S.facts talk.old.desk (L.facts talk.old.log) talk.new.desk (L.facts talk.new.log)) }
+    ensures after_fault { IfErr result (IsLogAfterFault S.facts talk.old.desk (L.facts talk.old.log) talk.new.desk (L.facts talk.new.log)) }
 {
     if !talk.is_open() {
         return Ok(());

@@ -2,15 +2,16 @@
 ghost use Rattle.std.specs.Prelude.{◌≡◌, ◌≤◌, IfOk};
 ghost use Rattle.command_line.specs.Fault.{status_of};
 
-use crate::progress::Watched;
-use crate::prompt::Typed;
-use crate::shown::Shown;
-use crate::{audit, code, enrol, hall, keys, login, unlock, upgrade, verify, words};
+use crate::{audit, hall, login, upgrade, verify};
+use account_commands::progress::Watched;
+use account_commands::prompt::Typed;
+use account_commands::{code, enrol, keys, unlock};
 use book_file::Lockable;
 use clap::ArgMatches;
 use clap::error::ErrorKind;
-use command_line::Fault;
-use std::alloc::{AllocError, Global};
+use command_line::{Fault, Shown};
+use command_words::{scramotp, usage_text};
+use std::alloc::Global;
 use std::convert::AsStr;
 use std::fs::Files;
 use std::io::Write;
@@ -37,7 +38,7 @@ where
     ensures { result ≤ 3 }
 {
     let alloc = rt.alloc();
-    let Ok(commands) = words::scramotp(alloc) else {
+    let Ok(commands) = scramotp(alloc) else {
         return report(alloc, faults, Fault::NoMemory);
     };
     match commands.try_get_matches_from(words) {
@@ -110,23 +111,6 @@ where
     }
     output.flush().map_err(|_| Fault::CannotWriteOutput)?;
     Ok(status)
-}
-
-// The usage fault of `clap` for these words. `clap` is given the words as they are shown, since it quotes them.
-fn usage_text<S: AsStr>(alloc: Global, words: &[S]) -> Result<String, AllocError> {
-    let shown = shown_words(alloc, words)?;
-    match words::scramotp(alloc)?.try_get_matches_from(shown.as_slice()) {
-        Err(error) => format!(in alloc; "{error}"),
-        Ok(_) => format!(in alloc; "error: an argument has a control character\n"),
-    }
-}
-
-fn shown_words<S: AsStr>(alloc: Global, words: &[S]) -> Result<Vec<String>, AllocError> {
-    let mut shown = Vec::new(alloc);
-    for word in words {
-        shown.push(format!(in alloc; "{}", Shown(word.as_str()))?)?;
-    }
-    Ok(shown)
 }
 
 // Prints a fault and returns its status.

@@ -1,8 +1,8 @@
 //! What an input line of `verify` and of `login` says: one code, or two in a row.
-ghost use Rattle.sasl_desk.specs.Keeper.{texts_of};
+ghost use Rattle.otp_core.specs.Sent.{texts_of};
 ghost use Rattle.commands.specs.Sent.{Says};
 
-use sasl_desk::Sent;
+use otp_core::Sent;
 use sasl_log::{ClientLine, Line, read_line};
 
 /// What a line without its LF says: two texts where it is a SYNC line of the protocol, else itself, as one text.

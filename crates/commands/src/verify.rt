@@ -1,20 +1,21 @@
 //! The command `verify`: judges each input line as a one-time code, or as two in a row.
-ghost use Rattle.std.specs.Prelude.{◌≡◌, ◌⊎◌, ◌&&◌, IfErr, IfOk, OnOk, OnErr, string_bytes};
+ghost use Rattle.std.specs.Prelude.{◌≡◌, ◌⊎◌, ◌&&◌, IfOk, OnOk, OnErr};
 ghost use Rattle.std.specs.Io.KnownBytes.{Appends};
 ghost use Rattle.commands.specs.Verify.{is_passed, printed_reply, run_of, IsLineAnswered, FailsAtLine, AnswersAllLines, AnswersFirstLines, VerifiesAllLines, VerifiesFirstLines};
 
-use crate::held_book;
-use crate::held_book::HeldBook;
-use crate::input::Lines;
-use crate::progress::Watched;
-use crate::prompt::{CODES, Typed, ask};
+use crate::reply;
 use crate::sent::sent_by;
-use crate::words::given;
 use account_book::{BookStore, Reply};
+use account_commands::held_book;
+use account_commands::held_book::HeldBook;
+use account_commands::input::Lines;
+use account_commands::progress::Watched;
+use account_commands::prompt::{CODES, Typed, ask};
 use book_file::Lockable;
 use clap::ArgMatches;
 use command_line::value::OptionName;
 use command_line::{Fault, value};
+use command_words::given;
 use otp_core::Moment;
 use scram_text::PlainName;
 use std::alloc::Global;
@@ -111,22 +112,10 @@ fn print_reply<O: Write>(
 ) -> Result<(), Fault>
     ensures { OnOk result (Appends (O.contents output.old) (O.contents output.new) (printed_reply reply moment)) }
 {
-    let text = reply_text(alloc, moment, reply)?;
+    let line = reply::text_of(alloc, moment, Some(reply))?;
+    let text = format!(in alloc; "{line}\n")?;
     output
         .write_all(text.as_bytes())
         .map_err(|_| Fault::CannotWriteOutput)?;
     output.flush().map_err(|_| Fault::CannotWriteOutput)
-}
-
-// The line that is printed for a reply.
-fn reply_text(alloc: Global, moment: Moment, reply: Reply) -> Result<String, Fault>
-    ensures ok { IfOk result (λ text. string_bytes text ≡ printed_reply reply moment) }
-    ensures err { IfErr result (λ fault. fault ≡ Fault.NoMemory) }
-{
-    let seconds = moment.seconds();
-    Ok(match reply {
-        Reply::Pass(counter) => format!(in alloc; "PASS {seconds} {counter}\n")?,
-        Reply::Fail => format!(in alloc; "FAIL {seconds}\n")?,
-        Reply::Locked => format!(in alloc; "LOCKED {seconds}\n")?,
-    })
 }

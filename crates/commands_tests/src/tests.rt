@@ -1,5 +1,6 @@
-//! Tests of `run`: each command once, and how a run ends where streams and files fail. What the program prints,
-//! case by case, is tested on the built program by the scripts in the repository's folder `tests`.
+//! Tests of `run`: commands over a book, their prompts, and how a run ends where streams and files fail. What the
+//! program prints, case by case, and `login`, `hall` and `upgrade`, is tested on the built program by the scripts in the
+//! repository's folder `tests`.
 mod books;
 mod prompts;
 mod streams;
@@ -96,9 +97,18 @@ where
     R: Abort + Files + Net + Clock + AllocGlobal,
     R::File: Lockable,
 {
+    check_at(rt, words, input, (false, false), want);
+}
+
+// So where the input and the faults are terminals or not.
+fn check_at<R>(rt: &R, words: &[&str], input: &str, are: (bool, bool), want: (u8, &str, &str))
+where
+    R: Abort + Files + Net + Clock + AllocGlobal,
+    R::File: Lockable,
+{
     let mut output = Vec::new(rt.alloc());
-    let mut faults = Faults::new(rt.alloc(), false);
-    let mut input = Input::new(input, false);
+    let mut input = Input::new(input, are.0);
+    let mut faults = Faults::new(rt.alloc(), are.1);
     let status = run(rt, words, &mut input, &mut output, &mut faults);
     let (want_status, want_output, want_faults) = want;
     assert_eq!(rt; status, want_status, "status of {words:?}");

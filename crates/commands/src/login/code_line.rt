@@ -8,7 +8,7 @@ ghost use Rattle.commands.specs.Sent.{Says};
 use crate::login::MOST_LINE;
 use crate::sent::sent_by;
 use command_line::Fault;
-use sasl_desk::Sent;
+use otp_core::Sent;
 use std::alloc::Global;
 
 /// The line for this input line, with its LF: itself where it is a SYNC line of the protocol, else as the text of a CODE

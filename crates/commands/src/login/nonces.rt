@@ -3,7 +3,7 @@ ghost use Rattle.std.specs.Prelude.{◌≡◌, ◌⊎◌, Some, IfOk, IfErr, len
 ghost use Rattle.scram_text.specs.Base64Field.{base64};
 ghost use Rattle.commands.specs.Nonces.{TakesNonce, TakesNonces};
 
-use crate::random::Random;
+use account_commands::random::Random;
 use base64::engine::general_purpose::STANDARD;
 use command_line::Fault;
 use scram_text::NoncePart;

@@ -1,18 +1,23 @@
 use Rattle.std.proofs.Common.{inl}
-use Rattle.std.proofs.lemmas.Result.{err_from_is_err_and}
+use Rattle.commands.specs.Login.{IsLogAfterFault}
+use Rattle.commands.proofs.Faults.{handed_on}
 use Rattle.commands.proofs.LoginLemmas.{stays_twice, fails_then}
 use Rattle.commands.proofs.login.converse.Goals as goal
 
 pub returns-in_err-passed-clause-after_fault : goal.returns-in_err-passed-clause-after_fault
 returns-in_err-passed-clause-after_fault g c =
-    let e = err_from_is_err_and c.from_residual-in_err-passed.result c.from_residual-in_err-passed.ensures.1 in
-    rw e.1 (fails_then g.S.BookStore.facts _ _ _ _ _ _ c.in_ok-greet.ensures.log c.in_err-passed.ensures.after_fault)
+    handed_on c.from_residual-in_err-passed.result _
+    (IsLogAfterFault g.S.BookStore.facts c.args.talk.now.desk (g.L.Sink.facts c.args.talk.now.log) c.log_in_and_send.new.self.desk (g.L.Sink.facts c.log_in_and_send.new.self.log))
+    c.from_residual-in_err-passed.ensures.1
+    (fails_then g.S.BookStore.facts _ _ _ _ _ _ _ c.in_ok-greet.ensures.log c.in_err-passed.ensures.after_fault)
 
 pub returns-in_err-hang_up-clause-after_fault : goal.returns-in_err-hang_up-clause-after_fault
 returns-in_err-hang_up-clause-after_fault g c =
-    let e = err_from_is_err_and c.from_residual-in_err-hang_up.result c.from_residual-in_err-hang_up.ensures.1 in
     let talked = stays_twice g.S.BookStore.facts _ _ _ _ _ _ c.in_ok-greet.ensures.log c.in_ok-passed.ensures.log in
-    rw e.1 (fails_then g.S.BookStore.facts _ _ _ _ _ _ talked c.in_err-hang_up.ensures.after_fault)
+    handed_on c.from_residual-in_err-hang_up.result _
+    (IsLogAfterFault g.S.BookStore.facts c.args.talk.now.desk (g.L.Sink.facts c.args.talk.now.log) c.hang_up.new.talk.desk (g.L.Sink.facts c.hang_up.new.talk.log))
+    c.from_residual-in_err-hang_up.ensures.1
+    (fails_then g.S.BookStore.facts _ _ _ _ _ _ _ talked c.in_err-hang_up.ensures.after_fault)
 
 -- no session is open, so the log is clean
 pub returns-clause-clean : goal.returns-clause-clean

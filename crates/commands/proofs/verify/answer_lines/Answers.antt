@@ -1,7 +1,7 @@
 use Rattle.std.proofs.Common.{inl, inr, refl}
 use Rattle.commands.specs.Verify.{run_of, AnswersLine}
 use Rattle.commands.proofs.Faults.{after_any_fault}
-use Rattle.commands.proofs.LinesInTurn.{after_line, at_end, before_line, at_line}
+use Rattle.account_commands.proofs.LinesInTurn.{after_line, at_end, before_line, at_line}
 use Rattle.commands.proofs.verify.answer_lines.Goals as goal
 
 pub returns-in_err-line-clause-err : goal.returns-in_err-line-clause-err

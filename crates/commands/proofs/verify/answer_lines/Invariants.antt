@@ -1,5 +1,5 @@
 use Rattle.commands.specs.Verify.{run_of, AnswersLine}
-use Rattle.commands.proofs.LinesInTurn.{HasCome}
+use Rattle.account_commands.proofs.LinesInTurn.{HasCome}
 use Rattle.commands.proofs.verify.answer_lines.Given as goal
 
 abbrev pub invariant-loop-line : goal.invariant-loop-line

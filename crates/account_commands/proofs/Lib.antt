@@ -1,0 +1,3 @@
+pub mod InputLines
+pub mod LinesInTurn
+mod Results

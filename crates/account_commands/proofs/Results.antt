@@ -1,0 +1,8 @@
+-- What follows from two facts of an answer.
+use Rattle.std.proofs.Common.{OnOk, Ok, Err}
+use Rattle.std.specs.declared.result.Result.{Result}
+
+-- where there is an answer, what follows from both
+pub on_ok_both : {T E P Q R : Type 0} (result : Result T E) → OnOk result P → OnOk result Q → (P → Q → R) → OnOk result R
+on_ok_both (Ok x) p q follows = follows p q
+on_ok_both (Err e) p q follows = tt

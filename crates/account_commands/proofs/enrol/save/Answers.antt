@@ -1,0 +1,34 @@
+use Rattle.std.proofs.Common.{inl, inr, refl, sym}
+use Rattle.std.proofs.lemmas.Result.{on_ok_weaker}
+use Rattle.account_commands.proofs.Results.{on_ok_both}
+use Rattle.account_commands.proofs.enrol.save.Goals as goal
+
+-- the book of the file has changed, and the account is added to the one that is there now
+pub returns-in_ok-held-in-Some-found : goal.returns-in_ok-held-in-Some-found
+returns-in_ok-held-in-Some-found g c =
+    let read = rw c.in-Some-found.is at c.in_ok-file.ensures in
+    let saved = rw (sym c.in_ok-held-in-Some-found.ensures.saved) at read in
+    on_ok_both c.enrol.result c.enrol.ensures.added c.enrol.ensures.saved
+    (λ added done. record {
+      first = c.in_ok-held-in-Some-found.held.book;
+      is_first = inr (_, c.in_ok-held-in-Some-found.ensures.text, saved);
+      last = c.enrol.new.self.book;
+      is_enrolled = added;
+      old = _;
+      new = _;
+      is_saved = done;
+    })
+
+pub returns-in_default : goal.returns-in_default
+returns-in_default g c =
+    on_ok_weaker c.save.result
+    (λ saved. record {
+      first = c.args.book;
+      is_first = inl refl;
+      last = c.add.new.book;
+      is_enrolled = c.in_ok-add.ensures.added;
+      old = _;
+      new = _;
+      is_saved = rw c.new-in_default.ensures.book at saved;
+    })
+    c.save.ensures.saved

@@ -1,0 +1,46 @@
+-- The code that the words of the command `code` ask for.
+use Rattle.std.specs.Prelude.{◌≡◌, ℕ, suc, ◌≤◌, List, Ok}
+use Rattle.std.specs.Fmt.{decimal}
+use Rattle.std.specs.declared.option.Option.TheVariants.{None, Some}
+use Rattle.hex.specs.Hex.{decode_of}
+use Rattle.clap.specs.declared.parser.matches.ArgMatches.{ArgMatches}
+use Rattle.otp_core.specs.Code.{hotp_text_by, steps_from}
+use Rattle.otp_core.specs.Hash.{hash_name}
+use Rattle.otp_core.specs.declared.hash.OtpHash.TheVariants.{Sha1}
+use Rattle.command_line.specs.declared.value.OptionName.TheVariants as option
+use Rattle.command_words.specs.Values.{value_of, given_value}
+use Rattle.account_commands.specs.declared.moving_factor.MovingFactor.{MovingFactor}
+use Rattle.account_commands.specs.declared.moving_factor.MovingFactor.TheVariants.{Counter, Time}
+
+-- the code for a moving factor: HOTP's of a counter, with SHA-1 (RFC 4226), or TOTP's of a moment, whose
+-- steps begin at t0 (RFC 6238)
+abbrev pub IsCodeFor : MovingFactor → ℕ → List ℕ → List ℕ → Type 0
+IsCodeFor (Counter counter) digits secret code = code ≡ hotp_text_by Sha1 digits secret counter
+IsCodeFor (Time t) digits secret code =
+    (t.t0 ≤ t.moment) × (code ≡ hotp_text_by t.hash digits secret (steps_from t.t0 t.step t.moment))
+
+-- there is no code: the moment is before t0
+abbrev pub IsTooEarly : MovingFactor → Type 0
+IsTooEarly (Counter counter) = ⊥
+IsTooEarly (Time t) = suc t.moment ≤ t.t0
+
+-- what the words ask a code for: a counter, or else a moment, with the hash function and the steps that they give
+abbrev pub IsFactorAsked : ArgMatches → MovingFactor → Type 0
+IsFactorAsked words (Counter counter) = value_of words option.Counter ≡ Some (decimal counter)
+IsFactorAsked words (Time t) =
+    (value_of words option.Counter ≡ None) × (value_of words option.Moment ≡ Some (decimal t.moment))
+    × (given_value words option.Hash ≡ hash_name t.hash) × (given_value words option.T0 ≡ decimal t.t0) × (given_value words option.Step ≡ decimal t.step)
+
+-- the words ask for this code: the secret is given in hexadecimal
+pub record IsCodeAsked (words : ArgMatches) (code : List ℕ) : Type 0 where
+  pub secret : List ℕ
+  pub is_secret : decode_of (given_value words option.Secret) ≡ Ok secret
+  pub digits : ℕ
+  pub are_digits : given_value words option.Digits ≡ decimal digits
+  pub factor : MovingFactor
+  pub is_factor : IsFactorAsked words factor
+  pub is_code : IsCodeFor factor digits secret code
+
+-- the words ask for a code of a moment before t0
+abbrev pub IsAskedTooEarly : ArgMatches → Type 0
+IsAskedTooEarly words = (factor : MovingFactor) × IsFactorAsked words factor × IsTooEarly factor

@@ -1,0 +1,67 @@
+-- What the command `enrol` adds to a book, and what it prints.
+use Rattle.std.specs.Prelude.{ℕ, ◌≡◌, ◌⊎◌, List, [], ◌∷◌, ◌++◌, length, codes, Option}
+use Rattle.std.specs.Fmt.{decimal}
+use Rattle.std.specs.Io.KnownBytes.{Appends, Consumes}
+use Rattle.std.specs.Str.{byte}
+use Rattle.scram_text.specs.Class.{IsPassword}
+use Rattle.book_format.specs.Book.{BookFields}
+use Rattle.book_format.specs.Trees.{IsBookText}
+use Rattle.account_book.specs.Store.{StoreFacts}
+use Rattle.book_file.specs.Text.{IsRead, IsWritten}
+use Rattle.clap.specs.declared.parser.matches.ArgMatches.{ArgMatches}
+use Rattle.command_line.specs.declared.value.OptionName.TheVariants as option
+use Rattle.account_commands.specs.HeldBook.{IsBookSaved, IsEnrolled}
+use Rattle.account_commands.specs.Input.{IsFirstLine}
+use Rattle.command_words.specs.Values.{given_value}
+
+-- a new book: it has no accounts, and its decoys have this key and 4096 iterations
+abbrev pub new_book : (decoy_key : List ℕ) → BookFields
+new_book decoy_key = record { decoy_key = decoy_key; decoy_count = 4096; accounts = [] }
+
+-- a book whose text was read from a file, of which this is what it has
+abbrev pub IsFromFile : {File : Type 0} → (bytes_of : File → Option (List ℕ)) → BookFields → Type 0
+IsFromFile bytes_of book = (text : List ℕ) × IsBookText text book × IsRead bytes_of text
+
+-- a book that was read from a file, or a new one with this key
+abbrev pub IsReadOrNew : {File : Type 0} → (bytes_of : File → Option (List ℕ)) → (decoy_key : List ℕ) → BookFields → Type 0
+IsReadOrNew bytes_of decoy_key book = IsFromFile bytes_of book ⊎ (book ≡ new_book decoy_key)
+
+-- a source of random bytes loses two salts of 16 bytes, one after the other: no byte is in both
+pub record TakesSalts (old : Option (List ℕ)) (salt1 salt256 : List ℕ) (new : Option (List ℕ)) : Type 0 where
+  pub length1 : length salt1 ≡ 16
+  pub length256 : length salt256 ≡ 16
+  pub taken : Consumes old new (salt1 ++ salt256)
+
+-- an account with the keys of a password is added to a book, which is this one or was read from a file since, and the text of
+-- the book as it is then is written to a file
+pub record SavesAccount {File : Type 0} (bytes_of written_to : File → Option (List ℕ)) (book : BookFields) (name password salt1 salt256 : List ℕ)
+    (count : ℕ) : Type 0 where
+  pub first : BookFields
+  pub is_first : (first ≡ book) ⊎ IsFromFile bytes_of first
+  pub last : BookFields
+  pub is_enrolled : IsEnrolled name password salt1 salt256 count first last
+  pub old : StoreFacts
+  pub new : StoreFacts
+  pub is_saved : IsBookSaved (IsWritten written_to) old last new
+
+-- the account that the words and the first line of the input describe is added to a book that was read, or to a new one, whose
+-- text is then written to a file; its salts, and before them the key of a new book, are the random bytes of a file of which this is what it has;
+-- and the name is printed
+pub record EnrolsAsked {File : Type 0} (bytes_of written_to : File → Option (List ℕ)) (words : ArgMatches) (input old new : Option (List ℕ)) : Type 0 where
+  pub password : List ℕ
+  pub is_first : IsFirstLine input password
+  pub is_password : IsPassword password
+  pub count : ℕ
+  pub is_count : given_value words option.Count ≡ decimal count
+  pub file : File
+  pub there : Option (List ℕ)
+  pub after : File
+  pub decoy_key : List ℕ
+  pub takes_key : Consumes (bytes_of file) there decoy_key
+  pub salt1 : List ℕ
+  pub salt256 : List ℕ
+  pub takes_salts : TakesSalts there salt1 salt256 (bytes_of after)
+  pub book : BookFields
+  pub is_book : IsReadOrNew bytes_of decoy_key book
+  pub is_saved : SavesAccount bytes_of written_to book (given_value words option.Name) password salt1 salt256 count
+  pub printed : Appends old new (codes "enrolled " ++ (given_value words option.Name ++ byte "\n" ∷ []))

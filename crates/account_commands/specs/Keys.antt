@@ -1,0 +1,35 @@
+-- What the command `keys` prints.
+use Rattle.std.specs.Prelude.{ℕ, ◌≡◌, List, [], ◌∷◌, ◌++◌, codes, Option, Ok}
+use Rattle.std.specs.Str.{byte}
+use Rattle.std.specs.Fmt.{decimal}
+use Rattle.std.specs.Io.KnownBytes.{Appends}
+use Rattle.hex.specs.Hex.{encode_lower, decode_of}
+use Rattle.clap.specs.declared.parser.matches.ArgMatches.{ArgMatches}
+use Rattle.mac_core.specs.declared.mechanism.Mechanism.{Mechanism}
+use Rattle.mac_core.specs.Mechanism.{name_of, hi_by, client_key_by, stored_key_by, server_key_by}
+use Rattle.scram_text.specs.Class.{IsPassword}
+use Rattle.command_line.specs.declared.value.OptionName.TheVariants as option
+use Rattle.account_commands.specs.Input.{IsFirstLine}
+use Rattle.command_words.specs.Values.{given_value}
+
+-- the two lines of `keys`: StoredKey and ServerKey of a password (RFC 5802, section 3) in lower-case
+-- hexadecimal, each after its name and an equals sign
+abbrev pub printed_keys : Mechanism → List ℕ → List ℕ → ℕ → List ℕ
+printed_keys mechanism password salt count =
+    let salted = hi_by mechanism password salt count in
+    let stored = stored_key_by mechanism (client_key_by mechanism salted) in
+    let server = server_key_by mechanism salted in
+    codes "stored=" ++ (encode_lower stored ++ (byte "\n" ∷ codes "server=" ++ (encode_lower server ++ byte "\n" ∷ [])))
+
+-- the keys of the password that is the first line of the input are printed, by the mechanism, salt and count that the words give
+pub record PrintsKeysAsked (words : ArgMatches) (input old new : Option (List ℕ)) : Type 0 where
+  pub mechanism : Mechanism
+  pub is_mechanism : given_value words option.Mechanism ≡ name_of mechanism
+  pub salt : List ℕ
+  pub is_salt : decode_of (given_value words option.Salt) ≡ Ok salt
+  pub count : ℕ
+  pub is_count : given_value words option.Count ≡ decimal count
+  pub password : List ℕ
+  pub is_first : IsFirstLine input password
+  pub is_password : IsPassword password
+  pub printed : Appends old new (printed_keys mechanism password salt count)

@@ -1,0 +1,5 @@
+pub mod Code
+pub mod Enrol
+pub mod HeldBook
+pub mod Input
+pub mod Keys

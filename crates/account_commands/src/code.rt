@@ -1,0 +1,88 @@
+//! The command `code`: prints the one-time code of a counter or a moment.
+ghost use Rattle.std.specs.Prelude.{◌≡◌, ◌++◌, ◌∷◌, [], ℕ, List, None, IfErr, IfOk, OnOk, IsErrOf};
+ghost use Rattle.std.specs.Str.{byte};
+ghost use Rattle.std.specs.Io.KnownBytes.{Appends};
+ghost use Rattle.account_commands.specs.Code.{IsCodeFor, IsTooEarly, IsFactorAsked, IsCodeAsked, IsAskedTooEarly};
+ghost use Rattle.command_words.specs.Values.{value_of};
+
+use crate::moving_factor::{MovingFactor, Steps};
+use clap::ArgMatches;
+use command_line::value::OptionName;
+use command_line::{Fault, value};
+use command_words::{given, optional};
+use otp_core::{Code, Digits, MOST_COUNTER, MOST_STEP, OtpHash, Secret, step};
+use std::alloc::Global;
+use std::io::Write;
+
+// The code of a secret, or BeforeFirstStep where the moment is before t0.
+fn answer(secret: &Secret, digits: Digits, factor: &MovingFactor) -> Result<Code, Fault>
+    ensures ok { IfOk result (λ code. IsCodeFor factor.now digits secret.now code) }
+    ensures err { IfErr result (λ fault. (fault ≡ Fault.BeforeFirstStep) × IsTooEarly factor.now) }
+{
+    match factor {
+        MovingFactor::Counter(counter) => Ok(OtpHash::Sha1.hotp(secret, *counter, digits)),
+        MovingFactor::Time(steps) => match step(steps.moment, steps.t0, steps.step) {
+            Some(counter) => Ok(steps.hash.hotp(secret, counter, digits)),
+            None => Err(Fault::BeforeFirstStep),
+        },
+    }
+}
+
+// Judges the options that say which code is meant, in their order.
+fn judge(words: &ArgMatches<'_>) -> Result<MovingFactor, Fault>
+    ensures asked { IfOk result (IsFactorAsked words.now) }
+    ensures nothing { IsErrOf result Fault.NoCounterOrMoment
+        → (value_of words.now OptionName.Counter ≡ None) × (value_of words.now OptionName.Moment ≡ None) }
+    ensures in_time { IsErrOf result Fault.BeforeFirstStep → ⊥ }
+{
+    let counter = match optional(words, OptionName::Counter) {
+        Some(text) => Some(value::within(OptionName::Counter, text, 0, MOST_COUNTER)?),
+        None => None,
+    };
+    let moment = match optional(words, OptionName::Moment) {
+        Some(text) => Some(value::moment(OptionName::Moment, text)?),
+        None => None,
+    };
+    let hash = value::hash(given(words, OptionName::Hash))?;
+    let t0 = value::moment(OptionName::T0, given(words, OptionName::T0))?;
+    let step = value::within(
+        OptionName::Step,
+        given(words, OptionName::Step),
+        1,
+        MOST_STEP,
+    )?;
+    match (counter, moment) {
+        (Some(counter), _) => Ok(MovingFactor::Counter(counter)),
+        (None, Some(moment)) => Ok(MovingFactor::Time(Steps {
+            hash,
+            moment,
+            t0,
+            step,
+        })),
+        (None, None) => Err(Fault::NoCounterOrMoment),
+    }
+}
+
+/// Judges the options in their order and prints the code. Faults: BadValue, NoCounterOrMoment and
+/// BeforeFirstStep, in this order, CannotWriteOutput and NoMemory.
+pub fn code<O: Write>(alloc: Global, words: &ArgMatches<'_>, output: &mut O) -> Result<(), Fault>
+    ensures printed { OnOk result ((code : List ℕ) × IsCodeAsked words.now code
+        × Appends (O.contents output.old) (O.contents output.new) (code ++ byte "\n" ∷ [])) }
+    ensures early { IsErrOf result Fault.BeforeFirstStep → IsAskedTooEarly words.now }
+    ensures nothing { IsErrOf result Fault.NoCounterOrMoment
+        → (value_of words.now OptionName.Counter ≡ None) × (value_of words.now OptionName.Moment ≡ None) }
+{
+    let secret = value::secret(alloc, given(words, OptionName::Secret))?;
+    let digits = value::digits(given(words, OptionName::Digits))?;
+    let factor = judge(words)?;
+    let code = answer(&secret, digits, &factor)?;
+    print_code(code.text(), output)
+}
+
+// Prints a code and an LF. The only fault is CannotWriteOutput.
+fn print_code<O: Write>(code: &str, output: &mut O) -> Result<(), Fault>
+    ensures printed { OnOk result (Appends (O.contents output.old) (O.contents output.new) (code.now ++ byte "\n" ∷ [])) }
+    ensures err { IfErr result (λ fault. fault ≡ Fault.CannotWriteOutput) }
+{
+    writeln!(output, "{code}").map_err(|_| Fault::CannotWriteOutput)
+}

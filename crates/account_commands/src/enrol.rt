@@ -1,0 +1,189 @@
+//! The command `enrol`: adds an account with a password to a book.
+ghost use Rattle.std.specs.Prelude.{◌≡◌, ◌≤◌, ◌++◌, ◌∷◌, [], ℕ, List, codes, IfOk, IfErr, IfSome, OnOk, string_bytes};
+ghost use Rattle.std.specs.Fmt.{decimal};
+ghost use Rattle.std.specs.Io.KnownBytes.{Appends, Consumes};
+ghost use Rattle.std.specs.Str.{byte};
+ghost use Rattle.scram_text.specs.Class.{IsPassword};
+ghost use Rattle.book_format.specs.Trees.{IsBookText};
+ghost use Rattle.book_file.specs.Text.{IsRead};
+ghost use Rattle.account_commands.specs.Enrol.{EnrolsAsked, IsReadOrNew, SavesAccount, TakesSalts};
+ghost use Rattle.account_commands.specs.Input.{IsFirstLine};
+ghost use Rattle.command_words.specs.Values.{given_value};
+
+use crate::held_book::{HeldBook, Seen};
+use crate::progress::Watched;
+use crate::prompt::{PASSWORD, Typed, ask};
+use crate::random::Random;
+use crate::{held_book, input};
+use account_book::Book;
+use book_file::{BookFile, FileStore, Lockable};
+use clap::ArgMatches;
+use command_line::value::OptionName;
+use command_line::{Fault, value};
+use command_words::given;
+use scram_text::{Password, PlainName, Salt};
+use std::alloc::Global;
+use std::fs::Files;
+use std::io::{Read, Write};
+use std::time::Clock;
+
+/// The iteration count of a new book's decoys; it is the default of `--count` too.
+const DECOY_COUNT: u32 = 4096;
+
+// The account that the words and the input describe.
+#[derive(Drop)]
+struct NewAccount {
+    name: PlainName,
+    password: Password,
+    count: u32,
+
+    ghost at_least: { 1 ≤ count },
+}
+
+/// Judges the options in their order, reads the password, the book and the random bytes, and adds the account. A book
+/// is made where the file is not there. The keys are made while others may use the book; where it has changed by
+/// then, they are made once more. At a terminal it asks for the password. Faults: BadValue, BadPassword, CannotRead,
+/// BadBook, NameTaken and CannotWrite, in this order, CannotReadInput, CannotWriteOutput and NoMemory.
+pub fn enrol<R, I, O, E>(
+    rt: &R,
+    words: &ArgMatches<'_>,
+    input: &mut I,
+    output: &mut O,
+    faults: &mut E,
+) -> Result<(), Fault>
+where
+    R: Files + Clock + AllocGlobal,
+    R::File: Lockable,
+    I: Typed,
+    O: Write,
+    E: Watched,
+    ensures { OnOk result (EnrolsAsked R.File.remaining R.File.contents words.now (I.remaining input.old) (O.contents output.old) (O.contents output.new)) }
+{
+    let asked = judge(rt.alloc(), words, input, faults)?;
+    let path = given(words, OptionName::Book);
+    let seen = held_book::read_and_release(rt, path, faults)?;
+    let mut random = Random::open(rt, given(words, OptionName::Random))?;
+    let (book, text) = seen_or_new(rt.alloc(), seen, &mut random)?;
+    let salts = two_salts(&mut random)?;
+    save(rt, path, book, text, &asked, &salts, faults)?;
+    print_enrolled(asked.name.text(), output)
+}
+
+// The book that was seen and its text; or, where there was no file, a new book, whose key is the next random bytes.
+fn seen_or_new<F: Read + Drop>(
+    alloc: Global,
+    seen: Option<Seen>,
+    random: &mut Random<'_, F>,
+) -> Result<(Book, Option<String>), Fault>
+    requires text { IfSome seen (λ seen. IsBookText (string_bytes seen.text) seen.book) }
+    requires read { IfSome seen (λ seen. IsRead F.remaining (string_bytes seen.text)) }
+    ensures { IfOk result (λ found. (key : List ℕ) × Consumes (F.remaining random.old.file) (F.remaining random.new.file) key
+        × IsReadOrNew F.remaining key found.0) }
+{
+    match seen {
+        Some(seen) => Ok((seen.book, Some(seen.text))),
+        None => {
+            let key = random.bytes()?;
+            Ok((Book::new(alloc, key, DECOY_COUNT), None))
+        }
+    }
+}
+
+// Two salts of random bytes, for SCRAM-SHA-1 and for SCRAM-SHA-256.
+fn two_salts<F: Read + Drop>(random: &mut Random<'_, F>) -> Result<(Salt, Salt), Fault>
+    ensures { IfOk result (λ salts. TakesSalts (F.remaining random.old.file) salts.0 salts.1 (F.remaining random.new.file)) }
+{
+    let first = salt(random.bytes()?);
+    let second = salt(random.bytes()?);
+    Ok((first, second))
+}
+
+// Prints that the account of this name is added. The only fault is CannotWriteOutput.
+fn print_enrolled<O: Write>(name: &str, output: &mut O) -> Result<(), Fault>
+    ensures printed { OnOk result (Appends (O.contents output.old) (O.contents output.new)
+        (codes "enrolled " ++ (name.now ++ byte "\n" ∷ []))) }
+    ensures err { IfErr result (λ fault. fault ≡ Fault.CannotWriteOutput) }
+{
+    writeln!(output, "enrolled {name}").map_err(|_| Fault::CannotWriteOutput)
+}
+
+// Judges the options that describe the account, and reads the password.
+fn judge<I: Typed, E: Watched>(
+    alloc: Global,
+    words: &ArgMatches<'_>,
+    input: &mut I,
+    faults: &mut E,
+) -> Result<NewAccount, Fault>
+    ensures name { IfOk result (λ asked. asked.name ≡ given_value words.now OptionName.Name) }
+    ensures count { IfOk result (λ asked. given_value words.now OptionName.Count ≡ decimal asked.count) }
+    ensures password { IfOk result (λ asked. IsFirstLine (I.remaining input.old) asked.password × IsPassword asked.password) }
+{
+    let name = value::name(given(words, OptionName::Name))?;
+    let count = value::count(given(words, OptionName::Count))?;
+    ask(input, faults, PASSWORD);
+    let line = input::first_line(alloc, input)?;
+    match Password::new(line.as_slice()) {
+        Some(password) => Ok(NewAccount {
+            name,
+            password,
+            count,
+        }),
+        None => Err(Fault::BadPassword),
+    }
+}
+
+// Adds the account to the book, whose file had this text, or None where there was no file. Then holds the file and
+// saves the book; where the file has another text by then, adds the account to that book instead.
+fn save<R, E>(
+    rt: &R,
+    path: &str,
+    book: Book,
+    text: Option<String>,
+    asked: &NewAccount,
+    salts: &(Salt, Salt),
+    faults: &mut E,
+) -> Result<(), Fault>
+where
+    R: Files + Clock + AllocGlobal,
+    R::File: Lockable,
+    E: Write,
+    ensures { OnOk result (SavesAccount R.File.remaining R.File.contents book asked.now.name asked.now.password salts.now.0 salts.now.1 asked.now.count) }
+{
+    let (name, password, count) = (&asked.name, &asked.password, asked.count);
+    let alloc = rt.alloc();
+    let mut with_account = book;
+    held_book::add(
+        alloc,
+        &mut with_account,
+        name,
+        password,
+        &salts.0,
+        &salts.1,
+        count,
+    )?;
+    let held = match text {
+        Some(_) => BookFile::hold(rt, path),
+        None => BookFile::hold_or_make(rt, path),
+    };
+    let (file, found) = held_book::text_held(rt, path, held, faults)?;
+    match found {
+        Some(found) if text.as_ref() != Some(&found) => {
+            let mut held = held_book::read_text(alloc, file, found, path)?;
+            held.enrol(alloc, name, password, &salts.0, &salts.1, count)
+        }
+        _ => {
+            let store = FileStore::new(file, text.unwrap_or(String::new(alloc)));
+            HeldBook::new(with_account, store, path).save(alloc)
+        }
+    }
+}
+
+// The salt of these bytes.
+fn salt(bytes: [u8; 16]) -> Salt
+    ensures { result ≡ bytes }
+{
+    let Some(salt) = Salt::new(&bytes) else {
+        unreachable!()
+    };
+    salt
+}

@@ -1,0 +1,17 @@
+//! The files that a run reads.
+ghost use Rattle.std.specs.Prelude.{◌≡◌, IfErr};
+ghost use Rattle.command_line.specs.Fault.{status_of};
+
+use command_line::Fault;
+use std::fs;
+use std::fs::Files;
+
+/// Opens the file at `path`. Faults: CannotRead and NoMemory.
+pub fn open_file<R: Files + AllocGlobal>(rt: &R, path: &str) -> Result<R::File, Fault>
+    ensures { IfErr result (λ fault. status_of fault ≡ 3) }
+{
+    match fs::open(rt, path) {
+        Ok(file) => Ok(file),
+        Err(error) => Err(Fault::of_reading(String::from_str(rt.alloc(), path)?, &error)),
+    }
+}

@@ -1,0 +1,86 @@
+//! The command `keys`: prints the two keys that a server stores of a password.
+ghost use Rattle.std.specs.Prelude.{◌≡◌, ◌≤◌, ◌⊎◌, ℕ, List, IfErr, IfOk, OnOk, string_bytes};
+ghost use Rattle.std.specs.Io.KnownBytes.{Appends};
+ghost use Rattle.scram_text.specs.Class.{IsPassword};
+ghost use Rattle.account_commands.specs.Input.{IsFirstLine};
+ghost use Rattle.account_commands.specs.Keys.{printed_keys, PrintsKeysAsked};
+
+use crate::input;
+use crate::progress::Watched;
+use crate::prompt::{PASSWORD, Typed, ask};
+use clap::ArgMatches;
+use command_line::value::OptionName;
+use command_line::{Fault, value};
+use command_words::given;
+use mac_core::Mechanism;
+use scram_text::{Password, Salt};
+use std::alloc::Global;
+use std::io::{BufRead, Write};
+
+// The two lines to print for a password line, or BadPassword where the line is no password.
+fn answer(
+    alloc: Global,
+    mechanism: Mechanism,
+    salt: &Salt,
+    count: u32,
+    line: &[u8],
+) -> Result<String, Fault>
+    requires { 1 ≤ count }
+    ensures ok { IfOk result (λ text. IsPassword line.now
+        × (string_bytes text ≡ printed_keys mechanism line.now salt.now count)) }
+    ensures err { IfErr result (λ fault. (fault ≡ Fault.NoMemory)
+        ⊎ ((fault ≡ Fault.BadPassword) × (IsPassword line.now → ⊥))) }
+{
+    let Some(password) = Password::new(line) else {
+        return Err(Fault::BadPassword);
+    };
+    let keys = mechanism.scram_keys(password.bytes(), salt.bytes(), count);
+    let stored = hex::encode(alloc, keys.stored.as_slice())?;
+    let server = hex::encode(alloc, keys.server.as_slice())?;
+    Ok(format!(in alloc; "stored={stored}\nserver={server}\n")?)
+}
+
+// Reads the password line and prints its keys.
+fn print_keys<I: BufRead, O: Write>(
+    alloc: Global,
+    mechanism: Mechanism,
+    salt: &Salt,
+    count: u32,
+    input: &mut I,
+    output: &mut O,
+) -> Result<(), Fault>
+    requires { 1 ≤ count }
+
+    // The first line is a password, and its keys are printed.
+    ensures ok { OnOk result ((password : List ℕ) × IsFirstLine (I.remaining input.old) password × IsPassword password
+        × Appends (O.contents output.old) (O.contents output.new) (printed_keys mechanism password salt.now count)) }
+
+    // A stream failed, memory ran out, or the first line is no password.
+    ensures err { IfErr result (λ fault. (fault ≡ Fault.CannotReadInput) ⊎ ((fault ≡ Fault.CannotWriteOutput)
+        ⊎ ((fault ≡ Fault.NoMemory) ⊎ ((fault ≡ Fault.BadPassword)
+        × ((line : List ℕ) × IsFirstLine (I.remaining input.old) line × (IsPassword line → ⊥)))))) }
+{
+    let line = input::first_line(alloc, input)?;
+    let text = answer(alloc, mechanism, salt, count, line.as_slice())?;
+    output
+        .write_all(text.as_bytes())
+        .map_err(|_| Fault::CannotWriteOutput)
+}
+
+/// Judges the options in their order, reads the password, and prints its keys. At a terminal it asks for the
+/// password first. Faults: BadValue and BadPassword, in this order, CannotReadInput, CannotWriteOutput and NoMemory.
+pub fn keys<I: Typed, O: Write, E: Watched>(
+    alloc: Global,
+    words: &ArgMatches<'_>,
+    input: &mut I,
+    output: &mut O,
+    faults: &mut E,
+) -> Result<(), Fault>
+    ensures { OnOk result (PrintsKeysAsked words.now (I.remaining input.old) (O.contents output.old) (O.contents output.new)) }
+{
+    let mechanism = value::mechanism(given(words, OptionName::Mechanism))?;
+    let salt = value::salt(alloc, given(words, OptionName::Salt))?;
+    let count = value::count(given(words, OptionName::Count))?;
+    ask(input, faults, PASSWORD);
+    print_keys(alloc, mechanism, &salt, count, input, output)
+}

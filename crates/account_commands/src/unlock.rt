@@ -1,0 +1,47 @@
+//! The command `unlock`: lets a token take codes again.
+ghost use Rattle.std.specs.Prelude.{◌≡◌, ◌++◌, ◌∷◌, [], codes, OnOk, IfErr};
+ghost use Rattle.std.specs.Str.{byte};
+ghost use Rattle.std.specs.Io.KnownBytes.{Appends};
+ghost use Rattle.account_commands.specs.HeldBook.{UnlocksAsked};
+
+use crate::held_book;
+use book_file::Lockable;
+use clap::ArgMatches;
+use command_line::value::OptionName;
+use command_line::{Fault, value};
+use command_words::given;
+use std::fs::Files;
+use std::io::Write;
+use std::time::Clock;
+
+/// Judges the options in their order, holds and reads the book, sets the failures of the account's token
+/// to 0, and saves the book, also where they were 0. Faults: BadValue, CannotRead or CannotWrite where the
+/// book can't be held, BadBook, NoSuchAccount, NoToken and CannotWrite, in this order, CannotWriteOutput
+/// and NoMemory.
+pub fn unlock<R, O, E>(
+    rt: &R,
+    words: &ArgMatches<'_>,
+    output: &mut O,
+    faults: &mut E,
+) -> Result<(), Fault>
+where
+    R: Files + Clock + AllocGlobal,
+    R::File: Lockable,
+    O: Write,
+    E: Write,
+    ensures { OnOk result (UnlocksAsked R.File.remaining R.File.contents words.now (O.contents output.old) (O.contents output.new)) }
+{
+    let name = value::name(given(words, OptionName::Name))?;
+    let mut held = held_book::open(rt, given(words, OptionName::Book), faults)?;
+    held.unlock(rt.alloc(), &name)?;
+    print_unlocked(name.text(), output)
+}
+
+// Prints that the token of this name is unlocked. The only fault is CannotWriteOutput.
+fn print_unlocked<O: Write>(name: &str, output: &mut O) -> Result<(), Fault>
+    ensures printed { OnOk result (Appends (O.contents output.old) (O.contents output.new)
+        (codes "unlocked " ++ (name.now ++ byte "\n" ∷ []))) }
+    ensures err { IfErr result (λ fault. fault ≡ Fault.CannotWriteOutput) }
+{
+    writeln!(output, "unlocked {name}").map_err(|_| Fault::CannotWriteOutput)
+}

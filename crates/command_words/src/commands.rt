@@ -1,0 +1,331 @@
+//! The program's commands, their options and their help.
+use clap::{Arg, ArgAction, Command};
+use std::alloc::{AllocError, Global};
+
+const STATUSES: &str =
+    "Exit status: 0 done, 1 refused or faulty, 2 usage, 3 files, sockets, input, output or memory.";
+
+const KEYS_EXAMPLE: &str =
+    "The password is the first line of standard input, 1 to 1024 bytes from space to tilde. Typed at a
+terminal, it is shown.
+
+Example:
+  echo pencil | scramotp keys --mechanism SCRAM-SHA-1 \\
+      --salt 4125c247e43ab1e93c6dff76 --count 4096";
+
+const CODE_EXAMPLES: &str =
+    "With --counter the code is HOTP's, with SHA-1. Else --moment is needed, and it is TOTP's. Standard
+input is not read.
+
+Other users of the machine can read the words of a command while it runs (`ps`), and so the secret:
+give none that they may not have.
+
+Examples:
+  scramotp code --secret 3132333435363738393031323334353637383930 --counter 0
+  scramotp code --secret 3132333435363738393031323334353637383930 --digits 8 --moment 59";
+
+const ENROL_EXAMPLE: &str =
+    "The password is the first line of standard input, 1 to 1024 bytes from space to tilde. Typed at a
+terminal, it is shown. Prints `enrolled` and the name once the book is saved.
+
+The book is made, readable by its owner alone, where the file is not there. Put it into a folder
+that nobody else can write, and whose parents nobody else can write.
+
+The account gets keys for SCRAM-SHA-1 and SCRAM-SHA-256, with salts of 16 bytes. A login name
+without an account is answered by a decoy: with a salt of 16 bytes, and the count that the book has
+as decoy_count, 4096 in a new book. So with another --count, set decoy_count to it; else the count
+shows which names have accounts.
+
+Example:
+  echo pencil | scramotp enrol --book book.toml --name user";
+
+const VERIFY_EXAMPLE: &str =
+    "Each line of standard input is an attempt. Its reply is PASS, the moment and the counter that
+passed, or FAIL or LOCKED and the moment. PASS and FAIL are printed once the book is saved; LOCKED
+saves nothing. The book is locked until the input ends; other runs wait for it, up to 30 seconds.
+Exit status 0 means that every reply was PASS, also where there was none.
+
+A line as `SYNC 399871 520489`, with two codes in a row, finds a HOTP token that ran ahead of the
+book: it passes where the first is the code of `next` or of one of the `sync_ahead` counters
+after it.
+
+Nobody else may be able to write the book's folder, nor the folders above it.
+
+Example, after that of `scramotp enrol --help`: a token, and its first code
+  echo '[accounts.user.token]
+    kind = \"hotp\"
+    secret = \"3132333435363738393031323334353637383930\"
+    digits = 6
+    next = 0
+    look_ahead = 5
+    limit = 3
+    failures = 0' >>book.toml
+  echo 755224 | scramotp verify --book book.toml --name user --moment \"$(date +%s)\"";
+
+const UNLOCK_EXAMPLE: &str =
+    "A token is locked once as many codes in a row have failed as its limit says. Prints `unlocked` and
+the name once the book is saved. Standard input is not read.
+
+Nobody else may be able to write the book's folder, nor the folders above it.
+
+Example, after that of `scramotp verify --help`:
+  scramotp unlock --book book.toml --name user";
+
+const AUDIT_EXAMPLE: &str =
+    "The book is the one that the log began with, so keep a copy of it: a token has moved on since. It
+is read as it is, without a lock, and nothing is written. Standard input is read only where the log
+is /dev/stdin. Prints `clean` and the counts of sessions, accepted logins and codes that passed, or
+the first line at fault, why, and what was due. Exit status 0 means that the log is clean, 3 also
+that a read of it failed.
+
+Example, after that of `scramotp enrol --help`: a log whose client leaves at once
+  printf '%s\\n' 'SCRAMLOG 1' 'S MECHS SCRAM-SHA-256 SCRAM-SHA-1' 'C GONE' E >log.txt
+  scramotp audit --book book.toml --log log.txt";
+
+const UPGRADE_EXAMPLE: &str =
+    "A log of version 2 begins with `SCRAMLOG 2`, and the number of its session stands before each other
+line: one more than the number of `E` lines before. The new log is clean exactly where the old one
+is, by the same book. Its lines need not be due, only lines of a log. Else nothing is printed, and
+the first line at fault is told on standard error, as `audit` tells it. The log is read whole, up to
+1000000 lines, before anything is printed. Standard input is read only where the log is /dev/stdin.
+
+Example, after that of `scramotp audit --help`:
+  scramotp upgrade --log log.txt >log2.txt
+  scramotp audit --book book.toml --log log2.txt";
+
+const LOGIN_EXAMPLE: &str =
+    "The first line of standard input is the password, and each line after it a code, sent once the
+client is logged in. A line as `SYNC 399871 520489` is two codes in a row. Typed at a terminal, all
+is shown.
+
+Both ends run here: a service over the book, and a client. They talk through a socket, whose file is
+made for this run and removed at its end. Put it into a folder that nobody else can enter; a file
+that is there already is a socket fault, also one that a killed run left. The client learns only
+what any service would tell it, and ends the login where the service does not have the account's
+keys.
+
+Prints the service's log, each line before the client is told of it. Codes are saved before they are
+told; the book is locked from its reading to the end of the input, and other runs wait for it, up to
+30 seconds. Exit status 0 means that the login was accepted and every code passed.
+
+Nonces are made of 18 random bytes each, unless they are given: give them only to repeat a recorded
+login. Nobody else may be able to write the book's folder, nor the folders above it.
+
+Example, after that of `scramotp unlock --help`: a login and a code, and the audit of its log
+  cp book.toml before.toml
+  printf '%s\\n' pencil 287082 |
+      scramotp login --book book.toml --name user --socket login.sock >login.txt
+  scramotp audit --book before.toml --log login.txt";
+
+const HALL_EXAMPLE: &str = "Each line of standard input is an event:
+
+  open NONCE          a client comes; NONCE is the service's part of its nonce, fresh and random
+  line N MOMENT TEXT  the client of session N sends a line: TEXT is the whole line, and MOMENT is in
+                      seconds since 1970
+  gone N MOMENT       the client of session N goes away
+
+Sessions get the numbers 1, 2 and so on as their clients come. Up to 64 are open at a time; a client
+that comes then is told BUSY. Another line, or a number of no open session, is a bad event and ends
+the run, with exit status 1.
+
+Prints the log, of version 2, each event's lines before the next event is read. What client N is to
+be told is in the lines that begin with its number and ` S `. Codes are saved before they are told;
+the book is locked from its reading to the end of the input, and other runs wait for it, up to 30
+seconds. Where a save fails the log ends with `S HALT`, and the run with it.
+
+Nobody else may be able to write the book's folder, nor the folders above it.
+
+Example, after that of `scramotp login --help`: two clients at a time, and the audit of their log
+  cp book.toml opened.toml
+  printf '%s\\n' 'open 3rfcNHYJY1ZVvWVs7j' 'open hvYDpWUa2RaTCAfuxFIl' 'line 2 5 ABORT' 'gone 1 6' |
+      scramotp hall --book book.toml >hall.txt
+  scramotp audit --book opened.toml --log hall.txt";
+
+// An option that takes one value.
+fn option<'a>(alloc: Global, name: &'a str, value: &'a str, help: &'a str) -> Arg<'a> {
+    Arg::new(alloc, name)
+        .long(name)
+        .value_name(value)
+        .help(help)
+        .action(ArgAction::Set)
+}
+
+// An option that has to be given.
+fn required<'a>(alloc: Global, name: &'a str, value: &'a str, help: &'a str) -> Arg<'a> {
+    option(alloc, name, value, help).required(true)
+}
+
+fn book<'a>(alloc: Global) -> Arg<'a> {
+    required(alloc, "book", "FILE", "The account book")
+}
+
+fn name<'a>(alloc: Global) -> Arg<'a> {
+    required(
+        alloc,
+        "name",
+        "NAME",
+        "The account's name, 1 to 255 bytes from space to tilde",
+    )
+}
+
+fn keys<'a>(alloc: Global) -> Result<Command<'a>, AllocError> {
+    Command::new(alloc, "keys")
+        .about("Prints the stored key and the server key of a password")
+        .after_help(KEYS_EXAMPLE)
+        .arg(required(alloc, "mechanism", "NAME", "SCRAM-SHA-1 or SCRAM-SHA-256"))?
+        .arg(required(
+            alloc,
+            "salt",
+            "HEX",
+            "The salt, 1 to 64 bytes in hexadecimal",
+        ))?
+        .arg(required(alloc, "count", "N", "The iteration count, 1 to 4294967295"))
+}
+
+fn enrol<'a>(alloc: Global) -> Result<Command<'a>, AllocError> {
+    let count = option(alloc, "count", "N", "The iteration count, 1 to 4294967295");
+    let random = option(alloc, "random", "FILE", "Where random bytes are read");
+    Command::new(alloc, "enrol")
+        .about("Adds an account with a password to a book")
+        .after_help(ENROL_EXAMPLE)
+        .arg(book(alloc))?
+        .arg(name(alloc))?
+        .arg(count.default_value("4096"))?
+        .arg(random.default_value("/dev/urandom"))
+}
+
+fn code<'a>(alloc: Global) -> Result<Command<'a>, AllocError> {
+    let digits = option(alloc, "digits", "N", "The digits of the code, 6 to 8");
+    let hash = option(
+        alloc,
+        "hash",
+        "NAME",
+        "TOTP's hash function: sha1, sha256 or sha512",
+    );
+    let t0 = option(
+        alloc,
+        "t0",
+        "SECONDS",
+        "The moment at which TOTP's step 0 begins",
+    );
+    let step = option(alloc, "step", "SECONDS", "The length of a step, 1 to 3600");
+    Command::new(alloc, "code")
+        .about("Prints a one-time code")
+        .after_help(CODE_EXAMPLES)
+        .arg(required(
+            alloc,
+            "secret",
+            "HEX",
+            "The secret, 10 to 64 bytes in hexadecimal",
+        ))?
+        .arg(digits.default_value("6"))?
+        .arg(option(
+            alloc,
+            "counter",
+            "N",
+            "HOTP's counter, 0 to 9223372036854775806",
+        ))?
+        .arg(option(
+            alloc,
+            "moment",
+            "SECONDS",
+            "TOTP's moment, in seconds since 1970",
+        ))?
+        .arg(hash.default_value("sha1"))?
+        .arg(t0.default_value("0"))?
+        .arg(step.default_value("30"))
+}
+
+fn verify<'a>(alloc: Global) -> Result<Command<'a>, AllocError> {
+    Command::new(alloc, "verify")
+        .about("Judges one-time codes by an account's token")
+        .after_help(VERIFY_EXAMPLE)
+        .arg(book(alloc))?
+        .arg(name(alloc))?
+        .arg(required(
+            alloc,
+            "moment",
+            "SECONDS",
+            "The moment of the codes, in seconds since 1970",
+        ))
+}
+
+fn unlock<'a>(alloc: Global) -> Result<Command<'a>, AllocError> {
+    Command::new(alloc, "unlock")
+        .about("Lets a locked token take codes again")
+        .after_help(UNLOCK_EXAMPLE)
+        .arg(book(alloc))?
+        .arg(name(alloc))
+}
+
+fn audit<'a>(alloc: Global) -> Result<Command<'a>, AllocError> {
+    Command::new(alloc, "audit")
+        .about("Judges a recorded log by the book that it began with")
+        .after_help(AUDIT_EXAMPLE)
+        .arg(book(alloc))?
+        .arg(required(alloc, "log", "FILE", "The log"))
+}
+
+fn upgrade<'a>(alloc: Global) -> Result<Command<'a>, AllocError> {
+    Command::new(alloc, "upgrade")
+        .about("Prints a log of version 1 as one of version 2, whose sessions are numbered")
+        .after_help(UPGRADE_EXAMPLE)
+        .arg(required(alloc, "log", "FILE", "The log"))
+}
+
+fn login<'a>(alloc: Global) -> Result<Command<'a>, AllocError> {
+    let mechanism = "SCRAM-SHA-1 or SCRAM-SHA-256 [default: the best that is offered]";
+    let random = option(alloc, "random", "FILE", "Where random bytes are read");
+    let moment = "The moment of the codes, in seconds since 1970 [default: the clock's]";
+    Command::new(alloc, "login")
+        .about("Logs a user in to a service over a book, and prints the service's log")
+        .after_help(LOGIN_EXAMPLE)
+        .arg(book(alloc))?
+        .arg(name(alloc))?
+        .arg(option(alloc, "mechanism", "NAME", mechanism))?
+        .arg(option(alloc, "as", "NAME", "The name to act as"))?
+        .arg(required(
+            alloc,
+            "socket",
+            "FILE",
+            "The socket to make, a path of at most 107 bytes",
+        ))?
+        .arg(random.default_value("/dev/urandom"))?
+        .arg(option(alloc, "client-nonce", "TEXT", "The client's nonce"))?
+        .arg(option(
+            alloc,
+            "server-nonce",
+            "TEXT",
+            "The service's part of the nonce",
+        ))?
+        .arg(option(alloc, "moment", "SECONDS", moment))
+}
+
+fn hall<'a>(alloc: Global) -> Result<Command<'a>, AllocError> {
+    Command::new(alloc, "hall")
+        .about("Lets many users in at a time over a book, by events, and prints the log of all")
+        .after_help(HALL_EXAMPLE)
+        .arg(book(alloc))
+}
+
+/// The program's commands and their options.
+pub fn scramotp<'a>(alloc: Global) -> Result<Command<'a>, AllocError> {
+    Command::new(alloc, "scramotp")
+        .bin_name("scramotp")?
+        .version("0.1.0")
+        .about(
+            "SCRAM keys and logins, one-time codes, a book of accounts that have them, and the audit of a log",
+        )
+        .after_help(STATUSES)
+        .subcommand_required(true)
+        .disable_help_subcommand(true)
+        .subcommand(keys(alloc)?)?
+        .subcommand(enrol(alloc)?)?
+        .subcommand(code(alloc)?)?
+        .subcommand(verify(alloc)?)?
+        .subcommand(unlock(alloc)?)?
+        .subcommand(login(alloc)?)?
+        .subcommand(hall(alloc)?)?
+        .subcommand(audit(alloc)?)?
+        .subcommand(upgrade(alloc)?)
+}

@@ -1,0 +1,24 @@
+//! The values that words give for options.
+ghost use Rattle.std.specs.Prelude.{◌≡◌, option_map};
+ghost use Rattle.command_words.specs.Values.{value_of, given_value};
+
+use clap::ArgMatches;
+use command_line::value::OptionName;
+
+/// The value of an option, its default included, or None where none was given.
+pub fn optional<'a>(words: &ArgMatches<'a>, option: OptionName) -> Option<&'a str>
+    ensures { option_map (λ text. text.now) result ≡ value_of words.now option }
+{
+    let name = option.name();
+    words.get_str(name)
+}
+
+/// The value of an option that is required or has a default.
+pub fn given<'a>(words: &ArgMatches<'a>, option: OptionName) -> &'a str
+    ensures { result.now ≡ given_value words.now option }
+{
+    match optional(words, option) {
+        Some(text) => text,
+        None => "",
+    }
+}

@@ -1,0 +1,19 @@
+use Rattle.std.proofs.Common.{ap, ◌∙◌}
+use Rattle.std.proofs.lemmas.Result.{IfErr-weaker}
+use Rattle.sasl_log.specs.Sink.{SinkFacts}
+use Rattle.commands.specs.declared.printed_log.PrintedLog.{PrintedLog}
+use Rattle.commands.proofs.Faults.{fails_to_begin}
+use Rattle.commands.proofs.LoginLemmas.{stops_after}
+use Rattle.commands.proofs.login.talk_over.Goals as goal
+
+pub returns-in-Ok-clause-err : goal.returns-in-Ok-clause-err
+returns-in-Ok-clause-err g c =
+    let before = ap (λ (f : SinkFacts). f.given) c.new.ensures in
+    let after = c.into_output.ensures ∙ ap (λ (l : PrintedLog _). g.O.Write.contents l.output) c.into_log.ensures in
+    IfErr-weaker c.converse-passed.result _ _
+    (λ fault. stops_after g.S.BookStore.facts _ _ _ _ _ _ _ _ fault c.log_is_a_front.ensures before after c.in-Ok.ensures.log)
+    c.converse-passed.ensures.after_fault
+
+pub returns-in-Err-clause-err : goal.returns-in-Err-clause-err
+returns-in-Err-clause-err g c =
+    fails_to_begin _ _ _ _ _ _ _ (ap (λ (f : SinkFacts). f.given) c.new.ensures) c.into_output-in-Err.ensures c.in-Err.ensures.err
