@@ -3,3 +3,4 @@ pub mod Enrol
 pub mod HeldBook
 pub mod Input
 pub mod Keys
+pub mod Printed

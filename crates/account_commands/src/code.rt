@@ -4,6 +4,7 @@ ghost use Rattle.std.specs.Str.{byte};
 ghost use Rattle.std.specs.Io.KnownBytes.{Appends};
 ghost use Rattle.account_commands.specs.Code.{IsCodeFor, IsTooEarly, IsFactorAsked, IsCodeAsked, IsAskedTooEarly};
 ghost use Rattle.command_words.specs.Values.{value_of};
+ghost use Rattle.account_commands.specs.Printed.{PrintsNothing};
 
 use crate::moving_factor::{MovingFactor, Steps};
 use clap::ArgMatches;
@@ -68,6 +69,7 @@ fn judge(words: &ArgMatches<'_>) -> Result<MovingFactor, Fault>
 pub fn code<O: Write>(alloc: Global, words: &ArgMatches<'_>, output: &mut O) -> Result<(), Fault>
     ensures printed { OnOk result ((code : List ℕ) × IsCodeAsked words.now code
         × Appends (O.contents output.old) (O.contents output.new) (code ++ byte "\n" ∷ [])) }
+    ensures err { IfErr result (λ fault. PrintsNothing fault (O.contents output.old) (O.contents output.new)) }
     ensures early { IsErrOf result Fault.BeforeFirstStep → IsAskedTooEarly words.now }
     ensures nothing { IsErrOf result Fault.NoCounterOrMoment
         → (value_of words.now OptionName.Counter ≡ None) × (value_of words.now OptionName.Moment ≡ None) }

@@ -9,6 +9,7 @@ ghost use Rattle.book_file.specs.Text.{IsRead};
 ghost use Rattle.account_commands.specs.Enrol.{EnrolsAsked, IsReadOrNew, SavesAccount, TakesSalts};
 ghost use Rattle.account_commands.specs.Input.{IsFirstLine};
 ghost use Rattle.command_words.specs.Values.{given_value};
+ghost use Rattle.account_commands.specs.Printed.{PrintsNothing};
 
 use crate::held_book::{HeldBook, Seen};
 use crate::progress::Watched;
@@ -57,7 +58,8 @@ where
     I: Typed,
     O: Write,
     E: Watched,
-    ensures { OnOk result (EnrolsAsked R.File.remaining R.File.contents words.now (I.remaining input.old) (O.contents output.old) (O.contents output.new)) }
+    ensures ok { OnOk result (EnrolsAsked R.File.remaining R.File.contents words.now (I.remaining input.old) (O.contents output.old) (O.contents output.new)) }
+    ensures err { IfErr result (λ fault. PrintsNothing fault (O.contents output.old) (O.contents output.new)) }
 {
     let asked = judge(rt.alloc(), words, input, faults)?;
     let path = given(words, OptionName::Book);

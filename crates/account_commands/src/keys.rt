@@ -4,6 +4,7 @@ ghost use Rattle.std.specs.Io.KnownBytes.{Appends};
 ghost use Rattle.scram_text.specs.Class.{IsPassword};
 ghost use Rattle.account_commands.specs.Input.{IsFirstLine};
 ghost use Rattle.account_commands.specs.Keys.{printed_keys, PrintsKeysAsked};
+ghost use Rattle.account_commands.specs.Printed.{PrintsNothing};
 
 use crate::input;
 use crate::progress::Watched;
@@ -59,6 +60,7 @@ fn print_keys<I: BufRead, O: Write>(
     ensures err { IfErr result (λ fault. (fault ≡ Fault.CannotReadInput) ⊎ ((fault ≡ Fault.CannotWriteOutput)
         ⊎ ((fault ≡ Fault.NoMemory) ⊎ ((fault ≡ Fault.BadPassword)
         × ((line : List ℕ) × IsFirstLine (I.remaining input.old) line × (IsPassword line → ⊥)))))) }
+    ensures unprinted { IfErr result (λ fault. PrintsNothing fault (O.contents output.old) (O.contents output.new)) }
 {
     let line = input::first_line(alloc, input)?;
     let text = answer(alloc, mechanism, salt, count, line.as_slice())?;
@@ -76,7 +78,8 @@ pub fn keys<I: Typed, O: Write, E: Watched>(
     output: &mut O,
     faults: &mut E,
 ) -> Result<(), Fault>
-    ensures { OnOk result (PrintsKeysAsked words.now (I.remaining input.old) (O.contents output.old) (O.contents output.new)) }
+    ensures ok { OnOk result (PrintsKeysAsked words.now (I.remaining input.old) (O.contents output.old) (O.contents output.new)) }
+    ensures err { IfErr result (λ fault. PrintsNothing fault (O.contents output.old) (O.contents output.new)) }
 {
     let mechanism = value::mechanism(given(words, OptionName::Mechanism))?;
     let salt = value::salt(alloc, given(words, OptionName::Salt))?;

@@ -3,6 +3,7 @@ ghost use Rattle.std.specs.Prelude.{◌≡◌, ◌++◌, ◌∷◌, [], codes, O
 ghost use Rattle.std.specs.Str.{byte};
 ghost use Rattle.std.specs.Io.KnownBytes.{Appends};
 ghost use Rattle.account_commands.specs.HeldBook.{UnlocksAsked};
+ghost use Rattle.account_commands.specs.Printed.{PrintsNothing};
 
 use crate::held_book;
 use book_file::Lockable;
@@ -29,7 +30,8 @@ where
     R::File: Lockable,
     O: Write,
     E: Write,
-    ensures { OnOk result (UnlocksAsked R.File.remaining R.File.contents words.now (O.contents output.old) (O.contents output.new)) }
+    ensures ok { OnOk result (UnlocksAsked R.File.remaining R.File.contents words.now (O.contents output.old) (O.contents output.new)) }
+    ensures err { IfErr result (λ fault. PrintsNothing fault (O.contents output.old) (O.contents output.new)) }
 {
     let name = value::name(given(words, OptionName::Name))?;
     let mut held = held_book::open(rt, given(words, OptionName::Book), faults)?;

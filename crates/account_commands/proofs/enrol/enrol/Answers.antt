@@ -1,8 +1,8 @@
 use Rattle.std.proofs.lemmas.Result.{on_ok_weaker}
 use Rattle.account_commands.proofs.enrol.enrol.Goals as goal
 
-pub returns : goal.returns
-returns g c =
+pub returns-clause-ok : goal.returns-clause-ok
+returns-clause-ok g c =
     let (decoy_key, takes_key, is_book) = c.in_ok-book.ensures in
     on_ok_weaker c.print_enrolled.result
     (λ printed. record {
