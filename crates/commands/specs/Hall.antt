@@ -1,5 +1,6 @@
 -- The input of the command `hall`, and the log that it prints.
 use Rattle.std.specs.Prelude.{ℕ, ◌≡◌, ◌⊎◌, List, [], ◌∷◌, ◌++◌, codes, decimal, IfSome}
+use Rattle.std.specs.List.{AllZip}
 use Rattle.std.specs.Str.{byte}
 use Rattle.std.specs.Io.KnownBytes.{Appends}
 use Rattle.std.specs.declared.option.Option.{Option}
@@ -73,10 +74,7 @@ IsCallFor (goes session moment) c = (c.number ≡ session) × (c.value.asked ≡
 
 -- calls by which a hall heard these events, the latest of which comes first
 abbrev pub AreCallsFor : List InputEvent → List (Numbered Call) → Type 0
-AreCallsFor [] [] = Unit {0}
-AreCallsFor [] (c ∷ calls) = ⊥
-AreCallsFor (event ∷ events) [] = ⊥
-AreCallsFor (event ∷ events) (c ∷ calls) = IsCallFor event c × AreCallsFor events calls
+AreCallsFor events calls = AllZip IsCallFor events calls
 
 -- a hall that began with this book has heard these events, the latest of which comes first, and the log took its lines after
 -- what it had before
@@ -99,10 +97,7 @@ HearsLine facts line old log new log' = (event : InputEvent) × SaysEvent line e
 
 -- these lines say these events, in their order
 abbrev pub AreSaid : List (List ℕ) → List InputEvent → Type 0
-AreSaid [] [] = Unit {0}
-AreSaid [] (event ∷ events) = ⊥
-AreSaid (line ∷ lines) [] = ⊥
-AreSaid (line ∷ lines) (event ∷ events) = SaysEvent line event × AreSaid lines events
+AreSaid lines events = AllZip SaysEvent lines events
 
 -- events with the latest of them first
 abbrev pub latest_first : List InputEvent → List InputEvent
@@ -144,7 +139,7 @@ pub record PrintsHallLog (book : BookFields) (input : Option (List ℕ)) (last :
   pub is_front : IsFront (accounts_in book) (hall_bytes calls)
   pub printed : Appends old new (hall_bytes calls)
 
--- so it was with a book whose text was read from a file, of which this is what it has
+-- so it was, with a book that was read from a file
 pub record RunsHall {File : Type 0} (bytes_of : File → Option (List ℕ)) (input : Option (List ℕ)) (last : List (List ℕ)) (old new : Option (List ℕ)) : Type 0 where
   pub held : Held
   pub is_read : IsReadBook bytes_of held

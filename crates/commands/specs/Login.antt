@@ -106,9 +106,8 @@ pub record IsInAndPasses (user : User) (nonce password : List ℕ) (input left :
   pub is_in : IsLoggedIn user nonce password old.untold there.untold
   pub passes : SendsLines input left there true new
 
--- a desk over a book whose text was read from a file, of which this is what it has, has logged such a log, as a clean log, and that
--- is printed
-pub record PrintsLogin {File : Type 0} (bytes_of : File → Option (List ℕ)) (Is : Accounts → List ℕ → Type 0) (old new : Option (List ℕ)) : Type 0 where
+-- a log of this kind, as a clean one, is printed, by a book that was read from a file
+pub record PrintsLogin {File : Type 0} (bytes_of : File → Option (List ℕ)) (IsOfKind : Accounts → List ℕ → Type 0) (old new : Option (List ℕ)) : Type 0 where
   pub held : Held
   pub is_read : IsReadBook bytes_of held
-  pub printed : HasLog Is held.book old new
+  pub printed : HasLog IsOfKind held.book old new

@@ -1,8 +1,7 @@
-//! The commands of `scramotp`: SCRAM logins and their keys (RFC 5802, RFC 7677), one-time codes (RFC 4226, RFC 6238), a
-//! book of accounts that have them, and the audit of a recorded log.
+//! The program's commands: `verify`, `login`, `hall`, `audit` and `upgrade` stand here, the others in `account_commands`.
 //!
-//! `run` does all the work of a run of the program, over words, streams and a runtime that are handed to it. So tests
-//! can hand in files and streams that fail.
+//! `run` finds the command that the words name, and does all the work of a run of the program, over words, streams and a
+//! runtime that are handed to it. So tests can hand in files and streams that fail.
 #![tactic(auto)]
 
 mod audit;
