@@ -1,4 +1,9 @@
-//! Whose files and folders a run trusts: those of its user, and those of root.
+//! Whose files and folders a run trusts: those of its user, and those of root. What the system says of owners and of files'
+//! numbers is not specified by the kit, so the clauses speak of modes, kinds and lengths alone.
+ghost use Rattle.std.specs.Prelude.{◌≡◌, true, bit_and, OnOk, OnErr};
+ghost use Rattle.std.specs.Bool.{OnFalse, OnTrue};
+ghost use Rattle.std.specs.Fs.{metadata_len, metadata_mode, file_type, IsFile};
+
 use std::fs::Metadata;
 use std::io;
 use std::io::ErrorKind;
@@ -17,7 +22,9 @@ pub fn is_ours(found: &Metadata) -> bool {
 }
 
 /// Whether anyone but the user who runs, and root, may change the names of this folder.
-pub fn is_shared(folder: &Metadata) -> bool {
+pub fn is_shared(folder: &Metadata) -> bool
+    ensures { OnFalse result (bit_and (metadata_mode folder.now) 0o022 ≡ 0) }
+{
     !is_ours(folder) || folder.mode() & OTHERS_WRITE != 0
 }
 
@@ -28,7 +35,10 @@ pub fn can_give_owner(found: &Metadata) -> bool {
 }
 
 /// Answers InvalidInput for anything but a plain file, and, in a shared folder, for a file of others.
-pub fn check(found: &Metadata, is_shared: bool) -> io::Result<()> {
+pub fn check(found: &Metadata, is_shared: bool) -> io::Result<()>
+    ensures plain { OnOk result (IsFile (file_type found.now)) }
+    ensures others { IsFile (file_type found.now) → OnErr result (is_shared ≡ true) }
+{
     if found.is_file() && (!is_shared || is_ours(found)) {
         Ok(())
     } else {
@@ -42,7 +52,9 @@ pub fn are_of_one_file(one: &Metadata, other: &Metadata) -> bool {
 }
 
 /// Whether both are of one file that has not changed in between: neither its bytes nor its names, owner and mode.
-pub fn are_unchanged(one: &Metadata, other: &Metadata) -> bool {
+pub fn are_unchanged(one: &Metadata, other: &Metadata) -> bool
+    ensures { OnTrue result (metadata_len one.now ≡ metadata_len other.now) }
+{
     are_of_one_file(one, other)
         && one.len() == other.len()
         && one.ctime() == other.ctime()
