@@ -2,11 +2,11 @@
 use Rattle.std.proofs.Common.{◌≡◌, inl, inr, ℕ, Bool, true, false, List, [], ◌∷◌, ◌++◌, refl, sym, ◌∙◌, ap}
 use Rattle.std.specs.Prelude.{flat_map, map}
 use Rattle.std.specs.List.{AllByRecursion}
-use Rattle.log_grammar.specs.Lines.{LogLine, header, said, heard, bad, gone, cont, accepts, replies, halt, resp, auth, auth_with, mechs, abort, asking}
+use Rattle.log_grammar.specs.Lines.{LogLine, header, said, heard, bad, gone, cont, accepts, replies, resp, auth, auth_with, mechs, abort, asking}
 use Rattle.log_grammar.specs.Told.{Told, told_of}
 use Rattle.log_grammar.specs.Places.{Place, before_all, between, offered, asks_bare, waits_first, got_first, waits_final, got_final, waits_code, got_code, leaving, over, halted}
 use Rattle.log_grammar.specs.Demands.{Demands, no_demands, AreReplies}
-use Rattle.log_grammar.specs.Sessions.{Part, line, line_due, line_telling, closing, refusal, Farewell, parting, Quit, quitting, Codes, after_ok, Judgement, after_final, Proof, after_challenge, Answer, after_first, First, after_empty, Invitation, after_auth, Login, after_mechs, Session, session_part, session_lines, session_told, SessionMeets, silent, farewell, departs, aborts, spoils, no_code, quits_codes, asked, replied, halted_at, unjudged, denied, granted, no_proof, quits_proof, proves, no_answer, refused, challenged, no_first, quits_first, begins, no_word, turned_away, invited, no_login, quits_login, with_first, without_first, session}
+use Rattle.log_grammar.specs.Sessions.{Part, next_line, due_line, telling_line, closing, refusal, Farewell, parting, Quit, quitting, Codes, after_ok, Judgement, after_final, Proof, after_challenge, Answer, after_first, First, after_empty, Invitation, after_auth, Login, after_mechs, Session, session_part, session_lines, session_told, SessionMeets, silent, farewell, departs, aborts, spoils, no_code, quits_codes, asked, replied, halted_at, unjudged, denied, granted, no_proof, quits_proof, proves, no_answer, refused, challenged, no_first, quits_first, begins, no_word, turned_away, invited, no_login, quits_login, with_first, without_first, session}
 use Rattle.log_grammar.specs.Clean.{OnlyLastOpen, place_after, Begins}
 
 -- a place with no account named
@@ -61,14 +61,14 @@ pub record IsBareOf (bare own : Part) : Type 0 where
   pub told : bare.told ≡ map bare_told own.told
   pub meets : bare.Meets no_demands
 
-pub bare_line : (l : LogLine) (b own : Part) → IsBareOf b own → IsBareOf (line l b) (line l own)
+pub bare_line : (l : LogLine) (b own : Part) → IsBareOf b own → IsBareOf (next_line l b) (next_line l own)
 bare_line l b own is = record { lines = ap (λ (t : List LogLine). l ∷ t) is.lines; place = is.place; told = is.told; meets = is.meets }
 
-bare_due : (B Own : Demands → Type 0) (l : LogLine) (b own : Part) → B no_demands → IsBareOf b own → IsBareOf (line_due B l b) (line_due Own l own)
+bare_due : (B Own : Demands → Type 0) (l : LogLine) (b own : Part) → B no_demands → IsBareOf b own → IsBareOf (due_line B l b) (due_line Own l own)
 bare_due B Own l b own due is =
     record { lines = ap (λ (t : List LogLine). l ∷ t) is.lines; place = is.place; told = is.told; meets = (due, is.meets) }
 
-bare_telling : (t : Told) (l : LogLine) (b own : Part) → IsBareOf b own → IsBareOf (line_telling (bare_told t) l b) (line_telling t l own)
+bare_telling : (t : Told) (l : LogLine) (b own : Part) → IsBareOf b own → IsBareOf (telling_line (bare_told t) l b) (telling_line t l own)
 bare_telling t l b own is =
     record { lines = ap (λ (ls : List LogLine). l ∷ ls) is.lines; place = is.place; told = ap (λ (ts : List Told). bare_told t ∷ ts) is.told; meets = is.meets }
 

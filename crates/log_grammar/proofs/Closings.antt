@@ -5,7 +5,7 @@ use Rattle.scram_ends.specs.Verdict.{Due, accept, refuse, due_text}
 use Rattle.log_grammar.specs.Lines.{LogLine, said, gone, ended, cont, accepts, refuses}
 use Rattle.log_grammar.specs.Places.{Place, before_all, between, offered, asks_bare, waits_first, got_first, waits_final, got_final, waits_code, got_code, leaving, over, halted}
 use Rattle.log_grammar.specs.Demands.{Accounts, AreFit, IsVerdict, demands}
-use Rattle.log_grammar.specs.laws.Steps.{Goes, told_at}
+use Rattle.log_grammar.specs.state_machine.Steps.{Goes, told_at}
 use Rattle.log_grammar.specs.Numbered.{Numbered, HasRoom, MayFollow}
 use Rattle.log_grammar.specs.NumberedLines.{HasNumber}
 use Rattle.log_grammar.proofs.Completions.{Ground, Spelt, spelt_end, spelt_gone, spelt_refuses, spelt_cont, refusal_line, acceptance_line, some_verdict}

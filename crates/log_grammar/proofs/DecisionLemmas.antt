@@ -9,7 +9,7 @@ use Rattle.otp_core.specs.declared.token.answer.Reply.{Reply}
 use Rattle.otp_core.specs.declared.token.answer.Reply.TheVariants.{Pass, Fail, Locked}
 use Rattle.log_grammar.specs.Payload.{IsMessage}
 use Rattle.log_grammar.specs.Words.{is_mech_char, is_code_char, is_space, IsMechName}
-use Rattle.log_grammar.specs.Lines.{ServerLine, mechs, cont, accepts, refuses, replies, halt, busy, ClientLine, auth, auth_with, resp, abort, code, sync, Line, from_server, from_client, LogLine, header, second_header, said, heard, bad, gone, ended, line_text, log_text, IsReplyInRange, IsServerInRange, IsClientInRange, IsLineInRange, IsLogInRange, IsLine, IsLogLine, IsNoLogLine}
+use Rattle.log_grammar.specs.Lines.{ServerLine, mechs, cont, accepts, refuses, replies, halt, busy, ClientLine, auth, auth_with, resp, abort, code, sync, Line, from_server, from_client, LogLine, header, second_header, said, heard, bad, gone, ended, line_text, log_text, IsReplyInRange, IsServerInRange, IsClientInRange, IsLineInRange, IsLogInRange, IsLine, IsLogLine, IsNoLogLine, longest_log_line}
 use Rattle.log_grammar.proofs.LineLemmas.{line_in, line_back, log_line_in, log_line_back}
 
 decided_each : {X : Type 0} (P : X → Type 0) → ((x : X) → Decided (P x)) → (xs : List X) → Decided (AllByRecursion P xs)
@@ -73,7 +73,7 @@ this_decided text line =
 
 pub this_of_log_decided : (text : List ℕ) (line : LogLine) → Decided (IsLogLine text line)
 this_of_log_decided text line =
-    decided_by ((text ≡ log_text line) × (IsLogInRange line × (length text ≤ 6202))) (IsLogLine text line)
+    decided_by ((text ≡ log_text line) × (IsLogInRange line × (length text ≤ longest_log_line))) (IsLogLine text line)
     (λ h. record { spelled = h.0; ranges = h.1.0; short = h.1.1 }) (λ r. (r.spelled, (r.ranges, r.short)))
     (decided_both _ _ (decided_same text (log_text line)) (decided_both _ _ (log_ranges_decided line) (decided_le (length text) 6202)))
 

@@ -7,11 +7,11 @@ use Rattle.log_grammar.specs.Bytes.{ended_by_lf}
 use Rattle.log_grammar.specs.Told.{Told}
 use Rattle.log_grammar.specs.Places.{Place, asks_bare, got_first, got_final, waits_code, got_code, leaving}
 use Rattle.log_grammar.specs.Demands.{Accounts, AreFit, demands, AreReplies}
-use Rattle.log_grammar.specs.laws.Steps.{Goes, told_at}
+use Rattle.log_grammar.specs.state_machine.Steps.{Goes, told_at}
 use Rattle.log_grammar.specs.Clean.{Begins}
 use Rattle.log_grammar.specs.Why.{Why, is_cut, no_line, out_of_order, other_mechs, other_challenge, other_outcome, other_reply, accepted, refused_with, IsWrongWord, IsWrongReply, IsWrong, IsWrongText}
 use Rattle.log_grammar.specs.laws.LogLaws.{FrontsBeginClean}
-use Rattle.log_grammar.specs.laws.Headline.{BeginsClean}
+use Rattle.log_grammar.specs.Versions.{BeginsClean}
 use Rattle.log_grammar.specs.laws.Reasons.{SaysWhatIsDue, NamesWhatIsDue, EachLineThatIsDueMayStand}
 use Rattle.log_grammar.proofs.FaultLemmas.{Lead, fault_after}
 use Rattle.log_grammar.proofs.Mended.{by_text, begins_with}

@@ -2,7 +2,7 @@
 use Rattle.std.proofs.Common.{◌≤◌, ◌+◌, inl, inr, ℕ, List, [], ◌∷◌, ◌++◌, length, refl, sym, subst}
 use Rattle.std.specs.List.{AllByRecursion, AllZip}
 use Rattle.scram_text.specs.Laws.{SpellsOneName, HasOneClientFirst}
-use Rattle.log_grammar.specs.Lines.{LogLine, IsLogLine}
+use Rattle.log_grammar.specs.Lines.{LogLine, IsLogLine, longest_log_line}
 use Rattle.log_grammar.specs.Bytes.{LacksLf, ended_by_lf, IsCut}
 use Rattle.log_grammar.specs.Told.{Told}
 use Rattle.log_grammar.specs.Places.{Place, before_all, halted}
@@ -46,7 +46,7 @@ more_after_halt once names classes accounts texts (first ∷ log) told text line
 alone : (rest : List ℕ) → LacksLf rest → IsCut rest [] rest
 alone rest lacks = record { bytes_are = refl; lines = tt; after = lacks }
 
-pub short_is_cut : (accounts : Accounts) (rest : List ℕ) → LacksLf rest → length rest ≤ 6202 → IsWhy accounts rest 1 is_cut
+pub short_is_cut : (accounts : Accounts) (rest : List ℕ) → LacksLf rest → length rest ≤ longest_log_line → IsWhy accounts rest 1 is_cut
 short_is_cut accounts rest lacks short =
     let cut = alone rest lacks in
     end_is_cut accounts rest [] rest [] before_all [] cut (start accounts)
@@ -65,7 +65,7 @@ read : (accounts : Accounts) (texts : List (List ℕ)) (log : List LogLine) (pla
 read accounts texts log place told are begins = record { are = are.0; lack = are.1; begins = begins }
 
 pub part_is_cut : (accounts : Accounts) (texts : List (List ℕ)) (log : List LogLine) (place : Place) (told : List Told) (rest : List ℕ)
-    → AreWhole texts log → Begins (demands accounts) log place told → LacksLf rest → 1 ≤ length rest → length rest ≤ 6202
+    → AreWhole texts log → Begins (demands accounts) log place told → LacksLf rest → 1 ≤ length rest → length rest ≤ longest_log_line
     → IsWhy accounts (ended_by_lf texts ++ rest) (length texts + 1) is_cut
 part_is_cut accounts texts log place told rest are begins lacks some short =
     rest_is_cut accounts (ended_by_lf texts ++ rest) texts rest log place told (after_lines texts rest are.1 lacks)

@@ -7,15 +7,16 @@ use Rattle.scram_text.specs.Laws.{SpellsOneName, HasOneClientFirst}
 use Rattle.scram_text.specs.Messages.{ClientFirstParts, header_text, client_first_text, bare_text}
 use Rattle.scram_text.specs.Parts.{authzid_text}
 use Rattle.log_grammar.specs.Words.{IsMechName}
-use Rattle.log_grammar.specs.Lines.{LogLine, header, said, heard, bad, gone, ended, mechs, cont, accepts, refuses, halt, auth, auth_with, abort, IsLogLine}
+use Rattle.log_grammar.specs.Lines.{LogLine, header, said, heard, bad, gone, ended, mechs, cont, accepts, refuses, halt, auth, auth_with, abort, IsLogLine, longest_log_line}
 use Rattle.log_grammar.specs.Bytes.{LacksLf, ended_by_lf}
 use Rattle.log_grammar.specs.Told.{Told}
 use Rattle.log_grammar.specs.Places.{Place, MayEnd, before_all, between, offered, asks_bare, waits_first, got_first, leaving, over}
 use Rattle.log_grammar.specs.Demands.{Accounts, NamesMechanism, demands, AreReplies}
-use Rattle.log_grammar.specs.laws.Steps.{Goes, told_at}
+use Rattle.log_grammar.specs.state_machine.Steps.{Goes, told_at}
 use Rattle.log_grammar.specs.Clean.{Begins}
 use Rattle.log_grammar.specs.Versions.{IsClean, IsWhy}
-use Rattle.log_grammar.specs.Why.{is_cut, no_line, out_of_order, other_mechs, other_challenge, other_outcome, refused_with, LineClass, IsClassDue, IsDueAt}
+use Rattle.log_grammar.specs.Why.{is_cut, no_line, out_of_order, other_mechs, other_challenge, other_outcome, refused_with, LineClass, IsClassDue}
+use Rattle.log_grammar.specs.state_machine.DueClasses.{IsDueAt}
 use Rattle.log_grammar.specs.laws.Examples.{first_text, offer_text, first_alone, one_session, bare_no, AreWhole}
 use Rattle.log_grammar.proofs.ClassLemmas.{classes_due}
 use Rattle.log_grammar.proofs.EdgeLemmas.{part_is_cut, long_part_is_no_line, long_line_is_no_line}
@@ -368,6 +369,6 @@ pub second_part_is_no_line : (accounts : Accounts) (rest : List ℕ) → LacksLf
 second_part_is_no_line accounts rest lacks long =
     long_part_is_no_line accounts (first_text ∷ []) (header ∷ []) between [] rest first_whole (lead_first accounts).begins lacks long
 
-pub second_is_cut : (accounts : Accounts) (rest : List ℕ) → LacksLf rest → 1 ≤ length rest → length rest ≤ 6202 → IsWhy accounts (first_alone ++ rest) 2 is_cut
+pub second_is_cut : (accounts : Accounts) (rest : List ℕ) → LacksLf rest → 1 ≤ length rest → length rest ≤ longest_log_line → IsWhy accounts (first_alone ++ rest) 2 is_cut
 second_is_cut accounts rest lacks some short =
     part_is_cut accounts (first_text ∷ []) (header ∷ []) between [] rest first_whole (lead_first accounts).begins lacks some short

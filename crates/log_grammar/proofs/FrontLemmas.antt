@@ -6,7 +6,7 @@ use Rattle.log_grammar.specs.Told.{Told}
 use Rattle.log_grammar.specs.Places.{Place}
 use Rattle.log_grammar.specs.Demands.{Accounts, demands, AreReplies}
 use Rattle.log_grammar.specs.Clean.{Begins}
-use Rattle.log_grammar.specs.laws.Steps.{Goes, told_at}
+use Rattle.log_grammar.specs.state_machine.Steps.{Goes, told_at}
 use Rattle.log_grammar.specs.laws.LogLaws.{StoodBefore}
 use Rattle.log_grammar.proofs.Snoc.{some_last, last_same}
 use Rattle.log_grammar.proofs.LogSteps.{before_last}

@@ -8,11 +8,11 @@ use Rattle.log_grammar.specs.Bytes.{LacksLf}
 use Rattle.log_grammar.specs.Told.{Told}
 use Rattle.log_grammar.specs.Places.{Place, before_all, between, halted}
 use Rattle.log_grammar.specs.Demands.{Accounts, AreFit, Demands, demands, AreReplies}
-use Rattle.log_grammar.specs.laws.Steps.{Goes, told_at}
+use Rattle.log_grammar.specs.state_machine.Steps.{Goes, told_at}
 use Rattle.log_grammar.specs.Numbered.{Numbered, numbered, MayFollow, SpellsNumbered, MayEndNumbered}
-use Rattle.log_grammar.specs.laws.NumberedCounts.{is_closed}
+use Rattle.log_grammar.specs.state_machine.OpenNumbers.{is_closed}
 use Rattle.log_grammar.specs.NumberedLines.{IsSessionNumber, HasNumber, numbered_text, IsNumberedLine}
-use Rattle.log_grammar.specs.laws.NumberedSteps.{GoesIn, put}
+use Rattle.log_grammar.specs.state_machine.NumberedSteps.{GoesIn, put}
 use Rattle.log_grammar.proofs.Closings.{Closes, exit_of}
 use Rattle.log_grammar.proofs.Completions.{Ground, Spelt, spelt_halt}
 use Rattle.log_grammar.proofs.NumberedCuts.{numbered_before}

@@ -5,9 +5,9 @@ use Rattle.log_grammar.specs.Lines.{LogLine, said, heard, gone, ended, refuses, 
 use Rattle.log_grammar.specs.Told.{Told}
 use Rattle.log_grammar.specs.Places.{Place, between, offered, leaving, over}
 use Rattle.log_grammar.specs.Demands.{Accounts, Demands, demands, AreReplies}
-use Rattle.log_grammar.specs.laws.Steps.{told_at}
+use Rattle.log_grammar.specs.state_machine.Steps.{told_at}
 use Rattle.log_grammar.specs.Numbered.{Numbered, numbered, HasRoom, MayFollow, SpellsNumbered}
-use Rattle.log_grammar.specs.laws.NumberedSteps.{GoesIn, put, GoesNumbered}
+use Rattle.log_grammar.specs.state_machine.NumberedSteps.{GoesIn, put, GoesNumbered}
 use Rattle.log_grammar.specs.laws.NumberedExamples.{offer, turns_away, two_at_once, IsWholeForTwo, BeginsNoneForTwo}
 use Rattle.log_grammar.proofs.NumberedLogSteps.{numbered_on, no_line_yet}
 use Rattle.log_grammar.proofs.Owns.{put_other, no_element}

@@ -7,11 +7,11 @@ use Rattle.log_grammar.specs.Bytes.{ended_by_lf, IsCut}
 use Rattle.log_grammar.specs.Told.{Told}
 use Rattle.log_grammar.specs.Places.{Place, before_all, between, got_code, over, halted}
 use Rattle.log_grammar.specs.Demands.{Accounts, AreFit, Demands, demands, AreReplies}
-use Rattle.log_grammar.specs.laws.Steps.{Goes, told_at}
+use Rattle.log_grammar.specs.state_machine.Steps.{Goes, told_at}
 use Rattle.log_grammar.specs.Numbered.{Numbered, numbered, place_at, lines_at, begun, MayFollow, SpellsNumbered}
-use Rattle.log_grammar.specs.laws.NumberedCounts.{is_closed}
+use Rattle.log_grammar.specs.state_machine.OpenNumbers.{is_closed}
 use Rattle.log_grammar.specs.NumberedLines.{IsSessionNumber, IsNumberedLine}
-use Rattle.log_grammar.specs.laws.NumberedSteps.{GoesIn, put}
+use Rattle.log_grammar.specs.state_machine.NumberedSteps.{GoesIn, put}
 use Rattle.log_grammar.specs.Kinds.{BeginsCleanOf}
 use Rattle.log_grammar.specs.KindTwo.{two}
 use Rattle.log_grammar.proofs.Completions.{Ground, spelt_end}

@@ -7,15 +7,16 @@ use Rattle.log_grammar.specs.Bytes.{LacksLf, ended_by_lf, IsCut}
 use Rattle.log_grammar.specs.Told.{Told}
 use Rattle.log_grammar.specs.Places.{Place, asks_bare, got_first, got_final, got_code, leaving}
 use Rattle.log_grammar.specs.Demands.{Accounts, AreFit, demands, AreReplies}
-use Rattle.log_grammar.specs.laws.Steps.{Goes, told_at}
-use Rattle.log_grammar.specs.Why.{Why, is_cut, no_line, out_of_order, other_mechs, other_challenge, other_outcome, other_reply, accepted, refused_with, class_of, LineClass, of_mechs, of_words, of_replies, IsDueAt, IsWrongWord, IsWrongReply, IsWrong}
+use Rattle.log_grammar.specs.state_machine.Steps.{Goes, told_at}
+use Rattle.log_grammar.specs.Why.{Why, is_cut, no_line, out_of_order, other_mechs, other_challenge, other_outcome, other_reply, accepted, refused_with, class_of, LineClass, of_mechs, of_words, of_replies, IsWrongWord, IsWrongReply, IsWrong}
+use Rattle.log_grammar.specs.state_machine.DueClasses.{IsDueAt}
 use Rattle.log_grammar.specs.Kinds.{IsWhyOf, BeginsCleanOf}
-use Rattle.log_grammar.specs.KindTwo.{StandsTwo, IsWrongAfterFirst, two}
+use Rattle.log_grammar.specs.KindTwo.{MayBeginTwo, IsWrongAfterFirst, two}
 use Rattle.log_grammar.specs.Numbered.{Numbered, numbered, SpellsNumbered}
-use Rattle.log_grammar.specs.NumberedClasses.{RoomFor, MayFollowBy, IsNumberDueAt}
+use Rattle.log_grammar.specs.state_machine.NumberedDueClasses.{RoomFor, MayFollowBy, IsNumberDueAt}
 use Rattle.log_grammar.specs.NumberedLines.{HasNumber, numbered_text, IsNumberedLine, IsNumberedWritable}
 use Rattle.log_grammar.specs.laws.NumberedLogLaws.{NumberedFrontsBeginClean}
-use Rattle.log_grammar.specs.laws.NumberedSteps.{put, GoesNumbered}
+use Rattle.log_grammar.specs.state_machine.NumberedSteps.{put, GoesNumbered}
 use Rattle.log_grammar.specs.laws.Reasons.{SaysWhatIsDue, NamesWhatIsDue}
 use Rattle.log_grammar.specs.laws.NumberedReasons.{IsNumberedMended, WhatIsDueMayStandUnderItsNumber, EachNumberedLineThatIsDueMayStand}
 use Rattle.log_grammar.proofs.CutLemmas.{cut_one_way, first_lack}
@@ -158,12 +159,12 @@ begins_with completes limit accounts fit before x why f line next lack says writ
       due = answer;
     } in
     let on = numbered_on limit (demands accounts) f.log f.places f.told n line next f.spells g in
-    let stands : StandsTwo limit accounts ((f.first ∷ f.texts) ++ numbered_text y ∷ []) =
+    let stands : MayBeginTwo limit accounts ((f.first ∷ f.texts) ++ numbered_text y ∷ []) =
     (f.head, f.log ++ y ∷ [], put n next f.places, f.told ++ told_at (f.places n) line, numbered_pairs f.texts (numbered_text y) f.log y f.are writable, on) in
     let all = before ++ numbered_text y ∷ [] in
     let lacks = all_append LacksLf before (numbered_text y ∷ []) lack (numbered_lacks (numbered_text y) y writable, tt) in
     completes limit accounts fit (ended_by_lf all)
-    (front_at (two limit accounts) all lacks (subst (λ (ts : List (List ℕ)). StandsTwo limit accounts (ts ++ numbered_text y ∷ [])) (sym f.same) stands))
+    (front_at (two limit accounts) all lacks (subst (λ (ts : List (List ℕ)). MayBeginTwo limit accounts (ts ++ numbered_text y ∷ [])) (sym f.same) stands))
 
 mended_at : NumberedFrontsBeginClean → (limit : ℕ) (accounts : Accounts) → AreFit accounts → (bytes : List ℕ) (before : List (List ℕ)) (text : List ℕ) (more : List (List ℕ))
     (rest : List ℕ) (why : Why) → IsCut bytes (before ++ text ∷ more) rest → IsWhyOf (two limit accounts) bytes (length before + 1) why → NamesWhatIsDue why

@@ -5,9 +5,9 @@ use Rattle.log_grammar.specs.Lines.{LogLine, said, busy}
 use Rattle.log_grammar.specs.Told.{Told}
 use Rattle.log_grammar.specs.Places.{Place, between}
 use Rattle.log_grammar.specs.Demands.{Demands, AreReplies}
-use Rattle.log_grammar.specs.laws.Steps.{Goes, told_at}
+use Rattle.log_grammar.specs.state_machine.Steps.{Goes, told_at}
 use Rattle.log_grammar.specs.Numbered.{Numbered, SpellsNumbered}
-use Rattle.log_grammar.specs.laws.NumberedSteps.{GoesIn, GoesNumbered}
+use Rattle.log_grammar.specs.state_machine.NumberedSteps.{GoesIn, GoesNumbered}
 use Rattle.log_grammar.proofs.NumberedCuts.{numbered_before}
 use Rattle.log_grammar.proofs.NumberedTold.{values_of, no_marks}
 use Rattle.log_grammar.proofs.Opened.{Opened, opened_by}

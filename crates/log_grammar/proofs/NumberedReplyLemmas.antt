@@ -13,10 +13,10 @@ use Rattle.log_grammar.specs.Lines.{LogLine}
 use Rattle.log_grammar.specs.Told.{Told}
 use Rattle.log_grammar.specs.Places.{Place, waits_code, got_code}
 use Rattle.log_grammar.specs.Demands.{Accounts, Demands, attempts_of, IsReplyBy, demands, AreReplies}
-use Rattle.log_grammar.specs.laws.Steps.{told_at}
+use Rattle.log_grammar.specs.state_machine.Steps.{told_at}
 use Rattle.log_grammar.specs.laws.Replies.{passes, AreRising}
 use Rattle.log_grammar.specs.Numbered.{Numbered, numbered, SpellsNumbered}
-use Rattle.log_grammar.specs.laws.NumberedSteps.{GoesIn}
+use Rattle.log_grammar.specs.state_machine.NumberedSteps.{GoesIn}
 use Rattle.log_grammar.specs.laws.NumberedReplies.{IsNumberedCodeOf, EachNumberedPassIsACode, NumberedCountersRise, NoNumberedCounterIsUsedTwice}
 use Rattle.log_grammar.proofs.FrontLemmas.{one_account}
 use Rattle.log_grammar.proofs.NumberedCuts.{numbered_before}

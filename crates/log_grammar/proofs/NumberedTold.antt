@@ -7,9 +7,9 @@ use Rattle.log_grammar.specs.Lines.{LogLine, said, replies}
 use Rattle.log_grammar.specs.Told.{Told, told_of}
 use Rattle.log_grammar.specs.Places.{Place, got_code}
 use Rattle.log_grammar.specs.Demands.{Demands}
-use Rattle.log_grammar.specs.laws.Steps.{Goes, told_at}
+use Rattle.log_grammar.specs.state_machine.Steps.{Goes, told_at}
 use Rattle.log_grammar.specs.Numbered.{Numbered, numbered, of_number, is_reply, reply_numbers}
-use Rattle.log_grammar.specs.laws.NumberedSteps.{GoesIn}
+use Rattle.log_grammar.specs.state_machine.NumberedSteps.{GoesIn}
 use Rattle.log_grammar.proofs.Owns.{of_number_append, same_numbered}
 use Rattle.log_grammar.proofs.Snoc.{some_last, last_same, with_last}
 

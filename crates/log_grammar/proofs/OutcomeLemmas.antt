@@ -12,9 +12,9 @@ use Rattle.log_grammar.specs.Lines.{LogLine, said, mechs, cont, refuses, replies
 use Rattle.log_grammar.specs.Told.{Told}
 use Rattle.log_grammar.specs.Places.{Place, between, offered, asks_bare, got_first, got_final, got_code, leaving, over, halted}
 use Rattle.log_grammar.specs.Demands.{Accounts, IsVerdict, demands, AreReplies}
-use Rattle.log_grammar.specs.laws.Steps.{Goes, told_at}
+use Rattle.log_grammar.specs.state_machine.Steps.{Goes, told_at}
 use Rattle.log_grammar.specs.Clean.{Begins}
-use Rattle.log_grammar.specs.laws.Logins.{IsLoginTo}
+use Rattle.log_grammar.specs.laws.Logins.{IsLoginTo, exchange_of}
 use Rattle.log_grammar.specs.laws.Outcomes.{FirstLinesBeginLogs, EachOfferIsDue, IsChallengeDue, EachChallengeIsDue, IsRefusalDue, EachRefusalIsDue, IsReplied, EachReplyIsDue, EachHaltEndsACode}
 use Rattle.log_grammar.proofs.LogSteps.{goes_on}
 use Rattle.log_grammar.proofs.Snoc.{with_last, length-last}
@@ -97,7 +97,7 @@ each_challenge accounts log text next told = (
 
 -- from where NO goes on, and that it then follows no valid login
 invalid : AtMostOneIsDue → AcceptsExactlyValid → (accounts : Accounts) (mechanism name client_first server_first client_final : List ℕ) (why : Refusal)
-    → IsVerdict accounts mechanism name client_first server_first client_final (refuse why) → (server_final : List ℕ) → IsLoginTo accounts mechanism name client_first server_first client_final server_final → ⊥
+    → IsVerdict accounts mechanism name client_first server_first client_final (refuse why) → (server_final : List ℕ) → IsLoginTo accounts mechanism name (exchange_of client_first server_first client_final server_final) → ⊥
 invalid once valid accounts mechanism name client_first server_first client_final why (m, named, due) server_final l =
     let same = mechanism_once l.m m (sym l.offered ∙ named) in
     let accepted = (valid (challenged_login (accounts.entry l.m name) l.m client_first server_first) client_final server_final).1 l.login in

@@ -6,7 +6,7 @@ use Rattle.log_grammar.specs.Told.{Told}
 use Rattle.log_grammar.specs.Places.{Place}
 use Rattle.log_grammar.specs.Demands.{Demands}
 use Rattle.log_grammar.specs.Numbered.{Numbered, Stay, of_number, lines_at, place_at, MeetsAt, SpellsNumbered}
-use Rattle.log_grammar.specs.laws.NumberedSteps.{GoesIn}
+use Rattle.log_grammar.specs.state_machine.NumberedSteps.{GoesIn}
 use Rattle.log_grammar.proofs.NumberedReadings.{goes_in_once}
 use Rattle.log_grammar.proofs.Readings.{OneAccount}
 use Rattle.log_grammar.proofs.Snoc.{last_same, length-last}

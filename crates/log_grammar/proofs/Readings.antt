@@ -5,7 +5,7 @@ use Rattle.log_grammar.specs.Lines.{LogLine, header, said, heard, bad, gone, end
 use Rattle.log_grammar.specs.Told.{Told}
 use Rattle.log_grammar.specs.Places.{Place, before_all, between, offered, asks_bare, waits_first, got_first, waits_final, got_final, waits_code, got_code, leaving, over, halted}
 use Rattle.log_grammar.specs.Demands.{Demands}
-use Rattle.log_grammar.specs.laws.Steps.{FromOffered, FromInvitation, FromWaitsFirst, FromFirst, FromWaitsFinal, FromFinal, FromWaitsCode, FromCode, FromLeaving, FromBetween, FromOver, FromStart, Goes, told_at}
+use Rattle.log_grammar.specs.state_machine.Steps.{FromOffered, FromInvitation, FromWaitsFirst, FromFirst, FromWaitsFinal, FromFinal, FromWaitsCode, FromCode, FromLeaving, FromBetween, FromOver, FromStart, Goes, told_at}
 use Rattle.log_grammar.specs.Clean.{Begins}
 use Rattle.log_grammar.proofs.LogSteps.{before_last}
 use Rattle.log_grammar.proofs.Snoc.{some_last, last_same, length-last}

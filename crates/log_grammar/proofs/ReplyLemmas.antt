@@ -13,6 +13,7 @@ use Rattle.otp_core.proofs.DigitsLemmas.{IsCodeText-last_digits}
 use Rattle.otp_core.specs.declared.token.kinds.Fields.TheVariants.{Hotp}
 use Rattle.otp_core.specs.declared.token.kinds.HotpFields.{HotpFields}
 use Rattle.log_grammar.specs.Words.{is_code_char, IsCodeWord, IsCounter}
+use Rattle.log_grammar.specs.Upgrades.{original_text}
 use Rattle.log_grammar.specs.laws.Logins.{LoginsAreAnswered}
 use Rattle.otp_core.specs.Attempt.{Attempt, CodeTexts, OneText, TwoTexts, counters_of, used_in}
 use Rattle.otp_core.specs.Window.{IsAbove, IsInWindow}
@@ -152,12 +153,12 @@ next_is_due t moment unlocked counter =
     let due : IsInWindow t.next t.look_ahead t.next = record { not_before = omega arith; within = omega arith; most = omega (arith, counter) } in
     (unlocked, (due, refl), λ k fits. fits.0.not_before)
 
-pub next_hotp_code_passes : LoginsAreAnswered → NextHotpCodePasses
-next_hotp_code_passes answered accounts mechanism name client_first server_first client_final server_final moment t login at has unlocked digits counter =
+pub next_hotp_code_passes : LoginsAreAnswered original_text → NextHotpCodePasses
+next_hotp_code_passes answered accounts mechanism name exchange moment t login at has unlocked digits counter =
     let text = code_text (Hotp t) t.next in
     let due = next_is_due t moment unlocked counter in
     let by = subst (λ (o : Option Fields). IsReplyBy o [] moment (OneText text) (Some (Pass t.next))) (sym has) (Pass t.next, refl, due) in
-    answered accounts mechanism name client_first server_first client_final server_final (OneText text) moment (Some (Pass t.next)) login (code_word text (IsCodeText-last_digits t.digits _ digits)) at counter by
+    answered accounts mechanism name exchange (OneText text) moment (Some (Pass t.next)) login (code_word text (IsCodeText-last_digits t.digits _ digits)) at counter by
 
 -- the next two counters are the least that can pass in a row
 pub next_two_are_due : (t : HotpFields) (moment : ℕ) → t.failures < t.limit → IsCounter (t.next + 1)
@@ -173,8 +174,8 @@ two_words t digits = (
   code_word (code_text (Hotp t) (t.next + 1)) (IsCodeText-last_digits t.digits _ digits),
 )
 
-pub next_two_hotp_codes_pass : LoginsAreAnswered → NextTwoHotpCodesPass
-next_two_hotp_codes_pass answered accounts mechanism name client_first server_first client_final server_final moment t login at has unlocked digits counter =
+pub next_two_hotp_codes_pass : LoginsAreAnswered original_text → NextTwoHotpCodesPass
+next_two_hotp_codes_pass answered accounts mechanism name exchange moment t login at has unlocked digits counter =
     let sent = TwoTexts (code_text (Hotp t) t.next) (code_text (Hotp t) (t.next + 1)) in
     let by = subst (λ (o : Option Fields). IsReplyBy o [] moment sent (Some (Pass (t.next + 1)))) (sym has) (Pass (t.next + 1), refl, next_two_are_due t moment unlocked counter) in
-    answered accounts mechanism name client_first server_first client_final server_final sent moment (Some (Pass (t.next + 1))) login (two_words t digits) at counter by
+    answered accounts mechanism name exchange sent moment (Some (Pass (t.next + 1))) login (two_words t digits) at counter by

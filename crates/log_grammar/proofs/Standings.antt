@@ -8,8 +8,9 @@ use Rattle.log_grammar.specs.Lines.{LogLine, header, said, heard, bad, gone, end
 use Rattle.log_grammar.specs.Told.{Told, told_of}
 use Rattle.log_grammar.specs.Places.{Place, before_all, between, offered, asks_bare, waits_first, got_first, waits_final, got_final, waits_code, got_code, leaving, over, halted}
 use Rattle.log_grammar.specs.Demands.{Accounts, IsVerdict, attempts_of, IsReplyDue, demands, AreReplies}
-use Rattle.log_grammar.specs.laws.Steps.{Goes, told_at}
-use Rattle.log_grammar.specs.Why.{Why, other_mechs, other_challenge, other_outcome, other_reply, refused_with, outcome_of, LineClass, of_abort, of_code, of_sync, of_bad, of_gone, class_of, IsQuitting, IsDueAt, IsWrongWord, IsWrongReply, IsWrong}
+use Rattle.log_grammar.specs.state_machine.Steps.{Goes, told_at}
+use Rattle.log_grammar.specs.Why.{Why, other_mechs, other_challenge, other_outcome, other_reply, refused_with, outcome_of, LineClass, of_abort, of_code, of_sync, of_bad, of_gone, class_of, IsWrongWord, IsWrongReply, IsWrong}
+use Rattle.log_grammar.specs.state_machine.DueClasses.{IsQuitting, IsDueAt}
 use Rattle.log_grammar.proofs.Openings.{offered_decided, login_decided}
 use Rattle.log_grammar.proofs.Opened.{Opened}
 use Rattle.log_grammar.proofs.Completions.{some_verdict}

@@ -6,9 +6,9 @@ use Rattle.log_grammar.specs.Lines.{LogLine, said, ended, mechs, busy}
 use Rattle.log_grammar.specs.Places.{Place, between, over}
 use Rattle.log_grammar.specs.Demands.{Demands}
 use Rattle.log_grammar.specs.Sessions.{Login, no_login, session}
-use Rattle.log_grammar.specs.laws.Steps.{Goes, told_at}
+use Rattle.log_grammar.specs.state_machine.Steps.{Goes, told_at}
 use Rattle.log_grammar.specs.Numbered.{Stay, stays, turned, stay_part, lines_at, told_in, place_at, MeetsAt}
-use Rattle.log_grammar.specs.laws.NumberedSteps.{GoesIn}
+use Rattle.log_grammar.specs.state_machine.NumberedSteps.{GoesIn}
 use Rattle.log_grammar.proofs.Growth.{Grown, session_on}
 use Rattle.log_grammar.proofs.Shortening.{session_cut}
 

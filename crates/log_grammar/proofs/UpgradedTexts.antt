@@ -3,6 +3,7 @@ use Rattle.std.proofs.Common.{◌≡◌, inl, inr, ℕ, ◌+◌, ◌≤◌, Bool
 use Rattle.std.specs.Prelude.{if◌then◌else◌, decimal, flat_map}
 use Rattle.std.specs.List.{AllByRecursion, AllZip}
 use Rattle.std.proofs.lemmas.Bool.{cases_Bool}
+use Rattle.std.specs.Str.{byte}
 use Rattle.log_grammar.specs.Lines.{LogLine, header, second_header, log_text, IsLogLine, IsWritable}
 use Rattle.log_grammar.specs.Bytes.{LacksLf}
 use Rattle.log_grammar.specs.Told.{Told}
@@ -129,7 +130,7 @@ new_written lines can have = written_from 1 lines (few_from_one lines can) can.e
 lack_from : (n : ℕ) (lines : List LogLine) → AreFew n lines → AllByRecursion IsWritable lines → AllByRecursion LacksLf (map numbered_text (renumbered n lines))
 lack_from n [] few each = tt
 lack_from n (line ∷ lines) few each = (
-  lacks-append (decimal n) (32 ∷ log_text line) (number_lacks n (omega (arith, few.1))) (log_lacks line each.0.ranges),
+  lacks-append (decimal n) (byte " " ∷ log_text line) (number_lacks n (omega (arith, few.1))) (log_lacks line each.0.ranges),
   lack_from (if is_end line then n + 1 else n) lines (few_left n line lines few) each.1,
 )
 

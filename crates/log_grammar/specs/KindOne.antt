@@ -1,7 +1,7 @@
 -- Logs of version 1 as a kind of log.
 use Rattle.std.specs.Prelude.{ℕ, List}
 use Rattle.std.specs.List.{AllZip}
-use Rattle.log_grammar.specs.Lines.{LogLine, IsLogLine}
+use Rattle.log_grammar.specs.Lines.{LogLine, longest_log_line, IsLogLine}
 use Rattle.log_grammar.specs.Told.{Told}
 use Rattle.log_grammar.specs.Places.{Place, MayEnd}
 use Rattle.log_grammar.specs.Demands.{Accounts, demands}
@@ -10,8 +10,8 @@ use Rattle.log_grammar.specs.Why.{Why, IsWrongText}
 use Rattle.log_grammar.specs.Kinds.{LogKind}
 
 -- the texts are lines that a log of version 1 may begin with
-abbrev pub StandsOne : Accounts → List (List ℕ) → Type 0
-StandsOne accounts texts =
+abbrev pub MayBeginOne : Accounts → List (List ℕ) → Type 0
+MayBeginOne accounts texts =
     (lines : List LogLine) × (place : Place) × (told : List Told)
     × AllZip IsLogLine texts lines × Begins (demands accounts) lines place told
 
@@ -25,6 +25,6 @@ EndsOne accounts texts =
 abbrev pub WrongOne : Accounts → List (List ℕ) → List ℕ → Why → Type 0
 WrongOne accounts before text why = (lines : List LogLine) × AllZip IsLogLine before lines × IsWrongText accounts lines text why
 
--- logs of version 1. A line has at most 6202 bytes.
+-- logs of version 1
 abbrev pub one : Accounts → LogKind
-one accounts = record { MayBegin = StandsOne accounts; Ends = EndsOne accounts; Wrong = WrongOne accounts; most_line = λ before. 6202 }
+one accounts = record { MayBegin = MayBeginOne accounts; Ends = EndsOne accounts; Wrong = WrongOne accounts; most_line = λ before. longest_log_line }

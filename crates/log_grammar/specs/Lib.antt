@@ -1,5 +1,5 @@
--- What a log is. A reader of the audit's promise has to believe the files of this folder; what is said in those of `laws`
--- follows from them, and is proved.
+-- What a log is. A reader of the audit's promise has to believe the files of this folder. What is said in those of `laws`
+-- follows from them, and is proved: that the grammar of `state_machine` is theirs, too.
 pub mod Words
 pub mod Payload
 pub mod Bytes
@@ -20,4 +20,5 @@ pub mod Versions
 pub mod Books
 pub mod Counts
 pub mod Upgrades
+pub mod state_machine
 pub mod laws

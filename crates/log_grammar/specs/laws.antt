@@ -1,6 +1,6 @@
--- What follows from the definitions in the folder above: each law is the promise of a function that does nothing.
+-- What follows from the definitions in the folder above, and that the state machine is the grammar: each law is the promise
+-- of a function that does nothing.
 pub mod LineLaws
-pub mod Steps
 pub mod Histories
 pub mod LogLaws
 pub mod Logins
@@ -9,8 +9,6 @@ pub mod Replies
 pub mod Headline
 pub mod Reasons
 pub mod Examples
-pub mod NumberedSteps
-pub mod NumberedCounts
 pub mod NumberedLaws
 pub mod NumberedLineLaws
 pub mod NumberedLogLaws
@@ -19,5 +17,4 @@ pub mod NumberedReasons
 pub mod NumberedReplies
 pub mod NumberedExamples
 pub mod UpgradedLogs
-pub mod UpgradedLogins
 pub mod UpgradedExamples

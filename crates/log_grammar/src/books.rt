@@ -5,8 +5,7 @@ ghost use Rattle.book_format.specs.Book.{BookFields, IsBook};
 ghost use Rattle.log_grammar.specs.Bytes.{IsCut};
 ghost use Rattle.log_grammar.specs.Demands.{AreFit};
 ghost use Rattle.log_grammar.specs.Books.{accounts_in};
-ghost use Rattle.log_grammar.specs.Versions.{IsFront, IsFaultLine};
-ghost use Rattle.log_grammar.specs.laws.Headline.{BeginsClean, IsFirstToBeginNoClean};
+ghost use Rattle.log_grammar.specs.Versions.{IsFront, IsFaultLine, BeginsClean, IsFirstToBeginNoClean};
 
 use crate::headline::{fault_lines_begin_no_clean_log, fronts_are_what_begins_clean_logs};
 use crate::laws::fronts_begin_clean;

@@ -7,7 +7,7 @@ ghost use Rattle.log_grammar.specs.Told.{Told};
 ghost use Rattle.log_grammar.specs.Places.{Place};
 ghost use Rattle.log_grammar.specs.Demands.{Accounts, demands, AreReplies};
 ghost use Rattle.log_grammar.specs.laws.Histories.{IsHistory};
-ghost use Rattle.log_grammar.specs.laws.Steps.{Goes, told_at};
+ghost use Rattle.log_grammar.specs.state_machine.Steps.{Goes, told_at};
 ghost use Rattle.log_grammar.specs.Clean.{Spells, Begins, AreLines};
 ghost use Rattle.log_grammar.specs.Versions.{IsFront, IsClean, IsFaultLine, IsWhy};
 ghost use Rattle.log_grammar.specs.Why.{Why};

@@ -7,7 +7,7 @@ ghost use Rattle.otp_core.specs.declared.token.kinds.Fields.TheVariants.{Hotp, T
 ghost use Rattle.otp_core.specs.declared.token.kinds.HotpFields.{HotpFields};
 ghost use Rattle.otp_core.specs.declared.token.kinds.TotpFields.{TotpFields};
 ghost use Rattle.log_grammar.specs.Words.{IsCodeWord, IsCounter};
-ghost use Rattle.log_grammar.specs.Lines.{LogLine, header, said, heard, gone, ended, mechs, cont, accepts, replies, auth_with, resp, code, sync, IsLogLine, log_bytes};
+ghost use Rattle.log_grammar.specs.Lines.{LogLine, header, said, heard, gone, ended, mechs, cont, accepts, replies, auth_with, resp, code, sync};
 ghost use Rattle.log_grammar.specs.Bytes.{LacksLf, ended_by_lf};
 ghost use Rattle.log_grammar.specs.Counts.{counts_of};
 ghost use Rattle.log_grammar.specs.Told.{Told};
@@ -17,7 +17,8 @@ ghost use Rattle.log_grammar.specs.Sessions.{Session, session_lines};
 ghost use Rattle.log_grammar.specs.Clean.{Begins};
 ghost use Rattle.log_grammar.specs.Versions.{IsClean, IsWhy};
 ghost use Rattle.log_grammar.specs.Why.{LineClass, IsClassDue, is_cut, no_line, out_of_order, other_mechs, other_challenge, other_outcome, other_reply, refused_with};
-ghost use Rattle.log_grammar.specs.laws.Logins.{IsLoginTo, login_log};
+ghost use Rattle.log_grammar.specs.Upgrades.{original_text};
+ghost use Rattle.log_grammar.specs.laws.Logins.{Exchange, IsLoginTo, login_session};
 ghost use Rattle.log_grammar.specs.laws.Replies.{passes, next_two};
 ghost use Rattle.log_grammar.specs.laws.Examples.{first_text, offer_text, first_alone, one_session, bare_no, AreWhole};
 
@@ -159,19 +160,19 @@ pub fn counted_logs()
 /// the log is clean, and with the counter of the first it is at fault there, and the reason names the pass that is due.
 /// A TOTP token has no two codes in a row that pass: a pass of two is at fault, and FAIL is due.
 pub fn logs_of_two_codes()
-    ensures passes { (accounts : Accounts) (mechanism name client_first server_first client_final server_final : List ℕ) (moment : ℕ) (t : HotpFields)
-        → IsLoginTo accounts mechanism name client_first server_first client_final server_final → IsMoment moment → accounts.token name ≡ Some (Hotp t)
+    ensures passes { (accounts : Accounts) (mechanism name : List ℕ) (exchange : Exchange) (moment : ℕ) (t : HotpFields)
+        → IsLoginTo accounts mechanism name exchange → IsMoment moment → accounts.token name ≡ Some (Hotp t)
         → t.failures < t.limit → IsDigitCount t.digits → IsCounter (t.next + 1) → IsClean accounts
-        (log_bytes (login_log mechanism client_first server_first client_final server_final ++ next_two t ∷ passes moment (t.next + 1) ∷ gone ∷ ended ∷ [])) }
-    ensures first_counter { (accounts : Accounts) (mechanism name client_first server_first client_final server_final : List ℕ) (moment : ℕ) (t : HotpFields)
-        → IsLoginTo accounts mechanism name client_first server_first client_final server_final → IsMoment moment → accounts.token name ≡ Some (Hotp t)
+        (original_text (login_session mechanism exchange ++ next_two t ∷ passes moment (t.next + 1) ∷ gone ∷ ended ∷ [])) }
+    ensures first_counter { (accounts : Accounts) (mechanism name : List ℕ) (exchange : Exchange) (moment : ℕ) (t : HotpFields)
+        → IsLoginTo accounts mechanism name exchange → IsMoment moment → accounts.token name ≡ Some (Hotp t)
         → t.failures < t.limit → IsDigitCount t.digits → IsCounter (t.next + 1) → IsWhy accounts
-        (log_bytes (login_log mechanism client_first server_first client_final server_final ++ next_two t ∷ passes moment t.next ∷ [])) 8
+        (original_text (login_session mechanism exchange ++ next_two t ∷ passes moment t.next ∷ [])) 8
         (other_reply moment (Some (Pass (t.next + 1)))) }
-    ensures of_totp { (accounts : Accounts) (mechanism name client_first server_first client_final server_final first second : List ℕ) (moment counter : ℕ) (t : TotpFields)
-        → IsLoginTo accounts mechanism name client_first server_first client_final server_final → IsMoment moment → accounts.token name ≡ Some (Totp t)
+    ensures of_totp { (accounts : Accounts) (mechanism name : List ℕ) (exchange : Exchange) (first second : List ℕ) (moment counter : ℕ) (t : TotpFields)
+        → IsLoginTo accounts mechanism name exchange → IsMoment moment → accounts.token name ≡ Some (Totp t)
         → t.failures < t.limit → IsCodeWord first → IsCodeWord second → IsCounter counter → IsWhy accounts
-        (log_bytes (login_log mechanism client_first server_first client_final server_final ++ heard (sync first second) ∷ passes moment counter ∷ [])) 8
+        (original_text (login_session mechanism exchange ++ heard (sync first second) ∷ passes moment counter ∷ [])) 8
         (other_reply moment (Some Fail)) }
 {
     next_two_hotp_codes_pass();

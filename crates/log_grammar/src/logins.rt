@@ -5,6 +5,7 @@ ghost use Rattle.scram_text.specs.Class.{IsPlainName};
 ghost use Rattle.log_grammar.specs.Lines.{LogLine, said, halt, log_bytes};
 ghost use Rattle.log_grammar.specs.Demands.{Accounts, IsFit};
 ghost use Rattle.log_grammar.specs.Versions.{IsClean};
+ghost use Rattle.log_grammar.specs.Upgrades.{original_text};
 ghost use Rattle.log_grammar.specs.laws.Logins.{EachOkEndsALogin, LoginsAreClean, LoginsMayHalt, LoginsAreAnswered, HasPassword, PasswordsLogIn, RefusedLoginsAreAtFault, OtherRepliesAreAtFault};
 
 use otp_core::laws::only_one_reply_is_due;
@@ -25,9 +26,9 @@ pub fn each_ok_ends_a_login()
 /// A log of a valid login is clean where the client then goes away, where a code, or two in a row, is answered by a
 /// halt, and where it is answered by the reply that is due to it, or, where the account has no token, that it has none.
 pub fn logins_are_clean()
-    ensures gone { LoginsAreClean }
-    ensures halted { LoginsMayHalt }
-    ensures answered { LoginsAreAnswered }
+    ensures gone { LoginsAreClean original_text }
+    ensures halted { LoginsMayHalt original_text }
+    ensures answered { LoginsAreAnswered original_text }
 {
     acceptance_is_due_to_valid_logins();
 }
@@ -35,8 +36,8 @@ pub fn logins_are_clean()
 /// A log that has a valid login as refused is at fault there, and so is one that has a code, or two in a row, after it
 /// answered by a reply other than the one due. The reason names the acceptance, by its signature, and the reply that is due.
 pub fn other_answers_to_logins_are_at_fault()
-    ensures refused { RefusedLoginsAreAtFault }
-    ensures answered { OtherRepliesAreAtFault }
+    ensures refused { RefusedLoginsAreAtFault original_text }
+    ensures answered { OtherRepliesAreAtFault original_text }
 {
     acceptance_is_due_to_valid_logins();
     at_most_one_verdict_is_due();

@@ -1,5 +1,6 @@
 //! Logs of one login, upgraded: each is judged as the log of version 1 is.
-ghost use Rattle.log_grammar.specs.laws.UpgradedLogins.{UpgradedLoginsAreClean, UpgradedLoginsMayHalt, UpgradedLoginsAreAnswered, UpgradedRefusalsAreAtFault, UpgradedRepliesAreAtFault};
+ghost use Rattle.log_grammar.specs.Upgrades.{upgraded_text};
+ghost use Rattle.log_grammar.specs.laws.Logins.{LoginsAreClean, LoginsMayHalt, LoginsAreAnswered, RefusedLoginsAreAtFault, OtherRepliesAreAtFault};
 
 use crate::logins::{logins_are_clean, other_answers_to_logins_are_at_fault};
 use crate::upgrades::{upgraded_logs_are_clean, upgraded_logs_have_the_same_fault};
@@ -8,9 +9,9 @@ use scram_ends::laws::acceptance_is_due_to_valid_logins;
 /// A log of version 2 of one valid login is clean where the client then goes away, where a code, or two in a row, is answered
 /// by a halt, and where it is answered by the reply that is due to it, or, where the account has no token, that it has none.
 pub fn upgraded_logins_are_clean()
-    ensures gone { UpgradedLoginsAreClean }
-    ensures halted { UpgradedLoginsMayHalt }
-    ensures answered { UpgradedLoginsAreAnswered }
+    ensures gone { LoginsAreClean upgraded_text }
+    ensures halted { LoginsMayHalt upgraded_text }
+    ensures answered { LoginsAreAnswered upgraded_text }
 {
     acceptance_is_due_to_valid_logins();
     logins_are_clean();
@@ -20,8 +21,8 @@ pub fn upgraded_logins_are_clean()
 /// A log of version 2 that has a valid login as refused is at fault there, and so is one that has a code, or two in a row, after
 /// it answered by a reply other than the one due. The reason names the acceptance, by its signature, and the reply that is due.
 pub fn other_answers_to_upgraded_logins_are_at_fault()
-    ensures refused { UpgradedRefusalsAreAtFault }
-    ensures answered { UpgradedRepliesAreAtFault }
+    ensures refused { RefusedLoginsAreAtFault upgraded_text }
+    ensures answered { OtherRepliesAreAtFault upgraded_text }
 {
     acceptance_is_due_to_valid_logins();
     other_answers_to_logins_are_at_fault();

@@ -17,7 +17,7 @@ use Rattle.log_grammar.specs.laws.LineLaws.{IsOneLine}
 use Rattle.log_grammar.specs.Lines.{LogLine, header, second_header, said, heard, bad, gone, ended, mechs, cont, accepts, refuses, ClientLine, auth, auth_with, resp, abort, code, sync, from_client}
 use Rattle.log_grammar.specs.Places.{Place, between, offered, asks_bare, waits_first, got_first, waits_final, got_final, waits_code, leaving, over}
 use Rattle.log_grammar.specs.Demands.{Accounts, Demands, NamesMechanism, IsFirstOf, IsChallenged, IsVerdict, demands}
-use Rattle.log_grammar.specs.laws.Steps.{Goes}
+use Rattle.log_grammar.specs.state_machine.Steps.{Goes}
 use Rattle.log_grammar.proofs.Openings.{one_name, login_of}
 use Rattle.log_grammar.proofs.WhyLemmas.{mechanism_once, one_verdict}
 use Rattle.sasl_desk.specs.Alone.{AsksTheSame, AskTheSame, up_to_acceptance, HaveSameEntries}

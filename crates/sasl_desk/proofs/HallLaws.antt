@@ -20,7 +20,7 @@ use Rattle.log_grammar.specs.Places.{Place, before_all, between, halted}
 use Rattle.log_grammar.specs.Demands.{Accounts, demands}
 use Rattle.log_grammar.specs.Numbered.{Numbered, numbered, of_number, SpellsNumbered, MayEndNumbered}
 use Rattle.log_grammar.specs.NumberedLines.{numbered_text, IsNumberedWritable}
-use Rattle.log_grammar.specs.laws.NumberedCounts.{is_closed}
+use Rattle.log_grammar.specs.state_machine.OpenNumbers.{is_closed}
 use Rattle.log_grammar.proofs.NumberedCuts.{numbered_before}
 use Rattle.log_grammar.proofs.Owns.{of_number_append, of_number_all, of_number_none}
 use Rattle.log_grammar.proofs.NumberedHeadlineLemmas.{are_written, each_lacks}

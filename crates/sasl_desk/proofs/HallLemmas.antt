@@ -20,7 +20,7 @@ use Rattle.log_grammar.specs.Places.{Place, between, waits_code, got_code, halte
 use Rattle.log_grammar.specs.Demands.{Accounts, demands}
 use Rattle.log_grammar.specs.Numbered.{Numbered, numbered, of_number}
 use Rattle.log_grammar.specs.NumberedLines.{numbered_text}
-use Rattle.log_grammar.specs.laws.NumberedCounts.{is_closed}
+use Rattle.log_grammar.specs.state_machine.OpenNumbers.{is_closed}
 use Rattle.log_grammar.proofs.LineBytes.{reply_line}
 use Rattle.log_grammar.proofs.Shortening.{code_goes}
 use Rattle.log_grammar.proofs.Snoc.{same_cons}

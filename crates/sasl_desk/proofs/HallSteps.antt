@@ -15,8 +15,8 @@ use Rattle.log_grammar.specs.Places.{Place, before_all, between, over, halted}
 use Rattle.log_grammar.specs.Demands.{Accounts, Demands, demands}
 use Rattle.log_grammar.specs.Numbered.{Numbered, numbered, of_number, closed_in, MayFollow, SpellsNumbered, FollowsLast}
 use Rattle.log_grammar.specs.NumberedLines.{IsSessionNumber, IsNumberedWritable}
-use Rattle.log_grammar.specs.laws.NumberedCounts.{is_closed}
-use Rattle.log_grammar.specs.laws.NumberedSteps.{put, GoesIn}
+use Rattle.log_grammar.specs.state_machine.OpenNumbers.{is_closed}
+use Rattle.log_grammar.specs.state_machine.NumberedSteps.{put, GoesIn}
 use Rattle.log_grammar.proofs.NumberedCuts.{numbered_before}
 use Rattle.log_grammar.proofs.OpenCounts.{open_was_begun}
 use Rattle.log_grammar.proofs.Owns.{at_each, put_here, put_other, begun_append, closed_append}

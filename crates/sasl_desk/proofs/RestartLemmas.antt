@@ -12,7 +12,7 @@ use Rattle.log_grammar.specs.Lines.{LogLine, said, halt, log_text, log_bytes}
 use Rattle.log_grammar.specs.Told.{Told}
 use Rattle.log_grammar.specs.Places.{Place, MayEnd, got_code, halted}
 use Rattle.log_grammar.specs.Demands.{Accounts, Demands, demands}
-use Rattle.log_grammar.specs.laws.Steps.{Goes}
+use Rattle.log_grammar.specs.state_machine.Steps.{Goes}
 use Rattle.log_grammar.specs.Clean.{Begins, AreLines}
 use Rattle.log_grammar.specs.Versions.{IsFront, IsClean}
 use Rattle.log_grammar.proofs.FaultLemmas.{lines_front, lines_clean}

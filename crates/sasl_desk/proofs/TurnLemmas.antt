@@ -3,7 +3,7 @@ use Rattle.std.proofs.Common.{◌≡◌, true, refl, sym, subst}
 use Rattle.log_grammar.specs.Lines.{heard, bad, gone, ClientLine, auth, auth_with, resp, abort, code, sync}
 use Rattle.log_grammar.specs.Places.{Place, offered, waits_first, waits_final, waits_code, leaving, over}
 use Rattle.log_grammar.specs.Demands.{Demands, demands}
-use Rattle.log_grammar.specs.laws.Steps.{Goes}
+use Rattle.log_grammar.specs.state_machine.Steps.{Goes}
 use Rattle.sasl_desk.specs.Turns.{is_client_turn, is_due, heard_place, DueLinesStand, BadLinesStand, GoneClientsStand}
 
 -- a line that is due may stand, and leads to the place after it

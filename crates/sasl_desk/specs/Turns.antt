@@ -5,7 +5,7 @@ use Rattle.otp_core.specs.Attempt.{CodeTexts, OneText, TwoTexts}
 use Rattle.log_grammar.specs.Lines.{LogLine, heard, bad, gone, ClientLine, auth, auth_with, resp, abort, code, sync}
 use Rattle.log_grammar.specs.Places.{Place, offered, asks_bare, waits_first, got_first, waits_final, got_final, waits_code, got_code, leaving, over}
 use Rattle.log_grammar.specs.Demands.{Accounts, Demands, demands}
-use Rattle.log_grammar.specs.laws.Steps.{Goes}
+use Rattle.log_grammar.specs.state_machine.Steps.{Goes}
 
 -- AUTH is due: after `S MECHS`
 abbrev pub is_auth_due : Place → Bool

@@ -12,8 +12,8 @@ use Rattle.log_grammar.specs.Sessions.{Session, session_lines, session_told, Ses
 use Rattle.log_grammar.specs.laws.Histories.{IsHistory}
 use Rattle.log_grammar.specs.Clean.{Begins}
 use Rattle.log_grammar.specs.KindOne.{one}
-use Rattle.log_grammar.specs.Kinds.{IsCleanOf, BeginsCleanOf, IsFirstToBeginNoCleanOf}
-use Rattle.log_grammar.specs.Versions.{both, IsFront, IsFaultLine}
+use Rattle.log_grammar.specs.Kinds.{IsCleanOf}
+use Rattle.log_grammar.specs.Versions.{IsFront, BeginsClean, IsFirstToBeginNoClean, IsFaultLine}
 use Rattle.log_grammar.specs.laws.Outcomes.{IsSentBy}
 
 -- the session is closed: `E` is its last line
@@ -44,18 +44,10 @@ abbrev pub CleanLogsAreThoseOfSessions : Type 0
 CleanLogsAreThoseOfSessions = (accounts : Accounts) (bytes : List ℕ)
     → IsCleanOf (one accounts) bytes ↔ ((sessions : List Session) × IsLogOf accounts bytes sessions)
 
--- the bytes begin a clean log: with some bytes after them they are one
-abbrev pub BeginsClean : Accounts → List ℕ → Type 0
-BeginsClean accounts bytes = BeginsCleanOf (both accounts) bytes
-
 -- whole lines are a front exactly where they begin a clean log
 abbrev pub FrontsAreWhatBeginsCleanLogs : Type 0
 FrontsAreWhatBeginsCleanLogs = (accounts : Accounts) → AreFit accounts → (bytes : List ℕ) (texts : List (List ℕ)) → IsCut bytes texts []
     → IsFront accounts bytes ↔ BeginsClean accounts bytes
-
--- of these lines and what follows them, this is the first line that begins no clean log
-abbrev pub IsFirstToBeginNoClean : Accounts → (bytes : List ℕ) (texts : List (List ℕ)) (k : ℕ) → Type 0
-IsFirstToBeginNoClean accounts bytes texts k = IsFirstToBeginNoCleanOf (both accounts) bytes texts k
 
 -- a line is the fault line exactly where it is the first that begins no clean log
 abbrev pub FaultLinesBeginNoCleanLog : Type 0

@@ -6,12 +6,13 @@ use Rattle.log_grammar.specs.Lines.{LogLine, said, busy}
 use Rattle.log_grammar.specs.Told.{Told}
 use Rattle.log_grammar.specs.Places.{Place}
 use Rattle.log_grammar.specs.Demands.{Accounts, demands}
-use Rattle.log_grammar.specs.laws.Steps.{told_at}
+use Rattle.log_grammar.specs.state_machine.Steps.{told_at}
 use Rattle.log_grammar.specs.Why.{LineClass}
 use Rattle.log_grammar.specs.Numbered.{Numbered, numbered, of_number, begun, closed_in, SpellsNumbered}
-use Rattle.log_grammar.specs.NumberedClasses.{IsNumberClassDue, IsNumberDueAt}
-use Rattle.log_grammar.specs.laws.NumberedCounts.{is_closed, open_up_to}
-use Rattle.log_grammar.specs.laws.NumberedSteps.{put, GoesNumbered, StoodNumbered}
+use Rattle.log_grammar.specs.NumberedClasses.{IsNumberClassDue}
+use Rattle.log_grammar.specs.state_machine.NumberedDueClasses.{IsNumberDueAt}
+use Rattle.log_grammar.specs.state_machine.OpenNumbers.{is_closed, open_up_to}
+use Rattle.log_grammar.specs.state_machine.NumberedSteps.{put, GoesNumbered, StoodNumbered}
 
 -- where a number may have a line, the log goes on with it, and no other number's place changes
 abbrev pub GoesOnByANumberedLine : Type 0

@@ -5,7 +5,7 @@ use Rattle.std.specs.Str.{byte}
 use Rattle.log_grammar.specs.Bytes.{LacksLf}
 use Rattle.log_grammar.specs.Lines.{LogLine, log_text, IsLogLine}
 use Rattle.log_grammar.specs.Numbered.{Numbered, numbered}
-use Rattle.log_grammar.specs.NumberedLines.{IsSessionNumber, HasNumber, numbered_text, IsNumberedLine, IsNoNumberedLine}
+use Rattle.log_grammar.specs.NumberedLines.{IsSessionNumber, HasNumber, numbered_text, longest_numbered_line, IsNumberedLine, IsNoNumberedLine}
 
 -- each text is one numbered line or none
 abbrev pub IsOneNumberedLineOrNone : Type 0
@@ -17,11 +17,11 @@ abbrev pub UnnumberedLinesAreNone : Type 0
 UnnumberedLinesAreNone = (text : List ℕ) (line : LogLine) → IsLogLine text line → IsNoNumberedLine text
 
 -- the text of a number in its range and of a line that may have one and can be written is read as this numbered line and
--- as no other, has no LF, and has at most 6222 bytes
+-- as no other, has no LF, and is not too long
 abbrev pub WrittenNumberedLinesAreRead : Type 0
 WrittenNumberedLinesAreRead = (x : Numbered LogLine) → IsSessionNumber x.number → HasNumber x.value → IsLogLine (log_text x.value) x.value
     → IsNumberedLine (numbered_text x) x × ((other : Numbered LogLine) → IsNumberedLine (numbered_text x) other → other ≡ x)
-    × LacksLf (numbered_text x) × (length (numbered_text x) ≤ 6222)
+    × LacksLf (numbered_text x) × (length (numbered_text x) ≤ longest_numbered_line)
 
 -- a number in its range, a space and a text are a numbered line exactly where the text is a line that may have a number;
 -- they have this number

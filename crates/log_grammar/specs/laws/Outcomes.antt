@@ -12,7 +12,7 @@ use Rattle.log_grammar.specs.Told.{Told, told_of}
 use Rattle.log_grammar.specs.Places.{Place, between, offered, asks_bare, waits_first, got_first, waits_final, got_final, waits_code, got_code, leaving, over, halted}
 use Rattle.log_grammar.specs.Demands.{Accounts, NamesMechanism, IsFirstOf, IsChallenged, IsVerdict, IsReplyDue, demands}
 use Rattle.log_grammar.specs.Clean.{Begins}
-use Rattle.log_grammar.specs.laws.Logins.{IsLoginTo}
+use Rattle.log_grammar.specs.laws.Logins.{IsLoginTo, exchange_of}
 
 -- the first lines of what a log may begin with are such lines too, and what was told in them comes first: so each
 -- law of a log's last line holds for every line of it
@@ -75,7 +75,7 @@ IsRefusalDue accounts log text told =
     ⊎ (((mechanism : List ℕ) × (name : List ℕ) × (client_first : List ℕ) × (server_first : List ℕ) × (client_final : List ℕ)
     × Begins (demands accounts) log (got_final mechanism name client_first server_first client_final) told
     × ((why : Refusal) × IsVerdict accounts mechanism name client_first server_first client_final (refuse why) × (text ≡ due_text (refuse why)))
-    × ((server_final : List ℕ) → IsLoginTo accounts mechanism name client_first server_first client_final server_final → ⊥))
+    × ((server_final : List ℕ) → IsLoginTo accounts mechanism name (exchange_of client_first server_first client_final server_final) → ⊥))
     ⊎ (Begins (demands accounts) log leaving told × (text ≡ []))))
 
 -- `S NO` may stand exactly where it is the refusal that is due

@@ -16,8 +16,7 @@ use Rattle.log_grammar.specs.Demands.{Accounts, AreFit, IsReplyBy}
 use Rattle.log_grammar.specs.Why.{Why, is_cut, no_line, out_of_order, other_mechs, other_challenge, other_outcome, other_reply, accepted, refused_with}
 use Rattle.log_grammar.specs.Kinds.{IsWhyOf}
 use Rattle.log_grammar.specs.KindOne.{one}
-use Rattle.log_grammar.specs.Versions.{IsWhy}
-use Rattle.log_grammar.specs.laws.Headline.{BeginsClean}
+use Rattle.log_grammar.specs.Versions.{IsWhy, BeginsClean}
 
 -- the line says what a reason names as due: the names of the two mechanisms; a challenge; an `S OK` with the signature,
 -- or the `S NO` with the message; the reply, at the moment of the line at fault

@@ -11,13 +11,14 @@ use Rattle.otp_core.specs.declared.token.kinds.Fields.{Fields}
 use Rattle.otp_core.specs.declared.token.kinds.Fields.TheVariants.{Hotp}
 use Rattle.otp_core.specs.declared.token.kinds.HotpFields.{HotpFields}
 use Rattle.log_grammar.specs.Words.{IsCounter}
-use Rattle.log_grammar.specs.Lines.{LogLine, said, heard, gone, ended, replies, code, sync, log_bytes}
+use Rattle.log_grammar.specs.Lines.{LogLine, said, heard, gone, ended, replies, code, sync}
 use Rattle.log_grammar.specs.Told.{Told}
 use Rattle.log_grammar.specs.Places.{Place, waits_code, got_code}
 use Rattle.log_grammar.specs.Demands.{Accounts, attempts_of, demands}
 use Rattle.log_grammar.specs.Clean.{Begins}
 use Rattle.log_grammar.specs.Versions.{IsClean}
-use Rattle.log_grammar.specs.laws.Logins.{IsLoginTo, login_log}
+use Rattle.log_grammar.specs.Upgrades.{original_text}
+use Rattle.log_grammar.specs.laws.Logins.{Exchange, IsLoginTo, login_session}
 
 -- the line that lets a code, or two in a row, pass
 abbrev pub passes : (moment counter : ℕ) → LogLine
@@ -61,11 +62,11 @@ NoCounterIsUsedTwice = (accounts : Accounts) (log : List LogLine) (place : Place
 -- after a valid login, the code of the next counter of an account's HOTP token passes, where failures do not lock it
 -- and the counter is not used up
 abbrev pub NextHotpCodePasses : Type 0
-NextHotpCodePasses = (accounts : Accounts) (mechanism name client_first server_first client_final server_final : List ℕ) (moment : ℕ) (t : HotpFields)
-    → IsLoginTo accounts mechanism name client_first server_first client_final server_final → IsMoment moment → accounts.token name ≡ Some (Hotp t)
+NextHotpCodePasses = (accounts : Accounts) (mechanism name : List ℕ) (exchange : Exchange) (moment : ℕ) (t : HotpFields)
+    → IsLoginTo accounts mechanism name exchange → IsMoment moment → accounts.token name ≡ Some (Hotp t)
     → t.failures < t.limit → IsDigitCount t.digits → IsCounter t.next
     → let text = code_text (Hotp t) t.next in
-    IsClean accounts (log_bytes (login_log mechanism client_first server_first client_final server_final ++ heard (code text) ∷ passes moment t.next ∷ gone ∷ ended ∷ []))
+    IsClean accounts (original_text (login_session mechanism exchange ++ heard (code text) ∷ passes moment t.next ∷ gone ∷ ended ∷ []))
 
 -- the line with two codes in a row: those of the next counter of a HOTP token and of the one after it
 abbrev pub next_two : HotpFields → LogLine
@@ -74,7 +75,7 @@ next_two t = heard (sync (code_text (Hotp t) t.next) (code_text (Hotp t) (t.next
 -- after a valid login, the next two codes in a row of an account's HOTP token pass by the counter of the second, where
 -- failures do not lock it and neither counter is used up
 abbrev pub NextTwoHotpCodesPass : Type 0
-NextTwoHotpCodesPass = (accounts : Accounts) (mechanism name client_first server_first client_final server_final : List ℕ) (moment : ℕ) (t : HotpFields)
-    → IsLoginTo accounts mechanism name client_first server_first client_final server_final → IsMoment moment → accounts.token name ≡ Some (Hotp t)
+NextTwoHotpCodesPass = (accounts : Accounts) (mechanism name : List ℕ) (exchange : Exchange) (moment : ℕ) (t : HotpFields)
+    → IsLoginTo accounts mechanism name exchange → IsMoment moment → accounts.token name ≡ Some (Hotp t)
     → t.failures < t.limit → IsDigitCount t.digits → IsCounter (t.next + 1)
-    → IsClean accounts (log_bytes (login_log mechanism client_first server_first client_final server_final ++ next_two t ∷ passes moment (t.next + 1) ∷ gone ∷ ended ∷ []))
+    → IsClean accounts (original_text (login_session mechanism exchange ++ next_two t ∷ passes moment (t.next + 1) ∷ gone ∷ ended ∷ []))

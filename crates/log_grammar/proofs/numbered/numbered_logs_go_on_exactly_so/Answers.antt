@@ -3,9 +3,9 @@ use Rattle.log_grammar.specs.Lines.{LogLine}
 use Rattle.log_grammar.specs.Told.{Told}
 use Rattle.log_grammar.specs.Places.{Place}
 use Rattle.log_grammar.specs.Demands.{Accounts, Demands, demands}
-use Rattle.log_grammar.specs.laws.Steps.{told_at}
+use Rattle.log_grammar.specs.state_machine.Steps.{told_at}
 use Rattle.log_grammar.specs.Numbered.{Numbered, numbered, SpellsNumbered}
-use Rattle.log_grammar.specs.laws.NumberedSteps.{put, GoesNumbered, StoodNumbered}
+use Rattle.log_grammar.specs.state_machine.NumberedSteps.{put, GoesNumbered, StoodNumbered}
 use Rattle.log_grammar.specs.laws.NumberedLaws.{GoesOnByANumberedLine}
 use Rattle.log_grammar.proofs.NumberedReadings.{goes_moved}
 use Rattle.log_grammar.proofs.Owns.{at_each, put_here, put_other}
