@@ -8,7 +8,7 @@ use Rattle.std.specs.BTreeMap.{insert_entry}
 use Rattle.std.specs.Option.{ForSome}
 use Rattle.std.specs.Map.{lookup, remove_entry, set_value}
 use Rattle.std.specs.Ordering.{match_ordering}
-use Rattle.book_format.specs.Account.{AccountFields, IsAccount}
+use Rattle.book_format.specs.Account.{AccountFields, IsAccount, most_names}
 use Rattle.otp_core.specs.declared.token.kinds.Fields.{Fields}
 use Rattle.book_format.specs.Book.{AreAccounts}
 use Rattle.account_book.specs.Accounts.{with_act_as}
@@ -71,7 +71,7 @@ all_inserted (Err fault) cmp es new name account e f h k = subst AreAccounts (sy
 pub token_put : (token : Fields) (account : AccountFields) → IsAccount account → IsAccount (with_token token account)
 token_put token account h = record { sha1 = h.sha1; sha256 = h.sha256; names = h.names }
 
-pub act_as_set : (names : List (List ℕ)) (account : AccountFields) → length names ≤ 16 → IsAccount account
+pub act_as_set : (names : List (List ℕ)) (account : AccountFields) → length names ≤ most_names → IsAccount account
     → IsAccount (with_act_as names account)
 act_as_set names account few h = record { sha1 = h.sha1; sha256 = h.sha256; names = few }
 

@@ -23,20 +23,20 @@ with_token token account = record account { token = Some token }
 -- what an attempt on the token of the account of this name does: for every start and history that lead to the
 -- token, the reply is the one due after them, and with this attempt added they lead to the token that the
 -- account has afterwards
-pub record IsAttempt (old : BookFields) (name : List ℕ) (token : Fields) (moment : ℕ) (said : CodeTexts) (reply : Reply)
+pub record IsAttempt (old : BookFields) (name : List ℕ) (token : Fields) (moment : ℕ) (sent : CodeTexts) (reply : Reply)
     (new : BookFields) : Type 0 where
-  pub due : (start : Fields) (history : List Attempt) → IsAfter start history token → IsDueReply start history moment said reply
+  pub due : (start : Fields) (history : List Attempt) → IsAfter start history token → IsDueReply start history moment sent reply
   pub after : (start : Fields) (history : List Attempt) → IsAfter start history token
-      → IsAfter start (attempt_of moment said reply ∷ history) (advanced token moment reply)
+      → IsAfter start (attempt_of moment sent reply ∷ history) (advanced token moment reply)
   pub kept : IsChanged old name (with_token (advanced token moment reply)) new
 
 -- what comes of an attempt on the account of this name: a reply, where it has a token; where there is no account of the
 -- name or it has no token, no reply and no change
 abbrev pub IsAnswered : BookFields → List ℕ → ℕ → CodeTexts → Option Reply → BookFields → Type 0
-IsAnswered old name moment said answer new =
+IsAnswered old name moment sent answer new =
     MatchOption (token_at old name)
     ((answer ≡ None) × (new ≡ old))
-    (λ token. (reply : Reply) × (answer ≡ Some reply) × IsAttempt old name token moment said reply new)
+    (λ token. (reply : Reply) × (answer ≡ Some reply) × IsAttempt old name token moment sent reply new)
 
 -- the token of this name's account has no failures any more, and nothing else changes; where there is no account of the name
 -- or it has no token, nothing does

@@ -1,7 +1,7 @@
 //! An account book: accounts by their names, and what decoys are made from.
 ghost use Rattle.std.specs.Prelude.{◌≡◌, ◌≤◌, [], length, is_some, option_copied, IfSome};
 ghost use Rattle.std.specs.FinMap as map;
-ghost use Rattle.book_format.specs.Account.{IsAccount};
+ghost use Rattle.book_format.specs.Account.{IsAccount, most_names};
 ghost use Rattle.book_format.specs.Book.{IsBook};
 ghost use Rattle.account_book.specs.Accounts.{account_at, accounts_of, with_act_as, IsChanged, IsRemoved};
 
@@ -78,7 +78,7 @@ impl Book {
     /// Lets the account of this name act as these names, at most 16, and no others except its own. Returns
     /// whether there is such an account; else nothing changes.
     pub fn set_act_as(&mut self, name: &PlainName, act_as: Vec<PlainName>) -> bool
-        requires { length act_as.items ≤ 16 }
+        requires { length act_as.items ≤ most_names }
         ensures found { result ≡ is_some (account_at self.old name.now) }
         ensures set { IsChanged self.old name.now (with_act_as act_as.items) self.new }
     {

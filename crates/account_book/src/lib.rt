@@ -2,9 +2,9 @@
 //! where the book's text is kept.
 //!
 //! `Book::read` and `Book::write` read and write its text, `Book::enrol` adds an account, `Book::view`
-//! shows what a SCRAM server keeps of a name, `Book::attempt` judges a code, and `Book::sync` two in a
-//! row. A name without keys is seen as a decoy. Each call's contract says which account changes and how;
-//! every other stays as it was.
+//! shows what a SCRAM server keeps of a name, `Book::attempt` judges a code, `Book::sync` two in a
+//! row, and `Book::judge` either. A name without keys is seen as a decoy. Each call's contract says
+//! which account changes and how; every other stays as it was.
 //!
 //! ```rust
 //! use account_book::Book;

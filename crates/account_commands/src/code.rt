@@ -11,7 +11,7 @@ use clap::ArgMatches;
 use command_line::value::OptionName;
 use command_line::{Fault, value};
 use command_words::{given, optional};
-use otp_core::{Code, Digits, MOST_COUNTER, MOST_STEP, OtpHash, Secret, step};
+use otp_core::{Code, Digits, LONGEST_STEP, MOST_COUNTER, OtpHash, Secret, step};
 use std::alloc::Global;
 use std::io::Write;
 
@@ -50,7 +50,7 @@ fn judge(words: &ArgMatches<'_>) -> Result<MovingFactor, Fault>
         OptionName::Step,
         given(words, OptionName::Step),
         1,
-        MOST_STEP,
+        LONGEST_STEP,
     )?;
     match (counter, moment) {
         (Some(counter), _) => Ok(MovingFactor::Counter(counter)),

@@ -4,7 +4,7 @@ ghost use Rattle.book_format.specs.Reading.{IsFirstFault};
 ghost use Rattle.book_format.specs.Trees.{IsBookText};
 ghost use Rattle.book_format.specs.declared.fault.BookFault.{BookFault};
 ghost use Rattle.account_book.specs.Accounts.{account_at};
-ghost use Rattle.account_book.specs.Tokens.{IsAnswered, token_at};
+ghost use Rattle.account_book.specs.Tokens.{token_at};
 ghost use Rattle.book_file.specs.Text.{IsRead};
 ghost use Rattle.otp_core.specs.Sent.{texts_of};
 ghost use Rattle.command_line.specs.Fault.{IsTokenFault, IsUnwritten, of_book};
@@ -282,7 +282,7 @@ impl<'a, S: BookStore> HeldBook<'a, S> {
             (held_shown S.facts self.new)) }
     {
         self.check_token(name)?;
-        let Some(reply) = judged(&mut self.book, name, moment, sent) else {
+        let Some(reply) = self.book.judge(name, moment, sent) else {
             return Err(Fault::NoToken);
         };
         if reply != Reply::Locked {
@@ -325,15 +325,5 @@ impl<'a, S: BookStore> HeldBook<'a, S> {
             Ok(()) => Ok(()),
             Err(_) => Err(Fault::CannotWrite(file)),
         }
-    }
-}
-
-// Judges what was sent by the token of the account of this name, where it has one.
-fn judged(book: &mut Book, name: &PlainName, moment: Moment, sent: Sent<'_>) -> Option<Reply>
-    ensures { IsAnswered book.old name.now moment (texts_of sent.entry) result book.new }
-{
-    match sent {
-        Sent::One(text) => book.attempt(name, moment, text),
-        Sent::Two(first, second) => book.sync(name, moment, first, second),
     }
 }

@@ -3,8 +3,7 @@ ghost use Rattle.std.specs.Prelude.{◌≤◌};
 
 use otp_core::{Moment, OtpHash};
 
-/// A moment of TOTP, and how its steps are counted
-/// (RFC 6238, section 4).
+/// A moment of TOTP, and how its steps are counted (RFC 6238, section 4).
 #[derive(Drop)]
 pub struct Steps {
     /// The hash function.

@@ -10,6 +10,7 @@ use Rattle.scram_text.specs.Class.{IsPlainName, is_plain}
 use Rattle.otp_core.specs.Hash.{hash_name}
 use Rattle.otp_core.specs.declared.hash.OtpHash.{OtpHash}
 use Rattle.otp_core.specs.declared.hash.OtpHash.TheVariants.{Sha1, Sha256, Sha512}
+use Rattle.book_format.specs.Account.{most_names}
 use Rattle.book_format.specs.Kinds.{kind, such, number_in, signed_in, decoded, bytes_in, text_in, hash_in, are_texts, item_count, plain_name_of, names_in, names_of, name_list_in, AreNames, IsNameList, name_list}
 use Rattle.book_format.specs.Rows.{demand}
 use Rattle.book_format.specs.declared.fault.BookWhy.{BookWhy}
@@ -138,10 +139,10 @@ list_found : (list : Items) (names : List (List ℕ)) → names_of list ≡ Ok n
 unfolding names_of
 list_found list names h =
     let (u, typed, h0) = bind_ok (demand (are_texts list) Key) _ names h in
-    let (v, few, h1) = bind_ok (demand (nat_le (item_count list) 16) Name) _ names h0 in
+    let (v, few, h1) = bind_ok (demand (nat_le (item_count list) most_names) Name) _ names h0 in
     let (same, plain) = names_found list names h1 in
     let count : item_count list ≡ length names = ap item_count same ∙ count_again names in
-    let most : item_count list ≤ 16 = at_most (item_count list) 16 (demand_ok _ Name v few) in
+    let most : item_count list ≤ most_names = at_most (item_count list) most_names (demand_ok _ Name v few) in
     record { there = ap array same; plain = plain; few = omega (arith, count, most) }
   where
     at_most : (n most : ℕ) → nat_le n most ≡ true → n ≤ most
@@ -155,7 +156,7 @@ name_list_found d names h = absurd (cc h)
 name_list_held : (d : Data) (names : List (List ℕ)) → IsNameList d names → name_list_in d ≡ Ok names
 unfolding name_list_in names_of
 name_list_held d names h =
-    rw (h.there, texts_again names, count_again names, le-leb (length names) 16 h.few, names_held names h.plain) refl
+    rw (h.there, texts_again names, count_again names, le-leb (length names) most_names h.few, names_held names h.plain) refl
 
 pub name_list_sound : IsSoundKind name_list
 name_list_sound = record { found = name_list_found; held = name_list_held }

@@ -4,6 +4,7 @@ use Rattle.std.proofs.lemmas.Bool.Decides.{nat_tests}
 use Rattle.toml.specs.Data.{Items}
 use Rattle.toml.specs.View.{items_view}
 use Rattle.toml.specs.declared.value.Value.{Value}
+use Rattle.book_format.specs.Account.{most_names}
 use Rattle.book_format.specs.Kinds.{are_texts, item_count, names_in, names_of}
 use Rattle.book_format.specs.Rows.{◌>>=◌}
 use Rattle.book_format.specs.declared.fault.BookWhy.TheVariants.{Key, Name}
@@ -24,13 +25,13 @@ pub names_of-untyped : (list : Items) → are_texts list ≡ false → names_of 
 unfolding names_of
 names_of-untyped list untyped = rw untyped refl
 
-pub names_of-many : (list : Items) → are_texts list ≡ true → 16 < item_count list → names_of list ≡ Err Name
+pub names_of-many : (list : Items) → are_texts list ≡ true → most_names < item_count list → names_of list ≡ Err Name
 unfolding names_of
 names_of-many list typed many = rw (typed, too_many (item_count list) many) refl
   where
-    too_many : (n : ℕ) → 16 < n → nat_le n 16 ≡ false
+    too_many : (n : ℕ) → most_names < n → nat_le n most_names ≡ false
     too_many n h = grind (arith, nat_tests)
 
-pub names_of-few : (list : Items) → are_texts list ≡ true → item_count list ≤ 16 → names_of list ≡ names_in list
+pub names_of-few : (list : Items) → are_texts list ≡ true → item_count list ≤ most_names → names_of list ≡ names_in list
 unfolding names_of
-names_of-few list typed few = rw (typed, le-leb (item_count list) 16 few) refl
+names_of-few list typed few = rw (typed, le-leb (item_count list) most_names few) refl

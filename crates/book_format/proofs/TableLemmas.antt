@@ -11,7 +11,7 @@ use Rattle.scram_text.specs.Class.{IsPlainName}
 use Rattle.scram_text.specs.Parts.{most_count}
 use Rattle.otp_core.specs.declared.token.kinds.Fields.{Fields}
 use Rattle.otp_core.specs.declared.token.kinds.Fields.TheVariants.{Hotp, Totp}
-use Rattle.book_format.specs.Account.{AccountFields, AreKeys, IsAccount}
+use Rattle.book_format.specs.Account.{AccountFields, AreKeys, IsAccount, most_names}
 use Rattle.book_format.specs.Book.{BookFields, AreAccounts, IsBook}
 use Rattle.book_format.specs.Kinds.{text_in, plain_name_of, name_list}
 use Rattle.book_format.specs.Reading.{named_account_of, in_account, at_top, accounts_from, accounts_of_table, is_one, top_of, book_of}
@@ -198,7 +198,7 @@ option_in_range len key (Some held) ms h keys is = subst (λ k. AreKeys len k) (
     some_same : (a b : MechKeys) → Some a ≡ Some b → a ≡ b
     some_same a b h = cc h
 
-names_in_range : (names : List (List ℕ)) (key : List ℕ) (ms : Members) → ((get_member key ms ≡ None) × (names ≡ [])) ⊎ HasAt key name_list ms names → length names ≤ 16
+names_in_range : (names : List (List ℕ)) (key : List ℕ) (ms : Members) → ((get_member key ms ≡ None) × (names ≡ [])) ⊎ HasAt key name_list ms names → length names ≤ most_names
 names_in_range names key ms (inl h) = rw h.1 (omega arith)
 names_in_range names key ms (inr h) = h.2.few
 

@@ -5,7 +5,7 @@ use Rattle.toml.specs.Data.{integer, Members, no_members, get_member}
 use Rattle.scram_text.specs.Class.{IsPlainName}
 use Rattle.scram_text.specs.Parts.{most_count}
 use Rattle.otp_core.specs.Secret.{IsSecretLength}
-use Rattle.otp_core.specs.Ranges.{IsDigitCount, IsMoment, last_moment, most_counter}
+use Rattle.otp_core.specs.Ranges.{IsDigitCount, IsMoment, least_secret, most_secret, least_digits, most_digits, last_moment, most_counter, most_look_ahead, most_sync_ahead, longest_step, most_steps, most_drift, most_limit}
 use Rattle.otp_core.specs.Settings.{IsHotpInRange, IsTotpInRange}
 use Rattle.otp_core.specs.declared.token.kinds.HotpFields.{HotpFields}
 use Rattle.otp_core.specs.declared.token.kinds.TotpFields.{TotpFields}
@@ -68,25 +68,25 @@ mech_writes_itself len m fits salt stored server =
 
 pub hotp_writes_itself : (t : HotpFields) → IsHotpInRange t → IsSecretLength (length t.secret) → IsDigitCount t.digits → ComesBack t.secret
     → WritesItself (in_table hotp) t
-hotp_writes_itself t fits secret digits back = (
+hotp_writes_itself t (next, (look_ahead, (sync_ahead, (limit, (failures, end))))) secret digits back = (
   _,
   refl,
   writes_itself hotp t refl refl (λ ms at.
       let rows = at.1 in (
         (at.0, tt),
         (
-          (_, rows.0, bytes_again Token 10 64 t.secret back secret.0 secret.1),
+          (_, rows.0, bytes_again Token least_secret most_secret t.secret back secret.0 secret.1),
           (
-            (_, rows.1.0, number_again Token 6 8 t.digits digits.0 digits.1),
+            (_, rows.1.0, number_again Token least_digits most_digits t.digits digits.0 digits.1),
             (
-              (_, rows.1.1.0, number_again Token 0 _ t.next (omega arith) fits.next),
+              (_, rows.1.1.0, number_again Token 0 _ t.next (omega arith) next),
               (
-                (_, rows.1.1.1.0, number_again Token 0 100 t.look_ahead (omega arith) fits.look_ahead),
+                (_, rows.1.1.1.0, number_again Token 0 most_look_ahead t.look_ahead (omega arith) look_ahead),
                 (
-                  inr (_, rows.1.1.1.1.0, number_again Token 0 1000 t.sync_ahead (omega arith) fits.sync_ahead),
+                  inr (_, rows.1.1.1.1.0, number_again Token 0 most_sync_ahead t.sync_ahead (omega arith) sync_ahead),
                   (
-                    (_, rows.1.1.1.1.1.0, number_again Token 1 100 t.limit fits.some_limit fits.limit),
-                    ((_, rows.1.1.1.1.1.1.0, bound_again (codes "limit") ms t.limit t.failures rows.1.1.1.1.1.0 fits.failures), tt),
+                    (_, rows.1.1.1.1.1.0, number_again Token 1 most_limit t.limit limit.0 limit.1),
+                    ((_, rows.1.1.1.1.1.1.0, bound_again (codes "limit") ms t.limit t.failures rows.1.1.1.1.1.0 failures), tt),
                   ),
                 ),
               ),
@@ -102,7 +102,7 @@ last_writes_itself ms last there few = some_writes_itself (number Token 0 most_c
 
 pub totp_writes_itself : (t : TotpFields) → IsTotpInRange t → IsSecretLength (length t.secret) → IsDigitCount t.digits → IsMoment t.t0 → ComesBack t.secret
     → WritesItself (in_table totp) t
-totp_writes_itself t fits secret digits t0 back = (
+totp_writes_itself t (step, (back, (ahead, (max_drift, (last, (drift, (limit, (failures, end)))))))) secret digits t0 hex = (
   _,
   refl,
   writes_itself totp t refl refl (λ ms at.
@@ -112,26 +112,26 @@ totp_writes_itself t fits secret digits t0 back = (
         (
           (_, first.0, hash_again t.hash),
           (
-            (_, first.1.0, bytes_again Token 10 64 t.secret back secret.0 secret.1),
+            (_, first.1.0, bytes_again Token least_secret most_secret t.secret hex secret.0 secret.1),
             (
-              (_, first.1.1.0, number_again Token 6 8 t.digits digits.0 digits.1),
+              (_, first.1.1.0, number_again Token least_digits most_digits t.digits digits.0 digits.1),
               (
                 (_, first.1.1.1.0, number_again Token 0 last_moment t.t0 (omega arith) t0),
                 (
-                  (_, first.1.1.1.1.0, number_again Token 1 3600 t.step fits.some_step fits.step),
+                  (_, first.1.1.1.1.0, number_again Token 1 longest_step t.step step.0 step.1),
                   (
-                    (_, first.1.1.1.1.1.0, number_again Token 0 10 t.back (omega arith) fits.back),
+                    (_, first.1.1.1.1.1.0, number_again Token 0 most_steps t.back (omega arith) back),
                     (
-                      (_, first.1.1.1.1.1.1.0, number_again Token 0 10 t.ahead (omega arith) fits.ahead),
+                      (_, first.1.1.1.1.1.1.0, number_again Token 0 most_steps t.ahead (omega arith) ahead),
                       (
-                        (_, then.0, number_again Token 0 100 t.max_drift (omega arith) fits.max_drift),
+                        (_, then.0, number_again Token 0 most_drift t.max_drift (omega arith) max_drift),
                         (
-                          last_writes_itself ms t.last then.1.0 fits.last,
+                          last_writes_itself ms t.last then.1.0 last,
                           (
-                            (_, then.1.1.0, sides_again (codes "max_drift") ms t.max_drift t.drift then.0 fits.drift),
+                            (_, then.1.1.0, sides_again (codes "max_drift") ms t.max_drift t.drift then.0 drift),
                             (
-                              (_, then.1.1.1.0, number_again Token 1 100 t.limit fits.some_limit fits.limit),
-                              ((_, then.1.1.1.1.0, bound_again (codes "limit") ms t.limit t.failures then.1.1.1.0 fits.failures), tt),
+                              (_, then.1.1.1.0, number_again Token 1 most_limit t.limit limit.0 limit.1),
+                              ((_, then.1.1.1.1.0, bound_again (codes "limit") ms t.limit t.failures then.1.1.1.0 failures), tt),
                             ),
                           ),
                         ),

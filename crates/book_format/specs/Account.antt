@@ -7,6 +7,10 @@ use Rattle.scram_text.specs.Parts.{IsCount}
 use Rattle.book_format.specs.declared.account.MechKeys.{MechKeys}
 use Rattle.otp_core.specs.declared.token.kinds.Fields.{Fields}
 
+-- the most other names that an account may act as
+abbrev pub most_names : ℕ
+most_names = 16
+
 -- an account: the keys of each mechanism, the other names that it may act as, and its token
 pub record AccountFields : Type 0 where
   pub sha1 : Option MechKeys
@@ -27,4 +31,4 @@ pub record AreKeys (len : ℕ) (keys : MechKeys) : Type 0 where
 pub record IsAccount (account : AccountFields) : Type 0 where
   pub sha1 : ForSome account.sha1 (AreKeys 20)
   pub sha256 : ForSome account.sha256 (AreKeys 32)
-  pub names : length account.act_as ≤ 16
+  pub names : length account.act_as ≤ most_names

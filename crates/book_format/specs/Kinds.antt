@@ -8,6 +8,7 @@ use Rattle.toml.specs.View.{items_of}
 use Rattle.scram_text.specs.Class.{is_plain, IsPlainName}
 use Rattle.otp_core.specs.Hash.{hash_name, hash_named}
 use Rattle.otp_core.specs.declared.hash.OtpHash.{OtpHash}
+use Rattle.book_format.specs.Account.{most_names}
 use Rattle.book_format.specs.Rows.{◌>>=◌, demand, table_of, Kind}
 use Rattle.book_format.specs.declared.fault.BookWhy.{BookWhy}
 use Rattle.book_format.specs.declared.fault.BookWhy.TheVariants.{Key, Name, Token}
@@ -88,14 +89,14 @@ names_in (item d ds) = do
   names ← names_in ds
   Ok (name ∷ names)
 
--- at most 16 names: all types before any value
+-- at most so many names as an account may act as: all types before any value
 unfoldable pub names_of : Items → Result (List (List ℕ)) BookWhy
 names_of list = do
   typed ← demand (are_texts list) Key
-  few ← demand (nat_le (item_count list) 16) Name
+  few ← demand (nat_le (item_count list) most_names) Name
   names_in list
 
--- the list of at most 16 names
+-- the list of the names that an account may act as
 unfoldable pub name_list_in : Data → Result (List (List ℕ)) BookWhy
 name_list_in (array list) = names_of list
 name_list_in d = Err Key
@@ -108,13 +109,13 @@ AreNames names = AllByRecursion IsPlainName names
 abbrev pub names_tree : List (List ℕ) → Data
 names_tree names = array (items_of (map string names))
 
--- a list of at most 16 names
+-- a list of names that an account may act as
 pub record IsNameList (d : Data) (names : List (List ℕ)) : Type 0 where
   pub there : d ≡ names_tree names
   pub plain : AreNames names
-  pub few : length names ≤ 16
+  pub few : length names ≤ most_names
 
--- lists of at most 16 names
+-- lists of names that an account may act as
 abbrev pub name_list : Kind (List (List ℕ))
 name_list = record { Is = IsNameList; read = name_list_in; write = names_tree }
 

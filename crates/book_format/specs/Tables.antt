@@ -4,7 +4,7 @@ use Rattle.std.specs.Prelude.{ℕ, ◌+◌, pos, List, [], ◌∷◌, codes, if�
 use Rattle.std.specs.Str.{bytes_eq}
 use Rattle.toml.specs.Data.{Data, string, integer, table, Members, get_member}
 use Rattle.scram_text.specs.Parts.{most_count}
-use Rattle.otp_core.specs.Ranges.{last_moment, most_counter, most_look_ahead, most_sync_ahead, most_step, most_steps, most_drift, most_limit}
+use Rattle.otp_core.specs.Ranges.{least_secret, most_secret, least_digits, most_digits, last_moment, most_counter, most_look_ahead, most_sync_ahead, longest_step, most_steps, most_drift, most_limit}
 use Rattle.otp_core.specs.declared.token.kinds.Fields.{Fields}
 use Rattle.otp_core.specs.declared.token.kinds.Fields.TheVariants.{Hotp, Totp}
 use Rattle.otp_core.specs.declared.token.kinds.HotpFields.{HotpFields}
@@ -35,8 +35,8 @@ abbrev pub hotp : Table HotpFields
 hotp = record {
   marks = (codes "kind", string (codes "hotp")) ∷ [];
   rows =
-      row "secret" (bytes Token 10 64) (λ t. t.secret)
-      ∷ row "digits" (number Token 6 8) (λ t. t.digits)
+      row "secret" (bytes Token least_secret most_secret) (λ t. t.secret)
+      ∷ row "digits" (number Token least_digits most_digits) (λ t. t.digits)
       ∷ row "next" (number Token 0 (most_counter + 1)) (λ t. t.next)
       ∷ row "look_ahead" (number Token 0 most_look_ahead) (λ t. t.look_ahead)
       ∷ row_or 0 "sync_ahead" (number Token 0 most_sync_ahead) (λ t. t.sync_ahead)
@@ -60,10 +60,10 @@ totp = record {
   marks = (codes "kind", string (codes "totp")) ∷ [];
   rows =
       row "hash" hash (λ t. t.hash)
-      ∷ row "secret" (bytes Token 10 64) (λ t. t.secret)
-      ∷ row "digits" (number Token 6 8) (λ t. t.digits)
+      ∷ row "secret" (bytes Token least_secret most_secret) (λ t. t.secret)
+      ∷ row "digits" (number Token least_digits most_digits) (λ t. t.digits)
       ∷ row "t0" (number Token 0 last_moment) (λ t. t.t0)
-      ∷ row "step" (number Token 1 most_step) (λ t. t.step)
+      ∷ row "step" (number Token 1 longest_step) (λ t. t.step)
       ∷ row "back" (number Token 0 most_steps) (λ t. t.back)
       ∷ row "ahead" (number Token 0 most_steps) (λ t. t.ahead)
       ∷ row "max_drift" (number Token 0 most_drift) (λ t. t.max_drift)

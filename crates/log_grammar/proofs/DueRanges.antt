@@ -20,7 +20,7 @@ counter_in_range (Hotp t) attempts moment (TwoTexts first second) (Pass c) range
     omega (arith, due.1.1, due.1.2.1)
 counter_in_range (Totp t) attempts moment (OneText text) (Pass w) range at due =
     let step = div-le_self (moment - t.t0) t.step in
-    omega (arith, step, due.1.0.1.not_late, range.max_drift, at)
+    omega (arith, step, due.1.0.1.not_late, range.1.1.1.0, at)
 counter_in_range (Totp t) attempts moment (TwoTexts first second) (Pass c) range at due = absurd due.1.2
 counter_in_range token attempts moment sent Fail range at due = tt
 counter_in_range token attempts moment sent Locked range at due = tt

@@ -68,8 +68,8 @@ decided_pair : (s : Fields) (h : List Attempt) (w : ℕ) → Decided (IsPairCand
 decided_pair (Hotp t) h w = decided_both _ _ (decided_counter (first_in_window t.next (used_in h)) t.sync_ahead w) (decided_le (w + 1) most_counter)
 decided_pair (Totp t) h w = inr (λ pair. pair)
 
--- whether a counter fits what was said is decided
-decided_fitting : (s : Fields) (h : List Attempt) (m : ℕ) (said : CodeTexts) (c : ℕ) → Decided (IsFitting s h m said c)
+-- whether a counter fits what was sent is decided
+decided_fitting : (s : Fields) (h : List Attempt) (m : ℕ) (sent : CodeTexts) (c : ℕ) → Decided (IsFitting s h m sent c)
 decided_fitting s h m (CodeTexts.OneText text) c =
     decided_both _ _ (decided_candidate s h m c) (decided_same (code_text s c) text)
 decided_fitting s h m (CodeTexts.TwoTexts first second) zero = inr (λ fits. let wrong : zero ≡ fits.0 + 1 = fits.1 in omega arith)
@@ -100,10 +100,10 @@ least P decided (suc n) = elim (least P decided n) [
 ]
 
 -- the reply, where the counters that fit are below a bound
-due_below : (s : Fields) (h : List Attempt) (m : ℕ) (said : CodeTexts) (n : ℕ)
-    → ((k : ℕ) → IsFitting s h m said k → k < n) → (reply : Reply) × IsDueReply s h m said reply
-due_below s h m said n bound = elim (cases_lt (failures_after s h) (limit_of s)) [
-  | inl below ↦ elim (least (λ k. IsFitting s h m said k) (decided_fitting s h m said) n) [
+due_below : (s : Fields) (h : List Attempt) (m : ℕ) (sent : CodeTexts) (n : ℕ)
+    → ((k : ℕ) → IsFitting s h m sent k → k < n) → (reply : Reply) × IsDueReply s h m sent reply
+due_below s h m sent n bound = elim (cases_lt (failures_after s h) (limit_of s)) [
+  | inl below ↦ elim (least (λ k. IsFitting s h m sent k) (decided_fitting s h m sent) n) [
     | inl found ↦ (Pass found.0, (below, found.1, found.2))
     | inr none ↦ (Fail, (below, λ k fits. none k (bound k fits) fits))
   ]

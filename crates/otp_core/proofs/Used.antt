@@ -40,25 +40,25 @@ candidates-are_new (Totp t) history moment c (inl due) = due.3
 candidates-are_new (Totp t) history moment c (inr pair) = absurd pair
 
 -- a counter that fits is not before HOTP's first
-not_before : (t : HotpFields) (before : List Attempt) (m : ℕ) (said : CodeTexts) (p : ℕ) → IsFitting (Hotp t) before m said p
+not_before : (t : HotpFields) (before : List Attempt) (m : ℕ) (sent : CodeTexts) (p : ℕ) → IsFitting (Hotp t) before m sent p
     → first_in_window t.next (used_in before) ≤ p
 not_before t before m (OneText text) p fits = fits.0.not_before
 not_before t before m (TwoTexts one other) p (w, next, pair, first, second) = omega (arith, next, pair.0.not_before)
 
 -- a due reply never moves HOTP's first counter back
-grows_by : (t : HotpFields) (before : List Attempt) (m : ℕ) (said : CodeTexts) (reply : Reply)
-    → t.next ≤ first_in_window t.next (used_in before) → IsDueReply (Hotp t) before m said reply
-    → t.next ≤ first_in_window t.next (used_by said reply ++ used_in before)
-grows_by t before m said (Pass p) least due =
-    let reached = not_before t before m said p due.1 in
-    let first : first_in_window t.next (counters_of said p ++ used_in before) ≡ p + 1 = first_after t before m said p due.1 in
+grows_by : (t : HotpFields) (before : List Attempt) (m : ℕ) (sent : CodeTexts) (reply : Reply)
+    → t.next ≤ first_in_window t.next (used_in before) → IsDueReply (Hotp t) before m sent reply
+    → t.next ≤ first_in_window t.next (used_by sent reply ++ used_in before)
+grows_by t before m sent (Pass p) least due =
+    let reached = not_before t before m sent p due.1 in
+    let first : first_in_window t.next (counters_of sent p ++ used_in before) ≡ p + 1 = first_after t before m sent p due.1 in
     omega arith
-grows_by t before m said Fail least due = least
-grows_by t before m said Locked least due = least
+grows_by t before m sent Fail least due = least
+grows_by t before m sent Locked least due = least
 
 first_grows : (t : HotpFields) (history : List Attempt) → IsLegal (Hotp t) history → t.next ≤ first_in_window t.next (used_in history)
 first_grows t [] legal = omega arith
-first_grows t (a ∷ before) legal = grows_by t before a.moment a.said a.reply (first_grows t before legal.2) legal.1
+first_grows t (a ∷ before) legal = grows_by t before a.moment a.sent a.reply (first_grows t before legal.2) legal.1
 
 pub used-stays_used : UsedStaysUsed
 used-stays_used (Hotp t) history moment c legal (inl due) =

@@ -12,12 +12,12 @@ pub data CodeTexts : Type 0 where
 -- an attempt: when it was made, what was sent, and the reply
 pub record Attempt : Type 0 where
   pub moment : ℕ
-  pub said : CodeTexts
+  pub sent : CodeTexts
   pub reply : Reply
 
 -- an attempt of these parts
 abbrev pub attempt_of : ℕ → CodeTexts → Reply → Attempt
-attempt_of moment said reply = record { moment = moment; said = said; reply = reply }
+attempt_of moment sent reply = record { moment = moment; sent = sent; reply = reply }
 
 -- the counters of what passed: of two codes also the one before
 abbrev pub counters_of : CodeTexts → ℕ → List ℕ
@@ -26,10 +26,10 @@ counters_of (TwoTexts first second) counter = counter ∷ (counter - 1) ∷ []
 
 -- the counters that a reply uses
 abbrev pub used_by : CodeTexts → Reply → List ℕ
-used_by said (Pass counter) = counters_of said counter
-used_by said Fail = []
-used_by said Locked = []
+used_by sent (Pass counter) = counters_of sent counter
+used_by sent Fail = []
+used_by sent Locked = []
 
 -- the counters that a history has used, the latest first: those that passed, and of a pair also the one before
 abbrev pub used_in : List Attempt → List ℕ
-used_in history = flat_map (λ a. used_by a.said a.reply) history
+used_in history = flat_map (λ a. used_by a.sent a.reply) history

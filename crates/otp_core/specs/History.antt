@@ -10,7 +10,7 @@ use Rattle.otp_core.specs.declared.token.kinds.Fields.TheVariants.{Hotp, Totp}
 -- each reply of a history is the one due after the attempts before it, and each moment is in its range
 abbrev pub IsLegal : Fields → List Attempt → Type 0
 IsLegal start [] = Unit {0}
-IsLegal start (a ∷ before) = IsMoment a.moment × IsDueReply start before a.moment a.said a.reply × IsLegal start before
+IsLegal start (a ∷ before) = IsMoment a.moment × IsDueReply start before a.moment a.sent a.reply × IsLegal start before
 
 -- a token's settings: the token with its state blanked
 abbrev pub settings_of : Fields → Fields

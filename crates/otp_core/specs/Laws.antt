@@ -42,10 +42,10 @@ LegalHistoriesJoin = (start : Fields) (earlier : List Attempt) (middle : Fields)
 
 -- no two replies are due to one attempt
 abbrev pub OnlyOneReplyIsDue : Type 0
-OnlyOneReplyIsDue = (start : Fields) (history : List Attempt) (moment : ℕ) (said : CodeTexts) (reply other : Reply)
-    → IsDueReply start history moment said reply → IsDueReply start history moment said other → reply ≡ other
+OnlyOneReplyIsDue = (start : Fields) (history : List Attempt) (moment : ℕ) (sent : CodeTexts) (reply other : Reply)
+    → IsDueReply start history moment sent reply → IsDueReply start history moment sent other → reply ≡ other
 
 -- some reply is due to every attempt
 abbrev pub SomeReplyIsDue : Type 0
-SomeReplyIsDue = (start : Fields) (history : List Attempt) (moment : ℕ) (said : CodeTexts)
-    → (reply : Reply) × IsDueReply start history moment said reply
+SomeReplyIsDue = (start : Fields) (history : List Attempt) (moment : ℕ) (sent : CodeTexts)
+    → (reply : Reply) × IsDueReply start history moment sent reply

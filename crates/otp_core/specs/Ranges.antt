@@ -1,9 +1,25 @@
--- The ranges of numbers of digits, of moments, and of the settings and the state of tokens.
+-- The bounds of secrets, of numbers of digits, of moments, and of the settings and the state of tokens.
 use Rattle.std.specs.Prelude.{ℕ, ◌-◌, ◌^◌, ◌≤◌}
 
--- a code has 6 to 8 digits (RFC 4226, section 5.3)
+-- the least number of bytes of a secret
+abbrev pub least_secret : ℕ
+least_secret = 10
+
+-- the greatest number of bytes of a secret
+abbrev pub most_secret : ℕ
+most_secret = 64
+
+-- the least number of digits of a code (RFC 4226, section 5.3)
+abbrev pub least_digits : ℕ
+least_digits = 6
+
+-- the greatest number of digits of a code
+abbrev pub most_digits : ℕ
+most_digits = 8
+
+-- a code has 6 to 8 digits
 abbrev pub IsDigitCount : ℕ → Type 0
-IsDigitCount count = (6 ≤ count) × (count ≤ 8)
+IsDigitCount count = (least_digits ≤ count) × (count ≤ most_digits)
 
 -- the last second of the year 9999
 abbrev pub last_moment : ℕ
@@ -26,8 +42,8 @@ abbrev pub most_sync_ahead : ℕ
 most_sync_ahead = 1000
 
 -- the longest step of TOTP, in seconds
-abbrev pub most_step : ℕ
-most_step = 3600
+abbrev pub longest_step : ℕ
+longest_step = 3600
 
 -- the most steps that TOTP looks back, and the most that it looks ahead
 abbrev pub most_steps : ℕ

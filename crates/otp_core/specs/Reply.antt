@@ -45,11 +45,11 @@ IsFitting start history moment (CodeTexts.TwoTexts first second) c =
 -- the reply that is due: Locked where the failures have reached the limit, else Pass of the least
 -- counter that fits, else Fail
 abbrev pub IsDueReply : Fields → List Attempt → ℕ → CodeTexts → Reply → Type 0
-IsDueReply start history moment said Locked = limit_of start ≤ failures_after start history
-IsDueReply start history moment said (Pass c) =
+IsDueReply start history moment sent Locked = limit_of start ≤ failures_after start history
+IsDueReply start history moment sent (Pass c) =
     (failures_after start history < limit_of start)
-    × IsFitting start history moment said c
-    × ((k : ℕ) → IsFitting start history moment said k → c ≤ k)
-IsDueReply start history moment said Fail =
+    × IsFitting start history moment sent c
+    × ((k : ℕ) → IsFitting start history moment sent k → c ≤ k)
+IsDueReply start history moment sent Fail =
     (failures_after start history < limit_of start)
-    × ((k : ℕ) → IsFitting start history moment said k → ⊥)
+    × ((k : ℕ) → IsFitting start history moment sent k → ⊥)

@@ -3,6 +3,7 @@ ghost use Rattle.std.specs.Prelude.{◌≡◌, ◌≤◌, ◌<◌, ◌%◌, ◌^
 ghost use Rattle.std.specs.Int.{w64, to_be_bytes};
 ghost use Rattle.mac_core.specs.Hmac.{hmac, IsPreparedFor};
 ghost use Rattle.otp_core.specs.Code.{truncated, last_digits, code_of, hotp_text, IsCodeText, steps_from};
+ghost use Rattle.otp_core.specs.Ranges.{most_digits};
 
 use crate::secret::{Digits, Moment, Secret};
 use arrayvec::ArrayVec;
@@ -47,7 +48,7 @@ fn number_of(tag: &[u8]) -> u32
 
 // The last `count` decimal digits of a number.
 fn digits_of(mut number: u32, count: usize) -> ArrayVec<u8, 8>
-    requires { count ≤ 8 }
+    requires { count ≤ most_digits }
     ensures { result.items ≡ last_digits count number }
 {
     let mut digits = ArrayVec::new();

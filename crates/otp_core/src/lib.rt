@@ -1,8 +1,8 @@
 //! HOTP (RFC 4226) and TOTP (RFC 6238) codes, and tokens that judge them.
 //!
 //! A code's contract says that it is the RFC's formula of its arguments. A token's contract says
-//! that each reply is the one due after all earlier attempts (`Token::attempt`, and `Token::sync` for two
-//! codes in a row). No call takes memory.
+//! that each reply is the one due after all earlier attempts (`Token::attempt`, `Token::sync` for two
+//! codes in a row, and `Token::judge` for either). No call takes memory.
 //!
 //! ```rust
 //! use mac_core::HSha1;
@@ -25,8 +25,11 @@ mod token;
 pub use code::{Code, hotp, hotp_with, step, truncate};
 pub use fault::{OtpFault, Setting};
 pub use hash::OtpHash;
-pub use secret::{Digits, LAST_MOMENT, Moment, Secret};
+pub use secret::{
+    Digits, LAST_MOMENT, LEAST_DIGITS, LEAST_SECRET, MOST_DIGITS, MOST_SECRET, Moment, Secret,
+};
 pub use sent::Sent;
 pub use token::{
-    Fields, HotpFields, MOST_COUNTER, MOST_LIMIT, MOST_STEP, Reply, Token, TotpFields,
+    Fields, HotpFields, LONGEST_STEP, MOST_COUNTER, MOST_DRIFT, MOST_LIMIT, MOST_LOOK_AHEAD,
+    MOST_STEPS, MOST_SYNC_AHEAD, Reply, Token, TotpFields,
 };

@@ -9,10 +9,22 @@ use arrayvec::ArrayVec;
 use mac_core::copy_of;
 use std::marker::Model;
 
+/// The least number of bytes of a secret.
+pub const LEAST_SECRET: usize = 10;
+
+/// The greatest number of bytes of a secret.
+pub const MOST_SECRET: usize = 64;
+
+/// The least number of digits of a code (RFC 4226, section 5.3).
+pub const LEAST_DIGITS: u8 = 6;
+
+/// The greatest number of digits of a code.
+pub const MOST_DIGITS: u8 = 8;
+
 /// The key of a token's HMAC: 10 to 64 bytes. Contracts see it as the list of its bytes.
 #[derive(Drop)]
 pub struct Secret {
-    bytes: ArrayVec<u8, 64>,
+    bytes: ArrayVec<u8, MOST_SECRET>,
 }
 
 impl Model for Secret {
@@ -31,7 +43,7 @@ impl Secret {
             (λ secret. (secret ≡ bytes.now) × IsSecretLength (length bytes.now))
             (λ fault. (fault ≡ SecretLength) × ¬ (IsSecretLength (length bytes.now))) }
     {
-        if bytes.len() < 10 {
+        if bytes.len() < LEAST_SECRET {
             return Err(OtpFault::SecretLength);
         }
         match ArrayVec::try_from(bytes) {
@@ -81,7 +93,7 @@ impl Digits {
             (λ digits. (digits ≡ count) × IsDigitCount count)
             (λ fault. (fault ≡ DigitCount) × ¬ (IsDigitCount count)) }
     {
-        if 6 <= count && count <= 8 {
+        if LEAST_DIGITS <= count && count <= MOST_DIGITS {
             Ok(Digits { count })
         } else {
             Err(OtpFault::DigitCount)

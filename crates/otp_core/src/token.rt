@@ -1,11 +1,12 @@
 //! Tokens of either kind, each setting within its range.
 ghost use Rattle.std.specs.Prelude.{ℕ, ◌≡◌, ◌≤◌, ◌∷◌, List, None, MatchResult};
 ghost use Rattle.otp_core.specs.Ranges.{most_counter};
-ghost use Rattle.otp_core.specs.Settings.{IsInRange, IsRefusalOf, first_outside, hotp_settings, totp_settings, unlocked};
+ghost use Rattle.otp_core.specs.Settings.{IsHotpInRange, IsTotpInRange, IsInRange, IsRefusalOf, hotp_ranges, totp_ranges, unlocked};
 ghost use Rattle.otp_core.specs.Attempt.{Attempt, attempt_of};
 ghost use Rattle.otp_core.specs.Attempt.CodeTexts.{OneText, TwoTexts};
 ghost use Rattle.otp_core.specs.Reply.{IsDueReply};
 ghost use Rattle.otp_core.specs.History.{IsAfter};
+ghost use Rattle.otp_core.specs.Sent.{texts_of};
 ghost use Rattle.otp_core.specs.State.{advanced};
 ghost use Rattle.otp_core.specs.declared.token.kinds.Fields.{Fields as TheFields};
 ghost use Rattle.otp_core.specs.declared.token.kinds.Fields.TheVariants.{Hotp, Totp};
@@ -16,9 +17,13 @@ mod window;
 
 use crate::fault::OtpFault;
 use crate::secret::{LAST_MOMENT, Moment};
+use crate::sent::Sent;
 pub use answer::Reply;
 use answer::{answer, answer_pair};
-pub use kinds::{Fields, HotpFields, MOST_COUNTER, MOST_LIMIT, MOST_STEP, TotpFields};
+pub use kinds::{
+    Fields, HotpFields, LONGEST_STEP, MOST_COUNTER, MOST_DRIFT, MOST_LIMIT, MOST_LOOK_AHEAD,
+    MOST_STEPS, MOST_SYNC_AHEAD, TotpFields,
+};
 use std::marker::Model;
 
 /// A token: settings and state of one kind, each within its range. Contracts see it as its
@@ -45,8 +50,8 @@ impl Token {
     /// range, exactly where there is one.
     pub fn hotp(fields: HotpFields) -> Result<Token, OtpFault>
         ensures { MatchResult result
-            (λ token. (token ≡ Hotp fields) × (first_outside (hotp_settings fields) ≡ None))
-            (λ refusal. IsRefusalOf (first_outside (hotp_settings fields)) refusal) }
+            (λ token. (token ≡ Hotp fields) × IsHotpInRange fields)
+            (IsRefusalOf (hotp_ranges fields)) }
     {
         match fields.first_outside() {
             Some(setting) => Err(OtpFault::Setting(setting)),
@@ -60,8 +65,8 @@ impl Token {
     /// range, exactly where there is one.
     pub fn totp(fields: TotpFields) -> Result<Token, OtpFault>
         ensures { MatchResult result
-            (λ token. (token ≡ Totp fields) × (first_outside (totp_settings fields) ≡ None))
-            (λ refusal. IsRefusalOf (first_outside (totp_settings fields)) refusal) }
+            (λ token. (token ≡ Totp fields) × IsTotpInRange fields)
+            (IsRefusalOf (totp_ranges fields)) }
     {
         match fields.first_outside() {
             Some(setting) => Err(OtpFault::Setting(setting)),
@@ -109,8 +114,7 @@ impl Token {
         ensures state { self.new ≡ advanced self.old moment result }
         ensures counter { (c : ℕ) → result ≡ Reply.Pass c → c ≤ most_counter }
     {
-        prove!(moment.seconds() <= LAST_MOMENT);
-        answer(&mut self.fields, moment, text)
+        self.judge(moment, Sent::One(text))
     }
 
     /// Judges two texts as codes in a row at `moment`, so that a HOTP counter that ran far ahead is found again (RFC 4226,
@@ -130,8 +134,24 @@ impl Token {
         ensures state { self.new ≡ advanced self.old moment result }
         ensures counter { (c : ℕ) → result ≡ Reply.Pass c → c ≤ most_counter }
     {
+        self.judge(moment, Sent::Two(first, second))
+    }
+
+    /// Judges what was sent at `moment`: one text as `attempt` does, and two as `sync` does.
+    pub fn judge(&mut self, moment: Moment, sent: Sent<'_>) -> Reply
+        ensures due { (start : TheFields) (history : List Attempt)
+            → IsAfter start history self.old → IsDueReply start history moment (texts_of sent.entry) result }
+        ensures after { (start : TheFields) (history : List Attempt)
+            → IsAfter start history self.old
+            → IsAfter start (attempt_of moment (texts_of sent.entry) result ∷ history) self.new }
+        ensures state { self.new ≡ advanced self.old moment result }
+        ensures counter { (c : ℕ) → result ≡ Reply.Pass c → c ≤ most_counter }
+    {
         prove!(moment.seconds() <= LAST_MOMENT);
-        answer_pair(&mut self.fields, moment, first, second)
+        match sent {
+            Sent::One(text) => answer(&mut self.fields, moment, text),
+            Sent::Two(first, second) => answer_pair(&mut self.fields, moment, first, second),
+        }
     }
 
     /// Sets the failures to 0, and changes nothing else.

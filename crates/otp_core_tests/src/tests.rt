@@ -2,8 +2,8 @@
 //! few other counters are from Python's hmac.
 use mac_core::{HSha1, HSha256, HSha512, HashFn, Prepared, Tag};
 use otp_core::{
-    Code, Digits, Fields, HotpFields, Moment, OtpFault, OtpHash, Reply, Secret, Setting, Token,
-    TotpFields, hotp, hotp_with, step, truncate,
+    Code, Digits, Fields, HotpFields, Moment, OtpFault, OtpHash, Reply, Secret, Sent, Setting,
+    Token, TotpFields, hotp, hotp_with, step, truncate,
 };
 use std::process::Abort;
 use std::test::Fail;

@@ -1,10 +1,10 @@
 -- What a keeper told, and a token that it puts back.
-use Rattle.std.proofs.Common.{◌≡◌, ◌≢◌, ℕ, List, [], ◌∷◌, ◌++◌, reverse, refl, sym, ap, subst, ◌∙◌}
+use Rattle.std.proofs.Common.{◌≡◌, ◌≢◌, ◌≤◌, ℕ, List, [], ◌∷◌, ◌++◌, reverse, refl, sym, ap, subst, ◌∙◌}
 use Rattle.std.specs.declared.option.Option.TheVariants.{None, Some}
 use Rattle.otp_core.specs.Attempt.{Attempt, CodeTexts, attempt_of}
 use Rattle.otp_core.specs.History.{IsAfter}
 use Rattle.otp_core.specs.Reply.{IsDueReply}
-use Rattle.otp_core.specs.Ranges.{IsMoment}
+use Rattle.otp_core.specs.Ranges.{IsMoment, most_counter}
 use Rattle.otp_core.specs.State.{advanced}
 use Rattle.otp_core.specs.declared.token.answer.Reply.{Reply}
 use Rattle.otp_core.specs.declared.token.answer.Reply.TheVariants.{Pass, Fail, Locked}
@@ -15,6 +15,7 @@ use Rattle.account_book.specs.Store.{StoreFacts}
 use Rattle.account_book.specs.Tokens.{token_at, with_token, IsAttempt}
 use Rattle.account_book.proofs.MapLemmas.{is_changed}
 use Rattle.account_book.proofs.TokenLemmas.{tokens_go_back, tokens_stay}
+use Rattle.log_grammar.specs.Lines.{IsReplyInRange}
 use Rattle.log_grammar.specs.Told.{Told, told_of}
 use Rattle.log_grammar.specs.Demands.{Accounts, IsReplyDue}
 use Rattle.sasl_log.proofs.TokenLemmas.{reply_by, book_after}
@@ -55,6 +56,12 @@ told_due old new t one accounts told h = reply_by accounts told old t.account t.
 pub told_after : (old new : BookFields) (t : Told) → IsAttemptJudged old t new → (accounts : Accounts) (told : List Told) → IsBookAfter accounts told old
     → IsBookAfter accounts (told ++ t ∷ []) new
 told_after old new t one accounts told h = book_after accounts told old t.account t.moment t.sent t.reply new (token_at old t.account) refl one.answered h
+
+-- the counter of a token's reply is one that can pass
+pub reply_in_range : (reply : Reply) → ((c : ℕ) → reply ≡ Pass c → c ≤ most_counter) → IsReplyInRange (Some reply)
+reply_in_range (Pass counter) most = most counter refl
+reply_in_range Fail most = tt
+reply_in_range Locked most = tt
 
 -- a reply other than LOCKED needs a save
 pub needs_save : (reply : Reply) → reply ≢ Locked → NeedsSave (Some reply)

@@ -57,15 +57,15 @@ above_first (x ∷ xs) ys c above = (above.0, above_first xs ys c above.1)
 above_earlier : (later earlier : List Attempt) (c : ℕ) → IsAbove (used_in (later ++ earlier)) c → IsAbove (used_in earlier) c
 above_earlier [] earlier c above = above
 above_earlier (a ∷ later) earlier c above =
-    above_earlier later earlier c (above_rest (used_by a.said a.reply) (used_in (later ++ earlier)) c above)
+    above_earlier later earlier c (above_rest (used_by a.sent a.reply) (used_in (later ++ earlier)) c above)
 
 -- what can pass after an attempt is above each counter that the attempt used
 now_above : LegalHistoriesJoin → CandidatesAreNew → (start : Fields) (a : Attempt) (token : Fields) → IsAfter start (a ∷ []) token
     → (history : List Attempt) (moment c : ℕ) → IsMoment moment → IsLegal token history
-    → (IsCandidate token history moment c ⊎ IsPairCandidate token history c) → IsAbove (used_by a.said a.reply) c
+    → (IsCandidate token history moment c ⊎ IsPairCandidate token history c) → IsAbove (used_by a.sent a.reply) c
 now_above join fresh start a token after history moment c is legal can =
     let before = could_pass join start (a ∷ []) token after history moment c is legal can in
-    above_first (used_by a.said a.reply) [] c (above_earlier history (a ∷ []) c (fresh start (history ++ a ∷ []) moment c before.1))
+    above_first (used_by a.sent a.reply) [] c (above_earlier history (a ∷ []) c (fresh start (history ++ a ∷ []) moment c before.1))
 
 -- the account's own attempt
 own_attempt : (t : Told) (r : Reply) → t.reply ≡ Some r → attempts_of t.account (t ∷ []) ≡ attempt_of t.moment t.sent r ∷ []

@@ -62,7 +62,7 @@ below_ever : CandidatesAreNew → (token : Fields) (counter : ℕ) → IsBelowAf
     → IsBelowAfter token history counter
 below_ever fresh token counter below [] legal = below
 below_ever fresh token counter below (a ∷ before) legal =
-    below_next fresh token counter before a.moment a.said a.reply legal.0 legal.1 (below_ever fresh token counter below before legal.2)
+    below_next fresh token counter before a.moment a.sent a.reply legal.0 legal.1 (below_ever fresh token counter below before legal.2)
 
 -- failures have no part in what can pass
 unlocked_can : (token : Fields) (moment c : ℕ) → CanPass (unlocked token) [] moment c → CanPass token [] moment c

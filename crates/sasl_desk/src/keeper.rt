@@ -1,19 +1,13 @@
 //! The keeper of a book: it judges codes by the book's tokens, and saves each change before it is told.
-ghost use Rattle.std.specs.Prelude.{◌≡◌, ◌≢◌, ◌∷◌, List, Some, IfErr, IfOk, OnErr};
+ghost use Rattle.std.specs.Prelude.{◌≡◌, ◌≢◌, IfErr, IfOk, OnErr};
 ghost use Rattle.std.specs.Bool.{OnTrue, OnFalse};
-ghost use Rattle.otp_core.specs.Attempt.{Attempt, attempt_of};
-ghost use Rattle.otp_core.specs.History.{IsAfter};
-ghost use Rattle.otp_core.specs.Reply.{IsDueReply};
 ghost use Rattle.otp_core.specs.Ranges.{IsMoment};
-ghost use Rattle.otp_core.specs.State.{advanced};
-ghost use Rattle.otp_core.specs.declared.token.kinds.Fields.{Fields};
-ghost use Rattle.log_grammar.specs.Lines.{IsReplyInRange};
 ghost use Rattle.otp_core.specs.Sent.{texts_of};
 ghost use Rattle.sasl_desk.specs.Keeper.{SavesText, IsNotBegun, IsJudged, IsJudgedInRange, IsToBeSaved};
 
 use crate::fault::DeskFault;
 use account_book::{Book, BookStore};
-use otp_core::{Moment, Reply, Sent, Token};
+use otp_core::{Moment, Reply, Sent};
 use scram_text::PlainName;
 use std::alloc::{AllocError, Global};
 
@@ -67,7 +61,7 @@ impl<S: BookStore> Keeper<S> {
         (self.book, self.store)
     }
 
-    /// Judges what the client of this account sent at a moment, as `Token::attempt` and `Token::sync` do. PASS and FAIL
+    /// Judges what the client of this account sent at a moment, as `Token::judge` does. PASS and FAIL
     /// are answered once the store holds the text of the book with this attempt in it; LOCKED and no token change
     /// nothing, and ask nothing of the store. Where the save fails, the book is as before, and the store holds the text
     /// from before or that of the book with this attempt. After an error, which is that memory ran out for the text that is
@@ -91,7 +85,7 @@ impl<S: BookStore> Keeper<S> {
             return Ok(Judged::Replied(None));
         };
         let before = token.copy();
-        let reply = reply_to(&mut token, moment, sent);
+        let reply = token.judge(moment, sent);
         if is_locked(reply) {
             return Ok(Judged::Replied(Some(reply)));
         }
@@ -118,21 +112,6 @@ pub(crate) fn moment_is_in_range(moment: Moment)
     ensures { IsMoment moment }
 {
     moment.seconds();
-}
-
-// Judges what was sent by a token.
-fn reply_to(token: &mut Token, moment: Moment, sent: Sent<'_>) -> Reply
-    ensures due { (start : Fields) (history : List Attempt) → IsAfter start history token.old
-        → IsDueReply start history moment (texts_of sent.entry) result }
-    ensures after { (start : Fields) (history : List Attempt) → IsAfter start history token.old
-        → IsAfter start (attempt_of moment (texts_of sent.entry) result ∷ history) token.new }
-    ensures state { token.new ≡ advanced token.old moment result }
-    ensures counter { IsReplyInRange (Some result) }
-{
-    match sent {
-        Sent::One(text) => token.attempt(moment, text),
-        Sent::Two(first, second) => token.sync(moment, first, second),
-    }
 }
 
 // Whether the reply is LOCKED, which changes nothing.

@@ -1,11 +1,12 @@
 //! The tokens of accounts, and attempts to pass with a code.
 ghost use Rattle.std.specs.Prelude.{◌≡◌, is_some};
 ghost use Rattle.otp_core.specs.Attempt.CodeTexts.{OneText, TwoTexts};
+ghost use Rattle.otp_core.specs.Sent.{texts_of};
 ghost use Rattle.account_book.specs.Accounts.{account_at, IsChanged};
 ghost use Rattle.account_book.specs.Tokens.{IsAnswered, IsUnlocked, token_at, with_token};
 
 use crate::book::Book;
-use otp_core::{Moment, Reply, Token};
+use otp_core::{Moment, Reply, Sent, Token};
 use scram_text::PlainName;
 
 impl Book {
@@ -40,10 +41,7 @@ impl Book {
     pub fn attempt(&mut self, name: &PlainName, moment: Moment, text: &[u8]) -> Option<Reply>
         ensures { IsAnswered self.old name.now moment (OneText text.now) result self.new }
     {
-        let mut token = self.token(name)?;
-        let reply = token.attempt(moment, text);
-        self.put_token(name, token);
-        Some(reply)
+        self.judge(name, moment, Sent::One(text))
     }
 
     /// Judges two texts as codes in a row at `moment` by the token of the account of this name, as `Token::sync` does, and
@@ -58,8 +56,16 @@ impl Book {
     ) -> Option<Reply>
         ensures { IsAnswered self.old name.now moment (TwoTexts first.now second.now) result self.new }
     {
+        self.judge(name, moment, Sent::Two(first, second))
+    }
+
+    /// Judges what was sent at `moment` by the token of the account of this name: one text as `attempt` does, and two as
+    /// `sync` does.
+    pub fn judge(&mut self, name: &PlainName, moment: Moment, sent: Sent<'_>) -> Option<Reply>
+        ensures { IsAnswered self.old name.now moment (texts_of sent.entry) result self.new }
+    {
         let mut token = self.token(name)?;
-        let reply = token.sync(moment, first, second);
+        let reply = token.judge(moment, sent);
         self.put_token(name, token);
         Some(reply)
     }

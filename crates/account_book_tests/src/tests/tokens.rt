@@ -1,7 +1,7 @@
 //! Codes of RFC 4226, appendix D, by the tokens of accounts.
 use crate::tests::{name, two_accounts};
 use account_book::{Book, Reply, Token};
-use otp_core::{Digits, Fields, HotpFields, Moment, OtpFault, Secret};
+use otp_core::{Digits, Fields, HotpFields, Moment, OtpFault, Secret, Sent};
 use scram_text::PlainName;
 use std::process::Abort;
 use std::test::Fail;
@@ -101,6 +101,20 @@ fn pairs_are_kept(rt: HostRuntime) -> Result<(), Fail> {
         assert_eq!(rt; state(&book, &user), Some(after));
     }
     assert_eq!(rt; state(&book, &name(&rt, b"user2")), Some((0, 0)));
+    Ok(())
+}
+
+#[test]
+fn one_text_or_two(rt: HostRuntime) -> Result<(), Fail> {
+    let mut book = two_tokens(&rt)?;
+    let user = name(&rt, b"user");
+    let now = moment(&rt);
+    let one = book.judge(&user, now, Sent::One(b"755224"));
+    assert_eq!(rt; one, Some(Reply::Pass(0)));
+    assert_eq!(rt; state(&book, &user), Some((1, 0)));
+    let two = book.judge(&user, now, Sent::Two(b"969429", b"338314"));
+    assert_eq!(rt; two, Some(Reply::Pass(4)));
+    assert_eq!(rt; state(&book, &user), Some((5, 0)));
     Ok(())
 }
 

@@ -9,7 +9,10 @@ ghost use Rattle.book_format.specs.Tables.{hotp};
 use crate::fault::BookWhy;
 use crate::field::{bytes_of, known_keys, number_of, number_or_zero};
 use crate::token::setting::{digits_of, secret_of};
-use otp_core::{HotpFields, MOST_COUNTER, MOST_LIMIT, Token};
+use otp_core::{
+    HotpFields, LEAST_DIGITS, LEAST_SECRET, MOST_COUNTER, MOST_DIGITS, MOST_LIMIT, MOST_LOOK_AHEAD,
+    MOST_SECRET, MOST_SYNC_AHEAD, Token,
+};
 use toml::Table;
 
 /// Reads the settings and the state of a HOTP token, from a table whose `kind`
@@ -32,11 +35,17 @@ pub(super) fn hotp_of(table: &Table) -> Result<HotpFields, BookWhy>
             "failures",
         ],
     )?;
-    let secret = bytes_of(table, "secret", 10, 64, BookWhy::Token)?;
-    let digits = number_of(table, "digits", 6, 8, BookWhy::Token)?;
+    let secret = bytes_of(table, "secret", LEAST_SECRET, MOST_SECRET, BookWhy::Token)?;
+    let digits = number_of(
+        table,
+        "digits",
+        u64::from(LEAST_DIGITS),
+        u64::from(MOST_DIGITS),
+        BookWhy::Token,
+    )?;
     let next = number_of(table, "next", 0, MOST_COUNTER + 1, BookWhy::Token)?;
-    let look_ahead = number_of(table, "look_ahead", 0, 100, BookWhy::Token)?;
-    let sync_ahead = number_or_zero(table, "sync_ahead", 1000, BookWhy::Token)?;
+    let look_ahead = number_of(table, "look_ahead", 0, MOST_LOOK_AHEAD, BookWhy::Token)?;
+    let sync_ahead = number_or_zero(table, "sync_ahead", MOST_SYNC_AHEAD, BookWhy::Token)?;
     let limit = number_of(table, "limit", 1, MOST_LIMIT, BookWhy::Token)?;
     let failures = number_of(table, "failures", 0, limit, BookWhy::Token)?;
     Ok(HotpFields {

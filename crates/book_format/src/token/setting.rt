@@ -1,13 +1,13 @@
 //! Settings with types of their own, from values in their ranges.
 ghost use Rattle.std.specs.Prelude.{◌≡◌, ◌≤◌, length};
-ghost use Rattle.otp_core.specs.Ranges.{IsDigitCount, IsMoment};
+ghost use Rattle.otp_core.specs.Ranges.{least_secret, IsDigitCount, IsMoment};
 
 use mac_core::Tag;
 use otp_core::{Digits, Moment, Secret};
 
 /// The secret of 10 bytes or more.
 pub(super) fn secret_of(bytes: &Tag) -> Secret
-    requires { 10 ≤ length bytes.now.items }
+    requires { least_secret ≤ length bytes.now.items }
     ensures { result ≡ bytes.now.items }
 {
     let Ok(secret) = Secret::new(bytes.as_slice()) else {

@@ -15,7 +15,10 @@ ghost use Rattle.book_format.specs.declared.fault.BookWhy.TheVariants as why;
 use crate::fault::BookWhy;
 use crate::field::{at, bytes_of, known_keys, needed, number_in, number_of, text_of};
 use crate::token::setting::{digits_of, moment_of, secret_of};
-use otp_core::{LAST_MOMENT, MOST_COUNTER, MOST_LIMIT, MOST_STEP, OtpHash, Token, TotpFields};
+use otp_core::{
+    LAST_MOMENT, LEAST_DIGITS, LEAST_SECRET, LONGEST_STEP, MOST_COUNTER, MOST_DIGITS, MOST_DRIFT,
+    MOST_LIMIT, MOST_SECRET, MOST_STEPS, OtpHash, Token, TotpFields,
+};
 use toml::Table;
 
 /// Reads the settings and the state of a TOTP token, from a table whose `kind` says that it is one.
@@ -26,13 +29,19 @@ pub(super) fn totp_of(table: &Table) -> Result<TotpFields, BookWhy>
 {
     known_totp_keys(table)?;
     let hash = hash_of(table, "hash")?;
-    let secret = bytes_of(table, "secret", 10, 64, BookWhy::Token)?;
-    let digits = number_of(table, "digits", 6, 8, BookWhy::Token)?;
+    let secret = bytes_of(table, "secret", LEAST_SECRET, MOST_SECRET, BookWhy::Token)?;
+    let digits = number_of(
+        table,
+        "digits",
+        u64::from(LEAST_DIGITS),
+        u64::from(MOST_DIGITS),
+        BookWhy::Token,
+    )?;
     let t0 = number_of(table, "t0", 0, LAST_MOMENT, BookWhy::Token)?;
-    let step = number_of(table, "step", 1, MOST_STEP, BookWhy::Token)?;
-    let back = number_of(table, "back", 0, 10, BookWhy::Token)?;
-    let ahead = number_of(table, "ahead", 0, 10, BookWhy::Token)?;
-    let max_drift = number_of(table, "max_drift", 0, 100, BookWhy::Token)?;
+    let step = number_of(table, "step", 1, LONGEST_STEP, BookWhy::Token)?;
+    let back = number_of(table, "back", 0, MOST_STEPS, BookWhy::Token)?;
+    let ahead = number_of(table, "ahead", 0, MOST_STEPS, BookWhy::Token)?;
+    let max_drift = number_of(table, "max_drift", 0, MOST_DRIFT, BookWhy::Token)?;
     let last = last_at(table)?;
     let drift = drift_of(table, "drift", max_drift)?;
     let limit = number_of(table, "limit", 1, MOST_LIMIT, BookWhy::Token)?;

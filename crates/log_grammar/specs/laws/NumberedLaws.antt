@@ -1,6 +1,6 @@
--- The laws of logs of version 2: by which lines such a log goes on, that it is read in one way, that its first lines are
--- such a log, that the place of a session follows from its own lines alone, and how many sessions are
--- open, and which classes of lines are due at each number.
+-- The laws of logs of version 2: by which lines such a log goes on; that it is read in one way; that its first lines are such a
+-- log; that the place of a session follows from its own lines alone; how many sessions are open; and which classes of lines are
+-- due to each number.
 use Rattle.std.specs.Prelude.{ℕ, ◌≡◌, ◌≢◌, ◌≤◌, ◌+◌, ◌↔◌, ◌⊎◌, false, List, [], ◌∷◌, ◌++◌}
 use Rattle.log_grammar.specs.Lines.{LogLine, said, busy}
 use Rattle.log_grammar.specs.Told.{Told}

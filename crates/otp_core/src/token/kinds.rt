@@ -1,6 +1,8 @@
 //! The two kinds of tokens: their settings and state.
-ghost use Rattle.std.specs.Prelude.{◌≡◌, IfNone};
-ghost use Rattle.otp_core.specs.Settings.{IsHotpInRange, IsTotpInRange, first_outside, hotp_settings, totp_settings, is_last_step};
+ghost use Rattle.std.specs.Prelude.{◌≡◌, ◌↔◌, ◌≤◌, IfSome, IfNone, IsTrue};
+ghost use Rattle.std.specs.Option.{ForSome};
+ghost use Rattle.otp_core.specs.Ranges.{most_counter};
+ghost use Rattle.otp_core.specs.Settings.{IsHotpInRange, IsTotpInRange, IsFirstOutside, hotp_ranges, totp_ranges};
 
 use crate::fault::Setting;
 use crate::hash::OtpHash;
@@ -12,8 +14,20 @@ pub const MOST_LIMIT: u64 = 100;
 /// The greatest counter that can pass, 2^63-2: the one after it is still a number that a book's text can have.
 pub const MOST_COUNTER: u64 = 9_223_372_036_854_775_806;
 
+/// The most counters after the first that a HOTP token looks ahead for one code.
+pub const MOST_LOOK_AHEAD: u64 = 100;
+
+/// The most counters after the first that a HOTP token looks ahead for two codes in a row.
+pub const MOST_SYNC_AHEAD: u64 = 1000;
+
 /// The longest step of a TOTP token, in seconds.
-pub const MOST_STEP: u64 = 3600;
+pub const LONGEST_STEP: u64 = 3600;
+
+/// The most steps that a TOTP token looks back, and the most that it looks ahead.
+pub const MOST_STEPS: u64 = 10;
+
+/// The greatest `max_drift` of a TOTP token, in steps.
+pub const MOST_DRIFT: u64 = 100;
 
 /// The settings and the state of a HOTP token (RFC 4226, section 7).
 #[derive(Drop)]
@@ -43,14 +57,14 @@ pub struct HotpFields {
 impl HotpFields {
     /// The first field that is not in its range.
     pub(crate) fn first_outside(&self) -> Option<Setting>
-        ensures value { result ≡ first_outside (hotp_settings self.now) }
+        ensures some { IfSome result (IsFirstOutside (hotp_ranges self.now)) }
         ensures none { IfNone result (IsHotpInRange self.now) }
     {
         if self.next > MOST_COUNTER + 1 {
             Some(Setting::Next)
-        } else if self.look_ahead > 100 {
+        } else if self.look_ahead > MOST_LOOK_AHEAD {
             Some(Setting::LookAhead)
-        } else if self.sync_ahead > 1000 {
+        } else if self.sync_ahead > MOST_SYNC_AHEAD {
             Some(Setting::SyncAhead)
         } else if self.limit < 1 || self.limit > MOST_LIMIT {
             Some(Setting::Limit)
@@ -121,16 +135,16 @@ pub struct TotpFields {
 impl TotpFields {
     /// The first field that is not in its range.
     pub(crate) fn first_outside(&self) -> Option<Setting>
-        ensures value { result ≡ first_outside (totp_settings self.now) }
+        ensures some { IfSome result (IsFirstOutside (totp_ranges self.now)) }
         ensures none { IfNone result (IsTotpInRange self.now) }
     {
-        if self.step < 1 || self.step > MOST_STEP {
+        if self.step < 1 || self.step > LONGEST_STEP {
             Some(Setting::Step)
-        } else if self.back > 10 {
+        } else if self.back > MOST_STEPS {
             Some(Setting::Back)
-        } else if self.ahead > 10 {
+        } else if self.ahead > MOST_STEPS {
             Some(Setting::Ahead)
-        } else if self.max_drift > 100 {
+        } else if self.max_drift > MOST_DRIFT {
             Some(Setting::MaxDrift)
         } else if !self.is_last_in_range() {
             Some(Setting::Last)
@@ -146,7 +160,7 @@ impl TotpFields {
     }
 
     fn is_last_in_range(&self) -> bool
-        ensures { result ≡ is_last_step self.now.last }
+        ensures { IsTrue result ↔ ForSome self.now.last (λ l. l ≤ most_counter) }
     {
         match self.last {
             Some(last) => last <= MOST_COUNTER,

@@ -39,6 +39,18 @@ fn far_ahead(rt: HostRuntime) {
 }
 
 #[test]
+fn one_text_or_two(rt: HostRuntime) {
+    let token = Token::hotp(hotp_fields(&rt, (0, 3, 8, 3, 0)));
+    let mut token = token.ok().expect(&rt, "a token");
+    let now = moment(&rt, 5);
+    assert_eq!(rt; token.judge(now, Sent::One(b"755224")), Reply::Pass(0));
+    assert_eq!(rt;
+        token.judge(now, Sent::Two(b"969429", b"338314")),
+        Reply::Pass(4)
+    );
+}
+
+#[test]
 fn both_counters_are_used(rt: HostRuntime) {
     let attempts = [
         ("969429", Some("338314"), Reply::Pass(4)),

@@ -1,5 +1,5 @@
 use Rattle.std.proofs.Common.{rules, ◌≤◌, length, lit≤, sym, subst}
-use Rattle.book_format.specs.Account.{AreKeys}
+use Rattle.book_format.specs.Account.{AreKeys, most_names}
 use Rattle.account_book.proofs.RangeLemmas.{all_inserted, for_some}
 use Rattle.account_book.proofs.MapLemmas.{is_added}
 use Rattle.account_book.proofs.book.Book.enrol.Goals as goal
@@ -13,7 +13,7 @@ invariant_of-self-inside c =
           (record {
             sha1 = for_some (AreKeys 20) _ c.made_keys.ensures.range;
             sha256 = for_some (AreKeys 32) _ c.made_keys-2.ensures.range;
-            names = subst (λ names. length names ≤ 16) (sym c.new.ensures.items) (lit≤ tt);
+            names = subst (λ names. length names ≤ most_names) (sym c.new.ensures.items) (lit≤ tt);
           });
     }
 

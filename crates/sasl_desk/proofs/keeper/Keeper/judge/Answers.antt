@@ -1,49 +1,55 @@
 use Rattle.std.proofs.Common.{refl, sym, ◌∙◌}
 use Rattle.std.specs.declared.option.Option.TheVariants.{Some}
-use Rattle.sasl_desk.proofs.KeeperLemmas.{told_by, told_none, told_locked, needs_save, kept_by, put_back}
+use Rattle.sasl_desk.proofs.KeeperLemmas.{reply_in_range, told_by, told_none, told_locked, needs_save, kept_by, put_back}
 use Rattle.sasl_desk.proofs.keeper.Keeper.judge.Goals as goal
 
 pub returns-then-is_locked-clause-ok : goal.returns-then-is_locked-clause-ok
 returns-then-is_locked-clause-ok g c =
-    told_locked _ c.args.name.now c.in-Some.token c.reply_to-reply.new.token c.args.moment _ c.reply_to-reply.result c.moment_is_in_range.ensures (sym c.token.ensures ∙ c.in-Some.is)
-    (record { due = c.reply_to-reply.ensures.due; after = c.reply_to-reply.ensures.after; state = c.reply_to-reply.ensures.state })
+    told_locked _ c.args.name.now c.in-Some.token c.judge-reply.new.self c.args.moment _ c.judge-reply.result c.moment_is_in_range.ensures (sym c.token.ensures ∙ c.in-Some.is)
+    (record { due = c.judge-reply.ensures.due; after = c.judge-reply.ensures.after; state = c.judge-reply.ensures.state })
     c.if-is_locked.ensures.locked _
+
+pub returns-then-is_locked-clause-counter : goal.returns-then-is_locked-clause-counter
+returns-then-is_locked-clause-counter g c = reply_in_range c.judge-reply.result c.judge-reply.ensures.counter
 
 pub returns-in-Err-clause-err : goal.returns-in-Err-clause-err
 returns-in-Err-clause-err g c = (
-  put_back _ _ _ c.args.name.now c.in-Some.token c.reply_to-reply.new.token c.copy-before.result (sym c.token.ensures ∙ c.in-Some.is) c.copy-before.ensures
+  put_back _ _ _ c.args.name.now c.in-Some.token c.judge-reply.new.self c.copy-before.result (sym c.token.ensures ∙ c.in-Some.is) c.copy-before.ensures
       c.put_token.ensures.put c.put_token-in-Err.ensures.put,
   refl,
 )
 
 pub returns-in-Err-clause-memory : goal.returns-in-Err-clause-memory
 returns-in-Err-clause-memory g c = (
-  Some c.reply_to-reply.result,
+  Some c.judge-reply.result,
   c.put_token.new.self,
-  needs_save c.reply_to-reply.result c.if-is_locked.ensures.open,
-  told_by _ _ c.args.name.now c.in-Some.token c.reply_to-reply.new.token c.args.moment _ c.reply_to-reply.result c.moment_is_in_range.ensures (sym c.token.ensures ∙ c.in-Some.is)
-      (record { due = c.reply_to-reply.ensures.due; after = c.reply_to-reply.ensures.after; state = c.reply_to-reply.ensures.state })
+  needs_save c.judge-reply.result c.if-is_locked.ensures.open,
+  told_by _ _ c.args.name.now c.in-Some.token c.judge-reply.new.self c.args.moment _ c.judge-reply.result c.moment_is_in_range.ensures (sym c.token.ensures ∙ c.in-Some.is)
+      (record { due = c.judge-reply.ensures.due; after = c.judge-reply.ensures.after; state = c.judge-reply.ensures.state })
       c.put_token.ensures.put,
 )
 
 pub returns-in-Ok-saved-clause-ok : goal.returns-in-Ok-saved-clause-ok
 returns-in-Ok-saved-clause-ok g c = (
-  told_by _ _ c.args.name.now c.in-Some.token c.reply_to-reply.new.token c.args.moment _ c.reply_to-reply.result c.moment_is_in_range.ensures (sym c.token.ensures ∙ c.in-Some.is)
-      (record { due = c.reply_to-reply.ensures.due; after = c.reply_to-reply.ensures.after; state = c.reply_to-reply.ensures.state })
+  told_by _ _ c.args.name.now c.in-Some.token c.judge-reply.new.self c.args.moment _ c.judge-reply.result c.moment_is_in_range.ensures (sym c.token.ensures ∙ c.in-Some.is)
+      (record { due = c.judge-reply.ensures.due; after = c.judge-reply.ensures.after; state = c.judge-reply.ensures.state })
       c.put_token.ensures.put,
-  kept_by _ _ _ _ c.reply_to-reply.result c.if-is_locked.ensures.open (record { text = _; is_text = c.in-Ok.ensures.stands; saved = c.in-Ok-saved.ensures.saves }),
+  kept_by _ _ _ _ c.judge-reply.result c.if-is_locked.ensures.open (record { text = _; is_text = c.in-Ok.ensures.stands; saved = c.in-Ok-saved.ensures.saves }),
 )
+
+pub returns-in-Ok-saved-clause-counter : goal.returns-in-Ok-saved-clause-counter
+returns-in-Ok-saved-clause-counter g c = reply_in_range c.judge-reply.result c.judge-reply.ensures.counter
 
 pub returns-in-Err-saved-clause-ok : goal.returns-in-Err-saved-clause-ok
 returns-in-Err-saved-clause-ok g c = (
-  put_back _ _ _ c.args.name.now c.in-Some.token c.reply_to-reply.new.token c.copy-before.result (sym c.token.ensures ∙ c.in-Some.is) c.copy-before.ensures
+  put_back _ _ _ c.args.name.now c.in-Some.token c.judge-reply.new.self c.copy-before.result (sym c.token.ensures ∙ c.in-Some.is) c.copy-before.ensures
       c.put_token.ensures.put c.put_token-in-Err-saved.ensures.put,
   (
-    Some c.reply_to-reply.result,
+    Some c.judge-reply.result,
     c.put_token.new.self,
-    needs_save c.reply_to-reply.result c.if-is_locked.ensures.open,
-    told_by _ _ c.args.name.now c.in-Some.token c.reply_to-reply.new.token c.args.moment _ c.reply_to-reply.result c.moment_is_in_range.ensures (sym c.token.ensures ∙ c.in-Some.is)
-        (record { due = c.reply_to-reply.ensures.due; after = c.reply_to-reply.ensures.after; state = c.reply_to-reply.ensures.state })
+    needs_save c.judge-reply.result c.if-is_locked.ensures.open,
+    told_by _ _ c.args.name.now c.in-Some.token c.judge-reply.new.self c.args.moment _ c.judge-reply.result c.moment_is_in_range.ensures (sym c.token.ensures ∙ c.in-Some.is)
+        (record { due = c.judge-reply.ensures.due; after = c.judge-reply.ensures.after; state = c.judge-reply.ensures.state })
         c.put_token.ensures.put,
     record { text = _; is_text = c.in-Ok.ensures.stands; lost = c.in-Err-saved.ensures.saves },
   ),
