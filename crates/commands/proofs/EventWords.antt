@@ -4,7 +4,7 @@ use Rattle.std.specs.Prelude.{codes, decimal}
 use Rattle.otp_core.specs.Ranges.{IsMoment}
 use Rattle.log_grammar.specs.NumberedLines.{IsSessionNumber}
 use Rattle.log_grammar.proofs.WordLemmas.{spaceless_number, moment_fits}
-use Rattle.sasl_log.specs.Numbered.{BeginsWithNumber}
+use Rattle.sasl_log.specs.NumberedFaults.{BeginsWithNumber}
 use Rattle.sasl_log.specs.Words.{LacksSpace}
 use Rattle.sasl_log.proofs.NumberedTexts.{one_rest}
 use Rattle.sasl_log.proofs.Spaces.{spaceless, no_space, cut_once}

@@ -9,7 +9,7 @@ use Rattle.log_grammar.specs.Places.{Place, asks_bare, got_first, got_final, wai
 use Rattle.log_grammar.specs.Demands.{Accounts, AreFit, demands, AreReplies}
 use Rattle.log_grammar.specs.state_machine.Steps.{Goes, told_at}
 use Rattle.log_grammar.specs.Clean.{Begins}
-use Rattle.log_grammar.specs.Why.{Why, is_cut, no_line, out_of_order, other_mechs, other_challenge, other_outcome, other_reply, accepted, refused_with, IsWrongWord, IsWrongReply, IsWrong, IsWrongText}
+use Rattle.log_grammar.specs.Why.{Why, is_cut, no_line, out_of_order, other_mechs, other_challenge, other_outcome, other_reply, accepted, refused_with, IsWrongAnswer, IsWrongReply, IsWrong, IsWrongText}
 use Rattle.log_grammar.specs.laws.LogLaws.{FrontsBeginClean}
 use Rattle.log_grammar.specs.Versions.{BeginsClean}
 use Rattle.log_grammar.specs.laws.Reasons.{SaysWhatIsDue, NamesWhatIsDue, EachLineThatIsDueMayStand}
@@ -43,7 +43,7 @@ named (other_outcome due) line says writable = tt
 named (other_reply moment due) line says writable = (subst IsLogInRange says writable.ranges).1
 
 -- an acceptance with the signature that is due
-pub goes_ok : (accounts : Accounts) (place : Place) (signature text : List ℕ) → IsWrongWord accounts place (other_outcome (accepted signature))
+pub goes_ok : (accounts : Accounts) (place : Place) (signature text : List ℕ) → IsWrongAnswer accounts place (other_outcome (accepted signature))
     → IsAuthentic text signature → (next : Place) × Goes (demands accounts) place (said (accepts text)) next × (told_at place (said (accepts text)) ≡ [])
 goes_ok accounts (asks_bare m) signature text (inl (is, same)) bears = absurd (cc same)
 goes_ok accounts (asks_bare m) signature text (inr (none, same)) bears = absurd (cc same)
@@ -62,7 +62,7 @@ no_reply_why accounts (got_code account sent) told moment signature (due, is, sa
 no_reply_why accounts place told moment signature wrong = wrong
 
 pub word_of : (accounts : Accounts) (place : Place) (told : List Told) (line : LogLine) (signature : List ℕ)
-    → IsWrong accounts place told line (other_outcome (accepted signature)) → IsWrongWord accounts place (other_outcome (accepted signature))
+    → IsWrong accounts place told line (other_outcome (accepted signature)) → IsWrongAnswer accounts place (other_outcome (accepted signature))
 word_of accounts place told (said (mechs names)) signature wrong = absurd (cc wrong)
 word_of accounts place told (said (cont message)) signature wrong = wrong
 word_of accounts place told (said (accepts message)) signature wrong = wrong
@@ -75,7 +75,7 @@ record OkIsDue (accounts : Accounts) (lines : List LogLine) (signature : List �
   at : Place
   tells : List Told
   begins : Begins (demands accounts) lines at tells
-  word : IsWrongWord accounts at (other_outcome (accepted signature))
+  word : IsWrongAnswer accounts at (other_outcome (accepted signature))
 
 ok_is_due : (accounts : Accounts) (lines : List LogLine) (text signature : List ℕ) → IsWrongText accounts lines text (other_outcome (accepted signature))
     → OkIsDue accounts lines signature

@@ -13,7 +13,7 @@ use Rattle.log_grammar.specs.laws.LogLaws.{ClassesFollowThePlace}
 use Rattle.log_grammar.specs.laws.Examples.{AreWhole}
 use Rattle.log_grammar.proofs.CutLemmas.{cut_one_way, first_lack, among, whole}
 use Rattle.log_grammar.proofs.FaultLemmas.{Lead, start, clean_at, end_is_cut, rest_is_cut, rest_is_long, long_text_why, last_why}
-use Rattle.log_grammar.specs.Versions.{both, IsClean, IsWhy}
+use Rattle.log_grammar.specs.Versions.{any_version, IsClean, IsWhy}
 use Rattle.log_grammar.proofs.Snoc.{last_same, split_last, all_append}
 use Rattle.log_grammar.proofs.VersionLemmas.{none_end_both}
 
@@ -51,7 +51,7 @@ short_is_cut accounts rest lacks short =
     let cut = alone rest lacks in
     end_is_cut accounts rest [] rest [] before_all [] cut (start accounts)
     (λ clean. let (texts, also, ends) = clean in
-    none_end_both accounts (subst (both accounts).Ends (cut_one_way rest texts [] [] rest also cut).0 ends)) short
+    none_end_both accounts (subst (any_version accounts).AreClean (cut_one_way rest texts [] [] rest also cut).0 ends)) short
 
 pub long_is_no_line : (accounts : Accounts) (rest : List ℕ) → LacksLf rest → 6203 ≤ length rest → IsWhy accounts rest 1 no_line
 long_is_no_line accounts rest lacks long = rest_is_long accounts rest [] rest [] before_all [] (alone rest lacks) (start accounts) long

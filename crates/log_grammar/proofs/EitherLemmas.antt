@@ -2,7 +2,7 @@
 use Rattle.std.proofs.Common.{◌≡◌, ◌⊎◌, inl, inr, ℕ, List, [], ◌∷◌, ◌++◌, refl, sym, ◌∙◌, subst}
 use Rattle.mac_core.proofs.Decided.{Decided, decided_same}
 use Rattle.log_grammar.specs.Why.{Why, no_line}
-use Rattle.log_grammar.specs.Kinds.{LogKind, either}
+use Rattle.log_grammar.specs.LogKinds.{LogKind, either}
 use Rattle.log_grammar.proofs.KindLemmas.{IsShortened, EndsStand, IsWrongOnce, NextIsJudged, IsSound, first_stand}
 use Rattle.log_grammar.proofs.KindFaults.{FrontsBeginCleanOf, FaultText}
 
@@ -10,7 +10,7 @@ use Rattle.log_grammar.proofs.KindFaults.{FrontsBeginCleanOf, FaultText}
 pub record IsHeaded (kind : LogKind) (first : List ℕ) : Type 0 where
   pub begins : kind.MayBegin (first ∷ [])
   pub first_is : (text : List ℕ) → kind.MayBegin (text ∷ []) → text ≡ first
-  pub none_end : kind.Ends [] → ⊥
+  pub none_end : kind.AreClean [] → ⊥
 
 -- two kinds whose logs begin with different lines
 pub record AreApart (one two : LogKind) (first second : List ℕ) : Type 0 where
@@ -55,7 +55,7 @@ either_wrong_once one two first second differ once also (t ∷ before) text w v 
 
 -- it is decided whether lines that stand are a clean log
 ends_decided : (one two : LogKind) (first second : List ℕ) → AreApart one two first second → IsSound one → IsSound two
-    → (texts : List (List ℕ)) → (either one two first second).MayBegin texts → Decided ((either one two first second).Ends texts)
+    → (texts : List (List ℕ)) → (either one two first second).MayBegin texts → Decided ((either one two first second).AreClean texts)
 ends_decided one two first second a s z [] stands =
     inr (λ ends. elim ends [ inl none ↦ a.one_headed.none_end none | inr none ↦ a.two_headed.none_end none ])
 ends_decided one two first second a s z (t ∷ texts) (inl stands) =

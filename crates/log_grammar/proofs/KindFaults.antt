@@ -6,7 +6,7 @@ use Rattle.std.proofs.lemmas.List.{take-append-le}
 use Rattle.std.proofs.lemmas.Bool.{cases_lt}
 use Rattle.log_grammar.specs.Bytes.{LacksLf, ended_by_lf, IsCut}
 use Rattle.log_grammar.specs.Why.{Why}
-use Rattle.log_grammar.specs.Kinds.{LogKind, IsFrontOf, IsCleanOf, IsFaultLineOf, IsWrongNextOf, IsWhyOf, BeginsCleanOf, IsFirstToBeginNoCleanOf}
+use Rattle.log_grammar.specs.LogKinds.{LogKind, IsFrontOf, IsCleanOf, IsFaultLineOf, IsWrongNextOf, IsWhyOf, BeginsCleanOf, IsFirstToBeginNoCleanOf}
 use Rattle.log_grammar.proofs.CutLemmas.{cut_one_way, cut_on, first_lack, up_to, whole}
 use Rattle.log_grammar.proofs.Snoc.{with_next, parted}
 use Rattle.log_grammar.proofs.KindLemmas.{IsShortened, EndsStand, first_stand, front_stands, front_at, fronts_front, text_at_fault}

@@ -45,7 +45,7 @@ mod LoginFaults
 mod DueRanges
 mod DueLines
 pub mod Owns
-mod Stays
+mod Visits
 mod NumberedTold
 pub mod NumberedLogSteps
 pub mod NumberedCuts

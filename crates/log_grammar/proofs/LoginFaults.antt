@@ -12,7 +12,7 @@ use Rattle.otp_core.specs.declared.token.answer.Reply.{Reply}
 use Rattle.log_grammar.specs.Lines.{header, said, heard, refuses, replies, asking, log_text, IsReplyInRange, IsClientInRange, IsLogLine}
 use Rattle.log_grammar.specs.Places.{got_final, got_code}
 use Rattle.log_grammar.specs.Demands.{Accounts, IsReplyBy}
-use Rattle.log_grammar.specs.Why.{other_outcome, other_reply, accepted, of_words, of_replies}
+use Rattle.log_grammar.specs.Why.{other_outcome, other_reply, accepted, of_login_answers, of_replies}
 use Rattle.log_grammar.specs.Versions.{IsWhy}
 use Rattle.log_grammar.specs.Upgrades.{original_text}
 use Rattle.log_grammar.specs.laws.Logins.{Exchange, IsLoginTo, login_session, tried_session, RefusedLoginsAreAtFault, OtherRepliesAreAtFault}
@@ -37,7 +37,7 @@ refused_by known valid accounts m name exchange message l is =
           (text_lacks (log_text line) line is)
           (λ f.
           let wrong = one_verdict known.verdicts accounts (name_of m) name exchange.client_first exchange.server_first exchange.client_final (accept signature) (refuse f.goes.0.0) due f.goes.0.1 in cc wrong)
-          (inr ((classes_due accounts _ at [] of_words lead.begins).1 refl, at, [], lead.begins, (accept signature, due, refl))),
+          (inr ((classes_due accounts _ at [] of_login_answers lead.begins).1 refl, at, [], lead.begins, (accept signature, due, refl))),
     )
 
 pub refused_logins : Known → AcceptsExactlyValid → RefusedLoginsAreAtFault original_text

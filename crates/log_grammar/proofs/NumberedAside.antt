@@ -8,20 +8,20 @@ use Rattle.log_grammar.specs.Lines.{LogLine, said, busy}
 use Rattle.log_grammar.specs.Told.{Told}
 use Rattle.log_grammar.specs.Places.{Place}
 use Rattle.log_grammar.specs.Demands.{Demands, no_demands}
-use Rattle.log_grammar.specs.Numbered.{Numbered, numbered, of_number, Stay, stays, turned, stay_part, SpellsNumbered}
+use Rattle.log_grammar.specs.Numbered.{Numbered, numbered, of_number, Visit, let_in, sent_away, visit_part, SpellsNumbered}
 use Rattle.log_grammar.proofs.Aside.{bare, bare_place, bare_told, IsBareOf, bare_line, bare_closing, of_session, no_demand}
 use Rattle.log_grammar.proofs.NumberedTold.{numbers_of, values_of}
 
 -- what a number stands for, with no account named
-abbrev bare_stay : Option Stay → Option Stay
-bare_stay None = None
-bare_stay (Some (stays s)) = Some (stays (bare s))
-bare_stay (Some (turned closed)) = Some (turned closed)
+abbrev bare_visit : Option Visit → Option Visit
+bare_visit None = None
+bare_visit (Some (let_in s)) = Some (let_in (bare s))
+bare_visit (Some (sent_away closed)) = Some (sent_away closed)
 
-of_stay : (p : Option Stay) → IsBareOf (stay_part (bare_stay p)) (stay_part p)
-of_stay None = record { lines = refl; place = refl; told = refl; meets = tt }
-of_stay (Some (stays s)) = of_session s
-of_stay (Some (turned closed)) = bare_line (said busy) _ _ (bare_closing closed)
+of_visit : (p : Option Visit) → IsBareOf (visit_part (bare_visit p)) (visit_part p)
+of_visit None = record { lines = refl; place = refl; told = refl; meets = tt }
+of_visit (Some (let_in s)) = of_session s
+of_visit (Some (sent_away closed)) = bare_line (said busy) _ _ (bare_closing closed)
 
 abbrev bare_numbered : List (Numbered Told) → List (Numbered Told)
 bare_numbered numbered_told = map (λ (t : Numbered Told). numbered t.number (bare_told t.value)) numbered_told
@@ -42,18 +42,18 @@ pub aside_numbered : (limit : ℕ) (d : Demands) (log : List (Numbered LogLine))
 aside_numbered limit d log places told s = (
   values_of (bare_numbered s.numbered_told),
   record {
-    stay = λ n. bare_stay (s.stay n);
+    visit = λ n. bare_visit (s.visit n);
     numbered_told = bare_numbered s.numbered_told;
     sessions = record {
-      lines = λ n. s.sessions.lines n ∙ sym (of_stay (s.stay n)).lines;
-      good = λ n. (of_stay (s.stay n)).meets;
+      lines = λ n. s.sessions.lines n ∙ sym (of_visit (s.visit n)).lines;
+      good = λ n. (of_visit (s.visit n)).meets;
       room = s.sessions.room;
       next = s.sessions.next;
-      told_of_each = λ n. of_number_bare n s.numbered_told ∙ ap (map bare_told) (s.sessions.told_of_each n) ∙ sym (of_stay (s.stay n)).told;
+      told_of_each = λ n. of_number_bare n s.numbered_told ∙ ap (map bare_told) (s.sessions.told_of_each n) ∙ sym (of_visit (s.visit n)).told;
       order = numbers_bare s.numbered_told ∙ s.sessions.order;
     };
     tells = refl;
     replies = no_demand [] (values_of (bare_numbered s.numbered_told));
-    after = λ n. ap bare_place (s.after n) ∙ sym (of_stay (s.stay n)).place;
+    after = λ n. ap bare_place (s.after n) ∙ sym (of_visit (s.visit n)).place;
   },
 )

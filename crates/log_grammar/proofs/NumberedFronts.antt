@@ -12,8 +12,8 @@ use Rattle.log_grammar.specs.Numbered.{Numbered, numbered, place_at, lines_at, b
 use Rattle.log_grammar.specs.state_machine.OpenNumbers.{is_closed}
 use Rattle.log_grammar.specs.NumberedLines.{IsSessionNumber, IsNumberedLine}
 use Rattle.log_grammar.specs.state_machine.NumberedSteps.{GoesIn, put}
-use Rattle.log_grammar.specs.Kinds.{BeginsCleanOf}
-use Rattle.log_grammar.specs.KindTwo.{two}
+use Rattle.log_grammar.specs.LogKinds.{BeginsCleanOf}
+use Rattle.log_grammar.specs.KindTwo.{version_two}
 use Rattle.log_grammar.proofs.Completions.{Ground, spelt_end}
 use Rattle.log_grammar.proofs.CutLemmas.{cut_with}
 use Rattle.log_grammar.proofs.KindFaults.{FrontsBeginCleanOf}
@@ -112,7 +112,7 @@ read_at (t ∷ texts) (y ∷ before) x rest are = read_at texts before x rest ar
 -- the numbers that are open were read
 ranged_of : (limit : ℕ) (accounts : Accounts) (texts : List (List ℕ)) (log : List (Numbered LogLine)) (places : ℕ → Place) (told : List Told)
     → AllZip IsNumberedLine texts log → SpellsNumbered limit (demands accounts) log places told → Ranged places
-ranged_of limit accounts texts log places told are s n is = elim (given_or_not (s.stay n)) [
+ranged_of limit accounts texts log places told are s n is = elim (given_or_not (s.visit n)) [
   | inl none ↦ let wrong = sym (ap is_closed (s.after n ∙ ap place_at none)) ∙ is in absurd (cc wrong)
   | inr given ↦
       let first = given_first given.0 in
@@ -129,13 +129,13 @@ pairs_on (t ∷ texts) more [] others are also = absurd are
 pairs_on (t ∷ texts) more (l ∷ lines) others are also = (are.0, pairs_on texts more lines others are.1 also)
 
 -- no line yet: the first line makes a clean log
-first_completes : (limit : ℕ) (accounts : Accounts) (bytes : List ℕ) → IsCut bytes [] [] → BeginsCleanOf (two limit accounts) bytes
+first_completes : (limit : ℕ) (accounts : Accounts) (bytes : List ℕ) → IsCut bytes [] [] → BeginsCleanOf (version_two limit accounts) bytes
 first_completes limit accounts bytes cut =
     let first = codes "SCRAMLOG 2" ∷ [] in
     (ended_by_lf first, (first, cut_with bytes [] first cut (refl, tt), (refl, [], λ n. between, [], tt, no_line_yet limit (demands accounts), inl (λ n. refl))))
 
 -- each front of version 2 begins a clean log
-pub fronts_complete_two : Ground → (limit : ℕ) (accounts : Accounts) → AreFit accounts → FrontsBeginCleanOf (two limit accounts)
+pub fronts_complete_two : Ground → (limit : ℕ) (accounts : Accounts) → AreFit accounts → FrontsBeginCleanOf (version_two limit accounts)
 fronts_complete_two ground limit accounts fit bytes ([], cut, stands) = first_completes limit accounts bytes cut
 fronts_complete_two ground limit accounts fit bytes (first ∷ texts, cut, (is, lines, places, told, are, s)) =
     let c = complete_two ground limit accounts fit lines places told s (ranged_of limit accounts texts lines places told are s) in (

@@ -12,11 +12,11 @@ use Rattle.log_grammar.specs.Places.{between, halted}
 use Rattle.log_grammar.specs.Demands.{Accounts, demands}
 use Rattle.log_grammar.specs.Sessions.{closing}
 use Rattle.log_grammar.specs.laws.Histories.{IsHistory}
-use Rattle.log_grammar.specs.Numbered.{Numbered, of_number, Stay, stays, turned, lines_at, told_in, place_at, SpellsNumbered, MayEndNumbered}
+use Rattle.log_grammar.specs.Numbered.{Numbered, of_number, Visit, let_in, sent_away, lines_at, told_in, place_at, SpellsNumbered, MayEndNumbered}
 use Rattle.log_grammar.specs.NumberedLines.{numbered_text, IsNumberedLine, IsNumberedWritable}
-use Rattle.log_grammar.specs.Kinds.{IsCleanOf}
-use Rattle.log_grammar.specs.KindTwo.{EndsTwo, two}
-use Rattle.log_grammar.specs.laws.NumberedHeadline.{IsClosedStay, IsHaltedStay, IsNumberedLogOf, CleanNumberedLogsAreThoseOfSessions}
+use Rattle.log_grammar.specs.LogKinds.{IsCleanOf}
+use Rattle.log_grammar.specs.KindTwo.{AreCleanTwo, version_two}
+use Rattle.log_grammar.specs.laws.NumberedHeadline.{IsClosedVisit, IsHaltedVisit, IsNumberedLogOf, CleanNumberedLogsAreThoseOfSessions}
 use Rattle.log_grammar.proofs.AccountLemmas.{each_account}
 use Rattle.log_grammar.proofs.HeadlineLemmas.{closed_at, is_closed, halted_at_end, is_halted}
 use Rattle.log_grammar.proofs.MomentLemmas.{Ranged, Timed, of_session, of_closing}
@@ -56,10 +56,10 @@ of_number_ranged n (x ∷ log) all = elim (eqb_tells n x.number) [
 ]
 
 -- so what was told under it was told at moments
-timed_in : (o : Option Stay) → Ranged (lines_at o) → Timed (told_in o)
+timed_in : (o : Option Visit) → Ranged (lines_at o) → Timed (told_in o)
 timed_in None h = tt
-timed_in (Some (stays s)) h = of_session s h
-timed_in (Some (turned closed)) h = of_closing closed h.1
+timed_in (Some (let_in s)) h = of_session s h
+timed_in (Some (sent_away closed)) h = of_closing closed h.1
 
 -- what was told under a number without the first of all
 timed_rest : (n : ℕ) (t : Numbered Told) (numbered_told : List (Numbered Told)) → Timed (of_number n (t ∷ numbered_told)) → Timed (of_number n numbered_told)
@@ -79,10 +79,10 @@ timed_marks : (numbered_told : List (Numbered Told)) → ((n : ℕ) → Timed (o
 timed_marks [] each = tt
 timed_marks (t ∷ numbered_told) each = (timed_first t numbered_told (each t.number), timed_marks numbered_told (λ n. timed_rest n t numbered_told (each n)))
 
-pub timed_numbers : (log : List (Numbered LogLine)) (stay : ℕ → Option Stay) (numbered_told : List (Numbered Told)) → AllByRecursion IsNumberedWritable log
-    → ((n : ℕ) → of_number n log ≡ lines_at (stay n)) → ((n : ℕ) → of_number n numbered_told ≡ told_in (stay n)) → Timed (map (λ t. t.value) numbered_told)
-timed_numbers log stay numbered_told written lines told_of_each =
-    timed_marks numbered_told (λ n. subst Timed (sym (told_of_each n)) (timed_in (stay n) (subst Ranged (lines n) (of_number_ranged n log written))))
+pub timed_numbers : (log : List (Numbered LogLine)) (visit : ℕ → Option Visit) (numbered_told : List (Numbered Told)) → AllByRecursion IsNumberedWritable log
+    → ((n : ℕ) → of_number n log ≡ lines_at (visit n)) → ((n : ℕ) → of_number n numbered_told ≡ told_in (visit n)) → Timed (map (λ t. t.value) numbered_told)
+timed_numbers log visit numbered_told written lines told_of_each =
+    timed_marks numbered_told (λ n. subst Timed (sym (told_of_each n)) (timed_in (visit n) (subst Ranged (lines n) (of_number_ranged n log written))))
 
 -- a number is at the place after `E` exactly where that is its last line
 no_end_yet : EndsWith (said busy ∷ []) (ended ∷ []) → ⊥
@@ -92,48 +92,48 @@ no_halt : (closed : Bool) → EndsWith (said busy ∷ (closing closed).lines) (s
 no_halt true (before, same) = let wrong = (last_same (said busy ∷ []) before ended (said halt) same).1 in cc wrong
 no_halt false (before, same) = let wrong = (last_same [] before (said busy) (said halt) same).1 in cc wrong
 
-closed_place : (o : Option Stay) → IsClosedStay o → place_at o ≡ between
+closed_place : (o : Option Visit) → IsClosedVisit o → place_at o ≡ between
 closed_place None is = refl
-closed_place (Some (stays s)) is = closed_at s is
-closed_place (Some (turned true)) is = refl
-closed_place (Some (turned false)) is = absurd (no_end_yet is)
+closed_place (Some (let_in s)) is = closed_at s is
+closed_place (Some (sent_away true)) is = refl
+closed_place (Some (sent_away false)) is = absurd (no_end_yet is)
 
-closed_lines : (o : Option Stay) → place_at o ≡ between → IsClosedStay o
+closed_lines : (o : Option Visit) → place_at o ≡ between → IsClosedVisit o
 closed_lines None is = tt
-closed_lines (Some (stays s)) is = is_closed s is
-closed_lines (Some (turned true)) is = (said busy ∷ [], refl)
-closed_lines (Some (turned false)) is = absurd (cc is)
+closed_lines (Some (let_in s)) is = is_closed s is
+closed_lines (Some (sent_away true)) is = (said busy ∷ [], refl)
+closed_lines (Some (sent_away false)) is = absurd (cc is)
 
-halted_place : (o : Option Stay) → IsHaltedStay o → place_at o ≡ halted
+halted_place : (o : Option Visit) → IsHaltedVisit o → place_at o ≡ halted
 halted_place None is = absurd is
-halted_place (Some (stays s)) is = halted_at_end s is
-halted_place (Some (turned closed)) is = absurd (no_halt closed is)
+halted_place (Some (let_in s)) is = halted_at_end s is
+halted_place (Some (sent_away closed)) is = absurd (no_halt closed is)
 
-halted_lines : (o : Option Stay) → place_at o ≡ halted → IsHaltedStay o
+halted_lines : (o : Option Visit) → place_at o ≡ halted → IsHaltedVisit o
 halted_lines None is = absurd (cc is)
-halted_lines (Some (stays s)) is = is_halted s is
-halted_lines (Some (turned true)) is = absurd (cc is)
-halted_lines (Some (turned false)) is = absurd (cc is)
+halted_lines (Some (let_in s)) is = is_halted s is
+halted_lines (Some (sent_away true)) is = absurd (cc is)
+halted_lines (Some (sent_away false)) is = absurd (cc is)
 
 -- a clean log of version 2 is that of its sessions
-of_ends : (limit : ℕ) (accounts : Accounts) (bytes : List ℕ) (texts : List (List ℕ)) → IsCut bytes texts [] → EndsTwo limit accounts texts
+of_ends : (limit : ℕ) (accounts : Accounts) (bytes : List ℕ) (texts : List (List ℕ)) → IsCut bytes texts [] → AreCleanTwo limit accounts texts
     → (log : List (Numbered LogLine)) × IsNumberedLogOf limit accounts bytes log
 of_ends limit accounts bytes [] cut ends = absurd ends
 of_ends limit accounts bytes (first ∷ texts) cut (is, log, places, told, are, s, may) =
     let written = written_of texts log are in
-    let moments = timed_numbers log s.stay s.numbered_told written s.sessions.lines s.sessions.told_of_each in
+    let moments = timed_numbers log s.visit s.numbered_told written s.sessions.lines s.sessions.told_of_each in
     let replies = subst (λ (t : List Told). (account : List ℕ) → IsHistory (accounts.token account) account t) s.tells
     ((each_account accounts told (subst Timed (sym s.tells) moments)).0 s.replies) in
-    let over = elim may as (λ m. ((n : ℕ) → IsClosedStay (s.stay n)) ⊎ ((n : ℕ) × IsHaltedStay (s.stay n))) [
-      | inl all ↦ inl (λ n. closed_lines (s.stay n) (sym (s.after n) ∙ all n))
-      | inr halts ↦ inr (halts.0, halted_lines (s.stay halts.0) (sym (s.after halts.0) ∙ halts.1))
+    let over = elim may as (λ m. ((n : ℕ) → IsClosedVisit (s.visit n)) ⊎ ((n : ℕ) × IsHaltedVisit (s.visit n))) [
+      | inl all ↦ inl (λ n. closed_lines (s.visit n) (sym (s.after n) ∙ all n))
+      | inr halts ↦ inr (halts.0, halted_lines (s.visit halts.0) (sym (s.after halts.0) ∙ halts.1))
     ] in
     let same = ap (λ (t : List ℕ). t ∷ texts) is ∙ ap (λ (ts : List (List ℕ)). log_text second_header ∷ ts) (texts_of texts log are) in (
       log,
       record {
         spelled = cut.bytes_are ∙ append-nil (ended_by_lf (first ∷ texts)) ∙ ap ended_by_lf same;
         written = written;
-        stay = s.stay;
+        visit = s.visit;
         numbered_told = s.numbered_told;
         sessions = s.sessions;
         over = over;
@@ -143,16 +143,16 @@ of_ends limit accounts bytes (first ∷ texts) cut (is, log, places, told, are, 
 
 -- a log of sessions is clean
 clean_of : (limit : ℕ) (accounts : Accounts) (bytes : List ℕ) (log : List (Numbered LogLine)) → IsNumberedLogOf limit accounts bytes log
-    → IsCleanOf (two limit accounts) bytes
+    → IsCleanOf (version_two limit accounts) bytes
 clean_of limit accounts bytes log l =
     let texts = log_text second_header ∷ map numbered_text log in
     let cut : IsCut bytes texts [] =
     record { bytes_are = l.spelled ∙ sym (append-nil (ended_by_lf texts)); lines = (refl, each_lacks log l.written); after = refl } in
     let told = map (λ (t : Numbered Told). t.value) l.numbered_told in
-    let places = λ (n : ℕ). place_at (l.stay n) in
-    let moments = timed_numbers log l.stay l.numbered_told l.written l.sessions.lines l.sessions.told_of_each in
+    let places = λ (n : ℕ). place_at (l.visit n) in
+    let moments = timed_numbers log l.visit l.numbered_told l.written l.sessions.lines l.sessions.told_of_each in
     let spells : SpellsNumbered limit (demands accounts) log places told = record {
-      stay = l.stay;
+      visit = l.visit;
       numbered_told = l.numbered_told;
       sessions = l.sessions;
       tells = refl;
@@ -160,8 +160,8 @@ clean_of limit accounts bytes log l =
       after = λ n. refl;
     } in
     let may = elim l.over as (λ o. MayEndNumbered places) [
-      | inl all ↦ inl (λ n. closed_place (l.stay n) (all n))
-      | inr halts ↦ inr (halts.0, halted_place (l.stay halts.0) halts.1)
+      | inl all ↦ inl (λ n. closed_place (l.visit n) (all n))
+      | inr halts ↦ inr (halts.0, halted_place (l.visit halts.0) halts.1)
     ] in
     (texts, cut, (refl, log, places, told, are_written log l.written, spells, may))
 

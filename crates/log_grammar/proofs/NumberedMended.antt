@@ -8,10 +8,10 @@ use Rattle.log_grammar.specs.Told.{Told}
 use Rattle.log_grammar.specs.Places.{Place, asks_bare, got_first, got_final, got_code, leaving}
 use Rattle.log_grammar.specs.Demands.{Accounts, AreFit, demands, AreReplies}
 use Rattle.log_grammar.specs.state_machine.Steps.{Goes, told_at}
-use Rattle.log_grammar.specs.Why.{Why, is_cut, no_line, out_of_order, other_mechs, other_challenge, other_outcome, other_reply, accepted, refused_with, class_of, LineClass, of_mechs, of_words, of_replies, IsWrongWord, IsWrongReply, IsWrong}
+use Rattle.log_grammar.specs.Why.{Why, is_cut, no_line, out_of_order, other_mechs, other_challenge, other_outcome, other_reply, accepted, refused_with, class_of, LineClass, of_mechs, of_login_answers, of_replies, IsWrongAnswer, IsWrongReply, IsWrong}
 use Rattle.log_grammar.specs.state_machine.DueClasses.{IsDueAt}
-use Rattle.log_grammar.specs.Kinds.{IsWhyOf, BeginsCleanOf}
-use Rattle.log_grammar.specs.KindTwo.{MayBeginTwo, IsWrongAfterFirst, two}
+use Rattle.log_grammar.specs.LogKinds.{IsWhyOf, BeginsCleanOf}
+use Rattle.log_grammar.specs.KindTwo.{MayBeginTwo, IsWrongAfterFirst, version_two}
 use Rattle.log_grammar.specs.Numbered.{Numbered, numbered, SpellsNumbered}
 use Rattle.log_grammar.specs.state_machine.NumberedDueClasses.{RoomFor, MayFollowBy, IsNumberDueAt}
 use Rattle.log_grammar.specs.NumberedLines.{HasNumber, numbered_text, IsNumberedLine, IsNumberedWritable}
@@ -58,14 +58,14 @@ later_fault limit accounts first texts text log x why head are is names (inr (in
     (record { first = first; texts = texts; same = refl; head = head; log = log; are = are; places = places; told = told; spells = s; due = due; wrong = wrong })
 
 fault_of : (limit : ℕ) (accounts : Accounts) (before : List (List ℕ)) (text : List ℕ) (x : Numbered LogLine) (why : Why) → IsNumberedLine text x → NamesWhatIsDue why
-    → FaultText (two limit accounts) before text why → FaultOf limit accounts before x why
+    → FaultText (version_two limit accounts) before text why → FaultOf limit accounts before x why
 fault_of limit accounts [] text x why is names f = absurd (subst NamesWhatIsDue f.wrong.1 names)
 fault_of limit accounts (first ∷ texts) text x why is names f =
     let (log, are, wrong) = f.wrong in
     later_fault limit accounts first texts text log x why f.stands.0 are is names wrong
 
 -- the text of a line whose fault names what is due is a numbered line
-numbered_at : (limit : ℕ) (accounts : Accounts) (before : List (List ℕ)) (text : List ℕ) (why : Why) → NamesWhatIsDue why → FaultText (two limit accounts) before text why
+numbered_at : (limit : ℕ) (accounts : Accounts) (before : List (List ℕ)) (text : List ℕ) (why : Why) → NamesWhatIsDue why → FaultText (version_two limit accounts) before text why
     → (x : Numbered LogLine) × IsNumberedLine text x
 numbered_at limit accounts [] text why names f = absurd (subst NamesWhatIsDue f.wrong.1 names)
 numbered_at limit accounts (first ∷ texts) text why names f = of_wrong f.wrong.0 f.wrong.2
@@ -86,8 +86,8 @@ due_at limit accounts before x why f = elim f.due.due [
 -- the class of a line that says what is due
 abbrev class_due : Why → LineClass → Type 0
 class_due other_mechs class = class ≡ of_mechs
-class_due other_challenge class = class ≡ of_words
-class_due (other_outcome due) class = class ≡ of_words
+class_due other_challenge class = class ≡ of_login_answers
+class_due (other_outcome due) class = class ≡ of_login_answers
 class_due (other_reply moment due) class = class ≡ of_replies
 class_due why class = ⊥
 
@@ -101,13 +101,13 @@ says_class (other_outcome (accepted signature)) line says = ap class_of says.2
 says_class (other_outcome (refused_with message)) line says = ap class_of says
 says_class (other_reply moment due) line says = ap class_of says
 
-word_class : (accounts : Accounts) (place : Place) (why : Why) → IsWrongWord accounts place why → class_due why of_words
-word_class accounts (asks_bare m) why (inl (is, same)) = subst (λ (w : Why). class_due w of_words) (sym same) refl
-word_class accounts (asks_bare m) why (inr (none, same)) = subst (λ (w : Why). class_due w of_words) (sym same) refl
-word_class accounts (got_first m first) why (inl (is, same)) = subst (λ (w : Why). class_due w of_words) (sym same) refl
-word_class accounts (got_first m first) why (inr (none, same)) = subst (λ (w : Why). class_due w of_words) (sym same) refl
-word_class accounts (got_final m account first challenge last) why (due, is, same) = subst (λ (w : Why). class_due w of_words) (sym same) refl
-word_class accounts leaving why same = subst (λ (w : Why). class_due w of_words) (sym same) refl
+word_class : (accounts : Accounts) (place : Place) (why : Why) → IsWrongAnswer accounts place why → class_due why of_login_answers
+word_class accounts (asks_bare m) why (inl (is, same)) = subst (λ (w : Why). class_due w of_login_answers) (sym same) refl
+word_class accounts (asks_bare m) why (inr (none, same)) = subst (λ (w : Why). class_due w of_login_answers) (sym same) refl
+word_class accounts (got_first m first) why (inl (is, same)) = subst (λ (w : Why). class_due w of_login_answers) (sym same) refl
+word_class accounts (got_first m first) why (inr (none, same)) = subst (λ (w : Why). class_due w of_login_answers) (sym same) refl
+word_class accounts (got_final m account first challenge last) why (due, is, same) = subst (λ (w : Why). class_due w of_login_answers) (sym same) refl
+word_class accounts leaving why same = subst (λ (w : Why). class_due w of_login_answers) (sym same) refl
 word_class accounts place why wrong = absurd wrong
 
 reply_class : (accounts : Accounts) (place : Place) (told : List Told) (moment : ℕ) (why : Why) → IsWrongReply accounts place told moment why → class_due why of_replies
@@ -147,7 +147,7 @@ begins_with : NumberedFrontsBeginClean → (limit : ℕ) (accounts : Accounts) �
     (f : FaultOf limit accounts before x why) (line : LogLine) (next : Place) → AllByRecursion LacksLf before → SaysWhatIsDue why line
     → IsNumberedWritable (numbered x.number line) → Goes (demands accounts) (f.places x.number) line next
     → AreReplies (demands accounts) (reverse f.told) (told_at (f.places x.number) line)
-    → BeginsCleanOf (two limit accounts) (ended_by_lf (before ++ numbered_text (numbered x.number line) ∷ []))
+    → BeginsCleanOf (version_two limit accounts) (ended_by_lf (before ++ numbered_text (numbered x.number line) ∷ []))
 begins_with completes limit accounts fit before x why f line next lack says writable goes answer =
     let n = x.number in
     let y = numbered n line in
@@ -164,13 +164,13 @@ begins_with completes limit accounts fit before x why f line next lack says writ
     let all = before ++ numbered_text y ∷ [] in
     let lacks = all_append LacksLf before (numbered_text y ∷ []) lack (numbered_lacks (numbered_text y) y writable, tt) in
     completes limit accounts fit (ended_by_lf all)
-    (front_at (two limit accounts) all lacks (subst (λ (ts : List (List ℕ)). MayBeginTwo limit accounts (ts ++ numbered_text y ∷ [])) (sym f.same) stands))
+    (front_at (version_two limit accounts) all lacks (subst (λ (ts : List (List ℕ)). MayBeginTwo limit accounts (ts ++ numbered_text y ∷ [])) (sym f.same) stands))
 
 mended_at : NumberedFrontsBeginClean → (limit : ℕ) (accounts : Accounts) → AreFit accounts → (bytes : List ℕ) (before : List (List ℕ)) (text : List ℕ) (more : List (List ℕ))
-    (rest : List ℕ) (why : Why) → IsCut bytes (before ++ text ∷ more) rest → IsWhyOf (two limit accounts) bytes (length before + 1) why → NamesWhatIsDue why
+    (rest : List ℕ) (why : Why) → IsCut bytes (before ++ text ∷ more) rest → IsWhyOf (version_two limit accounts) bytes (length before + 1) why → NamesWhatIsDue why
     → IsNumberedMended limit accounts (before ++ text ∷ more) (length before + 1) why
 mended_at completes limit accounts fit bytes before text more rest why cut w names =
-    let fault = at_text (two limit accounts) bytes before text more rest why cut w in
+    let fault = at_text (version_two limit accounts) bytes before text more rest why cut w in
     let (x, is) = numbered_at limit accounts before text why names fault in
     let f = fault_of limit accounts before text x why is names fault in
     let m = by_line accounts fit (f.places x.number) f.told (log_text x.value) x.value why is.line (due_at limit accounts before x why f) names f.wrong in
@@ -193,7 +193,7 @@ pub numbered_what_is_due : NumberedFrontsBeginClean → WhatIsDueMayStandUnderIt
 numbered_what_is_due completes limit accounts fit bytes texts rest k why cut w names = elim (cases_lt w.before (length texts)) [
   | inr past ↦
       let same = (cut_one_way bytes w.fault.texts texts w.fault.rest rest w.fault.cut cut).0 in
-      absurd (none_named (two limit accounts) (take w.before w.fault.texts) w.fault.texts w.before w.fault.rest why
+      absurd (none_named (version_two limit accounts) (take w.before w.fault.texts) w.fault.texts w.before w.fault.rest why
       (subst (λ (ts : List (List ℕ)). length ts ≤ w.before) (sym same) past) w.wrong names)
   | inl less ↦
       let (before, text, more, same, at) = parted texts w.before less in
@@ -201,7 +201,7 @@ numbered_what_is_due completes limit accounts fit bytes texts rest k why cut w n
       subst (λ (ts : List (List ℕ)). IsNumberedMended limit accounts ts k why) (sym same)
       (subst (λ (i : ℕ). IsNumberedMended limit accounts (before ++ text ∷ more) i why) (sym this)
       (mended_at completes limit accounts fit bytes before text more rest why (subst (λ (ts : List (List ℕ)). IsCut bytes ts rest) same cut)
-      (subst (λ (i : ℕ). IsWhyOf (two limit accounts) bytes i why) this w) names))
+      (subst (λ (i : ℕ). IsWhyOf (version_two limit accounts) bytes i why) this w) names))
 ]
 
 -- where a line that says what is due leads to
@@ -236,6 +236,6 @@ leads_on accounts fit place told x (other_reply moment due_reply) line is due wr
 
 pub each_numbered_line : NumberedFrontsBeginClean → EachNumberedLineThatIsDueMayStand
 each_numbered_line completes limit accounts fit bytes before text more rest why x line cut w other is says writable =
-    let f = fault_of limit accounts before text x why is (named why line says writable.line) (at_text (two limit accounts) bytes before text more rest why cut w) in
+    let f = fault_of limit accounts before text x why is (named why line says writable.line) (at_text (version_two limit accounts) bytes before text more rest why cut w) in
     let l = leads_on accounts fit (f.places x.number) f.told x.value why line is.line (due_at limit accounts before x why f) f.wrong other says writable.line in
     begins_with completes limit accounts fit before x why f line l.next (first_lack before (text ∷ more) cut.lines) says writable l.goes l.due

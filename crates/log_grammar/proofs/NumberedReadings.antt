@@ -14,7 +14,7 @@ use Rattle.log_grammar.proofs.Opened.{Opened, opened_by}
 use Rattle.log_grammar.proofs.Owns.{at_each}
 use Rattle.log_grammar.proofs.Readings.{OneAccount, goes_once}
 use Rattle.log_grammar.proofs.Snoc.{with_last, length-last}
-use Rattle.log_grammar.proofs.Stays.{no_lines_at}
+use Rattle.log_grammar.proofs.Visits.{no_lines_at}
 
 -- BUSY is no line of a session
 no_busy : (d : Demands) (at next : Place) (line : LogLine) → at ≡ between → line ≡ said busy → Goes d at line next → ⊥
@@ -35,7 +35,7 @@ told_alike told other p q x a b = ap (λ (t : List Told). t ++ told_at p x) a �
 pub nothing_begun : (limit : ℕ) (d : Demands) (places : ℕ → Place) (told : List Told) → SpellsNumbered limit d [] places told
     → ((n : ℕ) → places n ≡ between) × (told ≡ [])
 nothing_begun limit d places told s =
-    (λ n. s.after n ∙ no_lines_at (s.stay n) (sym (s.sessions.lines n)), s.tells ∙ ap values_of (no_marks s.numbered_told s.sessions.order))
+    (λ n. s.after n ∙ no_lines_at (s.visit n) (sym (s.sessions.lines n)), s.tells ∙ ap values_of (no_marks s.numbered_told s.sessions.order))
 
 -- the places and what was told follow from the lines
 pub numbered_once : (limit : ℕ) (d : Demands) → OneAccount d → (k : ℕ) (log : List (Numbered LogLine)) (p q : ℕ → Place) (told other : List Told) → length log ≤ k

@@ -9,7 +9,7 @@ use Rattle.log_grammar.specs.Told.{Told, told_of}
 use Rattle.log_grammar.specs.Places.{Place, before_all, between, offered, asks_bare, waits_first, got_first, waits_final, got_final, waits_code, got_code, leaving, over, halted}
 use Rattle.log_grammar.specs.Demands.{Accounts, IsVerdict, attempts_of, IsReplyDue, demands, AreReplies}
 use Rattle.log_grammar.specs.state_machine.Steps.{Goes, told_at}
-use Rattle.log_grammar.specs.Why.{Why, other_mechs, other_challenge, other_outcome, other_reply, refused_with, outcome_of, LineClass, of_abort, of_code, of_sync, of_bad, of_gone, class_of, IsWrongWord, IsWrongReply, IsWrong}
+use Rattle.log_grammar.specs.Why.{Why, other_mechs, other_challenge, other_outcome, other_reply, refused_with, outcome_of, LineClass, of_abort, of_code, of_sync, of_bad, of_gone, class_of, IsWrongAnswer, IsWrongReply, IsWrong}
 use Rattle.log_grammar.specs.state_machine.DueClasses.{IsQuitting, IsDueAt}
 use Rattle.log_grammar.proofs.Openings.{offered_decided, login_decided}
 use Rattle.log_grammar.proofs.Opened.{Opened}
@@ -93,7 +93,7 @@ at_offered accounts told (said halt) = inr (inl (no_turn _ _ (λ e. cc e) (λ e.
 at_offered accounts told line = inr (inl (no_turn _ _ (λ e. cc e) (λ e. cc e) (λ e. cc e) (λ e. cc e)))
 
 -- why a word is wrong after `C AUTH` without a message
-bare_why : (accounts : Accounts) (m : List ℕ) → (why : Why) × IsWrongWord accounts (asks_bare m) why
+bare_why : (accounts : Accounts) (m : List ℕ) → (why : Why) × IsWrongAnswer accounts (asks_bare m) why
 bare_why accounts m = elim (offered_decided m) [
   | inl is ↦ (other_challenge, inl (is, refl))
   | inr none ↦ (other_outcome (refused_with []), inr (none, refl))
@@ -121,7 +121,7 @@ at_waits_first accounts told m (said halt) = inr (inl (no_turn _ _ (λ e. cc e) 
 at_waits_first accounts told m line = inr (inl (no_turn _ _ (λ e. cc e) (λ e. cc e) (λ e. cc e) (λ e. cc e)))
 
 -- why a word is wrong after a client-first message
-first_why : Settled → (accounts : Accounts) (m first : List ℕ) → (why : Why) × IsWrongWord accounts (got_first m first) why
+first_why : Settled → (accounts : Accounts) (m first : List ℕ) → (why : Why) × IsWrongAnswer accounts (got_first m first) why
 first_why s accounts m first = elim (login_decided s.ground.once s.ground.firsts s.ground.names m first) [
   | inl is ↦ (other_challenge, inl (is, refl))
   | inr none ↦ (other_outcome (refused_with []), inr (none, refl))

@@ -9,7 +9,7 @@ use Rattle.log_grammar.specs.Bytes.{LacksLf, ended_by_lf}
 use Rattle.log_grammar.specs.Demands.{Accounts}
 use Rattle.log_grammar.specs.Why.{Why, is_cut, no_line, out_of_order, other_mechs, other_challenge, other_outcome, refused_with}
 use Rattle.log_grammar.specs.KindTwo.{IsFirstText, IsWrongAfterFirst}
-use Rattle.log_grammar.specs.Versions.{most_open, both, IsClean, IsWhy}
+use Rattle.log_grammar.specs.Versions.{most_open, any_version, IsClean, IsWhy}
 use Rattle.log_grammar.specs.Numbered.{is_end as closes}
 use Rattle.log_grammar.specs.NumberedLines.{HasNumber, numbered_text, IsNoNumberedLine}
 use Rattle.log_grammar.specs.Upgrades.{renumbered, upgraded_text, CanBeNumbered}
@@ -177,7 +177,7 @@ not_first_why_upgraded one_first once accounts =
 after_header : (accounts : Accounts) (text : List ℕ) (why : Why) → LacksLf text → IsNoNumberedLine text → IsWrongAfterFirst most_open accounts [] text why
     → IsWhy accounts (ended_by_lf (second_text ∷ text ∷ [])) 2 why
 after_header accounts text why lacks none wrong =
-    text_at_fault (both accounts) (shorter_both accounts) (ended_by_lf (second_text ∷ text ∷ [])) (second_text ∷ []) text [] [] why
+    text_at_fault (any_version accounts) (shorter_both accounts) (ended_by_lf (second_text ∷ text ∷ [])) (second_text ∷ []) text [] [] why
     (whole (second_text ∷ text ∷ []) (refl, (lacks, tt))) (inr (headed_two most_open accounts).begins)
     (λ stands. let last = last_is_numbered most_open accounts second_text [] text (second_stands accounts (text ∷ []) stands) in none last.0 last.1)
     (inr (refl, ([], tt, wrong)))

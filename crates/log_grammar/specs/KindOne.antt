@@ -7,7 +7,7 @@ use Rattle.log_grammar.specs.Places.{Place, MayEnd}
 use Rattle.log_grammar.specs.Demands.{Accounts, demands}
 use Rattle.log_grammar.specs.Clean.{Spells, Begins}
 use Rattle.log_grammar.specs.Why.{Why, IsWrongText}
-use Rattle.log_grammar.specs.Kinds.{LogKind}
+use Rattle.log_grammar.specs.LogKinds.{LogKind}
 
 -- the texts are lines that a log of version 1 may begin with
 abbrev pub MayBeginOne : Accounts → List (List ℕ) → Type 0
@@ -16,8 +16,8 @@ MayBeginOne accounts texts =
     × AllZip IsLogLine texts lines × Begins (demands accounts) lines place told
 
 -- the texts are the lines of a log of version 1, which leads to a place where it may end
-abbrev pub EndsOne : Accounts → List (List ℕ) → Type 0
-EndsOne accounts texts =
+abbrev pub AreCleanOne : Accounts → List (List ℕ) → Type 0
+AreCleanOne accounts texts =
     (lines : List LogLine) × (place : Place) × (told : List Told)
     × AllZip IsLogLine texts lines × Spells (demands accounts) lines place told × MayEnd place
 
@@ -26,5 +26,5 @@ abbrev pub WrongOne : Accounts → List (List ℕ) → List ℕ → Why → Type
 WrongOne accounts before text why = (lines : List LogLine) × AllZip IsLogLine before lines × IsWrongText accounts lines text why
 
 -- logs of version 1
-abbrev pub one : Accounts → LogKind
-one accounts = record { MayBegin = MayBeginOne accounts; Ends = EndsOne accounts; Wrong = WrongOne accounts; most_line = λ before. longest_log_line }
+abbrev pub version_one : Accounts → LogKind
+version_one accounts = record { MayBegin = MayBeginOne accounts; AreClean = AreCleanOne accounts; Wrong = WrongOne accounts; most_line = λ before. longest_log_line }

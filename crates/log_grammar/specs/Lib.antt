@@ -10,7 +10,7 @@ pub mod Demands
 pub mod Sessions
 pub mod Clean
 pub mod Why
-pub mod Kinds
+pub mod LogKinds
 pub mod KindOne
 pub mod Numbered
 pub mod NumberedLines

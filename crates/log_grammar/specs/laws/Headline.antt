@@ -11,8 +11,8 @@ use Rattle.log_grammar.specs.Demands.{Accounts, AreFit, IsFirstOf, demands}
 use Rattle.log_grammar.specs.Sessions.{Session, session_lines, session_told, SessionMeets}
 use Rattle.log_grammar.specs.laws.Histories.{IsHistory}
 use Rattle.log_grammar.specs.Clean.{Begins}
-use Rattle.log_grammar.specs.KindOne.{one}
-use Rattle.log_grammar.specs.Kinds.{IsCleanOf}
+use Rattle.log_grammar.specs.KindOne.{version_one}
+use Rattle.log_grammar.specs.LogKinds.{IsCleanOf}
 use Rattle.log_grammar.specs.Versions.{IsFront, BeginsClean, IsFirstToBeginNoClean, IsFaultLine}
 use Rattle.log_grammar.specs.laws.Outcomes.{IsSentBy}
 
@@ -42,7 +42,7 @@ pub record IsLogOf (accounts : Accounts) (bytes : List ℕ) (sessions : List Ses
 -- a log of version 1 is clean exactly where it is that of some sessions
 abbrev pub CleanLogsAreThoseOfSessions : Type 0
 CleanLogsAreThoseOfSessions = (accounts : Accounts) (bytes : List ℕ)
-    → IsCleanOf (one accounts) bytes ↔ ((sessions : List Session) × IsLogOf accounts bytes sessions)
+    → IsCleanOf (version_one accounts) bytes ↔ ((sessions : List Session) × IsLogOf accounts bytes sessions)
 
 -- whole lines are a front exactly where they begin a clean log
 abbrev pub FrontsAreWhatBeginsCleanLogs : Type 0

@@ -8,20 +8,20 @@ use Rattle.log_grammar.specs.Bytes.{ended_by_lf}
 use Rattle.log_grammar.specs.Told.{Told}
 use Rattle.log_grammar.specs.Demands.{Accounts, demands}
 use Rattle.log_grammar.specs.laws.Histories.{IsHistory}
-use Rattle.log_grammar.specs.Numbered.{Numbered, Stay, lines_at, AreOfSessions}
+use Rattle.log_grammar.specs.Numbered.{Numbered, Visit, lines_at, AreOfSessions}
 use Rattle.log_grammar.specs.NumberedLines.{numbered_text, IsNumberedWritable}
-use Rattle.log_grammar.specs.Kinds.{IsCleanOf}
-use Rattle.log_grammar.specs.KindTwo.{two}
+use Rattle.log_grammar.specs.LogKinds.{IsCleanOf}
+use Rattle.log_grammar.specs.KindTwo.{version_two}
 
 -- a number was not given, or is closed: `E` is its last line
-abbrev pub IsClosedStay : Option Stay → Type 0
-IsClosedStay None = Unit {0}
-IsClosedStay (Some stay) = EndsWith (lines_at (Some stay)) (ended ∷ [])
+abbrev pub IsClosedVisit : Option Visit → Type 0
+IsClosedVisit None = Unit {0}
+IsClosedVisit (Some visit) = EndsWith (lines_at (Some visit)) (ended ∷ [])
 
 -- a number halted: `S HALT` is its last line
-abbrev pub IsHaltedStay : Option Stay → Type 0
-IsHaltedStay None = ⊥
-IsHaltedStay (Some stay) = EndsWith (lines_at (Some stay)) (said halt ∷ [])
+abbrev pub IsHaltedVisit : Option Visit → Type 0
+IsHaltedVisit None = ⊥
+IsHaltedVisit (Some visit) = EndsWith (lines_at (Some visit)) (said halt ∷ [])
 
 -- the bytes are `SCRAMLOG 2` and these lines, each after its number and ended by an LF; the lines are those of sessions, of
 -- which each is closed, or one halted; and what was told of each account, under all numbers, in the order of the log, is a
@@ -29,13 +29,13 @@ IsHaltedStay (Some stay) = EndsWith (lines_at (Some stay)) (said halt ∷ [])
 pub record IsNumberedLogOf (limit : ℕ) (accounts : Accounts) (bytes : List ℕ) (log : List (Numbered LogLine)) : Type 0 where
   pub spelled : bytes ≡ ended_by_lf (log_text second_header ∷ map numbered_text log)
   pub written : AllByRecursion IsNumberedWritable log
-  pub stay : ℕ → Option Stay
+  pub visit : ℕ → Option Visit
   pub numbered_told : List (Numbered Told)
-  pub sessions : AreOfSessions limit (demands accounts) log stay numbered_told
-  pub over : ((n : ℕ) → IsClosedStay (stay n)) ⊎ ((n : ℕ) × IsHaltedStay (stay n))
+  pub sessions : AreOfSessions limit (demands accounts) log visit numbered_told
+  pub over : ((n : ℕ) → IsClosedVisit (visit n)) ⊎ ((n : ℕ) × IsHaltedVisit (visit n))
   pub histories : (account : List ℕ) → IsHistory (accounts.token account) account (map (λ t. t.value) numbered_told)
 
 -- a log of version 2 is clean exactly where it is that of some sessions
 abbrev pub CleanNumberedLogsAreThoseOfSessions : Type 0
 CleanNumberedLogsAreThoseOfSessions = (limit : ℕ) (accounts : Accounts) (bytes : List ℕ)
-    → IsCleanOf (two limit accounts) bytes ↔ ((log : List (Numbered LogLine)) × IsNumberedLogOf limit accounts bytes log)
+    → IsCleanOf (version_two limit accounts) bytes ↔ ((log : List (Numbered LogLine)) × IsNumberedLogOf limit accounts bytes log)

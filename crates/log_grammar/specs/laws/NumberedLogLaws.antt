@@ -3,25 +3,25 @@ use Rattle.std.specs.Prelude.{ℕ, ◌≡◌, ◌⊎◌, List, [], take}
 use Rattle.log_grammar.specs.Bytes.{ended_by_lf, IsCut}
 use Rattle.log_grammar.specs.Demands.{Accounts, AreFit}
 use Rattle.log_grammar.specs.Why.{Why}
-use Rattle.log_grammar.specs.Kinds.{IsFrontOf, IsCleanOf, IsWhyOf, BeginsCleanOf}
-use Rattle.log_grammar.specs.KindTwo.{two}
+use Rattle.log_grammar.specs.LogKinds.{IsFrontOf, IsCleanOf, IsWhyOf, BeginsCleanOf}
+use Rattle.log_grammar.specs.KindTwo.{version_two}
 
 -- each list of bytes is a clean log of version 2, or has a line at fault and a reason for it
 abbrev pub EachNumberedLogIsJudged : Type 0
 EachNumberedLogIsJudged = (limit : ℕ) (accounts : Accounts) (bytes : List ℕ)
-    → IsCleanOf (two limit accounts) bytes ⊎ ((k : ℕ) × (why : Why) × IsWhyOf (two limit accounts) bytes k why)
+    → IsCleanOf (version_two limit accounts) bytes ⊎ ((k : ℕ) × (why : Why) × IsWhyOf (version_two limit accounts) bytes k why)
 
 -- at most one line is at fault, for at most one reason
 abbrev pub NumberedLogsHaveOneWhy : Type 0
 NumberedLogsHaveOneWhy = (limit : ℕ) (accounts : Accounts) (bytes : List ℕ) (k j : ℕ) (why other : Why)
-    → IsWhyOf (two limit accounts) bytes k why → IsWhyOf (two limit accounts) bytes j other → (k ≡ j) × (why ≡ other)
+    → IsWhyOf (version_two limit accounts) bytes k why → IsWhyOf (version_two limit accounts) bytes j other → (k ≡ j) × (why ≡ other)
 
 -- the first lines of a front are a front
 abbrev pub NumberedFrontsBeginWithFronts : Type 0
 NumberedFrontsBeginWithFronts = (limit : ℕ) (accounts : Accounts) (bytes : List ℕ) (texts : List (List ℕ)) (k : ℕ)
-    → IsFrontOf (two limit accounts) bytes → IsCut bytes texts [] → IsFrontOf (two limit accounts) (ended_by_lf (take k texts))
+    → IsFrontOf (version_two limit accounts) bytes → IsCut bytes texts [] → IsFrontOf (version_two limit accounts) (ended_by_lf (take k texts))
 
 -- each front begins a clean log, where a challenge can be written for each account and decoy
 abbrev pub NumberedFrontsBeginClean : Type 0
 NumberedFrontsBeginClean = (limit : ℕ) (accounts : Accounts) → AreFit accounts → (bytes : List ℕ)
-    → IsFrontOf (two limit accounts) bytes → BeginsCleanOf (two limit accounts) bytes
+    → IsFrontOf (version_two limit accounts) bytes → BeginsCleanOf (version_two limit accounts) bytes

@@ -14,8 +14,8 @@ use Rattle.log_grammar.specs.Lines.{LogLine, said, mechs, cont, accepts, refuses
 use Rattle.log_grammar.specs.Bytes.{ended_by_lf, IsCut}
 use Rattle.log_grammar.specs.Demands.{Accounts, AreFit, IsReplyBy}
 use Rattle.log_grammar.specs.Why.{Why, is_cut, no_line, out_of_order, other_mechs, other_challenge, other_outcome, other_reply, accepted, refused_with}
-use Rattle.log_grammar.specs.Kinds.{IsWhyOf}
-use Rattle.log_grammar.specs.KindOne.{one}
+use Rattle.log_grammar.specs.LogKinds.{IsWhyOf}
+use Rattle.log_grammar.specs.KindOne.{version_one}
 use Rattle.log_grammar.specs.Versions.{IsWhy, BeginsClean}
 
 -- the line says what a reason names as due: the names of the two mechanisms; a challenge; an `S OK` with the signature,
@@ -61,14 +61,14 @@ pub record IsMended (accounts : Accounts) (texts : List (List ℕ)) (k : ℕ) (w
 -- what a reason names as due may stand in the place of the line at fault, in a log of version 1
 abbrev pub WhatIsDueMayStand : Type 0
 WhatIsDueMayStand = (accounts : Accounts) → AreFit accounts → (bytes : List ℕ) (texts : List (List ℕ)) (rest : List ℕ) (k : ℕ) (why : Why)
-    → IsCut bytes texts rest → IsWhyOf (one accounts) bytes k why → NamesWhatIsDue why → IsMended accounts texts k why
+    → IsCut bytes texts rest → IsWhyOf (version_one accounts) bytes k why → NamesWhatIsDue why → IsMended accounts texts k why
 
 -- each line that can be written and says what is due may stand there; except a challenge, since the reason names no
 -- text of one
 abbrev pub EachLineThatIsDueMayStand : Type 0
 EachLineThatIsDueMayStand = (accounts : Accounts) → AreFit accounts
     → (bytes : List ℕ) (before : List (List ℕ)) (text : List ℕ) (more : List (List ℕ)) (rest : List ℕ) (why : Why) (line : LogLine)
-    → IsCut bytes (before ++ text ∷ more) rest → IsWhyOf (one accounts) bytes (length before + 1) why → (why ≡ other_challenge → ⊥)
+    → IsCut bytes (before ++ text ∷ more) rest → IsWhyOf (version_one accounts) bytes (length before + 1) why → (why ≡ other_challenge → ⊥)
     → SaysWhatIsDue why line → IsWritable line → BeginsClean accounts (ended_by_lf (before ++ log_text line ∷ []))
 
 -- where a whole line is at fault, it is at fault for the same reason in any bytes that begin with the same lines

@@ -1,7 +1,7 @@
-use Rattle.log_grammar.specs.Versions.{both}
+use Rattle.log_grammar.specs.Versions.{any_version}
 use Rattle.log_grammar.proofs.KindLemmas.{clean_front}
 use Rattle.log_grammar.proofs.VersionLemmas.{ends_stand_both}
 use Rattle.log_grammar.proofs.laws.clean_logs_are_fronts.Goals as goal
 
 pub returns : goal.returns
-returns c = λ accounts. clean_front (both accounts) (ends_stand_both accounts)
+returns c = λ accounts. clean_front (any_version accounts) (ends_stand_both accounts)

@@ -1,10 +1,10 @@
-use Rattle.log_grammar.specs.Versions.{both}
+use Rattle.log_grammar.specs.Versions.{any_version}
 use Rattle.log_grammar.proofs.KindLemmas.{each_judged}
 use Rattle.log_grammar.proofs.VersionLemmas.{sound_both}
 use Rattle.log_grammar.proofs.laws.each_log_is_judged.Goals as goal
 
 pub returns : goal.returns
-returns c = λ accounts. each_judged (both accounts) (sound_both (record {
+returns c = λ accounts. each_judged (any_version accounts) (sound_both (record {
   known = record {
     one_first = c.has_one_client_first.ensures;
     names = c.spells_one_name.ensures;

@@ -1,7 +1,7 @@
-use Rattle.log_grammar.specs.Versions.{both}
+use Rattle.log_grammar.specs.Versions.{any_version}
 use Rattle.log_grammar.proofs.KindLemmas.{fronts_front}
 use Rattle.log_grammar.proofs.VersionLemmas.{shorter_both}
 use Rattle.log_grammar.proofs.laws.fronts_begin_with_fronts.Goals as goal
 
 pub returns : goal.returns
-returns c = λ accounts. fronts_front (both accounts) (shorter_both accounts)
+returns c = λ accounts. fronts_front (any_version accounts) (shorter_both accounts)

@@ -1,10 +1,10 @@
-use Rattle.log_grammar.specs.Versions.{both}
+use Rattle.log_grammar.specs.Versions.{any_version}
 use Rattle.log_grammar.proofs.KindLemmas.{why_once}
 use Rattle.log_grammar.proofs.VersionLemmas.{wrong_once_both}
 use Rattle.log_grammar.proofs.laws.has_one_why.Goals as goal
 
 pub returns : goal.returns
-returns c = λ accounts. why_once (both accounts) (wrong_once_both (record {
+returns c = λ accounts. why_once (any_version accounts) (wrong_once_both (record {
   one_first = c.has_one_client_first.ensures;
   names = c.spells_one_name.ensures;
   verdicts = c.at_most_one_verdict_is_due.ensures;

@@ -1,10 +1,10 @@
-use Rattle.log_grammar.specs.KindTwo.{two}
+use Rattle.log_grammar.specs.KindTwo.{version_two}
 use Rattle.log_grammar.proofs.KindLemmas.{each_judged}
 use Rattle.log_grammar.proofs.KindTwo.{sound_two}
 use Rattle.log_grammar.proofs.numbered_logs.each_numbered_log_is_judged.Goals as goal
 
 pub returns : goal.returns
-returns c = λ limit accounts. each_judged (two limit accounts) (sound_two (record {
+returns c = λ limit accounts. each_judged (version_two limit accounts) (sound_two (record {
   known = record {
     one_first = c.has_one_client_first.ensures;
     names = c.spells_one_name.ensures;

@@ -1,7 +1,7 @@
-use Rattle.log_grammar.specs.KindTwo.{two}
+use Rattle.log_grammar.specs.KindTwo.{version_two}
 use Rattle.log_grammar.proofs.KindLemmas.{fronts_front}
 use Rattle.log_grammar.proofs.KindTwo.{shorter_two}
 use Rattle.log_grammar.proofs.numbered_logs.numbered_fronts_begin_with_fronts.Goals as goal
 
 pub returns : goal.returns
-returns c = λ limit accounts bytes texts k front cut. fronts_front (two limit accounts) (shorter_two limit accounts) bytes texts k front cut
+returns c = λ limit accounts bytes texts k front cut. fronts_front (version_two limit accounts) (shorter_two limit accounts) bytes texts k front cut

@@ -1,13 +1,13 @@
 use Rattle.std.proofs.Common.{sym, subst}
-use Rattle.log_grammar.specs.Kinds.{IsWhyOf}
-use Rattle.log_grammar.specs.KindTwo.{two}
+use Rattle.log_grammar.specs.LogKinds.{IsWhyOf}
+use Rattle.log_grammar.specs.KindTwo.{version_two}
 use Rattle.log_grammar.proofs.KindLemmas.{fault_once, why_once}
 use Rattle.log_grammar.proofs.KindTwo.{wrong_once_two}
 use Rattle.log_grammar.proofs.numbered_logs.numbered_logs_have_one_why.Goals as goal
 
 pub returns : goal.returns
 returns c = λ limit accounts bytes k j why other w v.
-    let kind = two limit accounts in
+    let kind = version_two limit accounts in
     let once = wrong_once_two (record {
       one_first = c.has_one_client_first.ensures;
       names = c.spells_one_name.ensures;

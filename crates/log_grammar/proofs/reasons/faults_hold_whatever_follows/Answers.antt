@@ -1,7 +1,7 @@
-use Rattle.log_grammar.specs.Versions.{both}
+use Rattle.log_grammar.specs.Versions.{any_version}
 use Rattle.log_grammar.proofs.KindFaults.{whatever_follows}
 use Rattle.log_grammar.proofs.VersionLemmas.{shorter_both}
 use Rattle.log_grammar.proofs.reasons.faults_hold_whatever_follows.Goals as goal
 
 pub returns : goal.returns
-returns c = λ accounts. whatever_follows (both accounts) (shorter_both accounts)
+returns c = λ accounts. whatever_follows (any_version accounts) (shorter_both accounts)
