@@ -23,12 +23,12 @@ use Rattle.commands.specs.PrintedLog.{IsUnsavedOrUnlogged}
 use Rattle.commands.specs.Hall.{InputEvent, opens, says, goes, does_at, SaysEvent, SaysNothing, IsOfNobody, IsCallFor, IsHallLogOf, Hears}
 
 -- a call by which a hall heard an event added what was put into the log
-pub answered_in_log : {S : Type 0} (facts : S → StoreFacts) (old new : Hall S) (event : InputEvent) (n : ℕ) (asked : Asked) (phase : Phase)
+pub answered_in_log : {S : Type 0} (facts : S → StoreFacts) (IsStored : List ℕ → Type 0) (old new : Hall S) (event : InputEvent) (n : ℕ) (asked : Asked) (phase : Phase)
     (wire wire' none written : List ℕ) (log log' : SinkFacts)
     → ((lines : List LogLine) → IsCallFor event (numbered n (call_of asked lines)))
-    → AnswersIn facts (hall_shown old) n asked phase wire wire' none written (hall_shown new) → none ≡ []
-    → Appends log.given log'.given written → Hears facts (event ∷ []) old log new log'
-answered_in_log facts old new event n asked phase wire wire' none written log log' is a empty put start before earlier l =
+    → AnswersIn facts IsStored (hall_shown old) n asked phase wire wire' none written (hall_shown new) → none ≡ []
+    → Appends log.given log'.given written → Hears facts IsStored (event ∷ []) old log new log'
+answered_in_log facts IsStored old new event n asked phase wire wire' none written log log' is a empty put start before earlier l =
     let call : Numbered Call = numbered n (call_of asked a.lines) in
     let more : List ℕ = numbered_bytes (map (numbered n) a.lines) in
     let are : written ≡ more = a.logged ∙ ap (λ (b : List ℕ). b ++ more) empty in
@@ -56,24 +56,24 @@ same_hall {S} old new same =
     let halted = ap (λ (b : Bool). hall_of old.keeper new.guests old.given b) same.halted in
     book ∙ (store ∙ (given ∙ halted))
 
-pub same_in_log : {S : Type 0} (facts : S → StoreFacts) (old new : Hall S) (log log' : SinkFacts) → IsSameHall (hall_shown old) (hall_shown new)
-    → log' ≡ log → Hears facts [] old log new log'
-same_in_log {S} facts old new log log' same unlogged start before earlier l = record {
+pub same_in_log : {S : Type 0} (facts : S → StoreFacts) (IsStored : List ℕ → Type 0) (old new : Hall S) (log log' : SinkFacts) → IsSameHall (hall_shown old) (hall_shown new)
+    → log' ≡ log → Hears facts IsStored [] old log new log'
+same_in_log {S} facts IsStored old new log log' same unlogged start before earlier l = record {
   calls = l.calls;
   heard = l.heard;
-  stands = subst (λ (h : HallFields S). StandsHall facts start l.calls h) (sym (same_hall (hall_shown old) (hall_shown new) same))
-      (stands_reordered facts start l.calls old.keeper old.seats new.seats old.given old.is_halted same.guests l.stands);
+  stands = subst (λ (h : HallFields S). StandsHall facts IsStored start l.calls h) (sym (same_hall (hall_shown old) (hall_shown new) same))
+      (stands_reordered facts IsStored start l.calls old.keeper old.seats new.seats old.given old.is_halted same.guests l.stands);
   logged = subst (λ (k : SinkFacts). Appends before k.given (hall_bytes l.calls)) (sym unlogged) l.logged;
 }
 
 -- events one after another
-pub hears_nothing : {S : Type 0} (facts : S → StoreFacts) (hall : Hall S) (log : SinkFacts) → Hears facts [] hall log hall log
-hears_nothing facts hall log start before earlier l = l
+pub hears_nothing : {S : Type 0} (facts : S → StoreFacts) (IsStored : List ℕ → Type 0) (hall : Hall S) (log : SinkFacts) → Hears facts IsStored [] hall log hall log
+hears_nothing facts IsStored hall log start before earlier l = l
 
-pub hears_more : {S : Type 0} (facts : S → StoreFacts) (events more : List InputEvent) (old middle new : Hall S) (a b c : SinkFacts)
-    → Hears facts events old a middle b → Hears facts more middle b new c → Hears facts (more ++ events) old a new c
-hears_more facts events more old middle new a b c first second start before earlier l =
-    subst (λ (all : List InputEvent). IsHallLogOf facts start before all new c) (sym (append_assoc more events earlier))
+pub hears_more : {S : Type 0} (facts : S → StoreFacts) (IsStored : List ℕ → Type 0) (events more : List InputEvent) (old middle new : Hall S) (a b c : SinkFacts)
+    → Hears facts IsStored events old a middle b → Hears facts IsStored more middle b new c → Hears facts IsStored (more ++ events) old a new c
+hears_more facts IsStored events more old middle new a b c first second start before earlier l =
+    subst (λ (all : List InputEvent). IsHallLogOf facts IsStored start before all new c) (sym (append_assoc more events earlier))
     (second start before (events ++ earlier) (first start before earlier l))
 
 -- such a fault is no bad event

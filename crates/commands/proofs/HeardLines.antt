@@ -1,6 +1,7 @@
 -- What a hall hears of its input's lines, one after another.
-use Rattle.std.proofs.Common.{◌≡◌, ◌⊎◌, inl, inr, ℕ, ◌≤◌, Bool, List, [], ◌∷◌, ◌++◌, length, Option, append-nil, sym, subst}
+use Rattle.std.proofs.Common.{◌≡◌, ◌⊎◌, inl, inr, ℕ, ◌≤◌, Bool, List, [], ◌∷◌, ◌++◌, reverse, length, Option, append-nil, sym, subst}
 use Rattle.std.specs.Io.KnownBytes.{Appends, IsAtEnd}
+use Rattle.std.proofs.lemmas.Grind.{reverse_onto}
 use Rattle.book_format.specs.Book.{BookFields}
 use Rattle.account_book.specs.Store.{StoreFacts}
 use Rattle.command_line.specs.declared.fault.Fault.{Fault}
@@ -8,103 +9,107 @@ use Rattle.log_grammar.specs.Books.{accounts_in}
 use Rattle.log_grammar.specs.Numbered.{Numbered}
 use Rattle.log_grammar.specs.Versions.{IsFront}
 use Rattle.sasl_log.specs.Sink.{SinkFacts}
-use Rattle.sasl_desk.specs.Halls.{HallFields, hall_shown, hall_bytes, StandsHall}
+use Rattle.sasl_desk.specs.Halls.{HallFields, hall_shown, hall_lines, hall_bytes, StandsHall}
 use Rattle.sasl_desk.specs.Runs.{Call}
+use Rattle.sasl_desk.specs.Saved.{AreLinesSaved}
 use Rattle.sasl_desk.specs.declared.hall.Hall.{Hall}
-use Rattle.commands.specs.Hall.{InputEvent, IsBadEvent, AreCallsFor, IsHallLogOf, Hears, HearsLine, latest_first, HearsUpTo, HearsFirstLines, MeetsBadEvent, PrintsHallLog}
+use Rattle.commands.specs.Hall.{InputEvent, IsBadEvent, AreCallsFor, IsHallLogOf, Hears, HearsLine, HearsUpTo, HearsFirstLines, MeetsBadEvent, PrintsHallLog}
 use Rattle.account_commands.specs.Input.{line_bytes, TakesLine}
 use Rattle.commands.specs.PrintedLog.{IsLogFault, StopsAfter}
 use Rattle.commands.proofs.HallLogs.{hears_nothing, hears_more}
 use Rattle.account_commands.proofs.InputLines.{none_left, with_first, some_lines}
 
 -- a hall has come to a place in its input: what it hears from there on, it hears from the start, after the lines so far
-abbrev pub HasCome : {S : Type 0} → (S → StoreFacts) → (first : Option (List ℕ)) → (start : Hall S) → (log : SinkFacts) → (left : Option (List ℕ)) → (now : Hall S)
+abbrev pub HasCome : {S : Type 0} → (S → StoreFacts) → (IsStored : List ℕ → Type 0) → (first : Option (List ℕ)) → (start : Hall S) → (log : SinkFacts) → (left : Option (List ℕ)) → (now : Hall S)
     → (log' : SinkFacts) → Type 0
-HasCome {S} facts first start a left now b =
-    (last : List (List ℕ)) (new : Hall S) (c : SinkFacts) → HearsUpTo facts left last now b new c → HearsUpTo facts first last start a new c
+HasCome {S} facts IsStored first start a left now b =
+    (last : List (List ℕ)) (new : Hall S) (c : SinkFacts) → HearsUpTo facts IsStored left last now b new c → HearsUpTo facts IsStored first last start a new c
 
 -- a line's event is heard, and then those of the lines after it
-heard_first : {S : Type 0} (facts : S → StoreFacts) (left : Option (List ℕ)) (line : List ℕ) (has_lf : Bool) (rest : Option (List ℕ)) (last : List (List ℕ))
+heard_first : {S : Type 0} (facts : S → StoreFacts) (IsStored : List ℕ → Type 0) (left : Option (List ℕ)) (line : List ℕ) (has_lf : Bool) (rest : Option (List ℕ)) (last : List (List ℕ))
     (now next new : Hall S) (a b c : SinkFacts) → TakesLine left line has_lf rest → 1 ≤ length (line_bytes line has_lf)
-    → HearsLine facts line now a next b → HearsUpTo facts rest last next b new c → HearsUpTo facts left last now a new c
-heard_first facts left line has_lf rest last now next new a b c takes some (event, said, heard) more = record {
-  lines = line ∷ more.lines;
-  events = event ∷ more.events;
-  are = with_first left line has_lf rest takes some (more.lines ++ last) more.are;
-  said = (said, more.said);
-  heard = hears_more facts (event ∷ []) (latest_first more.events) now next new a b c heard more.heard;
+    → HearsLine facts IsStored line now a next b → HearsUpTo facts IsStored rest last next b new c → HearsUpTo facts IsStored left last now a new c
+heard_first facts IsStored left line has_lf rest last now next new a b c takes some (event, said, heard) more = record {
+  says = record {
+    lines = line ∷ more.says.lines;
+    events = event ∷ more.says.events;
+    are = with_first left line has_lf rest takes some (more.says.lines ++ last) more.says.are;
+    said = (said, more.says.said);
+  };
+  heard = subst (λ (l : List InputEvent). Hears facts IsStored l now a new c) (sym (reverse_onto more.says.events event []))
+      (hears_more facts IsStored (event ∷ []) (reverse more.says.events) now next new a b c heard more.heard);
 }
 
-pub after_line : {S : Type 0} (facts : S → StoreFacts) (first : Option (List ℕ)) (start : Hall S) (a : SinkFacts) (left : Option (List ℕ)) (now : Hall S) (b : SinkFacts)
-    (line : List ℕ) (has_lf : Bool) (rest : Option (List ℕ)) (next : Hall S) (c : SinkFacts) → HasCome facts first start a left now b
-    → TakesLine left line has_lf rest → 1 ≤ length (line_bytes line has_lf) → HearsLine facts line now b next c
-    → HasCome facts first start a rest next c
-after_line facts first start a left now b line has_lf rest next c come takes some heard last new d more =
-    come last new d (heard_first facts left line has_lf rest last now next new b c d takes some heard more)
+pub after_line : {S : Type 0} (facts : S → StoreFacts) (IsStored : List ℕ → Type 0) (first : Option (List ℕ)) (start : Hall S) (a : SinkFacts) (left : Option (List ℕ)) (now : Hall S) (b : SinkFacts)
+    (line : List ℕ) (has_lf : Bool) (rest : Option (List ℕ)) (next : Hall S) (c : SinkFacts) → HasCome facts IsStored first start a left now b
+    → TakesLine left line has_lf rest → 1 ≤ length (line_bytes line has_lf) → HearsLine facts IsStored line now b next c
+    → HasCome facts IsStored first start a rest next c
+after_line facts IsStored first start a left now b line has_lf rest next c come takes some heard last new d more =
+    come last new d (heard_first facts IsStored left line has_lf rest last now next new b c d takes some heard more)
 
-pub at_end : {S : Type 0} (facts : S → StoreFacts) (first : Option (List ℕ)) (start : Hall S) (a : SinkFacts) (left : Option (List ℕ)) (now : Hall S) (b : SinkFacts)
-    → HasCome facts first start a left now b → IsAtEnd left → HearsUpTo facts first [] start a now b
-at_end facts first start a left now b come end =
-    come [] now b (record { lines = []; events = []; are = none_left left end; said = tt; heard = hears_nothing facts now b })
+pub at_end : {S : Type 0} (facts : S → StoreFacts) (IsStored : List ℕ → Type 0) (first : Option (List ℕ)) (start : Hall S) (a : SinkFacts) (left : Option (List ℕ)) (now : Hall S) (b : SinkFacts)
+    → HasCome facts IsStored first start a left now b → IsAtEnd left → HearsUpTo facts IsStored first [] start a now b
+at_end facts IsStored first start a left now b come end =
+    come [] now b (record { says = record { lines = []; events = []; are = none_left left end; said = tt }; heard = hears_nothing facts IsStored now b })
 
 -- a fault before the next line was read
-pub before_line : {S : Type 0} (facts : S → StoreFacts) (first : Option (List ℕ)) (start : Hall S) (a : SinkFacts) (left : Option (List ℕ)) (now : Hall S) (b : SinkFacts)
-    (fault : Fault) → HasCome facts first start a left now b → HearsFirstLines facts first start a now b fault
-before_line facts first start a left now b fault come =
+pub before_line : {S : Type 0} (facts : S → StoreFacts) (IsStored : List ℕ → Type 0) (first : Option (List ℕ)) (start : Hall S) (a : SinkFacts) (left : Option (List ℕ)) (now : Hall S) (b : SinkFacts)
+    (fault : Fault) → HasCome facts IsStored first start a left now b → HearsFirstLines facts IsStored first start a now b fault
+before_line facts IsStored first start a left now b fault come =
     let more = some_lines left in
-    inr (more.0, come more.0 now b (record { lines = []; events = []; are = more.1; said = tt; heard = hears_nothing facts now b }))
+    inr (more.0, come more.0 now b (record { says = record { lines = []; events = []; are = more.1; said = tt }; heard = hears_nothing facts IsStored now b }))
 
 -- a line that is not heard
-unheard : {S : Type 0} (facts : S → StoreFacts) (first : Option (List ℕ)) (start : Hall S) (a : SinkFacts) (left : Option (List ℕ)) (now : Hall S) (b : SinkFacts)
-    (line : List ℕ) (has_lf : Bool) (rest : Option (List ℕ)) (new : Hall S) (c : SinkFacts) → HasCome facts first start a left now b
-    → TakesLine left line has_lf rest → 1 ≤ length (line_bytes line has_lf) → Hears facts [] now b new c
-    → (last : List (List ℕ)) × HearsUpTo facts first (line ∷ last) start a new c
-unheard facts first start a left now b line has_lf rest new c come takes some none =
+unheard : {S : Type 0} (facts : S → StoreFacts) (IsStored : List ℕ → Type 0) (first : Option (List ℕ)) (start : Hall S) (a : SinkFacts) (left : Option (List ℕ)) (now : Hall S) (b : SinkFacts)
+    (line : List ℕ) (has_lf : Bool) (rest : Option (List ℕ)) (new : Hall S) (c : SinkFacts) → HasCome facts IsStored first start a left now b
+    → TakesLine left line has_lf rest → 1 ≤ length (line_bytes line has_lf) → Hears facts IsStored [] now b new c
+    → (last : List (List ℕ)) × HearsUpTo facts IsStored first (line ∷ last) start a new c
+unheard facts IsStored first start a left now b line has_lf rest new c come takes some none =
     let more = some_lines rest in
-    (more.0, come (line ∷ more.0) new c (record { lines = []; events = []; are = with_first left line has_lf rest takes some more.0 more.1; said = tt; heard = none }))
+    (more.0, come (line ∷ more.0) new c (record { says = record { lines = []; events = []; are = with_first left line has_lf rest takes some more.0 more.1; said = tt }; heard = none }))
 
 -- a fault at a line
-pub at_line : {S : Type 0} (facts : S → StoreFacts) (first : Option (List ℕ)) (start : Hall S) (a : SinkFacts) (left : Option (List ℕ)) (now : Hall S) (b : SinkFacts)
-    (line : List ℕ) (has_lf : Bool) (rest : Option (List ℕ)) (new : Hall S) (c : SinkFacts) (fault : Fault) → HasCome facts first start a left now b
+pub at_line : {S : Type 0} (facts : S → StoreFacts) (IsStored : List ℕ → Type 0) (first : Option (List ℕ)) (start : Hall S) (a : SinkFacts) (left : Option (List ℕ)) (now : Hall S) (b : SinkFacts)
+    (line : List ℕ) (has_lf : Bool) (rest : Option (List ℕ)) (new : Hall S) (c : SinkFacts) (fault : Fault) → HasCome facts IsStored first start a left now b
     → TakesLine left line has_lf rest → 1 ≤ length (line_bytes line has_lf)
-    → (IsLogFault c fault ⊎ (Hears facts [] now b new c ⊎ HearsLine facts line now b new c)) → HearsFirstLines facts first start a new c fault
-at_line facts first start a left now b line has_lf rest new c fault come takes some (inl failed) = inl failed
-at_line facts first start a left now b line has_lf rest new c fault come takes some (inr (inl none)) =
-    let found = unheard facts first start a left now b line has_lf rest new c come takes some none in inr (line ∷ found.0, found.1)
-at_line facts first start a left now b line has_lf rest new c fault come takes some (inr (inr heard)) =
-    before_line facts first start a rest new c fault (after_line facts first start a left now b line has_lf rest new c come takes some heard)
+    → (IsLogFault c fault ⊎ (Hears facts IsStored [] now b new c ⊎ HearsLine facts IsStored line now b new c)) → HearsFirstLines facts IsStored first start a new c fault
+at_line facts IsStored first start a left now b line has_lf rest new c fault come takes some (inl failed) = inl failed
+at_line facts IsStored first start a left now b line has_lf rest new c fault come takes some (inr (inl none)) =
+    let found = unheard facts IsStored first start a left now b line has_lf rest new c come takes some none in inr (line ∷ found.0, found.1)
+at_line facts IsStored first start a left now b line has_lf rest new c fault come takes some (inr (inr heard)) =
+    before_line facts IsStored first start a rest new c fault (after_line facts IsStored first start a left now b line has_lf rest new c come takes some heard)
 
 -- a bad event
-pub bad_line : {S : Type 0} (facts : S → StoreFacts) (first : Option (List ℕ)) (start : Hall S) (a : SinkFacts) (left : Option (List ℕ)) (now : Hall S) (b : SinkFacts)
-    (line : List ℕ) (has_lf : Bool) (rest : Option (List ℕ)) → HasCome facts first start a left now b
+pub bad_line : {S : Type 0} (facts : S → StoreFacts) (IsStored : List ℕ → Type 0) (first : Option (List ℕ)) (start : Hall S) (a : SinkFacts) (left : Option (List ℕ)) (now : Hall S) (b : SinkFacts)
+    (line : List ℕ) (has_lf : Bool) (rest : Option (List ℕ)) → HasCome facts IsStored first start a left now b
     → TakesLine left line has_lf rest → 1 ≤ length (line_bytes line has_lf) → IsBadEvent line (hall_shown now)
-    → MeetsBadEvent facts first start a now b
-bad_line facts first start a left now b line has_lf rest come takes some bad =
-    let found = unheard facts first start a left now b line has_lf rest now b come takes some (hears_nothing facts now b) in
+    → MeetsBadEvent facts IsStored first start a now b
+bad_line facts IsStored first start a left now b line has_lf rest come takes some bad =
+    let found = unheard facts IsStored first start a left now b line has_lf rest now b come takes some (hears_nothing facts IsStored now b) in
     (line, found.0, found.1, bad)
 
 -- what a hall heard of its input is printed, where its log is, and that is a front
-pub prints_log : {S : Type 0} (facts : S → StoreFacts) (book : BookFields) (input given before after : Option (List ℕ)) (last : List (List ℕ)) (old new : Hall S)
-    (log log' : SinkFacts) → ((start : BookFields) (calls : List (Numbered Call)) (hall : HallFields S) → StandsHall facts start calls hall → IsFront (accounts_in start) (hall_bytes calls))
-    → given ≡ before → after ≡ log'.given → IsHallLogOf facts book given [] old log → HearsUpTo facts input last old log new log'
-    → PrintsHallLog book input last before after
-prints_log facts book input given before after last old new log log' front was is begun heard =
+pub prints_log : {S : Type 0} (facts : S → StoreFacts) (IsStored : List ℕ → Type 0) (book : BookFields) (input given before after : Option (List ℕ)) (last : List (List ℕ)) (old new : Hall S)
+    (log log' : SinkFacts) → ((start : BookFields) (calls : List (Numbered Call)) (hall : HallFields S) → StandsHall facts IsStored start calls hall → IsFront (accounts_in start) (hall_bytes calls))
+    → ((start : BookFields) (calls : List (Numbered Call)) (hall : HallFields S) → StandsHall facts IsStored start calls hall → AreLinesSaved IsStored start (hall_lines calls))
+    → given ≡ before → after ≡ log'.given → IsHallLogOf facts IsStored book given [] old log → HearsUpTo facts IsStored input last old log new log'
+    → PrintsHallLog IsStored book input last before after
+prints_log facts IsStored book input given before after last old new log log' front kept was is begun heard =
     let hall = heard.heard book given [] begun in record {
-      lines = heard.lines;
-      events = heard.events;
-      are = heard.are;
-      said = heard.said;
+      says = heard.says;
       calls = hall.calls;
-      heard = subst (λ (events : List InputEvent). AreCallsFor events hall.calls) (append-nil (latest_first heard.events)) hall.heard;
+      heard = subst (λ (events : List InputEvent). AreCallsFor events hall.calls) (append-nil (reverse heard.says.events)) hall.heard;
       is_front = front book hall.calls (hall_shown new) hall.stands;
+      saved = kept book hall.calls (hall_shown new) hall.stands;
       printed = subst (λ (o : Option (List ℕ)). Appends before o (hall_bytes hall.calls)) (sym is)
           (subst (λ (o : Option (List ℕ)). Appends o log'.given (hall_bytes hall.calls)) was hall.logged);
     }
 
-pub stops_after : {S : Type 0} (facts : S → StoreFacts) (book : BookFields) (input given before after : Option (List ℕ)) (old new : Hall S) (log log' : SinkFacts)
-    (fault : Fault) → ((start : BookFields) (calls : List (Numbered Call)) (hall : HallFields S) → StandsHall facts start calls hall → IsFront (accounts_in start) (hall_bytes calls))
-    → given ≡ before → after ≡ log'.given → IsHallLogOf facts book given [] old log → HearsFirstLines facts input old log new log' fault
-    → StopsAfter fault before after ((last : List (List ℕ)) × PrintsHallLog book input last before after)
-stops_after facts book input given before after old new log log' fault front was is begun (inl (output, failed)) = inl output
-stops_after facts book input given before after old new log log' fault front was is begun (inr (last, heard)) =
-    inr (inr (last, prints_log facts book input given before after last old new log log' front was is begun heard))
+pub stops_after : {S : Type 0} (facts : S → StoreFacts) (IsStored : List ℕ → Type 0) (book : BookFields) (input given before after : Option (List ℕ)) (old new : Hall S) (log log' : SinkFacts)
+    (fault : Fault) → ((start : BookFields) (calls : List (Numbered Call)) (hall : HallFields S) → StandsHall facts IsStored start calls hall → IsFront (accounts_in start) (hall_bytes calls))
+    → ((start : BookFields) (calls : List (Numbered Call)) (hall : HallFields S) → StandsHall facts IsStored start calls hall → AreLinesSaved IsStored start (hall_lines calls))
+    → given ≡ before → after ≡ log'.given → IsHallLogOf facts IsStored book given [] old log → HearsFirstLines facts IsStored input old log new log' fault
+    → StopsAfter fault before after ((last : List (List ℕ)) × PrintsHallLog IsStored book input last before after)
+stops_after facts IsStored book input given before after old new log log' fault front kept was is begun (inl (output, failed)) = inl output
+stops_after facts IsStored book input given before after old new log log' fault front kept was is begun (inr (last, heard)) =
+    inr (inr (last, prints_log facts IsStored book input given before after last old new log log' front kept was is begun heard))

@@ -12,6 +12,7 @@ use Rattle.sasl_log.specs.Sink.{SinkFacts}
 use Rattle.sasl_desk.specs.Inputs.{event_read}
 use Rattle.sasl_desk.specs.Runs.{Asked, hears, Call, call_of, run_lines}
 use Rattle.sasl_desk.specs.Desks.{Stands, Answers, IsSame}
+use Rattle.sasl_desk.specs.Saved.{IsLogSaved}
 use Rattle.sasl_desk.specs.Serves.{IsUndone, Service, service_of, IsTurnServed, IsTurnFault}
 use Rattle.sasl_desk.specs.declared.desk.Desk.{Desk}
 use Rattle.sasl_desk.specs.declared.desk.state.State.{State}
@@ -21,14 +22,14 @@ use Rattle.sasl_desk.proofs.RunLemmas.{log_bytes-append}
 use Rattle.command_line.specs.Fault.{IsUnwritten}
 use Rattle.command_line.specs.declared.fault.Fault.{Fault}
 use Rattle.command_line.specs.declared.fault.Fault.TheVariants.{NoMemory as OutOfMemory}
-use Rattle.commands.specs.Login.{IsDeskLog, StaysItsLog, IsLogAfterFault, IsFaultOf, IsFaultInTurn}
-use Rattle.commands.specs.PrintedLog.{HasLog, StopsAfter}
+use Rattle.commands.specs.Login.{HasSavedLog, IsDeskLog, StaysItsLog, IsLogAfterFault, IsFaultOf, IsFaultInTurn}
+use Rattle.commands.specs.PrintedLog.{StopsAfter}
 
 -- the log took the lines of one more call
-one_more : {S : Type 0} (facts : S → StoreFacts) (old new : Desk S) (asked : Asked) (lines : List LogLine) (log log' : SinkFacts)
-    → ((start : BookFields) (calls : List Call) → Stands facts start calls old → Stands facts start (call_of asked lines ∷ calls) new)
-    → Appends log.given log'.given (log_bytes lines) → StaysItsLog facts old log new log'
-one_more facts old new asked lines log log' stands more start before l = record {
+one_more : {S : Type 0} (facts : S → StoreFacts) (IsStored : List ℕ → Type 0) (old new : Desk S) (asked : Asked) (lines : List LogLine) (log log' : SinkFacts)
+    → ((start : BookFields) (calls : List Call) → Stands facts IsStored start calls old → Stands facts IsStored start (call_of asked lines ∷ calls) new)
+    → Appends log.given log'.given (log_bytes lines) → StaysItsLog facts IsStored old log new log'
+one_more facts IsStored old new asked lines log log' stands more start before l = record {
   calls = call_of asked lines ∷ l.calls;
   stands = stands start l.calls l.stands;
   logged = subst (λ (bytes : List ℕ). Appends before log'.given bytes) (sym (log_bytes-append (run_lines l.calls) lines))
@@ -36,80 +37,82 @@ one_more facts old new asked lines log log' stands more start before l = record 
 }
 
 -- what a desk wrote into an empty buffer was put into the log
-pub answered_log : {S : Type 0} (facts : S → StoreFacts) (old new : Desk S) (asked : Asked) (wire wire' none written : List ℕ) (log log' : SinkFacts)
-    → Answers facts old asked wire wire' none written new → none ≡ [] → Appends log.given log'.given written → StaysItsLog facts old log new log'
-answered_log facts old new asked wire wire' none written log log' a empty put =
+pub answered_log : {S : Type 0} (facts : S → StoreFacts) (IsStored : List ℕ → Type 0) (old new : Desk S) (asked : Asked) (wire wire' none written : List ℕ) (log log' : SinkFacts)
+    → Answers facts IsStored old asked wire wire' none written new → none ≡ [] → Appends log.given log'.given written → StaysItsLog facts IsStored old log new log'
+answered_log facts IsStored old new asked wire wire' none written log log' a empty put =
     let are : written ≡ log_bytes a.lines = a.logged ∙ ap (λ (l : List ℕ). l ++ log_bytes a.lines) empty in
-    one_more facts old new asked a.lines log log' a.stands (subst (λ (bytes : List ℕ). Appends log.given log'.given bytes) are put)
+    one_more facts IsStored old new asked a.lines log log' a.stands (subst (λ (bytes : List ℕ). Appends log.given log'.given bytes) are put)
 
 -- nothing was asked, and nothing logged
 abbrev desk_with : {S : Type 0} → (book : BookFields) → (store : S) → State → Desk S
 desk_with book store state = record { keeper = record { book = book; store = store }; state = state }
 
-same_log : {S : Type 0} (facts : S → StoreFacts) (old new : Desk S) (log log' : SinkFacts) → IsSame old new → log' ≡ log → StaysItsLog facts old log new log'
-same_log {S} facts old new log log' same unlogged start before l =
+same_log : {S : Type 0} (facts : S → StoreFacts) (IsStored : List ℕ → Type 0) (old new : Desk S) (log log' : SinkFacts) → IsSame old new → log' ≡ log → StaysItsLog facts IsStored old log new log'
+same_log {S} facts IsStored old new log log' same unlogged start before l =
     let book = ap (λ (b : BookFields). desk_with b new.keeper.store new.state) same.book in
     let store = ap (λ (s : S). desk_with old.keeper.book s new.state) same.store in
     let state = ap (λ (s : State). desk_with old.keeper.book old.keeper.store s) same.state in
     let desk : new ≡ old = book ∙ (store ∙ state) in
-    let kept = subst (λ (d : Desk S). IsDeskLog facts start before d log) (sym desk) l in
-    subst (λ (k : SinkFacts). IsDeskLog facts start before new k) (sym unlogged) kept
+    let kept = subst (λ (d : Desk S). IsDeskLog facts IsStored start before d log) (sym desk) l in
+    subst (λ (k : SinkFacts). IsDeskLog facts IsStored start before new k) (sym unlogged) kept
 
 -- a turn was served
-pub served_log : {S : Type 0} (facts : S → StoreFacts) (moment : ℕ) (old new : Desk S) (input input' : SourceFacts) (wire wire' log log' : SinkFacts)
-    → IsTurnServed facts moment (service_of old input wire log) (service_of new input' wire' log') → StaysItsLog facts old log new log'
-served_log facts moment old new input input' wire wire' log log' served =
-    one_more facts old new _ served.done.lines log log' served.done.answers.stands served.done.written.by_log
+pub served_log : {S : Type 0} (facts : S → StoreFacts) (IsStored : List ℕ → Type 0) (moment : ℕ) (old new : Desk S) (input input' : SourceFacts) (wire wire' log log' : SinkFacts)
+    → IsTurnServed facts IsStored moment (service_of old input wire log) (service_of new input' wire' log') → StaysItsLog facts IsStored old log new log'
+served_log facts IsStored moment old new input input' wire wire' log log' served =
+    one_more facts IsStored old new _ served.done.lines log log' served.done.answers.stands served.done.written.by_log
 
 -- a turn was not served
-undone_log : {S : Type 0} (facts : S → StoreFacts) (asked : Asked) (old new : Desk S) (wire wire' log log' : SinkFacts) (path : List ℕ) (why : ServeFault)
-    (fault : Fault) → IsFaultOf path why fault → IsUndone facts asked old new wire wire' log log' why → IsLogAfterFault facts old log new log' fault
-undone_log facts asked old new wire wire' log log' path Halted fault is (same, unsent, unlogged) = inr (same_log facts old new log log' same unlogged)
-undone_log facts asked old new wire wire' log log' path NoMemory fault is (same, unsent, unlogged) = inr (same_log facts old new log log' same unlogged)
-undone_log facts asked old new wire wire' log log' path Unwritable fault is never = absurd never
-undone_log facts asked old new wire wire' log log' path WriteFault fault is undone =
-    inr (one_more facts old new asked undone.lines log log' undone.answers.stands undone.logged)
-undone_log facts asked old new wire wire' log log' path LogFault fault is undone = inl (is, undone.failed)
+undone_log : {S : Type 0} (facts : S → StoreFacts) (IsStored : List ℕ → Type 0) (asked : Asked) (old new : Desk S) (wire wire' log log' : SinkFacts) (path : List ℕ) (why : ServeFault)
+    (fault : Fault) → IsFaultOf path why fault → IsUndone facts IsStored asked old new wire wire' log log' why → IsLogAfterFault facts IsStored old log new log' fault
+undone_log facts IsStored asked old new wire wire' log log' path Halted fault is (same, unsent, unlogged) = inr (same_log facts IsStored old new log log' same unlogged)
+undone_log facts IsStored asked old new wire wire' log log' path NoMemory fault is (same, unsent, unlogged) = inr (same_log facts IsStored old new log log' same unlogged)
+undone_log facts IsStored asked old new wire wire' log log' path Unwritable fault is never = absurd never
+undone_log facts IsStored asked old new wire wire' log log' path WriteFault fault is undone =
+    inr (one_more facts IsStored old new asked undone.lines log log' undone.answers.stands undone.logged)
+undone_log facts IsStored asked old new wire wire' log log' path LogFault fault is undone = inl (is, undone.failed)
 
-unchanged_log : {S : Type 0} (facts : S → StoreFacts) (old new : Service S) (fault : Fault) → new ≡ old
-    → IsLogAfterFault facts old.desk old.log new.desk new.log fault
-unchanged_log {S} facts old new fault same =
-    subst (λ (s : Service S). IsLogAfterFault facts old.desk old.log s.desk s.log fault) (sym same) (inr (λ start before l. l))
+unchanged_log : {S : Type 0} (facts : S → StoreFacts) (IsStored : List ℕ → Type 0) (old new : Service S) (fault : Fault) → new ≡ old
+    → IsLogAfterFault facts IsStored old.desk old.log new.desk new.log fault
+unchanged_log {S} facts IsStored old new fault same =
+    subst (λ (s : Service S). IsLogAfterFault facts IsStored old.desk old.log s.desk s.log fault) (sym same) (inr (λ start before l. l))
 
-pub unserved_log : {S : Type 0} (facts : S → StoreFacts) (moment : ℕ) (old new : Service S) (path : List ℕ) (why : ServeFault) (fault : Fault)
-    → IsTurnFault facts moment old new why → IsFaultOf path why fault → IsLogAfterFault facts old.desk old.log new.desk new.log fault
-unserved_log facts moment old new path Halted fault same is = unchanged_log facts old new fault same
-unserved_log facts moment old new path NoMemory fault (read, reads, undone) is =
-    undone_log facts (hears (event_read read) moment) old.desk new.desk old.wire new.wire old.log new.log path NoMemory fault is undone
-unserved_log facts moment old new path Unwritable fault (read, reads, undone) is = absurd undone
-unserved_log facts moment old new path WriteFault fault (read, reads, undone) is =
-    undone_log facts (hears (event_read read) moment) old.desk new.desk old.wire new.wire old.log new.log path WriteFault fault is undone
-unserved_log facts moment old new path LogFault fault (read, reads, undone) is =
-    undone_log facts (hears (event_read read) moment) old.desk new.desk old.wire new.wire old.log new.log path LogFault fault is undone
+pub unserved_log : {S : Type 0} (facts : S → StoreFacts) (IsStored : List ℕ → Type 0) (moment : ℕ) (old new : Service S) (path : List ℕ) (why : ServeFault) (fault : Fault)
+    → IsTurnFault facts IsStored moment old new why → IsFaultOf path why fault → IsLogAfterFault facts IsStored old.desk old.log new.desk new.log fault
+unserved_log facts IsStored moment old new path Halted fault same is = unchanged_log facts IsStored old new fault same
+unserved_log facts IsStored moment old new path NoMemory fault (read, reads, undone) is =
+    undone_log facts IsStored (hears (event_read read) moment) old.desk new.desk old.wire new.wire old.log new.log path NoMemory fault is undone
+unserved_log facts IsStored moment old new path Unwritable fault (read, reads, undone) is = absurd undone
+unserved_log facts IsStored moment old new path WriteFault fault (read, reads, undone) is =
+    undone_log facts IsStored (hears (event_read read) moment) old.desk new.desk old.wire new.wire old.log new.log path WriteFault fault is undone
+unserved_log facts IsStored moment old new path LogFault fault (read, reads, undone) is =
+    undone_log facts IsStored (hears (event_read read) moment) old.desk new.desk old.wire new.wire old.log new.log path LogFault fault is undone
 
 -- what stays its log twice, stays its log
-pub stays_twice : {S : Type 0} (facts : S → StoreFacts) (old middle new : Desk S) (a b c : SinkFacts) → StaysItsLog facts old a middle b
-    → StaysItsLog facts middle b new c → StaysItsLog facts old a new c
-stays_twice facts old middle new a b c first second start before l = second start before (first start before l)
+pub stays_twice : {S : Type 0} (facts : S → StoreFacts) (IsStored : List ℕ → Type 0) (old middle new : Desk S) (a b c : SinkFacts) → StaysItsLog facts IsStored old a middle b
+    → StaysItsLog facts IsStored middle b new c → StaysItsLog facts IsStored old a new c
+stays_twice facts IsStored old middle new a b c first second start before l = second start before (first start before l)
 
-pub fails_then : {S : Type 0} (facts : S → StoreFacts) (old middle new : Desk S) (a b c : SinkFacts) (fault : Fault) → StaysItsLog facts old a middle b
-    → IsLogAfterFault facts middle b new c fault → IsLogAfterFault facts old a new c fault
-fails_then facts old middle new a b c fault first (inl failed) = inl failed
-fails_then facts old middle new a b c fault first (inr second) = inr (stays_twice facts old middle new a b c first second)
+pub fails_then : {S : Type 0} (facts : S → StoreFacts) (IsStored : List ℕ → Type 0) (old middle new : Desk S) (a b c : SinkFacts) (fault : Fault) → StaysItsLog facts IsStored old a middle b
+    → IsLogAfterFault facts IsStored middle b new c fault → IsLogAfterFault facts IsStored old a new c fault
+fails_then facts IsStored old middle new a b c fault first (inl failed) = inl failed
+fails_then facts IsStored old middle new a b c fault first (inr second) = inr (stays_twice facts IsStored old middle new a b c first second)
 
 -- what was logged is printed, where the log is, and that is a front
-pub stops_after : {S : Type 0} (facts : S → StoreFacts) (book : BookFields) (given before after : Option (List ℕ)) (old new : Desk S) (log log' : SinkFacts) (fault : Fault)
-    → ((start : BookFields) (calls : List Call) (desk : Desk S) → Stands facts start calls desk → IsFront (accounts_in start) (log_bytes (run_lines calls)))
-    → given ≡ before → after ≡ log'.given → IsDeskLog facts book given old log → IsLogAfterFault facts old log new log' fault
-    → StopsAfter fault before after (HasLog IsFront book before after)
-stops_after facts book given before after old new log log' fault front was is begun (inl (output, failed)) = inl output
-stops_after facts book given before after old new log log' fault front was is begun (inr stays) =
+pub stops_after : {S : Type 0} (facts : S → StoreFacts) (IsStored : List ℕ → Type 0) (book : BookFields) (given before after : Option (List ℕ)) (old new : Desk S) (log log' : SinkFacts) (fault : Fault)
+    → ((start : BookFields) (calls : List Call) (desk : Desk S) → Stands facts IsStored start calls desk → IsFront (accounts_in start) (log_bytes (run_lines calls)))
+    → ((start : BookFields) (calls : List Call) (desk : Desk S) → Stands facts IsStored start calls desk → IsLogSaved IsStored start (log_bytes (run_lines calls)))
+    → given ≡ before → after ≡ log'.given → IsDeskLog facts IsStored book given old log → IsLogAfterFault facts IsStored old log new log' fault
+    → StopsAfter fault before after (HasSavedLog IsStored IsFront book before after)
+stops_after facts IsStored book given before after old new log log' fault front kept was is begun (inl (output, failed)) = inl output
+stops_after facts IsStored book given before after old new log log' fault front kept was is begun (inr stays) =
     let desk = stays book given begun in
     let bytes = log_bytes (run_lines desk.calls) in
     inr (inr (
       bytes,
       front book desk.calls new desk.stands,
       subst (λ (o : Option (List ℕ)). Appends before o bytes) (sym is) (subst (λ (o : Option (List ℕ)). Appends o log'.given bytes) was desk.logged),
+      kept book desk.calls new desk.stands,
     ))
 
 -- being out of memory is a fault of any file
@@ -117,10 +120,10 @@ unwritten : (path : List ℕ) (fault : Fault) → fault ≡ OutOfMemory → IsUn
 unwritten path fault is = subst (λ (f : Fault). IsUnwritten path f) (sym is) refl
 
 -- a fault of serving is one of a turn
-pub turn_fault : {S : Type 0} (facts : S → StoreFacts) (moment : ℕ) (old new : Service S) (path : List ℕ) (fault : ServeFault) (result : Fault)
-    → IsTurnFault facts moment old new fault → IsFaultOf path fault result → IsFaultInTurn path new.log result
-turn_fault facts moment old new path Halted result served is = inr (inl is)
-turn_fault facts moment old new path Unwritable result served is = inr (inl is)
-turn_fault facts moment old new path NoMemory result served is = inr (inl (unwritten path result is))
-turn_fault facts moment old new path WriteFault result served is = inl is
-turn_fault facts moment old new path LogFault result (read, reads, undone) is = inr (inr (is, undone.failed))
+pub turn_fault : {S : Type 0} (facts : S → StoreFacts) (IsStored : List ℕ → Type 0) (moment : ℕ) (old new : Service S) (path : List ℕ) (fault : ServeFault) (result : Fault)
+    → IsTurnFault facts IsStored moment old new fault → IsFaultOf path fault result → IsFaultInTurn path new.log result
+turn_fault facts IsStored moment old new path Halted result served is = inr (inl is)
+turn_fault facts IsStored moment old new path Unwritable result served is = inr (inl is)
+turn_fault facts IsStored moment old new path NoMemory result served is = inr (inl (unwritten path result is))
+turn_fault facts IsStored moment old new path WriteFault result served is = inl is
+turn_fault facts IsStored moment old new path LogFault result (read, reads, undone) is = inr (inr (is, undone.failed))

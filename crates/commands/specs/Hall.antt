@@ -1,5 +1,5 @@
 -- The input of the command `hall`, and the log that it prints.
-use Rattle.std.specs.Prelude.{ℕ, ◌≡◌, ◌⊎◌, List, [], ◌∷◌, ◌++◌, codes, decimal, IfSome}
+use Rattle.std.specs.Prelude.{ℕ, ◌≡◌, ◌⊎◌, List, [], ◌∷◌, ◌++◌, reverse, codes, decimal, IfSome}
 use Rattle.std.specs.List.{AllZip}
 use Rattle.std.specs.Str.{byte}
 use Rattle.std.specs.Io.KnownBytes.{Appends}
@@ -9,6 +9,7 @@ use Rattle.otp_core.specs.Ranges.{IsMoment}
 use Rattle.scram_text.specs.Class.{IsNoncePart}
 use Rattle.book_format.specs.Book.{BookFields}
 use Rattle.account_book.specs.Store.{StoreFacts}
+use Rattle.book_file.specs.Text.{IsWritten}
 use Rattle.command_line.specs.declared.fault.Fault.{Fault}
 use Rattle.log_grammar.specs.Numbered.{Numbered}
 use Rattle.log_grammar.specs.NumberedLines.{IsSessionNumber}
@@ -16,8 +17,9 @@ use Rattle.sasl_log.specs.Sink.{SinkFacts}
 use Rattle.sasl_desk.specs.Events.{ClientEvent, sends, goes_away}
 use Rattle.log_grammar.specs.Books.{accounts_in}
 use Rattle.log_grammar.specs.Versions.{IsFront}
-use Rattle.sasl_desk.specs.Halls.{HallFields, hall_shown, hall_bytes, phase_in, StandsHall}
+use Rattle.sasl_desk.specs.Halls.{HallFields, hall_shown, hall_lines, hall_bytes, phase_in, StandsHall}
 use Rattle.sasl_desk.specs.Runs.{greets, hears, Call}
+use Rattle.sasl_desk.specs.Saved.{AreLinesSaved}
 use Rattle.sasl_desk.specs.declared.hall.Hall.{Hall}
 use Rattle.account_commands.specs.HeldBook.{Held, IsReadBook}
 use Rattle.account_commands.specs.Input.{AreLinesOf}
@@ -78,69 +80,66 @@ AreCallsFor events calls = AllZip IsCallFor events calls
 
 -- a hall that began with this book has heard these events, the latest of which comes first, and the log took its lines after
 -- what it had before
-pub record IsHallLogOf {S : Type 0} (facts : S → StoreFacts) (start : BookFields) (before : Option (List ℕ)) (events : List InputEvent) (hall : Hall S)
+pub record IsHallLogOf {S : Type 0} (facts : S → StoreFacts) (IsStored : List ℕ → Type 0) (start : BookFields) (before : Option (List ℕ)) (events : List InputEvent) (hall : Hall S)
     (log : SinkFacts) : Type 0 where
   pub calls : List (Numbered Call)
   pub heard : AreCallsFor events calls
-  pub stands : StandsHall facts start calls (hall_shown hall)
+  pub stands : StandsHall facts IsStored start calls (hall_shown hall)
   pub logged : Appends before log.given (hall_bytes calls)
 
 -- the hall has heard these events more: where the log was the hall's, it is still
-abbrev pub Hears : {S : Type 0} → (S → StoreFacts) → List InputEvent → (old : Hall S) → (log : SinkFacts) → (new : Hall S) → (log' : SinkFacts) → Type 0
-Hears facts events old log new log' =
+abbrev pub Hears : {S : Type 0} → (S → StoreFacts) → (IsStored : List ℕ → Type 0) → List InputEvent → (old : Hall S) → (log : SinkFacts) → (new : Hall S) → (log' : SinkFacts) → Type 0
+Hears facts IsStored events old log new log' =
     (start : BookFields) (before : Option (List ℕ)) (earlier : List InputEvent)
-    → IsHallLogOf facts start before earlier old log → IsHallLogOf facts start before (events ++ earlier) new log'
+    → IsHallLogOf facts IsStored start before earlier old log → IsHallLogOf facts IsStored start before (events ++ earlier) new log'
 
 -- the hall has heard what the line says
-abbrev pub HearsLine : {S : Type 0} → (S → StoreFacts) → (line : List ℕ) → (old : Hall S) → (log : SinkFacts) → (new : Hall S) → (log' : SinkFacts) → Type 0
-HearsLine facts line old log new log' = (event : InputEvent) × SaysEvent line event × Hears facts (event ∷ []) old log new log'
+abbrev pub HearsLine : {S : Type 0} → (S → StoreFacts) → (IsStored : List ℕ → Type 0) → (line : List ℕ) → (old : Hall S) → (log : SinkFacts) → (new : Hall S) → (log' : SinkFacts) → Type 0
+HearsLine facts IsStored line old log new log' = (event : InputEvent) × SaysEvent line event × Hears facts IsStored (event ∷ []) old log new log'
 
 -- these lines say these events, in their order
 abbrev pub AreSaid : List (List ℕ) → List InputEvent → Type 0
 AreSaid lines events = AllZip SaysEvent lines events
 
--- events with the latest of them first
-abbrev pub latest_first : List InputEvent → List InputEvent
-latest_first [] = []
-latest_first (event ∷ events) = latest_first events ++ event ∷ []
+-- what the lines of an input say, in their order, but for the last of them, which are these
+pub record SaysEvents (input : Option (List ℕ)) (last : List (List ℕ)) : Type 0 where
+  pub lines : List (List ℕ)
+  pub events : List InputEvent
+  pub are : IfSome input (λ bytes. AreLinesOf bytes (lines ++ last))
+  pub said : AreSaid lines events
 
 -- the hall has heard what the lines of an input say, but for the last of them, which are these
-pub record HearsUpTo {S : Type 0} (facts : S → StoreFacts) (input : Option (List ℕ)) (last : List (List ℕ)) (old : Hall S) (log : SinkFacts) (new : Hall S)
+pub record HearsUpTo {S : Type 0} (facts : S → StoreFacts) (IsStored : List ℕ → Type 0) (input : Option (List ℕ)) (last : List (List ℕ)) (old : Hall S) (log : SinkFacts) (new : Hall S)
     (log' : SinkFacts) : Type 0 where
-  pub lines : List (List ℕ)
-  pub events : List InputEvent
-  pub are : IfSome input (λ bytes. AreLinesOf bytes (lines ++ last))
-  pub said : AreSaid lines events
-  pub heard : Hears facts (latest_first events) old log new log'
+  pub says : SaysEvents input last
+  pub heard : Hears facts IsStored (reverse says.events) old log new log'
 
 -- the hall has heard what each line of the input says, in their order
-abbrev pub HearsAllLines : {S : Type 0} → (S → StoreFacts) → Option (List ℕ) → (old : Hall S) → (log : SinkFacts) → (new : Hall S) → (log' : SinkFacts) → Type 0
-HearsAllLines facts input old log new log' = HearsUpTo facts input [] old log new log'
+abbrev pub HearsAllLines : {S : Type 0} → (S → StoreFacts) → (IsStored : List ℕ → Type 0) → Option (List ℕ) → (old : Hall S) → (log : SinkFacts) → (new : Hall S) → (log' : SinkFacts) → Type 0
+HearsAllLines facts IsStored input old log new log' = HearsUpTo facts IsStored input [] old log new log'
 
 -- a fault came: it is that the log has failed, or the hall has heard what the first lines of the input say, and its log has that
-abbrev pub HearsFirstLines : {S : Type 0} → (S → StoreFacts) → Option (List ℕ) → (old : Hall S) → (log : SinkFacts) → (new : Hall S) → (log' : SinkFacts) → Fault → Type 0
-HearsFirstLines facts input old log new log' fault =
-    IsLogFault log' fault ⊎ ((last : List (List ℕ)) × HearsUpTo facts input last old log new log')
+abbrev pub HearsFirstLines : {S : Type 0} → (S → StoreFacts) → (IsStored : List ℕ → Type 0) → Option (List ℕ) → (old : Hall S) → (log : SinkFacts) → (new : Hall S) → (log' : SinkFacts) → Fault → Type 0
+HearsFirstLines facts IsStored input old log new log' fault =
+    IsLogFault log' fault ⊎ ((last : List (List ℕ)) × HearsUpTo facts IsStored input last old log new log')
 
 -- the next line of the input says no event to the hall as it is after the lines before it
-abbrev pub MeetsBadEvent : {S : Type 0} → (S → StoreFacts) → Option (List ℕ) → (old : Hall S) → (log : SinkFacts) → (new : Hall S) → (log' : SinkFacts) → Type 0
-MeetsBadEvent facts input old log new log' =
-    (line : List ℕ) × (last : List (List ℕ)) × HearsUpTo facts input (line ∷ last) old log new log' × IsBadEvent line (hall_shown new)
+abbrev pub MeetsBadEvent : {S : Type 0} → (S → StoreFacts) → (IsStored : List ℕ → Type 0) → Option (List ℕ) → (old : Hall S) → (log : SinkFacts) → (new : Hall S) → (log' : SinkFacts) → Type 0
+MeetsBadEvent facts IsStored input old log new log' =
+    (line : List ℕ) × (last : List (List ℕ)) × HearsUpTo facts IsStored input (line ∷ last) old log new log' × IsBadEvent line (hall_shown new)
 
 -- what the lines of an input say, but for the last of them, which are these, was heard in their order by a hall that began with
--- this book; what it logged is printed, and that is a front
-pub record PrintsHallLog (book : BookFields) (input : Option (List ℕ)) (last : List (List ℕ)) (old new : Option (List ℕ)) : Type 0 where
-  pub lines : List (List ℕ)
-  pub events : List InputEvent
-  pub are : IfSome input (λ bytes. AreLinesOf bytes (lines ++ last))
-  pub said : AreSaid lines events
+-- this book; what it logged is printed, and that is a front; and the book after what it tells was saved
+pub record PrintsHallLog (IsStored : List ℕ → Type 0) (book : BookFields) (input : Option (List ℕ)) (last : List (List ℕ)) (old new : Option (List ℕ)) : Type 0 where
+  pub says : SaysEvents input last
   pub calls : List (Numbered Call)
-  pub heard : AreCallsFor (latest_first events) calls
+  pub heard : AreCallsFor (reverse says.events) calls
   pub is_front : IsFront (accounts_in book) (hall_bytes calls)
   pub printed : Appends old new (hall_bytes calls)
+  pub saved : AreLinesSaved IsStored book (hall_lines calls)
 
--- so it was, with a book that was read from a file
-pub record RunsHall {File : Type 0} (bytes_of : File → Option (List ℕ)) (input : Option (List ℕ)) (last : List (List ℕ)) (old new : Option (List ℕ)) : Type 0 where
+-- so it was, with a book that was read from a file, and saved in being written to one
+pub record RunsHall {File : Type 0} (bytes_of written_to : File → Option (List ℕ)) (input : Option (List ℕ)) (last : List (List ℕ)) (old new : Option (List ℕ)) : Type 0 where
   pub held : Held
   pub is_read : IsReadBook bytes_of held
-  pub printed : PrintsHallLog held.book input last old new
+  pub printed : PrintsHallLog (IsWritten written_to) held.book input last old new

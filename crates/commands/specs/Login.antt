@@ -9,9 +9,11 @@ use Rattle.otp_core.specs.Attempt.CodeTexts.{OneText, TwoTexts}
 use Rattle.otp_core.specs.declared.token.answer.Reply.TheVariants.{Pass}
 use Rattle.book_format.specs.Book.{BookFields}
 use Rattle.account_book.specs.Store.{StoreFacts}
+use Rattle.book_file.specs.Text.{IsWritten}
 use Rattle.command_line.specs.Fault.{IsUnwritten}
 use Rattle.command_line.specs.declared.fault.Fault.{Fault}
 use Rattle.command_line.specs.declared.fault.Fault.TheVariants.{Socket, CannotWriteOutput, NoMemory}
+use Rattle.log_grammar.specs.Books.{accounts_in}
 use Rattle.log_grammar.specs.Bytes.{LacksLf}
 use Rattle.log_grammar.specs.Demands.{Accounts}
 use Rattle.log_grammar.specs.Lines.{IsLine, from_server, replies, log_bytes}
@@ -19,31 +21,32 @@ use Rattle.sasl_log.specs.Sink.{SinkFacts}
 use Rattle.sasl_log.specs.Source.{SourceFacts}
 use Rattle.sasl_desk.specs.Desks.{Stands}
 use Rattle.sasl_desk.specs.Runs.{Call, run_lines}
+use Rattle.sasl_desk.specs.Saved.{IsLogSaved}
 use Rattle.sasl_desk.specs.declared.desk.Desk.{Desk}
 use Rattle.sasl_desk.specs.declared.fault.ServeFault.{ServeFault}
 use Rattle.sasl_desk.specs.declared.fault.ServeFault.TheVariants as serve
 use Rattle.commands.specs.ClientEnd.{IsLoggedIn}
 use Rattle.account_commands.specs.HeldBook.{Held, IsReadBook}
 use Rattle.account_commands.specs.Input.{AreLinesOf, LinesInTurn}
-use Rattle.commands.specs.PrintedLog.{HasLog, IsLogFault, IsUnsavedOrUnlogged}
+use Rattle.commands.specs.PrintedLog.{IsLogFault, IsUnsavedOrUnlogged}
 use Rattle.commands.specs.Sent.{Says}
 use Rattle.commands.specs.declared.login.client_end.User.{User}
 use Rattle.commands.specs.declared.login.socket.Wire.{Wire}
 
 -- a desk that began with this book has answered some calls, and the log took their lines after what it had before
-pub record IsDeskLog {S : Type 0} (facts : S → StoreFacts) (start : BookFields) (before : Option (List ℕ)) (desk : Desk S) (log : SinkFacts) : Type 0 where
+pub record IsDeskLog {S : Type 0} (facts : S → StoreFacts) (IsStored : List ℕ → Type 0) (start : BookFields) (before : Option (List ℕ)) (desk : Desk S) (log : SinkFacts) : Type 0 where
   pub calls : List Call
-  pub stands : Stands facts start calls desk
+  pub stands : Stands facts IsStored start calls desk
   pub logged : Appends before log.given (log_bytes (run_lines calls))
 
 -- whatever was asked of the desk meanwhile: where the log was the desk's, it is the desk's still
-abbrev pub StaysItsLog : {S : Type 0} → (S → StoreFacts) → (old : Desk S) → (log : SinkFacts) → (new : Desk S) → (log' : SinkFacts) → Type 0
-StaysItsLog facts old log new log' =
-    (start : BookFields) (before : Option (List ℕ)) → IsDeskLog facts start before old log → IsDeskLog facts start before new log'
+abbrev pub StaysItsLog : {S : Type 0} → (S → StoreFacts) → (IsStored : List ℕ → Type 0) → (old : Desk S) → (log : SinkFacts) → (new : Desk S) → (log' : SinkFacts) → Type 0
+StaysItsLog facts IsStored old log new log' =
+    (start : BookFields) (before : Option (List ℕ)) → IsDeskLog facts IsStored start before old log → IsDeskLog facts IsStored start before new log'
 
 -- what holds of the log after a fault: the fault is that it has failed, or it is still the desk's
-abbrev pub IsLogAfterFault : {S : Type 0} → (S → StoreFacts) → (old : Desk S) → (log : SinkFacts) → (new : Desk S) → (log' : SinkFacts) → Fault → Type 0
-IsLogAfterFault facts old log new log' fault = IsLogFault log' fault ⊎ StaysItsLog facts old log new log'
+abbrev pub IsLogAfterFault : {S : Type 0} → (S → StoreFacts) → (IsStored : List ℕ → Type 0) → (old : Desk S) → (log : SinkFacts) → (new : Desk S) → (log' : SinkFacts) → Fault → Type 0
+IsLogAfterFault facts IsStored old log new log' fault = IsLogFault log' fault ⊎ StaysItsLog facts IsStored old log new log'
 
 -- a source gives no line of at most so many bytes with its LF: it has failed, or it has ended, or these bytes have no LF
 pub record GivesNoLine (most : ℕ) (old new : SourceFacts) : Type 0 where
@@ -106,8 +109,15 @@ pub record IsInAndPasses (user : User) (nonce password : List ℕ) (input left :
   pub is_in : IsLoggedIn user nonce password old.untold there.untold
   pub passes : SendsLines input left there true new
 
--- a log of this kind, as a clean one, is printed, by a book that was read from a file
-pub record PrintsLogin {File : Type 0} (bytes_of : File → Option (List ℕ)) (IsOfKind : Accounts → List ℕ → Type 0) (old new : Option (List ℕ)) : Type 0 where
+-- after the bytes from before stands a log of this kind, as a clean one, by the accounts of a book; and the book after what it
+-- tells was saved
+abbrev pub HasSavedLog : (IsStored : List ℕ → Type 0) → (IsOfKind : Accounts → List ℕ → Type 0) → BookFields → (before after : Option (List ℕ)) → Type 0
+HasSavedLog IsStored IsOfKind book before after =
+    (log : List ℕ) × IsOfKind (accounts_in book) log × Appends before after log × IsLogSaved IsStored book log
+
+-- a log of this kind, as a clean one, is printed, by a book that was read from a file; and the text of the book after what it tells
+-- was written to a file
+pub record PrintsLogin {File : Type 0} (bytes_of written_to : File → Option (List ℕ)) (IsOfKind : Accounts → List ℕ → Type 0) (old new : Option (List ℕ)) : Type 0 where
   pub held : Held
   pub is_read : IsReadBook bytes_of held
-  pub printed : HasLog IsOfKind held.book old new
+  pub printed : HasSavedLog (IsWritten written_to) IsOfKind held.book old new

@@ -19,7 +19,7 @@ use command_line::Fault;
 use command_line::value::OptionName;
 use command_words::given;
 use logged_hall::LoggedHall;
-use sasl_desk::laws::hall::log_is_a_front;
+use sasl_desk::laws::hall::{log_is_a_front, log_is_saved};
 use std::alloc::Global;
 use std::fs::Files;
 use std::io::{BufRead, Write};
@@ -42,9 +42,9 @@ where
     I: Typed,
     O: Write + Drop,
     E: Watched,
-    ensures ok { OnOk result.0 (RunsHall R.File.remaining (I.remaining input.old) [] (O.contents output) (O.contents result.1)) }
+    ensures ok { OnOk result.0 (RunsHall R.File.remaining R.File.contents (I.remaining input.old) [] (O.contents output) (O.contents result.1)) }
     ensures err { IfErr result.0 (λ fault. StopsAfter fault (O.contents output) (O.contents result.1)
-        ((last : List (List ℕ)) × RunsHall R.File.remaining (I.remaining input.old) last (O.contents output) (O.contents result.1))) }
+        ((last : List (List ℕ)) × RunsHall R.File.remaining R.File.contents (I.remaining input.old) last (O.contents output) (O.contents result.1))) }
 {
     match held_book::open(rt, given(words, OptionName::Book), faults) {
         Ok(held) => {
@@ -66,11 +66,12 @@ where
     S: BookStore + Drop,
     I: BufRead,
     O: Write + Drop,
-    ensures ok { OnOk result.0 (PrintsHallLog held.entry.book (I.remaining input.old) [] (O.contents output) (O.contents result.1)) }
+    ensures ok { OnOk result.0 (PrintsHallLog S.IsStored held.entry.book (I.remaining input.old) [] (O.contents output) (O.contents result.1)) }
     ensures err { IfErr result.0 (λ fault. StopsAfter fault (O.contents output) (O.contents result.1)
-        ((last : List (List ℕ)) × PrintsHallLog held.entry.book (I.remaining input.old) last (O.contents output) (O.contents result.1))) }
+        ((last : List (List ℕ)) × PrintsHallLog S.IsStored held.entry.book (I.remaining input.old) last (O.contents output) (O.contents result.1))) }
 {
     log_is_a_front::<S>();
+    log_is_saved::<S>();
     let mut lines = Lines::new(input);
     match LoggedHall::begin(alloc, held, PrintedLog::new(output)) {
         Ok(mut hall) => {

@@ -6,8 +6,8 @@ ghost use Rattle.sasl_desk.specs.Desks.{phase_of};
 ghost use Rattle.sasl_desk.specs.declared.desk.state.Phase.TheVariants as Phase;
 ghost use Rattle.commands.specs.declared.login.client_end.Stage.{Stage};
 ghost use Rattle.account_commands.specs.HeldBook.{held_shown, IsReadBook};
-ghost use Rattle.commands.specs.Login.{IsDeskLog, StaysItsLog, IsLogAfterFault, talked_by, IsInAndPasses, PrintsLogin};
-ghost use Rattle.commands.specs.PrintedLog.{HasLog, StopsAfter};
+ghost use Rattle.commands.specs.Login.{IsDeskLog, StaysItsLog, IsLogAfterFault, talked_by, IsInAndPasses, HasSavedLog, PrintsLogin};
+ghost use Rattle.commands.specs.PrintedLog.{StopsAfter};
 
 mod client_end;
 mod code_line;
@@ -31,7 +31,7 @@ use command_line::{Fault, value};
 use command_words::{given, optional};
 use moments::Moments;
 use otp_core::Moment;
-use sasl_desk::laws::{log_is_a_front, log_is_clean};
+use sasl_desk::laws::{log_is_a_front, log_is_clean, log_is_saved};
 use sasl_log::{Sink, Source};
 use scram_text::{NoncePart, Password};
 use socket::Ends;
@@ -67,12 +67,12 @@ struct Prepared<'a, S, I> {
     ghost silent: { client.stage ≡ Stage.Silent },
 }
 
-/// Judges the options in their order, reads the password, the book and the random bytes, makes the socket, and lets the
-/// client log in and send a code for each further input line. Prints the service's log, each line before the client is told
-/// of it; a fault ends it where it stands. Returns whether the client was logged in and each code passed, and hands back the
-/// output. At a terminal it asks for the input. Faults: BadValue, CannotReadInput, BadPassword, CannotRead or CannotWrite where the book can't be
-/// held, BadBook, CannotRead of the random file, Socket, and CannotWrite where the book can't be saved, in this order,
-/// then for each line CannotReadInput, CannotWrite, CannotWriteOutput and Socket, and NoMemory.
+/// Judges the options in their order, reads the password, the book and the random bytes, makes the socket, and lets the client
+/// log in and send a code for each further input line. Prints the service's log, each line before the client is told of it; a
+/// fault ends it where it stands. Returns whether the client was logged in and each code passed, and hands back the output. At a
+/// terminal it asks for the input. Faults: BadValue, CannotReadInput, BadPassword, CannotRead or CannotWrite where the book can't
+/// be held, BadBook, CannotRead of the random file, Socket, and CannotWrite where the book can't be saved, in this order, then
+/// for each line CannotReadInput, CannotWrite, CannotWriteOutput and Socket, and NoMemory.
 pub fn login<R, I, O, E>(
     rt: &R,
     words: &ArgMatches<'_>,
@@ -86,9 +86,9 @@ where
     I: Typed,
     O: Write + Drop,
     E: Watched,
-    ensures ok { OnOk result.0 (PrintsLogin R.File.remaining IsClean (O.contents output) (O.contents result.1)) }
+    ensures ok { OnOk result.0 (PrintsLogin R.File.remaining R.File.contents IsClean (O.contents output) (O.contents result.1)) }
     ensures err { IfErr result.0 (λ fault. StopsAfter fault (O.contents output) (O.contents result.1)
-        (PrintsLogin R.File.remaining IsFront (O.contents output) (O.contents result.1))) }
+        (PrintsLogin R.File.remaining R.File.contents IsFront (O.contents output) (O.contents result.1))) }
 {
     let login = match prepare(rt, words, input, faults) {
         Ok(login) => login,
@@ -145,9 +145,9 @@ where
     I: BufRead,
     C: sasl_desk::Clock + Drop,
     O: Write + Drop,
-    ensures ok { OnOk result.0 (HasLog IsClean login.entry.held.book (O.contents output) (O.contents result.1)) }
+    ensures ok { OnOk result.0 (HasSavedLog S.IsStored IsClean login.entry.held.book (O.contents output) (O.contents result.1)) }
     ensures err { IfErr result.0 (λ fault. StopsAfter fault (O.contents output) (O.contents result.1)
-        (HasLog IsFront login.entry.held.book (O.contents output) (O.contents result.1))) }
+        (HasSavedLog S.IsStored IsFront login.entry.held.book (O.contents output) (O.contents result.1))) }
 {
     let Prepared {
         held,
@@ -157,6 +157,7 @@ where
         moment: _,
     } = login;
     log_is_a_front::<S>();
+    log_is_saved::<S>();
     match Talk::begin(alloc, held, ends.wires(), PrintedLog::new(output), clock) {
         Ok(mut talk) => {
             let passed = converse(alloc, &mut talk, ends, own, client, &mut lines);
@@ -188,13 +189,14 @@ where
     ensures passes { result ≡ Ok true → IsInAndPasses client.user client.nonce client.password
         (I.remaining lines.old.input.now) (I.remaining lines.new.input.now)
         (talked_by R.facts W.facts talk.old.wires.of_client) (talked_by R.facts W.facts talk.new.wires.of_client) }
-    ensures log { OnOk result (StaysItsLog S.facts talk.old.desk (L.facts talk.old.log) talk.new.desk (L.facts talk.new.log)) }
+    ensures log { OnOk result (StaysItsLog S.facts S.IsStored talk.old.desk (L.facts talk.old.log) talk.new.desk (L.facts talk.new.log)) }
     ensures closed { OnOk result (phase_of talk.new.desk.state ≡ Phase.Closed) }
-    ensures clean { OnOk result ((start : BookFields) (before : Option (List ℕ)) → IsDeskLog S.facts start before talk.old.desk (L.facts talk.old.log)
-        → HasLog IsClean start before (L.facts talk.new.log).given) }
-    ensures after_fault { IfErr result (IsLogAfterFault S.facts talk.old.desk (L.facts talk.old.log) talk.new.desk (L.facts talk.new.log)) }
+    ensures clean { OnOk result ((start : BookFields) (before : Option (List ℕ)) → IsDeskLog S.facts S.IsStored start before talk.old.desk (L.facts talk.old.log)
+        → HasSavedLog S.IsStored IsClean start before (L.facts talk.new.log).given) }
+    ensures after_fault { IfErr result (IsLogAfterFault S.facts S.IsStored talk.old.desk (L.facts talk.old.log) talk.new.desk (L.facts talk.new.log)) }
 {
     log_is_clean::<S>();
+    log_is_saved::<S>();
     talk.greet(alloc, own)?;
     let passed = talk.log_in_and_send(alloc, client, lines)?;
     hang_up(alloc, talk, ends)?;
@@ -214,9 +216,9 @@ where
     L: Sink + Drop,
     C: sasl_desk::Clock + Drop,
     ensures client { talk.new.wires.of_client ≡ talk.old.wires.of_client }
-    ensures log { OnOk result (StaysItsLog S.facts talk.old.desk (L.facts talk.old.log) talk.new.desk (L.facts talk.new.log)) }
+    ensures log { OnOk result (StaysItsLog S.facts S.IsStored talk.old.desk (L.facts talk.old.log) talk.new.desk (L.facts talk.new.log)) }
     ensures closed { OnOk result (phase_of talk.new.desk.state ≡ Phase.Closed) }
-    ensures after_fault { IfErr result (IsLogAfterFault S.facts talk.old.desk (L.facts talk.old.log) talk.new.desk (L.facts talk.new.log)) }
+    ensures after_fault { IfErr result (IsLogAfterFault S.facts S.IsStored talk.old.desk (L.facts talk.old.log) talk.new.desk (L.facts talk.new.log)) }
 {
     if !talk.is_open() {
         return Ok(());

@@ -493,11 +493,11 @@ not_away : (accounts : Accounts) (calls : List Call) (at : Place) → (call_line
 not_away accounts calls at let_in (inl run) = run
 not_away accounts calls at let_in (inr (part, turned, is)) = absurd (let_in (ap call_lines turned))
 
-pub sessions_alone : Texts → {S : Type 0} (facts : S → StoreFacts) (start begun : BookFields) (calls others : List (Numbered Call)) (hall other : HallFields S) (n m : ℕ)
-    → StandsHall facts start calls hall → StandsHall facts begun others other → HaveSameEntries (accounts_in start) (accounts_in begun)
+pub sessions_alone : Texts → {S : Type 0} (facts : S → StoreFacts) (IsStored : List ℕ → Type 0) (start begun : BookFields) (calls others : List (Numbered Call)) (hall other : HallFields S) (n m : ℕ)
+    → StandsHall facts IsStored start calls hall → StandsHall facts IsStored begun others other → HaveSameEntries (accounts_in start) (accounts_in begun)
     → of_number n (hall_lines calls) ≢ busy_lines → of_number m (hall_lines others) ≢ busy_lines → AskTheSame (of_number n calls) (of_number m others)
     → up_to_acceptance (of_number n (hall_lines calls)) ≡ up_to_acceptance (of_number m (hall_lines others))
-sessions_alone t facts start begun calls others hall other n m s r entries let_in let_in_too same =
+sessions_alone t facts IsStored start begun calls others hall other n m s r entries let_in let_in_too same =
     let one = not_away (accounts_in start) (of_number n calls) (s.places n) (λ is. let_in (of_number_lines n calls ∙ is)) (s.stays n) in
     let two = not_away (accounts_in begun) (of_number m others) (r.places m) (λ is. let_in_too (of_number_lines m others ∙ is)) (r.stays m) in
     ap up_to_acceptance (of_number_lines n calls)

@@ -23,6 +23,7 @@ use Rattle.log_grammar.proofs.Owns.{at_each, put_here, put_other, begun_append, 
 use Rattle.log_grammar.proofs.Snoc.{all_append}
 use Rattle.log_grammar.proofs.NumberedFronts.{halt_leads, no_busy_line}
 use Rattle.sasl_log.proofs.PermutedSlots.{all_permuted, count_permuted}
+use Rattle.log_grammar.specs.Versions.{most_open}
 use Rattle.sasl_desk.specs.Desks.{IsHeld, IsStoredAt, IsBookWith, all_spent}
 use Rattle.sasl_desk.specs.Events.{ClientEvent}
 use Rattle.sasl_desk.specs.Guests.{is_of, guest_of}
@@ -89,49 +90,49 @@ may_follow d at next n m (said busy) more goes rests = absurd (over_stirs next (
 may_follow d at next n m line more goes rests = tt
 
 -- where a hall has not halted, nothing is left to be said to any of its sessions
-pub seated_guest : {S : Type 0} (facts : S → StoreFacts) (start : BookFields) (calls : List (Numbered Call)) (hall : HallFields S)
-    (s : StandsHall facts start calls hall) → hall.is_halted ≡ false → (n : ℕ) → is_closed (s.places n) ≡ false
+pub seated_guest : {S : Type 0} (facts : S → StoreFacts) (IsStored : List ℕ → Type 0) (start : BookFields) (calls : List (Numbered Call)) (hall : HallFields S)
+    (s : StandsHall facts IsStored start calls hall) → hall.is_halted ≡ false → (n : ℕ) → is_closed (s.places n) ≡ false
     → (guest : Guest) × IsSeated (accounts_in start) calls s.places guest × (guest.number ≡ n)
-seated_guest facts start calls hall s working n is_open =
+seated_guest facts IsStored start calls hall s working n is_open =
     one_of (IsSeated (accounts_in start) calls s.places) n hall.guests (s.seated working)
     (λ none. absurd (omega (arith, none, s.guests n, opened (s.places n) is_open)))
 
-pub at_rest : {S : Type 0} (facts : S → StoreFacts) (start : BookFields) (calls : List (Numbered Call)) (hall : HallFields S)
-    (s : StandsHall facts start calls hall) → hall.is_halted ≡ false → (n : ℕ) → IsResting (s.places n)
-at_rest facts start calls hall s working n = elim (cases_Bool (is_closed (s.places n))) [
+pub at_rest : {S : Type 0} (facts : S → StoreFacts) (IsStored : List ℕ → Type 0) (start : BookFields) (calls : List (Numbered Call)) (hall : HallFields S)
+    (s : StandsHall facts IsStored start calls hall) → hall.is_halted ≡ false → (n : ℕ) → IsResting (s.places n)
+at_rest facts IsStored start calls hall s working n = elim (cases_Bool (is_closed (s.places n))) [
   | inl closed ↦ inl closed
   | inr is_open ↦
-      let found = seated_guest facts start calls hall s working n is_open in
+      let found = seated_guest facts IsStored start calls hall s working n is_open in
       let turn = client_turn (accounts_in start) (s.places found.0.number) found.0.session found.1.0 in
       inr (subst (λ (m : ℕ). is_client_turn (s.places m) ≡ true) found.2 turn)
 ]
 
-pub any_follows : {S : Type 0} (facts : S → StoreFacts) (start : BookFields) (calls : List (Numbered Call)) (hall : HallFields S)
-    (s : StandsHall facts start calls hall) → hall.is_halted ≡ false → (n : ℕ) (line : LogLine) → FollowsLast (hall_lines calls) n line
-any_follows facts start calls hall s working n line before x same =
+pub any_follows : {S : Type 0} (facts : S → StoreFacts) (IsStored : List ℕ → Type 0) (start : BookFields) (calls : List (Numbered Call)) (hall : HallFields S)
+    (s : StandsHall facts IsStored start calls hall) → hall.is_halted ≡ false → (n : ℕ) (line : LogLine) → FollowsLast (hall_lines calls) n line
+any_follows facts IsStored start calls hall s working n line before x same =
     let d = demands (accounts_in start) in
-    let b = numbered_before 64 d before x.number x.value s.places s.told
-    (subst (λ (l : List (Numbered LogLine)). SpellsNumbered 64 d l s.places s.told) same s.spelled) in
-    may_follow d (b.before x.number) (s.places x.number) x.number n x.value line b.goes.goes (at_rest facts start calls hall s working x.number)
+    let b = numbered_before most_open d before x.number x.value s.places s.told
+    (subst (λ (l : List (Numbered LogLine)). SpellsNumbered most_open d l s.places s.told) same s.spelled) in
+    may_follow d (b.before x.number) (s.places x.number) x.number n x.value line b.goes.goes (at_rest facts IsStored start calls hall s working x.number)
 
 -- and its store holds the book
-held_unless : (accounts : Accounts) (calls : List Call) (at : Place) (book : BookFields) (store : StoreFacts) → (at ≡ halted → ⊥)
-    → IsStoredAt accounts calls at book store → IsHeld book store
-held_unless accounts calls halted book store going stored = absurd (going refl)
-held_unless accounts calls at book store going stored = stored
+held_unless : (IsStored : List ℕ → Type 0) (accounts : Accounts) (calls : List Call) (at : Place) (book : BookFields) (store : StoreFacts) → (at ≡ halted → ⊥)
+    → IsStoredAt IsStored accounts calls at book store → IsHeld IsStored book store
+held_unless IsStored accounts calls halted book store going stored = absurd (going refl)
+held_unless IsStored accounts calls at book store going stored = stored
 
-pub holds_book : {S : Type 0} (facts : S → StoreFacts) (start : BookFields) (calls : List (Numbered Call)) (hall : HallFields S)
-    (s : StandsHall facts start calls hall) → hall.is_halted ≡ false → IsHeld hall.keeper.book (facts hall.keeper.store)
-holds_book facts start [] hall s working = s.is_stored
-holds_book facts start (c ∷ calls) hall s working =
-    held_unless (accounts_in start) (of_number c.number (c ∷ calls)) (s.places c.number) hall.keeper.book (facts hall.keeper.store)
-    (λ is. halted_stirs (s.places c.number) is (at_rest facts start (c ∷ calls) hall s working c.number)) s.is_stored
+pub holds_book : {S : Type 0} (facts : S → StoreFacts) (IsStored : List ℕ → Type 0) (start : BookFields) (calls : List (Numbered Call)) (hall : HallFields S)
+    (s : StandsHall facts IsStored start calls hall) → hall.is_halted ≡ false → IsHeld IsStored hall.keeper.book (facts hall.keeper.store)
+holds_book facts IsStored start [] hall s working = s.is_stored
+holds_book facts IsStored start (c ∷ calls) hall s working =
+    held_unless IsStored (accounts_in start) (of_number c.number (c ∷ calls)) (s.places c.number) hall.keeper.book (facts hall.keeper.store)
+    (λ is. halted_stirs (s.places c.number) is (at_rest facts IsStored start (c ∷ calls) hall s working c.number)) s.is_stored
 
 -- the guests of a hall in another order
-unfoldable pub stands_reordered : {S : Type 0} (facts : S → StoreFacts) (start : BookFields) (calls : List (Numbered Call)) (keeper : Keeper S) (guests others : List Guest)
-    (given : ℕ) (is_halted : Bool) → IsPermutation guests others → StandsHall facts start calls (hall_of keeper guests given is_halted)
-    → StandsHall facts start calls (hall_of keeper others given is_halted)
-stands_reordered facts start calls keeper guests others given is_halted same s = record {
+unfoldable pub stands_reordered : {S : Type 0} (facts : S → StoreFacts) (IsStored : List ℕ → Type 0) (start : BookFields) (calls : List (Numbered Call)) (keeper : Keeper S) (guests others : List Guest)
+    (given : ℕ) (is_halted : Bool) → IsPermutation guests others → StandsHall facts IsStored start calls (hall_of keeper guests given is_halted)
+    → StandsHall facts IsStored start calls (hall_of keeper others given is_halted)
+stands_reordered facts IsStored start calls keeper guests others given is_halted same s = record {
   places = s.places;
   told = s.told;
   stays = s.stays;
@@ -223,17 +224,17 @@ others_seated accounts calls places n call next others seated differ =
     ))
 
 -- a turn of the session of a number, by which its hall stands on
-pub record HallStep {S : Type 0} (facts : S → StoreFacts) (start : BookFields) (calls : List (Numbered Call)) (places : ℕ → Place) (n : ℕ) (event : ClientEvent)
+pub record HallStep {S : Type 0} (facts : S → StoreFacts) (IsStored : List ℕ → Type 0) (start : BookFields) (calls : List (Numbered Call)) (places : ℕ → Place) (n : ℕ) (event : ClientEvent)
     (moment : ℕ) (lines : List LogLine) (left : Left) (keeper : Keeper S) : Type 0 where
   pub next : Place
   pub told : List Told
   pub taken : IsTurnTaken (accounts_in start) (own_part (of_number n calls)) event moment (places n) lines next
-  pub spelled : SpellsNumbered 64 (demands (accounts_in start)) (hall_lines calls ++ map (numbered n) lines) (put n next places) told
+  pub spelled : SpellsNumbered most_open (demands (accounts_in start)) (hall_lines calls ++ map (numbered n) lines) (put n next places) told
   pub turns : AllByRecursion IsTurnLine lines
   pub written : CanBeWritten lines
   pub leaves : LeavesAt (accounts_in start) next (closed_in (map (numbered n) lines)) left
   pub is_book : IsBookWith start (reverse told) keeper.book
-  pub stored : IsStoredAt (accounts_in start) (call_of (hears event moment) lines ∷ of_number n calls) next keeper.book (facts keeper.store)
+  pub stored : IsStoredAt IsStored (accounts_in start) (call_of (hears event moment) lines ∷ of_number n calls) next keeper.book (facts keeper.store)
   pub spent : (ps : List (List ℕ × ℕ)) → AreSpent ps start → AreSpent (all_spent (reverse told) ++ ps) keeper.book
 
 seated_after : (accounts : Accounts) (calls : List (Numbered Call)) (places : ℕ → Place) (n : ℕ) (part : List ℕ) (left : Left) (others : List Guest) (ends : ℕ)
@@ -244,13 +245,13 @@ seated_after accounts calls places n part (Going going) others ends is seated sa
 seated_after accounts calls places n part Over others ends is seated same working = seated
 seated_after accounts calls places n part (Halted going) others ends is seated same working = absurd (cc working)
 
-pub stands_by_step : {S : Type 0} (facts : S → StoreFacts) (start : BookFields) (calls : List (Numbered Call)) (old new : Keeper S) (n : ℕ) (going : Session)
+pub stands_by_step : {S : Type 0} (facts : S → StoreFacts) (IsStored : List ℕ → Type 0) (start : BookFields) (calls : List (Numbered Call)) (old new : Keeper S) (n : ℕ) (going : Session)
     (part : List ℕ) (others : List Guest) (given : ℕ) (event : ClientEvent) (moment : ℕ) (lines : List LogLine) (left : Left)
-    (s : StandsHall facts start calls (hall_of old (guest_of n going part ∷ others) given false))
-    (step : HallStep facts start calls s.places n event moment lines left new)
-    → (after : StandsHall facts start (numbered n (call_of (hears event moment) lines) ∷ calls) (hall_of new (guests_after n part left others) given (halted_after left)))
+    (s : StandsHall facts IsStored start calls (hall_of old (guest_of n going part ∷ others) given false))
+    (step : HallStep facts IsStored start calls s.places n event moment lines left new)
+    → (after : StandsHall facts IsStored start (numbered n (call_of (hears event moment) lines) ∷ calls) (hall_of new (guests_after n part left others) given (halted_after left)))
     × (after.places n ≡ step.next)
-stands_by_step facts start calls old new n going part others given event moment lines left s step =
+stands_by_step facts IsStored start calls old new n going part others given event moment lines left s step =
     let accounts = accounts_in start in
     let call = call_of (hears event moment) lines in
     let guest = guest_of n going part in
@@ -259,7 +260,7 @@ stands_by_step facts start calls old new n going part others given event moment 
     let mine = of_number_here n call calls in
     let is = s.seated refl in
     let is_open = turn_is_open (s.places n) (client_turn accounts (s.places n) going is.0.0) in
-    let range = open_was_begun 64 (demands accounts) (hall_lines calls) s.places s.told s.spelled n is_open in
+    let range = open_was_begun most_open (demands accounts) (hall_lines calls) s.places s.told s.spelled n is_open in
     let number : IsSessionNumber n = (range.0, omega (arith, range.1, s.given, s.last_number)) in
     let counted = count_here n guest others refl in
     let alone : count_by (is_of n) others ≡ 0 = omega (arith, counted, s.guests n, opened (s.places n) is_open) in
@@ -292,8 +293,8 @@ stands_by_step facts start calls old new n going part others given event moment 
         seated = seated_after accounts (numbered n call ∷ calls) places n part left others _ leaves
             (others_seated accounts calls s.places n call step.next others is.1 (none_of n others alone)) (is.0.1 ∙ ap own_part (sym mine));
         is_book = step.is_book;
-        is_stored = subst (λ (l : List Call). IsStoredAt accounts l (places n) new.book (facts new.store)) (sym mine)
-            (subst (λ (p : Place). IsStoredAt accounts (call ∷ of_number n calls) p new.book (facts new.store)) (sym here) step.stored);
+        is_stored = subst (λ (l : List Call). IsStoredAt IsStored accounts l (places n) new.book (facts new.store)) (sym mine)
+            (subst (λ (p : Place). IsStoredAt IsStored accounts (call ∷ of_number n calls) p new.book (facts new.store)) (sym here) step.stored);
         spent = step.spent;
       },
       here,

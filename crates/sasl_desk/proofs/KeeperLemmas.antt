@@ -1,5 +1,5 @@
 -- What a keeper told, and a token that it puts back.
-use Rattle.std.proofs.Common.{◌≡◌, ◌≢◌, ◌≤◌, ℕ, List, [], ◌∷◌, ◌++◌, reverse, refl, sym, ap, subst, ◌∙◌}
+use Rattle.std.proofs.Common.{◌≡◌, ◌≢◌, ◌≤◌, ℕ, true, List, [], ◌∷◌, ◌++◌, reverse, refl, sym, ap, subst, ◌∙◌}
 use Rattle.std.specs.declared.option.Option.TheVariants.{None, Some}
 use Rattle.otp_core.specs.Attempt.{Attempt, CodeTexts, attempt_of}
 use Rattle.otp_core.specs.History.{IsAfter}
@@ -11,6 +11,7 @@ use Rattle.otp_core.specs.declared.token.answer.Reply.TheVariants.{Pass, Fail, L
 use Rattle.otp_core.specs.declared.token.kinds.Fields.{Fields}
 use Rattle.book_format.specs.Book.{BookFields}
 use Rattle.account_book.specs.Accounts.{IsChanged, with_changed}
+use Rattle.account_book.specs.Saves.{needs_save, SavesBook}
 use Rattle.account_book.specs.Store.{StoreFacts}
 use Rattle.account_book.specs.Tokens.{token_at, with_token, IsAttempt}
 use Rattle.account_book.proofs.MapLemmas.{is_changed}
@@ -20,7 +21,7 @@ use Rattle.log_grammar.specs.Told.{Told, told_of}
 use Rattle.log_grammar.specs.Demands.{Accounts, IsReplyDue}
 use Rattle.sasl_log.proofs.TokenLemmas.{reply_by, book_after}
 use Rattle.sasl_log.specs.Tokens.{IsBookAfter}
-use Rattle.sasl_desk.specs.Keeper.{IsAttemptJudged, NeedsSave, IsKept, SavesText}
+use Rattle.sasl_desk.specs.Keeper.{IsAttemptJudged, IsKept}
 
 -- a token judged what was sent, and leads on from where it was
 pub record IsStep (token : Fields) (moment : ℕ) (sent : CodeTexts) (reply : Reply) (now : Fields) : Type 0 where
@@ -64,26 +65,26 @@ reply_in_range Fail most = tt
 reply_in_range Locked most = tt
 
 -- a reply other than LOCKED needs a save
-pub needs_save : (reply : Reply) → reply ≢ Locked → NeedsSave (Some reply)
-needs_save (Pass counter) apart = tt
-needs_save Fail apart = tt
-needs_save Locked apart = absurd (apart refl)
+pub saved_unless_locked : (reply : Reply) → reply ≢ Locked → needs_save (Some reply) ≡ true
+saved_unless_locked (Pass counter) apart = refl
+saved_unless_locked Fail apart = refl
+saved_unless_locked Locked apart = absurd (apart refl)
 
 -- LOCKED is told of a book that stays as it was
-pub told_locked : (old : BookFields) (name : List ℕ) (token now : Fields) (moment : ℕ) (sent : CodeTexts) (reply : Reply) → IsMoment moment
+pub told_locked : (IsStored : List ℕ → Type 0) (old : BookFields) (name : List ℕ) (token now : Fields) (moment : ℕ) (sent : CodeTexts) (reply : Reply) → IsMoment moment
     → token_at old name ≡ Some token → IsStep token moment sent reply now → reply ≡ Locked → (was : StoreFacts)
-    → IsAttemptJudged old (told_of name moment sent (Some reply)) old × IsKept (Some reply) old was old was
-told_locked old name token now moment sent reply is has step locked was =
+    → IsAttemptJudged old (told_of name moment sent (Some reply)) old × IsKept IsStored (needs_save (Some reply)) old was old was
+told_locked IsStored old name token now moment sent reply is has step locked was =
     let same : now ≡ token = step.state ∙ ap (advanced token moment) locked in
     let stays : old ≡ with_changed old name (with_token now) =
     sym (ap (λ (t : Fields). with_changed old name (with_token t)) same ∙ tokens_stay old name token has) in
     (told_by old old name token now moment sent reply is has step (is_changed old name (with_token now) old stays), rw locked (refl, refl))
 
 -- a reply that is not LOCKED is kept by a store that holds the book's text
-pub kept_by : (old new : BookFields) (was now : StoreFacts) (reply : Reply) → reply ≢ Locked → SavesText was new now → IsKept (Some reply) old was new now
-kept_by old new was now (Pass counter) apart holds = holds
-kept_by old new was now Fail apart holds = holds
-kept_by old new was now Locked apart holds = absurd (apart refl)
+pub kept_by : (IsStored : List ℕ → Type 0) (old new : BookFields) (was now : StoreFacts) (reply : Reply) → reply ≢ Locked → SavesBook IsStored was new now → IsKept IsStored (needs_save (Some reply)) old was new now
+kept_by IsStored old new was now (Pass counter) apart holds = holds
+kept_by IsStored old new was now Fail apart holds = holds
+kept_by IsStored old new was now Locked apart holds = absurd (apart refl)
 
 -- a token that was put back
 pub put_back : (old mid new : BookFields) (name : List ℕ) (token next back : Fields) → token_at old name ≡ Some token → back ≡ token

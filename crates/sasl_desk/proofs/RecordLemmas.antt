@@ -117,7 +117,7 @@ run_records accounts [] at run = refl
 run_records accounts (c ∷ before) at (place, run, answered) =
     records_next accounts c.asked place c.lines at before run answered (run_records accounts before place run)
 
-pub log_has_its_records : {S : Type 0} (facts : S → StoreFacts) (start : BookFields) (calls : List Call) (desk : Desk S) → Stands facts start calls desk
+pub log_has_its_records : {S : Type 0} (facts : S → StoreFacts) (IsStored : List ℕ → Type 0) (start : BookFields) (calls : List Call) (desk : Desk S) → Stands facts IsStored start calls desk
     → HasItsRecords (accounts_in start) calls
-log_has_its_records facts start calls desk s =
+log_has_its_records facts IsStored start calls desk s =
     record { offers = run_offers (accounts_in start) calls s.place s.is_run; records = run_records (accounts_in start) calls s.place s.is_run }

@@ -3,6 +3,7 @@ use Rattle.std.proofs.Common.{◌≡◌, inl, inr, ◌⊎◌, true, ℕ, List, [
 use Rattle.std.specs.List.{AllByRecursion}
 use Rattle.book_format.specs.Book.{BookFields}
 use Rattle.book_format.specs.Trees.{IsBookText}
+use Rattle.account_book.specs.Saves.{WasSaved}
 use Rattle.account_book.specs.Store.{StoreFacts}
 use Rattle.account_book.specs.Laws.{TokensAreApart, AddedIsApart}
 use Rattle.otp_core.specs.Laws.{BeginsWithItself, CandidatesAreNew}
@@ -14,12 +15,13 @@ use Rattle.log_grammar.specs.Places.{Place, MayEnd, got_code, halted}
 use Rattle.log_grammar.specs.Demands.{Accounts, Demands, demands}
 use Rattle.log_grammar.specs.state_machine.Steps.{Goes}
 use Rattle.log_grammar.specs.Clean.{Begins, AreLines}
-use Rattle.log_grammar.specs.Versions.{IsFront, IsClean}
+use Rattle.log_grammar.specs.Versions.{most_open, IsFront, IsClean}
 use Rattle.log_grammar.proofs.FaultLemmas.{lines_front, lines_clean}
 use Rattle.log_grammar.proofs.HeadlineLemmas.{are_lines, each_lacks}
 use Rattle.sasl_desk.specs.Keeper.{IsAttemptJudged}
 use Rattle.sasl_desk.specs.Sessions.{CanBeWritten}
 use Rattle.sasl_desk.specs.Runs.{Call, run_lines}
+use Rattle.sasl_desk.specs.Saved.{IsLogSaved}
 use Rattle.sasl_desk.specs.Spent.{AreDifferent, IsUsedUp, AreSpent, spent_by, SpentStaysSpent}
 use Rattle.sasl_desk.specs.Desks.{IsHeld, IsLostAfter, IsStoredAt, IsStateAt, all_spent, Stands, phase_of, session_phase}
 use Rattle.log_grammar.specs.laws.NumberedLaws.{HasOneNumberedReading}
@@ -43,9 +45,9 @@ bytes_are_lines lines written = (
   are_lines lines written,
 )
 
-pub log_is_front : {S : Type 0} (facts : S → StoreFacts) (start : BookFields) (calls : List Call) (desk : Desk S) → Stands facts start calls desk
+pub log_is_front : {S : Type 0} (facts : S → StoreFacts) (IsStored : List ℕ → Type 0) (start : BookFields) (calls : List Call) (desk : Desk S) → Stands facts IsStored start calls desk
     → IsFront (accounts_in start) (log_bytes (run_lines calls))
-log_is_front facts start calls desk s =
+log_is_front facts IsStored start calls desk s =
     lines_front (accounts_in start) (log_bytes (run_lines calls)) (run_lines calls) s.place s.told (bytes_are_lines (run_lines calls) s.written) s.begins
 
 -- where no session is open, or the store has failed, a log may end
@@ -61,29 +63,29 @@ closed_ends start own place Closed at is = rw at tt
 closed_ends start own place (Open going part) at is = absurd (closed_open going is)
 closed_ends start own place Halted at is = absurd (cc is)
 
-lost_ends : (accounts : Accounts) (calls : List Call) (place : Place) (book : BookFields) (store : StoreFacts) → IsStoredAt accounts calls place book store
+lost_ends : (IsStored : List ℕ → Type 0) (accounts : Accounts) (calls : List Call) (place : Place) (book : BookFields) (store : StoreFacts) → IsStoredAt IsStored accounts calls place book store
     → store.failed ≡ true → MayEnd place
-lost_ends accounts calls halted book store lost failed = tt
-lost_ends accounts calls place book store held failed = absurd (cc (held.working, failed))
+lost_ends IsStored accounts calls halted book store lost failed = tt
+lost_ends IsStored accounts calls place book store held failed = absurd (cc (held.working, failed))
 
 -- `S HALT` leads to one place alone
 halt_leads : (d : Demands) (place next : Place) → Goes d place (said halt) next → MayEnd next
 halt_leads d (got_code account sent) next goes = rw goes tt
 halt_leads d place next goes = absurd goes
 
-pub log_is_clean : {S : Type 0} (facts : S → StoreFacts) (start : BookFields) (calls : List Call) (desk : Desk S) → Stands facts start calls desk
+pub log_is_clean : {S : Type 0} (facts : S → StoreFacts) (IsStored : List ℕ → Type 0) (start : BookFields) (calls : List Call) (desk : Desk S) → Stands facts IsStored start calls desk
     → (phase_of desk.state ≡ phase.Closed) ⊎ ((facts desk.keeper.store).failed ≡ true) → IsClean (accounts_in start) (log_bytes (run_lines calls))
-log_is_clean facts start calls desk s ends =
+log_is_clean facts IsStored start calls desk s ends =
     lines_clean (accounts_in start) (log_bytes (run_lines calls)) (run_lines calls) s.place s.told (bytes_are_lines (run_lines calls) s.written) s.begins
     (elim ends [
       | inl closed ↦ closed_ends start _ s.place desk.state s.is_state closed
-      | inr failed ↦ lost_ends (accounts_in start) calls s.place desk.keeper.book (facts desk.keeper.store) s.is_stored failed
+      | inr failed ↦ lost_ends IsStored (accounts_in start) calls s.place desk.keeper.book (facts desk.keeper.store) s.is_stored failed
     ])
 
 -- so is a log whose last line is `S HALT`
-pub halted_is_clean : GoesOnByNoOther → {S : Type 0} (facts : S → StoreFacts) (start : BookFields) (calls : List Call) (desk : Desk S) → Stands facts start calls desk
+pub halted_is_clean : GoesOnByNoOther → {S : Type 0} (facts : S → StoreFacts) (IsStored : List ℕ → Type 0) (start : BookFields) (calls : List Call) (desk : Desk S) → Stands facts IsStored start calls desk
     → (lines : List LogLine) → run_lines calls ≡ lines ++ said halt ∷ [] → IsClean (accounts_in start) (log_bytes (run_lines calls))
-halted_is_clean law facts start calls desk s lines last =
+halted_is_clean law facts IsStored start calls desk s lines last =
     let before = law (accounts_in start) lines (said halt) s.place s.told (subst (λ (l : List LogLine). Begins (demands (accounts_in start)) l s.place s.told) last s.begins) in
     lines_clean (accounts_in start) (log_bytes (run_lines calls)) (run_lines calls) s.place s.told (bytes_are_lines (run_lines calls) s.written) s.begins
     (halt_leads (demands (accounts_in start)) before.place s.place before.goes)
@@ -108,9 +110,9 @@ spent_after_told itself stays old new t ps one spent =
     stays old new t ps one.is_moment (told_due old new t one (accounts_in old) [] self) (told_after old new t one (accounts_in old) [] self) spent
 
 -- what was spent after one run
-spent_after_run : BeginsWithItself → SpentStaysSpent → HasOneReading → {S : Type 0} (facts : S → StoreFacts) (r : Run) (ps : List (List ℕ × ℕ))
-    → IsDeskRunOf facts r → AreSpent ps r.start → AreSpent (all_spent (reverse r.told) ++ ps) r.left
-spent_after_run itself stays once facts r ps run spent =
+spent_after_run : BeginsWithItself → SpentStaysSpent → HasOneReading → {S : Type 0} (facts : S → StoreFacts) (IsStored : List ℕ → Type 0) (r : Run) (ps : List (List ℕ × ℕ))
+    → IsDeskRunOf facts IsStored r → AreSpent ps r.start → AreSpent (all_spent (reverse r.told) ++ ps) r.left
+spent_after_run itself stays once facts IsStored r ps run spent =
     let s = run.stands in
     let same = once (accounts_in r.start) (run_lines r.calls) s.place r.place s.told r.told s.begins run.begins in
     let own = subst (λ (t : List Told). AreSpent (all_spent (reverse t) ++ ps) run.desk.keeper.book) same.1 (s.spent ps spent) in
@@ -122,11 +124,11 @@ spent_after_run itself stays once facts r ps run spent =
     ]
 
 -- what was spent after one run of a hall
-spent_after_hall : BeginsWithItself → SpentStaysSpent → HasOneNumberedReading → {S : Type 0} (facts : S → StoreFacts) (r : HallRun) (ps : List (List ℕ × ℕ))
-    → IsHallRunOf facts r → AreSpent ps r.start → AreSpent (all_spent (reverse r.told) ++ ps) r.left
-spent_after_hall itself stays once facts r ps run spent =
+spent_after_hall : BeginsWithItself → SpentStaysSpent → HasOneNumberedReading → {S : Type 0} (facts : S → StoreFacts) (IsStored : List ℕ → Type 0) (r : HallRun) (ps : List (List ℕ × ℕ))
+    → IsHallRunOf facts IsStored r → AreSpent ps r.start → AreSpent (all_spent (reverse r.told) ++ ps) r.left
+spent_after_hall itself stays once facts IsStored r ps run spent =
     let s = run.stands in
-    let same = once 64 (accounts_in r.start) (hall_lines r.calls) s.places r.places s.told r.told s.spelled run.spelled in
+    let same = once most_open (accounts_in r.start) (hall_lines r.calls) s.places r.places s.told r.told s.spelled run.spelled in
     let own = subst (λ (t : List Told). AreSpent (all_spent (reverse t) ++ ps) run.hall.keeper.book) same.1 (s.spent ps spent) in
     elim run.leaves [
       | inl left ↦ subst (λ (b : BookFields). AreSpent (all_spent (reverse r.told) ++ ps) b) (sym left) own
@@ -136,51 +138,73 @@ spent_after_hall itself stays once facts r ps run spent =
     ]
 
 -- what was spent after a change
-spent_after : BeginsWithItself → SpentStaysSpent → HasOneReading → HasOneNumberedReading → TokensAreApart → CandidatesAreNew → AddedIsApart → {S : Type 0} (facts : S → StoreFacts)
-    (c : Change) (old new : BookFields) (ps : List (List ℕ × ℕ)) → IsChange facts c old new → AreSpent ps old → AreSpent (spent_by_change c ++ ps) new
-spent_after itself stays once numbered_once apart fresh added facts (ran r) old new ps (run, start, left) spent =
+spent_after : BeginsWithItself → SpentStaysSpent → HasOneReading → HasOneNumberedReading → TokensAreApart → CandidatesAreNew → AddedIsApart → {S : Type 0} (facts : S → StoreFacts) (IsStored : List ℕ → Type 0)
+    (c : Change) (old new : BookFields) (ps : List (List ℕ × ℕ)) → IsChange facts IsStored c old new → AreSpent ps old → AreSpent (spent_by_change c ++ ps) new
+spent_after itself stays once numbered_once apart fresh added facts IsStored (ran r) old new ps (run, start, left) spent =
     subst (λ (b : BookFields). AreSpent (all_spent (reverse r.told) ++ ps) b) left
-    (spent_after_run itself stays once facts r ps run (subst (λ (b : BookFields). AreSpent ps b) (sym start) spent))
-spent_after itself stays once numbered_once apart fresh added facts (hosts r) old new ps (run, start, left) spent =
+    (spent_after_run itself stays once facts IsStored r ps run (subst (λ (b : BookFields). AreSpent ps b) (sym start) spent))
+spent_after itself stays once numbered_once apart fresh added facts IsStored (hosts r) old new ps (run, start, left) spent =
     subst (λ (b : BookFields). AreSpent (all_spent (reverse r.told) ++ ps) b) left
-    (spent_after_hall itself stays numbered_once facts r ps run (subst (λ (b : BookFields). AreSpent ps b) (sym start) spent))
-spent_after itself stays once numbered_once apart fresh added facts (judged t) old new ps one spent = spent_after_told itself stays old new t ps one spent
-spent_after itself stays once numbered_once apart fresh added facts (unlocks name) old new ps changed spent = unlocks_keep apart fresh old new name ps changed spent
-spent_after itself stays once numbered_once apart fresh added facts (adds name account) old new ps (free, is) spent =
+    (spent_after_hall itself stays numbered_once facts IsStored r ps run (subst (λ (b : BookFields). AreSpent ps b) (sym start) spent))
+spent_after itself stays once numbered_once apart fresh added facts IsStored (judged t) old new ps one spent = spent_after_told itself stays old new t ps one spent
+spent_after itself stays once numbered_once apart fresh added facts IsStored (unlocks name) old new ps changed spent = unlocks_keep apart fresh old new name ps changed spent
+spent_after itself stays once numbered_once apart fresh added facts IsStored (adds name account) old new ps (free, is) spent =
     added_keeps added old new name account ps free is spent
 
 pub spent_over_changes : BeginsWithItself → SpentStaysSpent → HasOneReading → HasOneNumberedReading → TokensAreApart → CandidatesAreNew → AddedIsApart → {S : Type 0}
-    (facts : S → StoreFacts) (first : BookFields) (changes : List Change) (last : BookFields) (ps : List (List ℕ × ℕ)) → AreChanges facts first changes last
+    (facts : S → StoreFacts) (IsStored : List ℕ → Type 0) (first : BookFields) (changes : List Change) (last : BookFields) (ps : List (List ℕ × ℕ)) → AreChanges facts IsStored first changes last
     → AreSpent ps first → AreSpent (spent_in changes ++ ps) last
-spent_over_changes itself stays once numbered_once apart fresh added facts first [] last ps same spent = subst (λ (b : BookFields). AreSpent ps b) (sym same) spent
-spent_over_changes itself stays once numbered_once apart fresh added facts first (c ∷ before) last ps (middle, earlier, change) spent =
-    let until = spent_over_changes itself stays once numbered_once apart fresh added facts first before middle ps earlier spent in
+spent_over_changes itself stays once numbered_once apart fresh added facts IsStored first [] last ps same spent = subst (λ (b : BookFields). AreSpent ps b) (sym same) spent
+spent_over_changes itself stays once numbered_once apart fresh added facts IsStored first (c ∷ before) last ps (middle, earlier, change) spent =
+    let until = spent_over_changes itself stays once numbered_once apart fresh added facts IsStored first before middle ps earlier spent in
     subst (λ (l : List (List ℕ × ℕ)). AreSpent l last) (sym (append_assoc (spent_by_change c) (spent_in before) ps))
-    (spent_after itself stays once numbered_once apart fresh added facts c middle last (spent_in before ++ ps) change until)
+    (spent_after itself stays once numbered_once apart fresh added facts IsStored c middle last (spent_in before ++ ps) change until)
 
-pub held_or_lost : (accounts : Accounts) (calls : List Call) (place : Place) (book : BookFields) (store : StoreFacts) → IsStoredAt accounts calls place book store
-    → IsHeld book store ⊎ IsLostAfter accounts calls book store
-held_or_lost accounts calls halted book store lost = inr lost
-held_or_lost accounts calls place book store held = inl held
+pub held_or_lost : (IsStored : List ℕ → Type 0) (accounts : Accounts) (calls : List Call) (place : Place) (book : BookFields) (store : StoreFacts) → IsStoredAt IsStored accounts calls place book store
+    → IsHeld IsStored book store ⊎ IsLostAfter IsStored accounts calls book store
+held_or_lost IsStored accounts calls halted book store lost = inr lost
+held_or_lost IsStored accounts calls place book store held = inl held
+
+-- wherever its log stands, the book was saved
+pub was_saved : (IsStored : List ℕ → Type 0) (accounts : Accounts) (calls : List Call) (place : Place) (book : BookFields) (store : StoreFacts)
+    → IsStoredAt IsStored accounts calls place book store → WasSaved IsStored book
+was_saved IsStored accounts calls halted book store lost = lost.before
+was_saved IsStored accounts calls place book store held = (store.saved, held.saved, held.stored)
+
+-- the book after what a log tells was saved
+pub log_is_saved : {S : Type 0} (facts : S → StoreFacts) (IsStored : List ℕ → Type 0) (start : BookFields) (calls : List Call) (desk : Desk S)
+    → Stands facts IsStored start calls desk → IsLogSaved IsStored start (log_bytes (run_lines calls))
+log_is_saved facts IsStored start calls desk s = record {
+  lines = run_lines calls;
+  place = s.place;
+  told = s.told;
+  are_lines = refl;
+  begins = s.begins;
+  saved = record {
+    last = desk.keeper.book;
+    is_last = s.is_book;
+    saved = was_saved IsStored (accounts_in start) calls s.place desk.keeper.book (facts desk.keeper.store) s.is_stored;
+  };
+}
 
 -- the store holds the text of a book that the desk leaves
-pub left_book : {S : Type 0} (facts : S → StoreFacts) (start : BookFields) (calls : List Call) (desk : Desk S) (s : Stands facts start calls desk)
-    → (r : Run) × IsDeskRunOf facts r × (r.start ≡ start) × (r.calls ≡ calls) × IsBookText (facts desk.keeper.store).saved r.left
-left_book facts start calls desk s =
+pub left_book : {S : Type 0} (facts : S → StoreFacts) (IsStored : List ℕ → Type 0) (start : BookFields) (calls : List Call) (desk : Desk S) (s : Stands facts IsStored start calls desk)
+    → (r : Run) × IsDeskRunOf facts IsStored r × (r.start ≡ start) × (r.calls ≡ calls) × IsBookText (facts desk.keeper.store).saved r.left
+left_book facts IsStored start calls desk s =
     let run_to : BookFields → Run = λ left. record { start = start; calls = calls; place = s.place; told = s.told; left = left } in
-    elim (held_or_lost (accounts_in start) calls s.place desk.keeper.book (facts desk.keeper.store) s.is_stored) [
+    elim (held_or_lost IsStored (accounts_in start) calls s.place desk.keeper.book (facts desk.keeper.store) s.is_stored) [
       | inl held ↦ (run_to desk.keeper.book, record { desk = desk; stands = s; begins = s.begins; leaves = inl refl }, refl, refl, held.saved)
       | inr lost ↦ elim lost.saved [
-        | inl before ↦ (run_to desk.keeper.book, record { desk = desk; stands = s; begins = s.begins; leaves = inl refl }, refl, refl, before)
+        | inl before ↦ (run_to desk.keeper.book, record { desk = desk; stands = s; begins = s.begins; leaves = inl refl }, refl, refl, before.0)
         | inr after ↦
             (run_to lost.next, record { desk = desk; stands = s; begins = s.begins; leaves = inr (lost.t, lost.is_told) }, refl, refl, after)
       ]
     ]
 
 -- a stop within a call leaves the book with the attempt that is judged
-pub stopped_run : {S : Type 0} (facts : S → StoreFacts) (start : BookFields) (calls : List Call) (desk : Desk S) (t : Told) (next : BookFields)
-    (s : Stands facts start calls desk) → IsAttemptJudged desk.keeper.book t next → (r : Run) × IsDeskRunOf facts r × (r.start ≡ start) × (r.calls ≡ calls) × (r.left ≡ next)
-stopped_run facts start calls desk t next s one = (
+pub stopped_run : {S : Type 0} (facts : S → StoreFacts) (IsStored : List ℕ → Type 0) (start : BookFields) (calls : List Call) (desk : Desk S) (t : Told) (next : BookFields)
+    (s : Stands facts IsStored start calls desk) → IsAttemptJudged desk.keeper.book t next → (r : Run) × IsDeskRunOf facts IsStored r × (r.start ≡ start) × (r.calls ≡ calls) × (r.left ≡ next)
+stopped_run facts IsStored start calls desk t next s one = (
   record { start = start; calls = calls; place = s.place; told = s.told; left = next },
   record { desk = desk; stands = s; begins = s.begins; leaves = inr (t, one) },
   refl,
@@ -193,23 +217,23 @@ pub told_spent : BeginsWithItself → SpentStaysSpent → (old new : BookFields)
 told_spent itself stays old new t ps one spent = fewer_spent new (spent_by t) ps (spent_after_told itself stays old new t ps one spent)
 
 -- each counter that was told is used in the book whose text the store holds
-pub saved_spent : BeginsWithItself → SpentStaysSpent → {S : Type 0} (facts : S → StoreFacts) (start : BookFields) (calls : List Call) (desk : Desk S)
-    (s : Stands facts start calls desk) (ps : List (List ℕ × ℕ)) → AreSpent ps start
+pub saved_spent : BeginsWithItself → SpentStaysSpent → {S : Type 0} (facts : S → StoreFacts) (IsStored : List ℕ → Type 0) (start : BookFields) (calls : List Call) (desk : Desk S)
+    (s : Stands facts IsStored start calls desk) (ps : List (List ℕ × ℕ)) → AreSpent ps start
     → (saved : BookFields) × IsBookText (facts desk.keeper.store).saved saved × AreSpent (all_spent (reverse s.told) ++ ps) saved
-saved_spent itself stays facts start calls desk s ps spent =
+saved_spent itself stays facts IsStored start calls desk s ps spent =
     let book = desk.keeper.book in
     let own = s.spent ps spent in
-    elim (held_or_lost (accounts_in start) calls s.place book (facts desk.keeper.store) s.is_stored) [
+    elim (held_or_lost IsStored (accounts_in start) calls s.place book (facts desk.keeper.store) s.is_stored) [
       | inl held ↦ (book, held.saved, own)
       | inr lost ↦ elim lost.saved [
-        | inl before ↦ (book, before, own)
+        | inl before ↦ (book, before.0, own)
         | inr after ↦ (lost.next, after, told_spent itself stays book lost.next lost.t (all_spent (reverse s.told) ++ ps) lost.is_told own)
       ]
     ]
 
 -- and in the one that a stop within a call leaves
-pub stopped_spent : BeginsWithItself → SpentStaysSpent → {S : Type 0} (facts : S → StoreFacts) (start : BookFields) (calls : List Call) (desk : Desk S)
-    (s : Stands facts start calls desk) (ps : List (List ℕ × ℕ)) (t : Told) (next : BookFields) → AreSpent ps start → IsAttemptJudged desk.keeper.book t next
+pub stopped_spent : BeginsWithItself → SpentStaysSpent → {S : Type 0} (facts : S → StoreFacts) (IsStored : List ℕ → Type 0) (start : BookFields) (calls : List Call) (desk : Desk S)
+    (s : Stands facts IsStored start calls desk) (ps : List (List ℕ × ℕ)) (t : Told) (next : BookFields) → AreSpent ps start → IsAttemptJudged desk.keeper.book t next
     → AreSpent (all_spent (reverse s.told) ++ ps) next
-stopped_spent itself stays facts start calls desk s ps t next spent one =
+stopped_spent itself stays facts IsStored start calls desk s ps t next spent one =
     told_spent itself stays desk.keeper.book next t (all_spent (reverse s.told) ++ ps) one (s.spent ps spent)

@@ -1,5 +1,5 @@
 -- What a desk stands for after each of its calls.
-use Rattle.std.proofs.Common.{◌≡◌, inl, inr, ◌⊎◌, ◌+◌, true, false, ℕ, List, [], ◌∷◌, ◌++◌, reverse, length, filter, refl, sym, ◌∙◌, ap, subst, append_assoc, append-nil, arith}
+use Rattle.std.proofs.Common.{◌≡◌, inl, inr, ◌⊎◌, ◌+◌, Bool, true, false, ℕ, List, [], ◌∷◌, ◌++◌, reverse, length, filter, refl, sym, ◌∙◌, ap, subst, append_assoc, append-nil, arith}
 use Rattle.std.specs.declared.option.Option.{Option}
 use Rattle.std.specs.declared.option.Option.TheVariants.{None, Some}
 use Rattle.std.proofs.lemmas.Grind.{reverse_onto}
@@ -11,6 +11,7 @@ use Rattle.otp_core.specs.declared.token.answer.Reply.{Reply}
 use Rattle.otp_core.specs.declared.token.answer.Reply.TheVariants.{Pass, Fail, Locked}
 use Rattle.book_format.specs.Book.{BookFields}
 use Rattle.book_format.specs.Trees.{IsBookText}
+use Rattle.account_book.specs.Saves.{needs_save, SavesBook, WasSaved}
 use Rattle.account_book.specs.Store.{StoreFacts, IsLost}
 use Rattle.log_grammar.specs.Books.{accounts_in}
 use Rattle.log_grammar.specs.laws.LogLaws.{GoesOnByALine}
@@ -28,7 +29,7 @@ use Rattle.sasl_log.specs.Logins.{KeepsEntries}
 use Rattle.sasl_log.specs.Tokens.{IsBookAfter}
 use Rattle.sasl_desk.specs.Events.{ClientEvent}
 use Rattle.sasl_desk.specs.Turns.{is_client_turn, IsPath}
-use Rattle.sasl_desk.specs.Keeper.{IsAttemptJudged, SavesText, IsKept, IsJudged, IsJudgedInRange}
+use Rattle.sasl_desk.specs.Keeper.{IsAttemptJudged, IsKept, IsJudged, IsJudgedInRange}
 use Rattle.sasl_desk.specs.Sessions.{StandsAt, IsLeftAt, IsRecord, IsTurn, recorded_shown, said_lines, end_lines, lines_of_answer, turn_lines, CanBeWritten, IsOwnChallenge}
 use Rattle.sasl_desk.specs.Runs.{greets, hears, IsAtRest, IsTurnTaken, Call, call_of, run_lines, own_part, wire_bytes, IsRun}
 use Rattle.sasl_desk.specs.Spent.{AreSpent, spent_by, SpentStaysSpent}
@@ -68,15 +69,15 @@ book_after_told itself start told book is =
     subst (λ (l : List Told). IsBookAfter (accounts_in start) l book) (reverse-reverse told) (with_after itself start (reverse told) book is)
 
 -- where it is the client's turn, the store has not failed
-pub held_in_turn : (accounts : Accounts) (calls : List Call) (at : Place) (book : BookFields) (store : StoreFacts) → is_client_turn at ≡ true
-    → IsStoredAt accounts calls at book store → IsHeld book store
-held_in_turn accounts calls halted book store turn stored = absurd (cc turn)
-held_in_turn accounts calls at book store turn stored = stored
+pub held_in_turn : (IsStored : List ℕ → Type 0) (accounts : Accounts) (calls : List Call) (at : Place) (book : BookFields) (store : StoreFacts) → is_client_turn at ≡ true
+    → IsStoredAt IsStored accounts calls at book store → IsHeld IsStored book store
+held_in_turn IsStored accounts calls halted book store turn stored = absurd (cc turn)
+held_in_turn IsStored accounts calls at book store turn stored = stored
 
-pub held_at_turn : (accounts : Accounts) (calls : List Call) (at : Place) (book : BookFields) (store : StoreFacts) → IsAtRest at → (at ≡ halted → ⊥) → IsHeld book store
-    → IsStoredAt accounts calls at book store
-held_at_turn accounts calls halted book store rests going held = absurd (going refl)
-held_at_turn accounts calls at book store rests going held = held
+pub held_at_turn : (IsStored : List ℕ → Type 0) (accounts : Accounts) (calls : List Call) (at : Place) (book : BookFields) (store : StoreFacts) → IsAtRest at → (at ≡ halted → ⊥) → IsHeld IsStored book store
+    → IsStoredAt IsStored accounts calls at book store
+held_at_turn IsStored accounts calls halted book store rests going held = absurd (going refl)
+held_at_turn IsStored accounts calls at book store rests going held = held
 
 -- the place at which a session is left is not that of a halt
 pub left_going : (accounts : Accounts) (at : Place) (going : Option Session) → IsLeftAt accounts at going → at ≡ halted → ⊥
@@ -90,13 +91,21 @@ left_state : (accounts : Accounts) (own part : List ℕ) (at : Place) (going : O
 left_state accounts own part at (Some going) same is = (is, same)
 left_state accounts own part at None same is = is
 
+-- after a save the store holds the text of the book
+pub saved_held : (IsStored : List ℕ → Type 0) (book : BookFields) (was now : StoreFacts) → SavesBook IsStored was book now → IsHeld IsStored book now
+saved_held IsStored book was now saves = record {
+  working = saves.saved.working;
+  saved = subst (λ (t : List ℕ). IsBookText t book) (sym saves.saved.saved) saves.is_text;
+  stored = subst IsStored (sym saves.saved.saved) saves.stored;
+}
+
 -- a desk that begins
 pub header_written : IsWritable header
 header_written = record { spelled = refl; ranges = tt; short = omega arith }
 
-stands_at_first : BeginsWithItself → GoesOnByALine → {S : Type 0} (facts : S → StoreFacts) (keeper : Keeper S) (was : StoreFacts)
-    → SavesText was keeper.book (facts keeper.store) → Stands facts keeper.book [] (desk_of keeper Closed)
-stands_at_first itself law facts keeper was holds = record {
+stands_at_first : BeginsWithItself → GoesOnByALine → {S : Type 0} (facts : S → StoreFacts) (IsStored : List ℕ → Type 0) (keeper : Keeper S) (was : StoreFacts)
+    → SavesBook IsStored was keeper.book (facts keeper.store) → Stands facts IsStored keeper.book [] (desk_of keeper Closed)
+stands_at_first itself law facts IsStored keeper was holds = record {
   place = between;
   told = [];
   is_run = refl;
@@ -104,25 +113,25 @@ stands_at_first itself law facts keeper was holds = record {
   written = (header_written, tt);
   is_state = refl;
   is_book = refl;
-  is_stored = record { working = holds.saved.working; saved = subst (λ (t : List ℕ). IsBookText t keeper.book) (sym holds.saved.saved) holds.is_text };
+  is_stored = saved_held IsStored keeper.book was (facts keeper.store) holds;
   spent = λ ps spent. spent;
 }
 
-pub stands_from : BeginsWithItself → GoesOnByALine → {S : Type 0} (facts : S → StoreFacts) (book : BookFields) (keeper : Keeper S) (was : StoreFacts)
-    → keeper.book ≡ book → SavesText was book (facts keeper.store) → Stands facts book [] (desk_of keeper Closed)
-stands_from itself law facts book keeper was same holds =
-    subst (λ (b : BookFields). Stands facts b [] (desk_of keeper Closed)) same
-    (stands_at_first itself law facts keeper was (subst (λ (b : BookFields). SavesText was b (facts keeper.store)) (sym same) holds))
+pub stands_from : BeginsWithItself → GoesOnByALine → {S : Type 0} (facts : S → StoreFacts) (IsStored : List ℕ → Type 0) (book : BookFields) (keeper : Keeper S) (was : StoreFacts)
+    → keeper.book ≡ book → SavesBook IsStored was book (facts keeper.store) → Stands facts IsStored book [] (desk_of keeper Closed)
+stands_from itself law facts IsStored book keeper was same holds =
+    subst (λ (b : BookFields). Stands facts IsStored b [] (desk_of keeper Closed)) same
+    (stands_at_first itself law facts IsStored keeper was (subst (λ (b : BookFields). SavesBook IsStored was b (facts keeper.store)) (sym same) holds))
 
 -- a desk that greets
-pub stands_by_greeting : GoesOnByALine → {S : Type 0} (facts : S → StoreFacts) (start : BookFields) (calls : List Call) (keeper : Keeper S) (own : List ℕ)
-    → Stands facts start calls (desk_of keeper Closed)
-    → Stands facts start (call_of (greets own) (said (mechs offered_names) ∷ []) ∷ calls) (desk_of keeper (Open Offered own))
-stands_by_greeting law facts start calls keeper own s =
+pub stands_by_greeting : GoesOnByALine → {S : Type 0} (facts : S → StoreFacts) (IsStored : List ℕ → Type 0) (start : BookFields) (calls : List Call) (keeper : Keeper S) (own : List ℕ)
+    → Stands facts IsStored start calls (desk_of keeper Closed)
+    → Stands facts IsStored start (call_of (greets own) (said (mechs offered_names) ∷ []) ∷ calls) (desk_of keeper (Open Offered own))
+stands_by_greeting law facts IsStored start calls keeper own s =
     let accounts = accounts_in start in
     let line = said (mechs offered_names) in
     let begins = subst (λ (p : Place). Begins (demands accounts) (run_lines calls) p s.told) s.is_state s.begins in
-    let stored = subst (λ (p : Place). IsStoredAt accounts calls p keeper.book (facts keeper.store)) s.is_state s.is_stored in
+    let stored = subst (λ (p : Place). IsStoredAt IsStored accounts calls p keeper.book (facts keeper.store)) s.is_state s.is_stored in
     let on = law accounts (run_lines calls) between s.told line offered begins (refl, refl) tt in
     record {
       place = offered;
@@ -187,12 +196,12 @@ taken_by_halt accounts own event moment name sent is_record = record {
 }
 
 -- a desk whose session answers a turn
-stands_by_turn : BeginsWithItself → GoesOnByALine → {S : Type 0} (facts : S → StoreFacts) (start : BookFields) (calls : List Call) (keeper : Keeper S) (going : Session)
-    (own : List ℕ) (event : ClientEvent) (moment : ℕ) (turn : Turn) (message : List ℕ) → Stands facts start calls (desk_of keeper (Open going own))
+stands_by_turn : BeginsWithItself → GoesOnByALine → {S : Type 0} (facts : S → StoreFacts) (IsStored : List ℕ → Type 0) (start : BookFields) (calls : List Call) (keeper : Keeper S) (going : Session)
+    (own : List ℕ) (event : ClientEvent) (moment : ℕ) (turn : Turn) (message : List ℕ) → Stands facts IsStored start calls (desk_of keeper (Open going own))
     → ((accounts : Accounts) (at : Place) → KeepsEntries accounts keeper.book → StandsAt accounts at going → IsTurn accounts own event at turn message)
     → CanBeWritten (turn_lines turn message)
-    → Stands facts start (call_of (hears event moment) (turn_lines turn message) ∷ calls) (desk_of keeper (state_after (left_of turn.answer.session) own))
-stands_by_turn itself law facts start calls keeper going own event moment turn message s hears_it written =
+    → Stands facts IsStored start (call_of (hears event moment) (turn_lines turn message) ∷ calls) (desk_of keeper (state_after (left_of turn.answer.session) own))
+stands_by_turn itself law facts IsStored start calls keeper going own event moment turn message s hears_it written =
     let accounts = accounts_in start in
     let is = s.is_state.0 in
     let same = s.is_state.1 in
@@ -213,9 +222,9 @@ stands_by_turn itself law facts start calls keeper going own event moment turn m
       written = all_append IsWritable (run_lines calls) lines s.written written;
       is_state = left_state accounts (own_part calls) own t.is_answer.next turn.answer.session same t.is_answer.left;
       is_book = s.is_book;
-      is_stored = held_at_turn accounts (call_of (hears event moment) lines ∷ calls) t.is_answer.next keeper.book (facts keeper.store) (left_rests accounts t.is_answer.next turn.answer.session t.is_answer.left)
+      is_stored = held_at_turn IsStored accounts (call_of (hears event moment) lines ∷ calls) t.is_answer.next keeper.book (facts keeper.store) (left_rests accounts t.is_answer.next turn.answer.session t.is_answer.left)
           (left_going accounts t.is_answer.next turn.answer.session t.is_answer.left)
-          (held_in_turn accounts calls s.place keeper.book (facts keeper.store) (client_turn accounts s.place going is) s.is_stored);
+          (held_in_turn IsStored accounts calls s.place keeper.book (facts keeper.store) (client_turn accounts s.place going is) s.is_stored);
       spent = s.spent;
     }
 
@@ -240,15 +249,11 @@ turn_saves turn message =
     recorded_saves turn.recorded (lines_of_answer turn.answer message) ∙ answer_saves turn.answer.says turn.answer.session message
 
 -- after a reply the store holds the text of the book, if it held that of the book before it
-pub kept_held : (reply : Option Reply) (old new : BookFields) (was now : StoreFacts) → IsKept reply old was new now → IsHeld old was → IsHeld new now
-kept_held (Some (Pass c)) old new was now kept held =
-    record { working = kept.saved.working; saved = subst (λ (t : List ℕ). IsBookText t new) (sym kept.saved.saved) kept.is_text }
-kept_held (Some Fail) old new was now kept held =
-    record { working = kept.saved.working; saved = subst (λ (t : List ℕ). IsBookText t new) (sym kept.saved.saved) kept.is_text }
-kept_held (Some Locked) old new was now (same, unasked) held =
-    subst (λ (b : BookFields). IsHeld b now) (sym same) (subst (λ (f : StoreFacts). IsHeld old f) (sym unasked) held)
-kept_held None old new was now (same, unasked) held =
-    subst (λ (b : BookFields). IsHeld b now) (sym same) (subst (λ (f : StoreFacts). IsHeld old f) (sym unasked) held)
+pub kept_held : (IsStored : List ℕ → Type 0) (has_changed : Bool) (old new : BookFields) (was now : StoreFacts) → IsKept IsStored has_changed old was new now
+    → IsHeld IsStored old was → IsHeld IsStored new now
+kept_held IsStored true old new was now kept held = saved_held IsStored new was now kept
+kept_held IsStored false old new was now (same, unasked) held =
+    subst (λ (b : BookFields). IsHeld IsStored b now) (sym same) (subst (λ (f : StoreFacts). IsHeld IsStored old f) (sym unasked) held)
 
 -- what was spent after one more reply
 pub spent_after : BeginsWithItself → SpentStaysSpent → (start old new : BookFields) (told : List Told) (t : Told) → IsAttemptJudged old t new
@@ -275,18 +280,18 @@ begins_by_reply law accounts log name told moment sent reply begins due =
     (append_assoc log (line ∷ []) (said (replies moment reply) ∷ [])) second
 
 -- a desk whose keeper judged a code, or two in a row
-pub stands_by_reply : BeginsWithItself → SpentStaysSpent → GoesOnByALine → {S : Type 0} (facts : S → StoreFacts) (start : BookFields) (calls : List Call)
+pub stands_by_reply : BeginsWithItself → SpentStaysSpent → GoesOnByALine → {S : Type 0} (facts : S → StoreFacts) (IsStored : List ℕ → Type 0) (start : BookFields) (calls : List Call)
     (old new : Keeper S) (name own : List ℕ) (event : ClientEvent) (moment : ℕ) (sent : CodeTexts) (reply : Option Reply)
-    → Stands facts start calls (desk_of old (Open (WaitsCode name) own)) → IsRecord event (waits_code name) (heard (asking sent))
-    → IsWritable (heard (asking sent)) → IsMoment moment → IsJudged old.book (facts old.store) name moment sent (Replied reply) new.book (facts new.store)
+    → Stands facts IsStored start calls (desk_of old (Open (WaitsCode name) own)) → IsRecord event (waits_code name) (heard (asking sent))
+    → IsWritable (heard (asking sent)) → IsMoment moment → IsJudged IsStored old.book (facts old.store) name moment sent (Replied reply) new.book (facts new.store)
     → IsJudgedInRange (Replied reply)
-    → Stands facts start (call_of (hears event moment) (judged_lines moment sent (Replied reply)) ∷ calls) (desk_of new (state_after (judged_left name (Replied reply)) own))
-stands_by_reply itself stays law facts start calls old new name own event moment sent reply s is_record written is (one, kept) range =
+    → Stands facts IsStored start (call_of (hears event moment) (judged_lines moment sent (Replied reply)) ∷ calls) (desk_of new (state_after (judged_left name (Replied reply)) own))
+stands_by_reply itself stays law facts IsStored start calls old new name own event moment sent reply s is_record written is (one, kept) range =
     let accounts = accounts_in start in
     let at = s.is_state.0 in
     let run = subst (λ (p : Place). IsRun accounts calls p) at s.is_run in
     let begins = subst (λ (p : Place). Begins (demands accounts) (run_lines calls) p s.told) at s.begins in
-    let held = held_in_turn accounts calls s.place old.book (facts old.store) (client_turn accounts s.place (WaitsCode name) at) s.is_stored in
+    let held = held_in_turn IsStored accounts calls s.place old.book (facts old.store) (client_turn accounts s.place (WaitsCode name) at) s.is_stored in
     let t = told_of name moment sent reply in
     let after = book_after_told itself start s.told old.book s.is_book in
     record {
@@ -301,7 +306,7 @@ stands_by_reply itself stays law facts start calls old new name own event moment
       written = all_append IsWritable (run_lines calls) (judged_lines moment sent (Replied reply)) s.written (written, (reply_line moment reply is range, tt));
       is_state = (refl, s.is_state.1);
       is_book = subst (λ (l : List Told). IsBookWith start l new.book) (sym (reverse-append s.told (t ∷ []))) (old.book, s.is_book, one);
-      is_stored = kept_held reply old.book new.book (facts old.store) (facts new.store) kept held;
+      is_stored = kept_held IsStored (needs_save reply) old.book new.book (facts old.store) (facts new.store) kept held;
       spent = spent_after itself stays start old.book new.book s.told t one s.spent;
     }
 
@@ -314,13 +319,13 @@ lost_now was now text working (inl (failed, same)) = let never : false ≡ true 
 lost_now was now text working (inr lost) = lost
 
 -- what the store holds after a save in which it failed
-pub stored_by_halt : (accounts : Accounts) (calls : List Call) (old new : BookFields) (was now : StoreFacts) (name : List ℕ) (event : ClientEvent) (moment : ℕ)
-    (sent : CodeTexts) → IsRun accounts calls (waits_code name) → IsHeld old was → IsJudged old was name moment sent Lost new now
-    → IsStoredAt accounts (call_of (hears event moment) (judged_lines moment sent Lost) ∷ calls) halted new now
-stored_by_halt accounts calls old new was now name event moment sent run held (same, (reply, next, needs, one, loses)) =
+pub stored_by_halt : (IsStored : List ℕ → Type 0) (accounts : Accounts) (calls : List Call) (old new : BookFields) (was now : StoreFacts) (name : List ℕ) (event : ClientEvent) (moment : ℕ)
+    (sent : CodeTexts) → IsRun accounts calls (waits_code name) → IsHeld IsStored old was → IsJudged IsStored old was name moment sent Lost new now
+    → IsStoredAt IsStored accounts (call_of (hears event moment) (judged_lines moment sent Lost) ∷ calls) halted new now
+stored_by_halt IsStored accounts calls old new was now name event moment sent run held (same, (reply, next, needs, one, loses)) =
     let lost = lost_now was now loses.text held.working loses.lost in
-    let of_old : IsBookText now.saved old ⊎ IsBookText now.saved next = elim lost.saved [
-      | inl before ↦ inl (subst (λ (t : List ℕ). IsBookText t old) (sym before) held.saved)
+    let of_old : (IsBookText now.saved old × IsStored now.saved) ⊎ IsBookText now.saved next = elim lost.saved [
+      | inl before ↦ inl (subst (λ (t : List ℕ). IsBookText t old) (sym before) held.saved, subst IsStored (sym before) held.stored)
       | inr after ↦ inr (subst (λ (t : List ℕ). IsBookText t next) (sym after) loses.is_text)
     ] in
     record {
@@ -330,24 +335,25 @@ stored_by_halt accounts calls old new was now name event moment sent run held (s
       is_latest = (
         waits_code name,
         run,
-        record { event = event; answer = said halt; is_asked = refl; place = refl; lines_are = refl; needs_save = needs },
+        record { event = event; answer = said halt; is_asked = refl; place = refl; lines_are = refl; is_saved = needs },
       );
       is_told = subst (λ (b : BookFields). IsAttemptJudged b (told_of name moment sent reply) next) (sym same) one;
-      saved = subst (λ (b : BookFields). IsBookText now.saved b ⊎ IsBookText now.saved next) (sym same) of_old;
+      saved = subst (λ (b : BookFields). (IsBookText now.saved b × IsStored now.saved) ⊎ IsBookText now.saved next) (sym same) of_old;
+      before = subst (λ (b : BookFields). WasSaved IsStored b) (sym same) (was.saved, held.saved, held.stored);
     }
 
 -- a desk whose keeper lost a save
-pub stands_by_halt : GoesOnByALine → {S : Type 0} (facts : S → StoreFacts) (start : BookFields) (calls : List Call)
+pub stands_by_halt : GoesOnByALine → {S : Type 0} (facts : S → StoreFacts) (IsStored : List ℕ → Type 0) (start : BookFields) (calls : List Call)
     (old new : Keeper S) (name own : List ℕ) (event : ClientEvent) (moment : ℕ) (sent : CodeTexts)
-    → Stands facts start calls (desk_of old (Open (WaitsCode name) own)) → IsRecord event (waits_code name) (heard (asking sent))
-    → IsWritable (heard (asking sent)) → IsMoment moment → IsJudged old.book (facts old.store) name moment sent Lost new.book (facts new.store)
-    → Stands facts start (call_of (hears event moment) (judged_lines moment sent Lost) ∷ calls) (desk_of new (state_after (judged_left name Lost) own))
-stands_by_halt law facts start calls old new name own event moment sent s is_record written is (same, (reply, next, needs, one, loses)) =
+    → Stands facts IsStored start calls (desk_of old (Open (WaitsCode name) own)) → IsRecord event (waits_code name) (heard (asking sent))
+    → IsWritable (heard (asking sent)) → IsMoment moment → IsJudged IsStored old.book (facts old.store) name moment sent Lost new.book (facts new.store)
+    → Stands facts IsStored start (call_of (hears event moment) (judged_lines moment sent Lost) ∷ calls) (desk_of new (state_after (judged_left name Lost) own))
+stands_by_halt law facts IsStored start calls old new name own event moment sent s is_record written is (same, (reply, next, needs, one, loses)) =
     let accounts = accounts_in start in
     let at = s.is_state.0 in
     let run = subst (λ (p : Place). IsRun accounts calls p) at s.is_run in
     let begins = subst (λ (p : Place). Begins (demands accounts) (run_lines calls) p s.told) at s.begins in
-    let held = held_in_turn accounts calls s.place old.book (facts old.store) (client_turn accounts s.place (WaitsCode name) at) s.is_stored in
+    let held = held_in_turn IsStored accounts calls s.place old.book (facts old.store) (client_turn accounts s.place (WaitsCode name) at) s.is_stored in
     let lines = judged_lines moment sent Lost in
     let path : IsPath (demands accounts) (waits_code name) lines halted = (got_code name sent, code_goes name sent, (halted, refl, refl)) in
     record {
@@ -362,78 +368,78 @@ stands_by_halt law facts start calls old new name own event moment sent s is_rec
       written = all_append IsWritable (run_lines calls) lines s.written (written, (halt_written, tt));
       is_state = tt;
       is_book = subst (λ (b : BookFields). IsBookWith start (reverse s.told) b) (sym same) s.is_book;
-      is_stored = stored_by_halt accounts calls old.book new.book (facts old.store) (facts new.store) name event moment sent run held (same, (reply, next, needs, one, loses));
+      is_stored = stored_by_halt IsStored accounts calls old.book new.book (facts old.store) (facts new.store) name event moment sent run held (same, (reply, next, needs, one, loses));
       spent = λ ps spent. subst (λ (b : BookFields). AreSpent (all_spent (reverse s.told) ++ ps) b) (sym same) (s.spent ps spent);
     }
 
 -- a desk whose keeper judged a code, or lost the save of one
-stands_by_code : BeginsWithItself → SpentStaysSpent → GoesOnByALine → {S : Type 0} (facts : S → StoreFacts) (start : BookFields) (calls : List Call)
+stands_by_code : BeginsWithItself → SpentStaysSpent → GoesOnByALine → {S : Type 0} (facts : S → StoreFacts) (IsStored : List ℕ → Type 0) (start : BookFields) (calls : List Call)
     (old new : Keeper S) (name own : List ℕ) (event : ClientEvent) (moment : ℕ) (sent : CodeTexts) (judged : Judged)
-    → Stands facts start calls (desk_of old (Open (WaitsCode name) own)) → IsRecord event (waits_code name) (heard (asking sent))
-    → IsWritable (heard (asking sent)) → IsMoment moment → IsJudged old.book (facts old.store) name moment sent judged new.book (facts new.store)
+    → Stands facts IsStored start calls (desk_of old (Open (WaitsCode name) own)) → IsRecord event (waits_code name) (heard (asking sent))
+    → IsWritable (heard (asking sent)) → IsMoment moment → IsJudged IsStored old.book (facts old.store) name moment sent judged new.book (facts new.store)
     → IsJudgedInRange judged
-    → Stands facts start (call_of (hears event moment) (judged_lines moment sent judged) ∷ calls) (desk_of new (state_after (judged_left name judged) own))
-stands_by_code itself stays law facts start calls old new name own event moment sent (Replied reply) s is_record written is judged range =
-    stands_by_reply itself stays law facts start calls old new name own event moment sent reply s is_record written is judged range
-stands_by_code itself stays law facts start calls old new name own event moment sent Lost s is_record written is judged range =
-    stands_by_halt law facts start calls old new name own event moment sent s is_record written is judged
+    → Stands facts IsStored start (call_of (hears event moment) (judged_lines moment sent judged) ∷ calls) (desk_of new (state_after (judged_left name judged) own))
+stands_by_code itself stays law facts IsStored start calls old new name own event moment sent (Replied reply) s is_record written is judged range =
+    stands_by_reply itself stays law facts IsStored start calls old new name own event moment sent reply s is_record written is judged range
+stands_by_code itself stays law facts IsStored start calls old new name own event moment sent Lost s is_record written is judged range =
+    stands_by_halt law facts IsStored start calls old new name own event moment sent s is_record written is judged
 
 -- one save for PASS, FAIL and HALT, and none for another reply
-pub saves_by_code : (moment : ℕ) (sent : CodeTexts) (name : List ℕ) (judged : Judged) (old new : BookFields) (was now : StoreFacts) → IsHeld old was
-    → IsJudged old was name moment sent judged new now → now.saves ≡ was.saves + length (filter is_saving (judged_lines moment sent judged))
-saves_by_code moment sent name (Replied (Some (Pass c))) old new was now held (one, kept) = kept.saved.taken_up.counted
-saves_by_code moment sent name (Replied (Some Fail)) old new was now held (one, kept) = kept.saved.taken_up.counted
-saves_by_code moment sent name (Replied (Some Locked)) old new was now held (one, kept) = let same = ap (λ (f : StoreFacts). f.saves) kept.1 in omega (arith, same)
-saves_by_code moment sent name (Replied None) old new was now held (one, kept) = let same = ap (λ (f : StoreFacts). f.saves) kept.1 in omega (arith, same)
-saves_by_code moment sent name Lost old new was now held (same, (reply, next, needs, one, loses)) =
+pub saves_by_code : (IsStored : List ℕ → Type 0) (moment : ℕ) (sent : CodeTexts) (name : List ℕ) (judged : Judged) (old new : BookFields) (was now : StoreFacts) → IsHeld IsStored old was
+    → IsJudged IsStored old was name moment sent judged new now → now.saves ≡ was.saves + length (filter is_saving (judged_lines moment sent judged))
+saves_by_code IsStored moment sent name (Replied (Some (Pass c))) old new was now held (one, kept) = kept.saved.taken_up.counted
+saves_by_code IsStored moment sent name (Replied (Some Fail)) old new was now held (one, kept) = kept.saved.taken_up.counted
+saves_by_code IsStored moment sent name (Replied (Some Locked)) old new was now held (one, kept) = let same = ap (λ (f : StoreFacts). f.saves) kept.1 in omega (arith, same)
+saves_by_code IsStored moment sent name (Replied None) old new was now held (one, kept) = let same = ap (λ (f : StoreFacts). f.saves) kept.1 in omega (arith, same)
+saves_by_code IsStored moment sent name Lost old new was now held (same, (reply, next, needs, one, loses)) =
     (lost_now was now loses.text held.working loses.lost).taken_up.counted
 
 -- what the store was given for it
-pub asked_by_code : (event : ClientEvent) (moment : ℕ) (sent : CodeTexts) (name : List ℕ) (at : Place) (judged : Judged) (old new : BookFields) (was now : StoreFacts)
-    → at ≡ waits_code name → IsHeld old was → IsJudged old was name moment sent judged new now → (filter is_saving (judged_lines moment sent judged) ≡ [] → ⊥)
+pub asked_by_code : (IsStored : List ℕ → Type 0) (event : ClientEvent) (moment : ℕ) (sent : CodeTexts) (name : List ℕ) (at : Place) (judged : Judged) (old new : BookFields) (was now : StoreFacts)
+    → at ≡ waits_code name → IsHeld IsStored old was → IsJudged IsStored old was name moment sent judged new now → (filter is_saving (judged_lines moment sent judged) ≡ [] → ⊥)
     → (t : Told) × (next : BookFields) × IsAttemptOf (hears event moment) at (judged_lines moment sent judged) t × IsAttemptJudged old t next × IsBookText now.asked next
-asked_by_code event moment sent name at (Replied (Some (Pass c))) old new was now here held (one, kept) some = (
+asked_by_code IsStored event moment sent name at (Replied (Some (Pass c))) old new was now here held (one, kept) some = (
   told_of name moment sent (Some (Pass c)),
   new,
-  record { event = event; answer = said (replies moment (Some (Pass c))); is_asked = refl; place = here; lines_are = refl; needs_save = tt },
+  record { event = event; answer = said (replies moment (Some (Pass c))); is_asked = refl; place = here; lines_are = refl; is_saved = refl },
   one,
   subst (λ (t : List ℕ). IsBookText t new) (sym kept.saved.taken_up.asked) kept.is_text,
 )
-asked_by_code event moment sent name at (Replied (Some Fail)) old new was now here held (one, kept) some = (
+asked_by_code IsStored event moment sent name at (Replied (Some Fail)) old new was now here held (one, kept) some = (
   told_of name moment sent (Some Fail),
   new,
-  record { event = event; answer = said (replies moment (Some Fail)); is_asked = refl; place = here; lines_are = refl; needs_save = tt },
+  record { event = event; answer = said (replies moment (Some Fail)); is_asked = refl; place = here; lines_are = refl; is_saved = refl },
   one,
   subst (λ (t : List ℕ). IsBookText t new) (sym kept.saved.taken_up.asked) kept.is_text,
 )
-asked_by_code event moment sent name at (Replied (Some Locked)) old new was now here held judged some = absurd (some refl)
-asked_by_code event moment sent name at (Replied None) old new was now here held judged some = absurd (some refl)
-asked_by_code event moment sent name at Lost old new was now here held (same, (reply, next, needs, one, loses)) some = (
+asked_by_code IsStored event moment sent name at (Replied (Some Locked)) old new was now here held judged some = absurd (some refl)
+asked_by_code IsStored event moment sent name at (Replied None) old new was now here held judged some = absurd (some refl)
+asked_by_code IsStored event moment sent name at Lost old new was now here held (same, (reply, next, needs, one, loses)) some = (
   told_of name moment sent reply,
   next,
-  record { event = event; answer = said halt; is_asked = refl; place = here; lines_are = refl; needs_save = needs },
+  record { event = event; answer = said halt; is_asked = refl; place = here; lines_are = refl; is_saved = needs },
   one,
   subst (λ (t : List ℕ). IsBookText t next) (sym (lost_now was now loses.text held.working loses.lost).taken_up.asked) loses.is_text,
 )
 
 -- where nothing is saved, nothing changes
-pub quiet_by_code : (moment : ℕ) (sent : CodeTexts) (name : List ℕ) (judged : Judged) (old new : BookFields) (was now : StoreFacts)
-    → IsJudged old was name moment sent judged new now → filter is_saving (judged_lines moment sent judged) ≡ [] → (new ≡ old) × (now ≡ was)
-quiet_by_code moment sent name (Replied (Some (Pass c))) old new was now judged none = absurd (cc none)
-quiet_by_code moment sent name (Replied (Some Fail)) old new was now judged none = absurd (cc none)
-quiet_by_code moment sent name (Replied (Some Locked)) old new was now (one, kept) none = kept
-quiet_by_code moment sent name (Replied None) old new was now (one, kept) none = kept
-quiet_by_code moment sent name Lost old new was now judged none = absurd (cc none)
+pub quiet_by_code : (IsStored : List ℕ → Type 0) (moment : ℕ) (sent : CodeTexts) (name : List ℕ) (judged : Judged) (old new : BookFields) (was now : StoreFacts)
+    → IsJudged IsStored old was name moment sent judged new now → filter is_saving (judged_lines moment sent judged) ≡ [] → (new ≡ old) × (now ≡ was)
+quiet_by_code IsStored moment sent name (Replied (Some (Pass c))) old new was now judged none = absurd (cc none)
+quiet_by_code IsStored moment sent name (Replied (Some Fail)) old new was now judged none = absurd (cc none)
+quiet_by_code IsStored moment sent name (Replied (Some Locked)) old new was now (one, kept) none = kept
+quiet_by_code IsStored moment sent name (Replied None) old new was now (one, kept) none = kept
+quiet_by_code IsStored moment sent name Lost old new was now judged none = absurd (cc none)
 
 -- the desk has halted only where the save was lost
 pub failed_by : (was now : StoreFacts) (text : List ℕ) → ((was.failed ≡ true) × (now ≡ was)) ⊎ IsLost was text now → now.failed ≡ true
 failed_by was now text (inl (failed, same)) = rw same failed
 failed_by was now text (inr lost) = lost.failed
 
-halts_by_code : (moment : ℕ) (sent : CodeTexts) (name own : List ℕ) (judged : Judged) (old new : BookFields) (was now : StoreFacts)
-    → IsJudged old was name moment sent judged new now → phase_of (state_after (judged_left name judged) own) ≡ phase.Halted → (now.failed ≡ true) × (new ≡ old)
-halts_by_code moment sent name own (Replied reply) old new was now judged is = absurd (cc is)
-halts_by_code moment sent name own Lost old new was now (same, (reply, next, needs, one, loses)) is = (failed_by was now loses.text loses.lost, same)
+halts_by_code : (IsStored : List ℕ → Type 0) (moment : ℕ) (sent : CodeTexts) (name own : List ℕ) (judged : Judged) (old new : BookFields) (was now : StoreFacts)
+    → IsJudged IsStored old was name moment sent judged new now → phase_of (state_after (judged_left name judged) own) ≡ phase.Halted → (now.failed ≡ true) × (new ≡ old)
+halts_by_code IsStored moment sent name own (Replied reply) old new was now judged is = absurd (cc is)
+halts_by_code IsStored moment sent name own Lost old new was now (same, (reply, next, needs, one, loses)) is = (failed_by was now loses.text loses.lost, same)
 
 -- an open session, or none, is no halt
 pub open_goes_on : (going : Session) → session_phase going ≡ phase.Halted → ⊥
@@ -447,42 +453,42 @@ left_goes_on None own is = cc is
 left_goes_on (Some going) own is = open_goes_on going is
 
 -- the session that waits for a code of this account was asked to hear one
-answers_by_code : BeginsWithItself → SpentStaysSpent → GoesOnByALine → {S : Type 0} (facts : S → StoreFacts) (old : Keeper S) (going : Session)
+answers_by_code : BeginsWithItself → SpentStaysSpent → GoesOnByALine → {S : Type 0} (facts : S → StoreFacts) (IsStored : List ℕ → Type 0) (old : Keeper S) (going : Session)
     (own : List ℕ) (event : ClientEvent) (moment : ℕ) (lines : List LogLine) (left : Left) (wire wire' log log' : List ℕ) (new : Desk S) (name : List ℕ)
-    (sent : CodeTexts) → AsksJudgement old going event name sent → IsCodeJudged facts old name moment sent lines left new.keeper
+    (sent : CodeTexts) → AsksJudgement old going event name sent → IsCodeJudged facts IsStored old name moment sent lines left new.keeper
     → AreSent None lines wire wire' log log' → new.state ≡ state_after left own
-    → Answers facts (desk_of old (Open going own)) (hears event moment) wire wire' log log' new
-answers_by_code itself stays law {S} facts old going own event moment lines left wire wire' log log' new name sent asked t written is_state =
-    let held = λ (start : BookFields) (calls : List Call) (s : Stands facts start calls (desk_of old (Open going own))).
-    held_in_turn (accounts_in start) calls s.place old.book (facts old.store) (client_turn (accounts_in start) s.place going s.is_state.0) s.is_stored in
+    → Answers facts IsStored (desk_of old (Open going own)) (hears event moment) wire wire' log log' new
+answers_by_code itself stays law {S} facts IsStored old going own event moment lines left wire wire' log log' new name sent asked t written is_state =
+    let held = λ (start : BookFields) (calls : List Call) (s : Stands facts IsStored start calls (desk_of old (Open going own))).
+    held_in_turn IsStored (accounts_in start) calls s.place old.book (facts old.store) (client_turn (accounts_in start) s.place going s.is_state.0) s.is_stored in
     record {
       lines = lines;
       logged = written.logged;
       sent = written.sent;
       stands = λ start calls s.
-          let here = subst (λ (g : Session). Stands facts start calls (desk_of old (Open g own))) asked.waits s in
+          let here = subst (λ (g : Session). Stands facts IsStored start calls (desk_of old (Open g own))) asked.waits s in
           let after = book_after_told itself start s.told old.book s.is_book in
           let asks = asked.asks (accounts_in start) s.place after.entries s.is_state.0 in
           let is_record = subst (λ (p : Place). IsRecord event p (heard (asking sent))) asks.place asks.is_record in
           rw (is_state, t.is_left, t.lines_are)
-          (stands_by_code itself stays law facts start calls old new.keeper name own event moment sent t.judged here is_record asked.written t.is_moment t.is_judged t.in_range);
+          (stands_by_code itself stays law facts IsStored start calls old new.keeper name own event moment sent t.judged here is_record asked.written t.is_moment t.is_judged t.in_range);
       saves = λ start calls s.
-          rw t.lines_are (saves_by_code moment sent name t.judged old.book new.keeper.book (facts old.store) (facts new.keeper.store) (held start calls s) t.is_judged);
+          rw t.lines_are (saves_by_code IsStored moment sent name t.judged old.book new.keeper.book (facts old.store) (facts new.keeper.store) (held start calls s) t.is_judged);
       asks = λ start calls s some.
           let here = subst (λ (g : Session). StandsAt (accounts_in start) s.place g) asked.waits s.is_state.0 in
-          rw t.lines_are (asked_by_code event moment sent name s.place t.judged old.book new.keeper.book (facts old.store) (facts new.keeper.store) here
+          rw t.lines_are (asked_by_code IsStored event moment sent name s.place t.judged old.book new.keeper.book (facts old.store) (facts new.keeper.store) here
           (held start calls s) t.is_judged (rw t.lines_are at some));
-      quiet = λ none. quiet_by_code moment sent name t.judged old.book new.keeper.book (facts old.store) (facts new.keeper.store) t.is_judged (rw t.lines_are at none);
+      quiet = λ none. quiet_by_code IsStored moment sent name t.judged old.book new.keeper.book (facts old.store) (facts new.keeper.store) t.is_judged (rw t.lines_are at none);
       halts = λ is.
-          halts_by_code moment sent name own t.judged old.book new.keeper.book (facts old.store) (facts new.keeper.store) t.is_judged (rw (is_state, t.is_left) at is);
+          halts_by_code IsStored moment sent name own t.judged old.book new.keeper.book (facts old.store) (facts new.keeper.store) t.is_judged (rw (is_state, t.is_left) at is);
     }
 
 -- the session answered a turn
-answers_by_turn : BeginsWithItself → GoesOnByALine → {S : Type 0} (facts : S → StoreFacts) (keeper : Keeper S) (going : Session) (own : List ℕ) (event : ClientEvent)
+answers_by_turn : BeginsWithItself → GoesOnByALine → {S : Type 0} (facts : S → StoreFacts) (IsStored : List ℕ → Type 0) (keeper : Keeper S) (going : Session) (own : List ℕ) (event : ClientEvent)
     (moment : ℕ) (lines : List LogLine) (left : Left) (wire wire' log log' : List ℕ) (new : Desk S) → SessionAnswers keeper going own event lines left new.keeper
     → AreSent None lines wire wire' log log' → new.state ≡ state_after left own
-    → Answers facts (desk_of keeper (Open going own)) (hears event moment) wire wire' log log' new
-answers_by_turn itself law facts keeper going own event moment lines left wire wire' log log' new t written is_state =
+    → Answers facts IsStored (desk_of keeper (Open going own)) (hears event moment) wire wire' log log' new
+answers_by_turn itself law facts IsStored keeper going own event moment lines left wire wire' log log' new t written is_state =
     let none_saved : filter is_saving lines ≡ [] = rw t.lines_are (turn_saves t.turn t.message) in
     record {
       lines = lines;
@@ -490,7 +496,7 @@ answers_by_turn itself law facts keeper going own event moment lines left wire w
       sent = written.sent;
       stands = λ start calls s.
           rw (t.same, is_state, t.is_left, t.lines_are)
-          (stands_by_turn itself law facts start calls keeper going own event moment t.turn t.message s t.hears (rw t.lines_are at t.written));
+          (stands_by_turn itself law facts IsStored start calls keeper going own event moment t.turn t.message s t.hears (rw t.lines_are at t.written));
       saves = λ start calls s.
           let none = ap (λ (l : List LogLine). length l) none_saved in
           let unasked = ap (λ (k : Keeper _). (facts k.store).saves) t.same in
@@ -501,25 +507,25 @@ answers_by_turn itself law facts keeper going own event moment lines left wire w
     }
 
 -- the open session took a turn
-pub answers_by_taken : BeginsWithItself → SpentStaysSpent → GoesOnByALine → {S : Type 0} (facts : S → StoreFacts) (old : Keeper S) (going : Session) (own : List ℕ)
+pub answers_by_taken : BeginsWithItself → SpentStaysSpent → GoesOnByALine → {S : Type 0} (facts : S → StoreFacts) (IsStored : List ℕ → Type 0) (old : Keeper S) (going : Session) (own : List ℕ)
     (event : ClientEvent) (moment : ℕ) (left : Left) (wire wire' log log' : List ℕ) (new : Desk S)
-    → IsTurnWritten facts old going own event moment None wire wire' log log' left new.keeper → new.state ≡ state_after left own
-    → Answers facts (desk_of old (Open going own)) (hears event moment) wire wire' log log' new
-answers_by_taken itself stays law facts old going own event moment left wire wire' log log' new (lines, inl t, written) is_state =
-    answers_by_turn itself law facts old going own event moment lines left wire wire' log log' new t written is_state
-answers_by_taken itself stays law facts old going own event moment left wire wire' log log' new (lines, inr (name, sent, asked, t), written) is_state =
-    answers_by_code itself stays law facts old going own event moment lines left wire wire' log log' new name sent asked t written is_state
+    → IsTurnWritten facts IsStored old going own event moment None wire wire' log log' left new.keeper → new.state ≡ state_after left own
+    → Answers facts IsStored (desk_of old (Open going own)) (hears event moment) wire wire' log log' new
+answers_by_taken itself stays law facts IsStored old going own event moment left wire wire' log log' new (lines, inl t, written) is_state =
+    answers_by_turn itself law facts IsStored old going own event moment lines left wire wire' log log' new t written is_state
+answers_by_taken itself stays law facts IsStored old going own event moment left wire wire' log log' new (lines, inr (name, sent, asked, t), written) is_state =
+    answers_by_code itself stays law facts IsStored old going own event moment lines left wire wire' log log' new name sent asked t written is_state
 
 -- the desk greeted a client
-pub answers_by_greeting : GoesOnByALine → {S : Type 0} (facts : S → StoreFacts) (keeper : Keeper S) (state : State) (own wire wire' log log' : List ℕ)
+pub answers_by_greeting : GoesOnByALine → {S : Type 0} (facts : S → StoreFacts) (IsStored : List ℕ → Type 0) (keeper : Keeper S) (state : State) (own wire wire' log log' : List ℕ)
     → state ≡ Closed → log' ≡ log ++ log_bytes (said (mechs offered_names) ∷ []) → wire' ≡ wire ++ wire_bytes (said (mechs offered_names) ∷ [])
-    → Answers facts (desk_of keeper state) (greets own) wire wire' log log' (desk_of keeper (Open Offered own))
-answers_by_greeting law facts keeper state own wire wire' log log' closed logged sent = record {
+    → Answers facts IsStored (desk_of keeper state) (greets own) wire wire' log log' (desk_of keeper (Open Offered own))
+answers_by_greeting law facts IsStored keeper state own wire wire' log log' closed logged sent = record {
   lines = said (mechs offered_names) ∷ [];
   logged = logged;
   sent = sent;
   stands = λ start calls s.
-      stands_by_greeting law facts start calls keeper own (subst (λ (st : State). Stands facts start calls (desk_of keeper st)) closed s);
+      stands_by_greeting law facts IsStored start calls keeper own (subst (λ (st : State). Stands facts IsStored start calls (desk_of keeper st)) closed s);
   saves = λ start calls s. omega arith;
   asks = λ start calls s some. absurd (some refl);
   quiet = λ none. (refl, refl);
@@ -527,9 +533,9 @@ answers_by_greeting law facts keeper state own wire wire' log log' closed logged
 }
 
 -- a desk that halts stands for what it stood for
-pub stands_halted : {S : Type 0} (facts : S → StoreFacts) (start : BookFields) (calls : List Call) (desk : Desk S) → Stands facts start calls desk
-    → Stands facts start calls (desk_of desk.keeper Halted)
-stands_halted facts start calls desk s = record {
+pub stands_halted : {S : Type 0} (facts : S → StoreFacts) (IsStored : List ℕ → Type 0) (start : BookFields) (calls : List Call) (desk : Desk S) → Stands facts IsStored start calls desk
+    → Stands facts IsStored start calls (desk_of desk.keeper Halted)
+stands_halted facts IsStored start calls desk s = record {
   place = s.place;
   told = s.told;
   is_run = s.is_run;

@@ -1,9 +1,8 @@
 -- What a desk stands for: the book with which it began, and the run since.
 use Rattle.std.specs.Prelude.{ℕ, ◌≡◌, ◌+◌, ◌⊎◌, true, false, Bool, List, [], ◌∷◌, ◌++◌, reverse, length, filter}
-use Rattle.std.specs.declared.option.Option.TheVariants.{Some}
-use Rattle.otp_core.specs.declared.token.answer.Reply.TheVariants.{Pass, Fail}
 use Rattle.book_format.specs.Book.{BookFields}
 use Rattle.book_format.specs.Trees.{IsBookText}
+use Rattle.account_book.specs.Saves.{needs_save, WasSaved}
 use Rattle.account_book.specs.Store.{StoreFacts}
 use Rattle.log_grammar.specs.Books.{accounts_in}
 use Rattle.log_grammar.specs.Lines.{LogLine, said, heard, replies, halt, asking, log_bytes}
@@ -12,7 +11,7 @@ use Rattle.log_grammar.specs.Places.{Place, between, waits_code, halted}
 use Rattle.log_grammar.specs.Demands.{Accounts, demands}
 use Rattle.log_grammar.specs.Clean.{Begins}
 use Rattle.sasl_desk.specs.Events.{ClientEvent}
-use Rattle.sasl_desk.specs.Keeper.{IsAttemptJudged, NeedsSave}
+use Rattle.sasl_desk.specs.Keeper.{IsAttemptJudged}
 use Rattle.sasl_desk.specs.Runs.{Asked, hears, Call, call_of, run_lines, own_part, wire_bytes, IsRun}
 use Rattle.sasl_desk.specs.Sessions.{StandsAt, CanBeWritten}
 use Rattle.sasl_desk.specs.Spent.{AreSpent, spent_by}
@@ -47,10 +46,11 @@ IsStateAt accounts own at Closed = at ≡ between
 IsStateAt accounts own at (Open going part) = StandsAt accounts at going × (part ≡ own)
 IsStateAt accounts own at Halted = Unit {0}
 
--- the store has not failed, and holds the text of the book
-pub record IsHeld (book : BookFields) (store : StoreFacts) : Type 0 where
+-- the store has not failed, and holds the text of the book, of which this holds
+pub record IsHeld (IsStored : List ℕ → Type 0) (book : BookFields) (store : StoreFacts) : Type 0 where
   pub working : store.failed ≡ false
   pub saved : IsBookText store.saved book
+  pub stored : IsStored store.saved
 
 -- the attempt of a call: of the account whose client waits for a code at this place, at the moment that was handed in, with
 -- what the client sent
@@ -60,7 +60,7 @@ pub record IsAttemptOf (asked : Asked) (at : Place) (lines : List LogLine) (t : 
   pub is_asked : asked ≡ hears event t.moment
   pub place : at ≡ waits_code t.account
   pub lines_are : lines ≡ heard (asking t.sent) ∷ answer ∷ []
-  pub needs_save : NeedsSave t.reply
+  pub is_saved : needs_save t.reply ≡ true
 
 -- the latest call judged this attempt
 abbrev pub IsLatestAttempt : Accounts → List Call → Told → Type 0
@@ -68,20 +68,21 @@ IsLatestAttempt accounts [] t = ⊥
 IsLatestAttempt accounts (c ∷ before) t = (at : Place) × IsRun accounts before at × IsAttemptOf c.asked at c.lines t
 
 -- the store has failed as it saved the book with the attempt of the latest call: it holds the text of the book from before
--- it, or that of the book with it
-pub record IsLostAfter (accounts : Accounts) (calls : List Call) (book : BookFields) (store : StoreFacts) : Type 0 where
+-- it, which was saved, or that of the book with it
+pub record IsLostAfter (IsStored : List ℕ → Type 0) (accounts : Accounts) (calls : List Call) (book : BookFields) (store : StoreFacts) : Type 0 where
   pub failed : store.failed ≡ true
   pub t : Told
   pub next : BookFields
   pub is_latest : IsLatestAttempt accounts calls t
   pub is_told : IsAttemptJudged book t next
-  pub saved : IsBookText store.saved book ⊎ IsBookText store.saved next
+  pub saved : (IsBookText store.saved book × IsStored store.saved) ⊎ IsBookText store.saved next
+  pub before : WasSaved IsStored book
 
 -- what the store holds where the log stands at this place: after `S HALT` the last save has failed; at every other place the
 -- store holds the book
-abbrev pub IsStoredAt : Accounts → List Call → Place → BookFields → StoreFacts → Type 0
-IsStoredAt accounts calls halted book store = IsLostAfter accounts calls book store
-IsStoredAt accounts calls at book store = IsHeld book store
+abbrev pub IsStoredAt : (IsStored : List ℕ → Type 0) → Accounts → List Call → Place → BookFields → StoreFacts → Type 0
+IsStoredAt IsStored accounts calls halted book store = IsLostAfter IsStored accounts calls book store
+IsStoredAt IsStored accounts calls at book store = IsHeld IsStored book store
 
 -- the book after what was told, the latest first: each attempt was judged by the book before it
 abbrev pub IsBookWith : BookFields → List Told → BookFields → Type 0
@@ -94,7 +95,7 @@ all_spent [] = []
 all_spent (t ∷ before) = spent_by t ++ all_spent before
 
 -- a desk that began with a book has answered these calls, the latest of which comes first
-pub record Stands {S : Type 0} (facts : S → StoreFacts) (start : BookFields) (calls : List Call) (desk : Desk S) : Type 0 where
+pub record Stands {S : Type 0} (facts : S → StoreFacts) (IsStored : List ℕ → Type 0) (start : BookFields) (calls : List Call) (desk : Desk S) : Type 0 where
   -- where the log stands, and the replies that were told
   pub place : Place
   pub told : List Told
@@ -107,7 +108,7 @@ pub record Stands {S : Type 0} (facts : S → StoreFacts) (start : BookFields) (
   pub is_state : IsStateAt (accounts_in start) (own_part calls) place desk.state
   -- the book has each attempt in it, and the store holds its text, except after a save in which the store failed
   pub is_book : IsBookWith start (reverse told) desk.keeper.book
-  pub is_stored : IsStoredAt (accounts_in start) calls place desk.keeper.book (facts desk.keeper.store)
+  pub is_stored : IsStoredAt IsStored (accounts_in start) calls place desk.keeper.book (facts desk.keeper.store)
   -- what was spent before is spent, and each counter that a reply used
   pub spent : (ps : List (List ℕ × ℕ)) → AreSpent ps start → AreSpent (all_spent (reverse told) ++ ps) desk.keeper.book
 
@@ -127,23 +128,22 @@ state_after (Going going) own = Open going own
 state_after Over own = Closed
 state_after (left.Halted going) own = Halted
 
--- a line that stands for a save: PASS, FAIL and HALT
+-- a line that stands for a save: a reply that needs one, and HALT
 abbrev pub is_saving : LogLine → Bool
-is_saving (said (replies moment (Some (Pass counter)))) = true
-is_saving (said (replies moment (Some Fail))) = true
+is_saving (said (replies moment reply)) = needs_save reply
 is_saving (said halt) = true
 is_saving line = false
 
 -- what a call did: it added lines, and the desk that had answered some calls has answered this one, too
-pub record Answers {S : Type 0} (facts : S → StoreFacts) (old : Desk S) (asked : Asked) (wire wire' log log' : List ℕ) (new : Desk S) : Type 0 where
+pub record Answers {S : Type 0} (facts : S → StoreFacts) (IsStored : List ℕ → Type 0) (old : Desk S) (asked : Asked) (wire wire' log log' : List ℕ) (new : Desk S) : Type 0 where
   pub lines : List LogLine
   pub logged : log' ≡ log ++ log_bytes lines
   pub sent : wire' ≡ wire ++ wire_bytes lines
-  pub stands : (start : BookFields) (calls : List Call) → Stands facts start calls old → Stands facts start (call_of asked lines ∷ calls) new
-  pub saves : (start : BookFields) (calls : List Call) → Stands facts start calls old
+  pub stands : (start : BookFields) (calls : List Call) → Stands facts IsStored start calls old → Stands facts IsStored start (call_of asked lines ∷ calls) new
+  pub saves : (start : BookFields) (calls : List Call) → Stands facts IsStored start calls old
       → (facts new.keeper.store).saves ≡ (facts old.keeper.store).saves + length (filter is_saving lines)
   -- what the store was given to save is the text of the book with the attempt of this call
-  pub asks : (start : BookFields) (calls : List Call) (s : Stands facts start calls old) → (filter is_saving lines ≡ [] → ⊥)
+  pub asks : (start : BookFields) (calls : List Call) (s : Stands facts IsStored start calls old) → (filter is_saving lines ≡ [] → ⊥)
       → (t : Told) × (next : BookFields) × IsAttemptOf asked s.place lines t × IsAttemptJudged old.keeper.book t next
       × IsBookText (facts new.keeper.store).asked next
   -- a call without such a line leaves the book and the store as they are

@@ -14,7 +14,8 @@ use Rattle.log_grammar.specs.Told.{Told}
 use Rattle.log_grammar.specs.Places.{Place, between, offered, waits_first, waits_final, waits_code}
 use Rattle.log_grammar.specs.Demands.{Accounts, demands}
 use Rattle.log_grammar.specs.Numbered.{Numbered, numbered, of_number, begun, closed_in, SpellsNumbered}
-use Rattle.log_grammar.specs.NumberedLines.{numbered_text, IsNumberedWritable}
+use Rattle.log_grammar.specs.Versions.{most_open}
+use Rattle.log_grammar.specs.NumberedLines.{numbered_text, IsNumberedWritable, last_session_number}
 use Rattle.log_grammar.specs.state_machine.OpenNumbers.{is_closed}
 use Rattle.sasl_desk.specs.Desks.{session_phase, IsStoredAt, IsHeld, IsBookWith, IsAttemptOf, all_spent, is_saving}
 use Rattle.sasl_desk.specs.Guests.{is_of}
@@ -77,12 +78,12 @@ IsSeated accounts calls places guest =
     StandsAt accounts (places guest.number) guest.session × (guest.own ≡ own_part (of_number guest.number calls))
 
 -- what the store holds after these calls: where the latest was answered by `S HALT`, its save has failed; else the book
-abbrev pub IsStoredAfter : Accounts → List (Numbered Call) → (ℕ → Place) → BookFields → StoreFacts → Type 0
-IsStoredAfter accounts [] places book store = IsHeld book store
-IsStoredAfter accounts (c ∷ before) places book store = IsStoredAt accounts (of_number c.number (c ∷ before)) (places c.number) book store
+abbrev pub IsStoredAfter : (IsStored : List ℕ → Type 0) → Accounts → List (Numbered Call) → (ℕ → Place) → BookFields → StoreFacts → Type 0
+IsStoredAfter IsStored accounts [] places book store = IsHeld IsStored book store
+IsStoredAfter IsStored accounts (c ∷ before) places book store = IsStoredAt IsStored accounts (of_number c.number (c ∷ before)) (places c.number) book store
 
 -- a hall that began with a book has answered these calls, the latest of which comes first, each of the session of its number
-pub record StandsHall {S : Type 0} (facts : S → StoreFacts) (start : BookFields) (calls : List (Numbered Call)) (hall : HallFields S) : Type 0 where
+pub record StandsHall {S : Type 0} (facts : S → StoreFacts) (IsStored : List ℕ → Type 0) (start : BookFields) (calls : List (Numbered Call)) (hall : HallFields S) : Type 0 where
   -- where the session of each number stands, and the replies that were told, in the order of the whole log
   pub places : ℕ → Place
   pub told : List Told
@@ -90,11 +91,11 @@ pub record StandsHall {S : Type 0} (facts : S → StoreFacts) (start : BookField
   pub stays : (n : ℕ) → IsStay (accounts_in start) (of_number n calls) (places n)
   pub fresh : (n : ℕ) → begun (hall_lines calls) < n → of_number n calls ≡ []
   -- the lines are those of a log of version 2, at most 64 of whose sessions are open at once, and they can be written
-  pub spelled : SpellsNumbered 64 (demands (accounts_in start)) (hall_lines calls) places told
+  pub spelled : SpellsNumbered most_open (demands (accounts_in start)) (hall_lines calls) places told
   pub written : AllByRecursion IsNumberedWritable (hall_lines calls)
   -- the numbers that were given are 1, 2, and so on
   pub given : hall.given ≡ begun (hall_lines calls)
-  pub last_number : hall.given ≤ 9223372036854775806
+  pub last_number : hall.given ≤ last_session_number
   -- each open session has one guest, and no other number has any
   pub guests : (n : ℕ) → count_by (is_of n) hall.guests ≡ open_at (places n)
   pub open_are : length hall.guests + closed_in (hall_lines calls) ≡ begun (hall_lines calls)
@@ -102,7 +103,7 @@ pub record StandsHall {S : Type 0} (facts : S → StoreFacts) (start : BookField
   pub seated : hall.is_halted ≡ false → AllByRecursion (IsSeated (accounts_in start) calls places) hall.guests
   -- the book has each attempt in it, and the store holds its text, except after a save in which the store failed
   pub is_book : IsBookWith start (reverse told) hall.keeper.book
-  pub is_stored : IsStoredAfter (accounts_in start) calls places hall.keeper.book (facts hall.keeper.store)
+  pub is_stored : IsStoredAfter IsStored (accounts_in start) calls places hall.keeper.book (facts hall.keeper.store)
   -- what was spent before is spent, and each counter that a reply used
   pub spent : (ps : List (List ℕ × ℕ)) → AreSpent ps start → AreSpent (all_spent (reverse told) ++ ps) hall.keeper.book
 
@@ -136,20 +137,20 @@ pub record IsSameHall {S : Type 0} (old new : HallFields S) : Type 0 where
   pub halted : new.is_halted ≡ old.is_halted
 
 -- what a call of a session did: it added lines, and the hall that had answered some calls has answered this one, too
-pub record AnswersIn {S : Type 0} (facts : S → StoreFacts) (old : HallFields S) (n : ℕ) (asked : Asked) (answered : Phase) (wire wire' log log' : List ℕ)
+pub record AnswersIn {S : Type 0} (facts : S → StoreFacts) (IsStored : List ℕ → Type 0) (old : HallFields S) (n : ℕ) (asked : Asked) (answered : Phase) (wire wire' log log' : List ℕ)
     (new : HallFields S) : Type 0 where
   pub lines : List LogLine
   pub logged : log' ≡ log ++ numbered_bytes (map (numbered n) lines)
   pub sent : wire' ≡ wire ++ wire_bytes lines
   -- and the phase that is answered is that of the place where the session then stands
-  pub stands : (start : BookFields) (calls : List (Numbered Call)) → StandsHall facts start calls old
-      → (after : StandsHall facts start (numbered n (call_of asked lines) ∷ calls) new) × IsPhaseOf (after.places n) answered
+  pub stands : (start : BookFields) (calls : List (Numbered Call)) → StandsHall facts IsStored start calls old
+      → (after : StandsHall facts IsStored start (numbered n (call_of asked lines) ∷ calls) new) × IsPhaseOf (after.places n) answered
   -- which is Halted exactly where the hall has halted
   pub tells : (answered ≡ phase.Halted) ↔ (new.is_halted ≡ true)
-  pub saves : (start : BookFields) (calls : List (Numbered Call)) → StandsHall facts start calls old
+  pub saves : (start : BookFields) (calls : List (Numbered Call)) → StandsHall facts IsStored start calls old
       → (facts new.keeper.store).saves ≡ (facts old.keeper.store).saves + length (filter is_saving lines)
   -- what the store was given to save is the text of the book with the attempt of this call
-  pub asks : (start : BookFields) (calls : List (Numbered Call)) (s : StandsHall facts start calls old) → (filter is_saving lines ≡ [] → ⊥)
+  pub asks : (start : BookFields) (calls : List (Numbered Call)) (s : StandsHall facts IsStored start calls old) → (filter is_saving lines ≡ [] → ⊥)
       → (t : Told) × (next : BookFields) × IsAttemptOf asked (s.places n) lines t × IsAttemptJudged old.keeper.book t next
       × IsBookText (facts new.keeper.store).asked next
   -- a call without such a line leaves the book and the store as they are

@@ -1,9 +1,10 @@
 -- What is read of a client in a turn.
-use Rattle.std.specs.Prelude.{ℕ, ◌≡◌, ◌⊎◌, true, false, List, [], ◌∷◌, ◌++◌, length}
+use Rattle.std.specs.Prelude.{ℕ, ◌≡◌, ◌+◌, ◌⊎◌, true, false, List, [], ◌∷◌, ◌++◌, length}
 use Rattle.std.specs.Str.{byte}
 use Rattle.std.specs.Io.KnownBytes.{IsAtEnd}
 use Rattle.sasl_log.specs.Source.{SourceFacts}
 use Rattle.sasl_log.specs.TextRead.{IsTaken}
+use Rattle.log_grammar.specs.Lines.{longest_line}
 use Rattle.sasl_desk.specs.Events.{ClientEvent, sends, goes_away}
 use Rattle.sasl_desk.specs.declared.serving.line.LineEnd.{LineEnd}
 use Rattle.sasl_desk.specs.declared.serving.line.LineEnd.TheVariants.{ByLf, TooLong, Over}
@@ -21,12 +22,12 @@ line_read text ByLf = line text
 line_read text TooLong = too_long text
 line_read text Over = over text
 
--- this was read of a source, and nothing after it: a line of at most 6200 bytes and its LF; 6201 bytes without an LF; or at
--- most 6200 bytes without an LF, after which the input ended or a read failed
+-- this was read of a source, and nothing after it: a line that is not too long, and its LF; one byte more than a line may have,
+-- without an LF; or no more bytes than a line may have, without an LF, after which the input ended or a read failed
 abbrev pub ReadsLine : SourceFacts → LineRead → SourceFacts → Type 0
-ReadsLine old (line text) new = IsTaken old text (text ++ byte "\n" ∷ []) 6200 new × (new.failed ≡ false)
-ReadsLine old (too_long text) new = IsTaken old text text 6201 new × (new.failed ≡ false) × (length text ≡ 6201)
-ReadsLine old (over rest) new = IsTaken old rest rest 6200 new × (IsAtEnd new.left ⊎ (new.failed ≡ true))
+ReadsLine old (line text) new = IsTaken old text (text ++ byte "\n" ∷ []) longest_line new × (new.failed ≡ false)
+ReadsLine old (too_long text) new = IsTaken old text text (longest_line + 1) new × (new.failed ≡ false) × (length text ≡ longest_line + 1)
+ReadsLine old (over rest) new = IsTaken old rest rest longest_line new × (IsAtEnd new.left ⊎ (new.failed ≡ true))
 
 -- what the client did: it sent the bytes, also where they are too many, or it has gone away
 abbrev pub event_read : LineRead → ClientEvent

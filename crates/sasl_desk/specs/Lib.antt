@@ -1,4 +1,5 @@
 pub mod Alone
+pub mod Bounds
 pub mod Desks
 pub mod Events
 pub mod Faults
@@ -12,6 +13,7 @@ pub mod Outputs
 pub mod Records
 pub mod Restarts
 pub mod Runs
+pub mod Saved
 pub mod Serves
 pub mod Sessions
 pub mod Spent

@@ -12,6 +12,7 @@ use Rattle.log_grammar.specs.Places.{Place}
 use Rattle.log_grammar.specs.Demands.{demands}
 use Rattle.log_grammar.specs.Clean.{Begins}
 use Rattle.log_grammar.specs.Numbered.{Numbered, SpellsNumbered}
+use Rattle.log_grammar.specs.Versions.{most_open}
 use Rattle.sasl_desk.specs.Keeper.{IsAttemptJudged}
 use Rattle.sasl_desk.specs.Runs.{Call, run_lines}
 use Rattle.sasl_desk.specs.Desks.{Stands, all_spent}
@@ -30,9 +31,9 @@ pub record Run : Type 0 where
 -- a desk that began with the book has answered the calls, and its log tells this. Where it stops, between two calls or in
 -- the midst of one, the store holds the text of a book that it left: its own, or, as a save was under way or failed, that
 -- with one more attempt. A stop within `begin` leaves the text from before, or that of the same book, and is no run.
-pub record IsDeskRunOf {S : Type 0} (facts : S → StoreFacts) (r : Run) : Type 0 where
+pub record IsDeskRunOf {S : Type 0} (facts : S → StoreFacts) (IsStored : List ℕ → Type 0) (r : Run) : Type 0 where
   pub desk : Desk S
-  pub stands : Stands facts r.start r.calls desk
+  pub stands : Stands facts IsStored r.start r.calls desk
   pub begins : Begins (demands (accounts_in r.start)) (run_lines r.calls) r.place r.told
   pub leaves : (r.left ≡ desk.keeper.book) ⊎ ((t : Told) × IsAttemptJudged desk.keeper.book t r.left)
 
@@ -46,10 +47,10 @@ pub record HallRun : Type 0 where
 
 -- a hall that began with the book has answered the calls, and its log tells this. Where it stops, it leaves a book as a desk
 -- does.
-pub record IsHallRunOf {S : Type 0} (facts : S → StoreFacts) (r : HallRun) : Type 0 where
+pub record IsHallRunOf {S : Type 0} (facts : S → StoreFacts) (IsStored : List ℕ → Type 0) (r : HallRun) : Type 0 where
   pub hall : HallFields S
-  pub stands : StandsHall facts r.start r.calls hall
-  pub spelled : SpellsNumbered 64 (demands (accounts_in r.start)) (hall_lines r.calls) r.places r.told
+  pub stands : StandsHall facts IsStored r.start r.calls hall
+  pub spelled : SpellsNumbered most_open (demands (accounts_in r.start)) (hall_lines r.calls) r.places r.told
   pub leaves : (r.left ≡ hall.keeper.book) ⊎ ((t : Told) × IsAttemptJudged hall.keeper.book t r.left)
 
 -- what happens to a book: a desk or a hall runs with it, from the text that the store held when the run began to the one that it holds when
@@ -63,17 +64,17 @@ pub data Change : Type 0 where
   adds : (name : List ℕ) (account : AccountFields) → Change
 
 -- the change makes the one book the other
-abbrev pub IsChange : {S : Type 0} → (S → StoreFacts) → Change → (old new : BookFields) → Type 0
-IsChange facts (ran r) old new = IsDeskRunOf facts r × (r.start ≡ old) × (r.left ≡ new)
-IsChange facts (hosts r) old new = IsHallRunOf facts r × (r.start ≡ old) × (r.left ≡ new)
-IsChange facts (judged t) old new = IsAttemptJudged old t new
-IsChange facts (unlocks name) old new = IsUnlocked old name new
-IsChange facts (adds name account) old new = (account_at old name ≡ None) × IsAdded old name account new
+abbrev pub IsChange : {S : Type 0} → (S → StoreFacts) → (IsStored : List ℕ → Type 0) → Change → (old new : BookFields) → Type 0
+IsChange facts IsStored (ran r) old new = IsDeskRunOf facts IsStored r × (r.start ≡ old) × (r.left ≡ new)
+IsChange facts IsStored (hosts r) old new = IsHallRunOf facts IsStored r × (r.start ≡ old) × (r.left ≡ new)
+IsChange facts IsStored (judged t) old new = IsAttemptJudged old t new
+IsChange facts IsStored (unlocks name) old new = IsUnlocked old name new
+IsChange facts IsStored (adds name account) old new = (account_at old name ≡ None) × IsAdded old name account new
 
 -- changes, the latest first, each of the book that the one before left, from the first book to the last
-abbrev pub AreChanges : {S : Type 0} → (S → StoreFacts) → BookFields → List Change → BookFields → Type 0
-AreChanges facts first [] last = last ≡ first
-AreChanges facts first (c ∷ before) last = (middle : BookFields) × AreChanges facts first before middle × IsChange facts c middle last
+abbrev pub AreChanges : {S : Type 0} → (S → StoreFacts) → (IsStored : List ℕ → Type 0) → BookFields → List Change → BookFields → Type 0
+AreChanges facts IsStored first [] last = last ≡ first
+AreChanges facts IsStored first (c ∷ before) last = (middle : BookFields) × AreChanges facts IsStored first before middle × IsChange facts IsStored c middle last
 
 -- the counters that the replies of a change use, with their accounts
 abbrev pub spent_by_change : Change → List (List ℕ × ℕ)

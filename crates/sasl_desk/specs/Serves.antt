@@ -2,12 +2,14 @@
 -- client.
 use Rattle.std.specs.Prelude.{ℕ, ◌≡◌, ◌⊎◌, ◌+◌, ◌<◌, ◌≤◌, true, List, [], ◌∷◌, ◌++◌, length, filter}
 use Rattle.std.specs.Io.KnownBytes.{Appends}
+use Rattle.std.specs.List.{AllByRecursion}
 use Rattle.book_format.specs.Book.{BookFields}
 use Rattle.account_book.specs.Store.{StoreFacts}
-use Rattle.log_grammar.specs.Lines.{LogLine, bad, log_bytes}
+use Rattle.log_grammar.specs.Lines.{LogLine, bad, log_bytes, longest_line}
 use Rattle.log_grammar.specs.Places.{Place}
 use Rattle.sasl_log.specs.Source.{SourceFacts}
 use Rattle.sasl_log.specs.Sink.{SinkFacts}
+use Rattle.sasl_desk.specs.Bounds.{most_turns}
 use Rattle.sasl_desk.specs.Events.{sends, goes_away}
 use Rattle.sasl_desk.specs.Inputs.{LineRead, ReadsLine, ReadsLines, event_read}
 use Rattle.sasl_desk.specs.Sessions.{IsRecord}
@@ -25,9 +27,9 @@ call_lines [] = []
 call_lines (c ∷ before) = call_lines before ++ c.lines
 
 -- a desk that had answered some calls has answered these, too
-pub record AnswersAll {S : Type 0} (facts : S → StoreFacts) (old : Desk S) (calls : List Call) (new : Desk S) : Type 0 where
-  pub stands : (start : BookFields) (before : List Call) → Stands facts start before old → Stands facts start (calls ++ before) new
-  pub saves : (start : BookFields) (before : List Call) → Stands facts start before old
+pub record AnswersAll {S : Type 0} (facts : S → StoreFacts) (IsStored : List ℕ → Type 0) (old : Desk S) (calls : List Call) (new : Desk S) : Type 0 where
+  pub stands : (start : BookFields) (before : List Call) → Stands facts IsStored start before old → Stands facts IsStored start (calls ++ before) new
+  pub saves : (start : BookFields) (before : List Call) → Stands facts IsStored start before old
       → (facts new.keeper.store).saves ≡ (facts old.keeper.store).saves + length (filter is_saving (call_lines calls))
 
 -- the desk has not halted, but for a store that has failed
@@ -35,36 +37,36 @@ abbrev pub HaltsByStore : {S : Type 0} → (S → StoreFacts) → Desk S → Typ
 HaltsByStore facts desk = phase_of desk.state ≡ phase.Halted → (facts desk.keeper.store).failed ≡ true
 
 -- the desk answered what it was asked, and its lines were written
-pub record IsDone {S : Type 0} (facts : S → StoreFacts) (asked : Asked) (old new : Desk S) (wire wire' log log' : SinkFacts) : Type 0 where
+pub record IsDone {S : Type 0} (facts : S → StoreFacts) (IsStored : List ℕ → Type 0) (asked : Asked) (old new : Desk S) (wire wire' log log' : SinkFacts) : Type 0 where
   pub lines : List LogLine
-  pub answers : AnswersAll facts old (call_of asked lines ∷ []) new
+  pub answers : AnswersAll facts IsStored old (call_of asked lines ∷ []) new
   pub written : AreWritten lines wire wire' log log'
   pub halts : HaltsByStore facts new
 
 -- the desk answered what it was asked, and its lines were logged, but the wire to the client has failed
-pub record IsUnsent {S : Type 0} (facts : S → StoreFacts) (asked : Asked) (old new : Desk S) (wire' log log' : SinkFacts) : Type 0 where
+pub record IsUnsent {S : Type 0} (facts : S → StoreFacts) (IsStored : List ℕ → Type 0) (asked : Asked) (old new : Desk S) (wire' log log' : SinkFacts) : Type 0 where
   pub lines : List LogLine
-  pub answers : AnswersAll facts old (call_of asked lines ∷ []) new
+  pub answers : AnswersAll facts IsStored old (call_of asked lines ∷ []) new
   pub logged : Appends log.given log'.given (log_bytes lines)
   pub failed : wire'.failed ≡ true
   pub halts : HaltsByStore facts new
 
 -- the desk answered what it was asked, but the log has failed: the desk has halted then, and nothing was sent
-pub record IsUnlogged {S : Type 0} (facts : S → StoreFacts) (asked : Asked) (old new : Desk S) (wire wire' log' : SinkFacts) : Type 0 where
+pub record IsUnlogged {S : Type 0} (facts : S → StoreFacts) (IsStored : List ℕ → Type 0) (asked : Asked) (old new : Desk S) (wire wire' log' : SinkFacts) : Type 0 where
   pub lines : List LogLine
-  pub answers : AnswersAll facts old (call_of asked lines ∷ []) new
+  pub answers : AnswersAll facts IsStored old (call_of asked lines ∷ []) new
   pub failed : log'.failed ≡ true
   pub halted : phase_of new.state ≡ phase.Halted
   pub unsent : wire' ≡ wire
 
 -- why what a desk was asked is not done, and what stands then. Where the desk had halted, and where memory ran out, the desk
 -- has answered nothing, and nothing was written.
-abbrev pub IsUndone : {S : Type 0} → (S → StoreFacts) → Asked → (old new : Desk S) → (wire wire' log log' : SinkFacts) → ServeFault → Type 0
-IsUndone facts asked old new wire wire' log log' Halted = IsSame old new × (wire' ≡ wire) × (log' ≡ log)
-IsUndone facts asked old new wire wire' log log' NoMemory = IsSame old new × (wire' ≡ wire) × (log' ≡ log)
-IsUndone facts asked old new wire wire' log log' Unwritable = ⊥
-IsUndone facts asked old new wire wire' log log' WriteFault = IsUnsent facts asked old new wire' log log'
-IsUndone facts asked old new wire wire' log log' LogFault = IsUnlogged facts asked old new wire wire' log'
+abbrev pub IsUndone : {S : Type 0} → (S → StoreFacts) → (IsStored : List ℕ → Type 0) → Asked → (old new : Desk S) → (wire wire' log log' : SinkFacts) → ServeFault → Type 0
+IsUndone facts IsStored asked old new wire wire' log log' Halted = IsSame old new × (wire' ≡ wire) × (log' ≡ log)
+IsUndone facts IsStored asked old new wire wire' log log' NoMemory = IsSame old new × (wire' ≡ wire) × (log' ≡ log)
+IsUndone facts IsStored asked old new wire wire' log log' Unwritable = ⊥
+IsUndone facts IsStored asked old new wire wire' log log' WriteFault = IsUnsent facts IsStored asked old new wire' log log'
+IsUndone facts IsStored asked old new wire wire' log log' LogFault = IsUnlogged facts IsStored asked old new wire wire' log'
 
 -- a desk that serves a client, and what is known of the client's input, of the wire to it, and of the log
 pub record Service (S : Type 0) : Type 0 where
@@ -78,18 +80,18 @@ abbrev pub service_of : {S : Type 0} → Desk S → (input : SourceFacts) → (w
 service_of desk input wire log = record { desk = desk; input = input; wire = wire; log = log }
 
 -- a turn: one line was read, the desk heard it at this moment and answered it, and the lines were written
-pub record IsTurnServed {S : Type 0} (facts : S → StoreFacts) (moment : ℕ) (old new : Service S) : Type 0 where
+pub record IsTurnServed {S : Type 0} (facts : S → StoreFacts) (IsStored : List ℕ → Type 0) (moment : ℕ) (old new : Service S) : Type 0 where
   pub read : LineRead
   pub reads : ReadsLine old.input read new.input
-  pub done : IsDone facts (hears (event_read read) moment) old.desk new.desk old.wire new.wire old.log new.log
+  pub done : IsDone facts IsStored (hears (event_read read) moment) old.desk new.desk old.wire new.wire old.log new.log
 
 -- why a turn is not served. Where the desk had halted, nothing was read; else one line was, and it is lost where memory ran
 -- out.
-abbrev pub IsTurnFault : {S : Type 0} → (S → StoreFacts) → (moment : ℕ) → (old new : Service S) → ServeFault → Type 0
-IsTurnFault facts moment old new Halted = new ≡ old
-IsTurnFault facts moment old new fault =
+abbrev pub IsTurnFault : {S : Type 0} → (S → StoreFacts) → (IsStored : List ℕ → Type 0) → (moment : ℕ) → (old new : Service S) → ServeFault → Type 0
+IsTurnFault facts IsStored moment old new Halted = new ≡ old
+IsTurnFault facts IsStored moment old new fault =
     (read : LineRead) × ReadsLine old.input read new.input
-    × IsUndone facts (hears (event_read read) moment) old.desk new.desk old.wire new.wire old.log new.log fault
+    × IsUndone facts IsStored (hears (event_read read) moment) old.desk new.desk old.wire new.wire old.log new.log fault
 
 -- what was read in a turn, its moment, and the lines by which it was answered
 pub record Exchange : Type 0 where
@@ -111,66 +113,70 @@ abbrev pub session_calls : (own : List ℕ) → (greeting : List LogLine) → Li
 session_calls own greeting [] = call_of (greets own) greeting ∷ []
 session_calls own greeting (e ∷ before) = call_in e ∷ session_calls own greeting before
 
--- a session as far as these turns: its client was greeted, what it sent was read and answered, turn by turn, and all lines
--- were written
-pub record IsServedUpTo {S : Type 0} (facts : S → StoreFacts) (own : List ℕ) (turns : List Exchange) (old new : Service S) : Type 0 where
+-- a session as far as these turns: its client was greeted, what it sent was read and answered, turn by turn, at a moment of the
+-- clock, and all lines were written
+pub record IsServedUpTo {S : Type 0} (facts : S → StoreFacts) (IsStored : List ℕ → Type 0) (IsNow : ℕ → Type 0) (own : List ℕ) (turns : List Exchange) (old new : Service S) : Type 0 where
   pub greeting : List LogLine
   pub reads : ReadsLines old.input (reads_in turns) new.input
-  pub answers : AnswersAll facts old.desk (session_calls own greeting turns) new.desk
+  pub moments : AllByRecursion (λ e. IsNow e.moment) turns
+  pub answers : AnswersAll facts IsStored old.desk (session_calls own greeting turns) new.desk
   pub written : AreWritten (call_lines (session_calls own greeting turns)) old.wire new.wire old.log new.log
   pub halts : HaltsByStore facts new.desk
 
--- a session that its turns, at most 10000, have ended
-pub record IsServedToEnd {S : Type 0} (facts : S → StoreFacts) (own : List ℕ) (old new : Service S) : Type 0 where
+-- a session that its turns, of which there are no more than the most, have ended
+pub record IsServedToEnd {S : Type 0} (facts : S → StoreFacts) (IsStored : List ℕ → Type 0) (IsNow : ℕ → Type 0) (own : List ℕ) (old new : Service S) : Type 0 where
   pub turns : List Exchange
-  pub few : length turns ≤ 10000
-  pub served : IsServedUpTo facts own turns old new
+  pub few : length turns ≤ most_turns
+  pub served : IsServedUpTo facts IsStored IsNow own turns old new
   pub ended : (phase_of new.desk.state ≡ phase.Closed) ⊎ (phase_of new.desk.state ≡ phase.Halted)
 
--- a session whose 10000 turns are used up. Nothing more was read of its client.
-pub record HasUsedAllTurns {S : Type 0} (facts : S → StoreFacts) (own : List ℕ) (old middle new : Service S) : Type 0 where
+-- a session whose turns are used up. Nothing more was read of its client.
+pub record HasUsedAllTurns {S : Type 0} (facts : S → StoreFacts) (IsStored : List ℕ → Type 0) (IsNow : ℕ → Type 0) (own : List ℕ) (old middle new : Service S) : Type 0 where
   pub turns : List Exchange
-  pub all : length turns ≡ 10000
-  pub served : IsServedUpTo facts own turns old middle
+  pub all : length turns ≡ most_turns
+  pub served : IsServedUpTo facts IsStored IsNow own turns old middle
   pub unread : new.input ≡ middle.input
 
 -- a session whose turns are used up, and whose client was then taken for gone
-pub record IsCutOff {S : Type 0} (facts : S → StoreFacts) (own : List ℕ) (old new : Service S) : Type 0 where
+pub record IsCutOff {S : Type 0} (facts : S → StoreFacts) (IsStored : List ℕ → Type 0) (IsNow : ℕ → Type 0) (own : List ℕ) (old new : Service S) : Type 0 where
   pub middle : Service S
-  pub used_up : HasUsedAllTurns facts own old middle new
+  pub used_up : HasUsedAllTurns facts IsStored IsNow own old middle new
   pub moment : ℕ
-  pub done : IsDone facts (hears goes_away moment) middle.desk new.desk middle.wire new.wire middle.log new.log
+  pub is_now : IsNow moment
+  pub done : IsDone facts IsStored (hears goes_away moment) middle.desk new.desk middle.wire new.wire middle.log new.log
 
 -- a session that was served
-abbrev pub IsServed : {S : Type 0} → (S → StoreFacts) → (own : List ℕ) → (old new : Service S) → Type 0
-IsServed facts own old new = IsServedToEnd facts own old new ⊎ IsCutOff facts own old new
+abbrev pub IsServed : {S : Type 0} → (S → StoreFacts) → (IsStored : List ℕ → Type 0) → (IsNow : ℕ → Type 0) → (own : List ℕ) → (old new : Service S) → Type 0
+IsServed facts IsStored IsNow own old new = IsServedToEnd facts IsStored IsNow own old new ⊎ IsCutOff facts IsStored IsNow own old new
 
 -- the client was not greeted, for this reason
-pub record FailsInGreeting {S : Type 0} (facts : S → StoreFacts) (own : List ℕ) (old new : Service S) (fault : ServeFault) : Type 0 where
+pub record FailsInGreeting {S : Type 0} (facts : S → StoreFacts) (IsStored : List ℕ → Type 0) (own : List ℕ) (old new : Service S) (fault : ServeFault) : Type 0 where
   pub unread : new.input ≡ old.input
-  pub undone : IsUndone facts (greets own) old.desk new.desk old.wire new.wire old.log new.log fault
+  pub undone : IsUndone facts IsStored (greets own) old.desk new.desk old.wire new.wire old.log new.log fault
 
 -- a turn was not served, for this reason. All turns before it were.
-pub record FailsInTurn {S : Type 0} (facts : S → StoreFacts) (own : List ℕ) (old new : Service S) (fault : ServeFault) : Type 0 where
+pub record FailsInTurn {S : Type 0} (facts : S → StoreFacts) (IsStored : List ℕ → Type 0) (IsNow : ℕ → Type 0) (own : List ℕ) (old new : Service S) (fault : ServeFault) : Type 0 where
   pub middle : Service S
   pub turns : List Exchange
-  pub few : length turns < 10000
-  pub served : IsServedUpTo facts own turns old middle
+  pub few : length turns < most_turns
+  pub served : IsServedUpTo facts IsStored IsNow own turns old middle
   pub moment : ℕ
-  pub undone : IsTurnFault facts moment middle new fault
+  pub is_now : (fault ≡ Halted → ⊥) → IsNow moment
+  pub undone : IsTurnFault facts IsStored moment middle new fault
 
 -- the turns were used up, and the client could not be taken for gone, for this reason
-pub record FailsAtEnd {S : Type 0} (facts : S → StoreFacts) (own : List ℕ) (old new : Service S) (fault : ServeFault) : Type 0 where
+pub record FailsAtEnd {S : Type 0} (facts : S → StoreFacts) (IsStored : List ℕ → Type 0) (IsNow : ℕ → Type 0) (own : List ℕ) (old new : Service S) (fault : ServeFault) : Type 0 where
   pub middle : Service S
-  pub used_up : HasUsedAllTurns facts own old middle new
+  pub used_up : HasUsedAllTurns facts IsStored IsNow own old middle new
   pub moment : ℕ
-  pub undone : IsUndone facts (hears goes_away moment) middle.desk new.desk middle.wire new.wire middle.log new.log fault
+  pub is_now : IsNow moment
+  pub undone : IsUndone facts IsStored (hears goes_away moment) middle.desk new.desk middle.wire new.wire middle.log new.log fault
 
 -- why a session was not served to its end
-abbrev pub IsServeFault : {S : Type 0} → (S → StoreFacts) → (own : List ℕ) → (old new : Service S) → ServeFault → Type 0
-IsServeFault facts own old new fault =
-    FailsInGreeting facts own old new fault ⊎ FailsInTurn facts own old new fault ⊎ FailsAtEnd facts own old new fault
+abbrev pub IsServeFault : {S : Type 0} → (S → StoreFacts) → (IsStored : List ℕ → Type 0) → (IsNow : ℕ → Type 0) → (own : List ℕ) → (old new : Service S) → ServeFault → Type 0
+IsServeFault facts IsStored IsNow own old new fault =
+    FailsInGreeting facts IsStored own old new fault ⊎ FailsInTurn facts IsStored IsNow own old new fault ⊎ FailsAtEnd facts IsStored IsNow own old new fault
 
--- a text of more than 6200 bytes is recorded as `C BAD`, wherever it is sent
+-- a text with more bytes than a client's line may have is recorded as `C BAD`, wherever it is sent
 abbrev pub LongTextsAreBad : Type 0
-LongTextsAreBad = (text : List ℕ) (at : Place) (kept : LogLine) → 6200 < length text → IsRecord (sends text) at kept → kept ≡ bad
+LongTextsAreBad = (text : List ℕ) (at : Place) (kept : LogLine) → longest_line < length text → IsRecord (sends text) at kept → kept ≡ bad

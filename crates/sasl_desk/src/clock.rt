@@ -1,15 +1,20 @@
 //! Where moments come from.
-ghost use Rattle.std.specs.Prelude.{◌≡◌, ℕ};
+ghost use Rattle.std.specs.Prelude.{◌≡◌, ℕ, ⊤};
 
 use otp_core::Moment;
 
 /// A clock, by which codes are judged.
 ///
-/// Contracts know one fact of it: `last`, the moment that it gave last, in seconds since 1970-01-01 00:00 UTC.
+/// Contracts know one fact of it: `last`, the moment that it gave last, in seconds since 1970-01-01 00:00 UTC. What holds of each
+/// moment that it gives is `IsNow`, which each type of clock defines.
 pub trait Clock {
     ghost last: { Self → ℕ };
 
+    // What holds of each moment that a clock of this type gives.
+    ghost IsNow: { ℕ → Type 0 } = { λ _. ⊤ };
+
     /// The moment now. It may be before one that was given earlier.
     fn now(&mut self) -> Moment
-        ensures { last self.new ≡ result };
+        ensures is_last { last self.new ≡ result }
+        ensures is_now { IsNow result };
 }

@@ -1,9 +1,10 @@
 //! The keeper of a book: it judges codes by the book's tokens, and saves each change before it is told.
 ghost use Rattle.std.specs.Prelude.{◌≡◌, ◌≢◌, IfErr, IfOk, OnErr};
 ghost use Rattle.std.specs.Bool.{OnTrue, OnFalse};
+ghost use Rattle.account_book.specs.Saves.{SavesBook};
 ghost use Rattle.otp_core.specs.Ranges.{IsMoment};
 ghost use Rattle.otp_core.specs.Sent.{texts_of};
-ghost use Rattle.sasl_desk.specs.Keeper.{SavesText, IsNotBegun, IsJudged, IsJudgedInRange, IsToBeSaved};
+ghost use Rattle.sasl_desk.specs.Keeper.{IsNotBegun, IsJudged, IsJudgedInRange, IsToBeSaved};
 
 use crate::fault::DeskFault;
 use account_book::{Book, BookStore};
@@ -32,7 +33,7 @@ impl<S: BookStore> Keeper<S> {
     /// A keeper of this book, whose text the store then holds. Halted where the save fails, and NoMemory, before the
     /// store is asked; the book and the store are handed back.
     pub fn begin(alloc: Global, book: Book, mut store: S) -> Result<Keeper<S>, (Book, S, DeskFault)>
-        ensures ok { IfOk result (λ keeper. (keeper.book ≡ book) × SavesText (S.facts store) book (S.facts keeper.store)) }
+        ensures ok { IfOk result (λ keeper. (keeper.book ≡ book) × SavesBook S.IsStored (S.facts store) book (S.facts keeper.store)) }
         ensures err { IfErr result (λ r. (r.0 ≡ book) × IsNotBegun (S.facts store) book r.2 (S.facts r.1)) }
         ensures unasked { IfErr result (λ r. r.2 ≡ DeskFault.NoMemory → r.1 ≡ store) }
     {
@@ -62,7 +63,7 @@ impl<S: BookStore> Keeper<S> {
     }
 
     /// Judges what the client of this account sent at a moment, as `Token::judge` does. PASS and FAIL
-    /// are answered once the store holds the text of the book with this attempt in it; LOCKED and no token change
+    /// are answered once the store has saved the text of the book with this attempt in it; LOCKED and no token change
     /// nothing, and ask nothing of the store. Where the save fails, the book is as before, and the store holds the text
     /// from before or that of the book with this attempt. After an error, which is that memory ran out for the text that is
     /// to be saved, nothing has changed.
@@ -73,7 +74,7 @@ impl<S: BookStore> Keeper<S> {
         moment: Moment,
         sent: Sent<'_>,
     ) -> Result<Judged, AllocError>
-        ensures ok { IfOk result (λ judged. IsJudged self.old.book (S.facts self.old.store) name.now moment (texts_of sent.entry)
+        ensures ok { IfOk result (λ judged. IsJudged S.IsStored self.old.book (S.facts self.old.store) name.now moment (texts_of sent.entry)
             judged self.new.book (S.facts self.new.store)) }
         ensures counter { IfOk result IsJudgedInRange }
         ensures err { OnErr result ((self.new.book ≡ self.old.book) × (self.new.store ≡ self.old.store)) }

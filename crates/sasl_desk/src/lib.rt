@@ -2,8 +2,8 @@
 //!
 //! `Session` says what one client is told, line by line, and hands its codes on to be judged. `Keeper` holds the book and the
 //! store of its text: it judges codes, and saves each change before it is told. `Desk` is both, with the log. `serve` reads the
-//! lines of one client, hands them to a desk, and writes its answers. `Hall` is a keeper and up to 64 sessions at a time, with one
-//! log for all.
+//! lines of one client, hands them to a desk, and writes its answers. `Hall` is a keeper and up to 64 sessions at a time, with
+//! one log for all.
 #![tactic(auto)]
 
 mod clock;
@@ -26,3 +26,4 @@ pub use keeper::{Judged, Keeper};
 pub use otp_core::{Moment, Reply, Sent};
 pub use serving::{serve, serve_turn};
 pub use session::{Answer, Event, Heard, Recorded, Saying, Session, Turn, Waiting};
+pub use write::{MOST_BYTES, MOST_NUMBERED_BYTES};

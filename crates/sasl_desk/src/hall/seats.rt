@@ -1,5 +1,6 @@
 //! The places of a hall for the sessions that are open.
 ghost use Rattle.std.specs.Prelude.{◌≡◌, ◌<◌, ◌≤◌, ◌+◌, [], ◌∷◌, ◌++◌, List, length, vec_capacity, vec_len, IfOk, IfSome, IfNone, None, Some};
+ghost use Rattle.log_grammar.specs.Versions.{most_open};
 ghost use Rattle.sasl_desk.specs.declared.hall.guest.Guest.{Guest};
 
 use crate::hall::guest::Guest;
@@ -20,7 +21,7 @@ impl Model for Seats {
 
     ghost view = { λ s. s.guests.items };
 
-    ghost invariant = { λ s. (64 ≤ vec_capacity s.guests) × (vec_len s.guests ≤ 64) };
+    ghost invariant = { λ s. (most_open ≤ vec_capacity s.guests) × (vec_len s.guests ≤ most_open) };
 }
 
 impl Seats {
@@ -42,7 +43,7 @@ impl Seats {
     /// How many places are taken.
     pub(crate) fn taken(&self) -> usize
         ensures value { result ≡ length self.now }
-        ensures few { result ≤ 64 }
+        ensures few { result ≤ most_open }
     {
         self.guests.len()
     }
@@ -67,7 +68,7 @@ impl Seats {
 
     /// Lets the guest of this number leave its place, or answers None where there is none.
     pub(crate) fn leave(&mut self, number: u64) -> Option<Guest>
-        ensures some { IfSome result (λ guest. IsPermutation self.old (guest ∷ self.new) × (guest.number ≡ number) × (length self.new < 64)) }
+        ensures some { IfSome result (λ guest. IsPermutation self.old (guest ∷ self.new) × (guest.number ≡ number) × (length self.new < most_open)) }
         ensures none { IfNone result ((find (is_of number) self.old ≡ None) × (self.new ≡ self.old)) }
     {
         match self.place_of(number) {
@@ -78,7 +79,7 @@ impl Seats {
 
     /// Gives a session a place, of which one is free.
     pub(crate) fn seat(&mut self, number: u64, session: Session, own: NoncePart)
-        requires { length self.old < 64 }
+        requires { length self.old < most_open }
         ensures { self.new ≡ self.old ++ guest_of number session own ∷ [] }
     {
         let guest = Guest {

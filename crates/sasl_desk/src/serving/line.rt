@@ -7,8 +7,11 @@ use crate::session::Event;
 use arrayvec::ArrayVec;
 use sasl_log::{Got, Source};
 
+/// How many bytes are read for a line: one more than a line may have.
+const MOST_READ: usize = 6201;
+
 /// The bytes of a line, with room for one more than a line may have.
-pub(crate) type Text = ArrayVec<u8, 6201>;
+pub(crate) type Text = ArrayVec<u8, MOST_READ>;
 
 /// How the bytes of a line end.
 #[derive(Clone, Copy)]
@@ -29,7 +32,7 @@ pub(crate) fn read_text<R: Source>(reader: &mut R, text: &mut Text) -> LineEnd
     ensures { ReadsLine (R.facts reader.old) (line_read text.new.items result) (R.facts reader.new) }
 {
     text.clear();
-    for _ in 0..6201usize {
+    for _ in 0..MOST_READ {
         match reader.next() {
             Got::Byte(b'\n') => return LineEnd::ByLf,
             Got::Byte(byte) => {

@@ -12,7 +12,7 @@ returns-in-Ok-clause-ok g c =
     let before = ap (λ (f : SinkFacts). f.given) c.new.ensures in
     let after = c.into_output.ensures ∙ ap (λ (l : PrintedLog _). g.O.Write.contents l.output) c.into_log.ensures in
     on_ok_weaker c.hear_lines-heard.result
-    (prints_log g.S.BookStore.facts _ _ _ _ _ _ _ _ _ _ c.log_is_a_front.ensures before after c.in-Ok.ensures.log)
+    (prints_log g.S.BookStore.facts g.S.BookStore.IsStored _ _ _ _ _ _ _ _ _ _ c.log_is_a_front.ensures c.log_is_saved.ensures before after c.in-Ok.ensures.log)
     (rw c.new-lines.ensures.input at c.hear_lines-heard.ensures.ok)
 
 pub returns-in-Ok-clause-err : goal.returns-in-Ok-clause-err
@@ -20,7 +20,7 @@ returns-in-Ok-clause-err g c =
     let before = ap (λ (f : SinkFacts). f.given) c.new.ensures in
     let after = c.into_output.ensures ∙ ap (λ (l : PrintedLog _). g.O.Write.contents l.output) c.into_log.ensures in
     IfErr-weaker c.hear_lines-heard.result _ _
-    (λ fault. stops_after g.S.BookStore.facts _ _ _ _ _ _ _ _ _ fault c.log_is_a_front.ensures before after c.in-Ok.ensures.log)
+    (λ fault. stops_after g.S.BookStore.facts g.S.BookStore.IsStored _ _ _ _ _ _ _ _ _ fault c.log_is_a_front.ensures c.log_is_saved.ensures before after c.in-Ok.ensures.log)
     (rw c.new-lines.ensures.input at c.hear_lines-heard.ensures.err)
 
 pub returns-in-Err-clause-err : goal.returns-in-Err-clause-err

@@ -11,7 +11,7 @@ returns-in-Ok-clause-err g c =
     let before = ap (λ (f : SinkFacts). f.given) c.new.ensures in
     let after = c.into_output.ensures ∙ ap (λ (l : PrintedLog _). g.O.Write.contents l.output) c.into_log.ensures in
     IfErr-weaker c.converse-passed.result _ _
-    (λ fault. stops_after g.S.BookStore.facts _ _ _ _ _ _ _ _ fault c.log_is_a_front.ensures before after c.in-Ok.ensures.log)
+    (λ fault. stops_after g.S.BookStore.facts g.S.BookStore.IsStored _ _ _ _ _ _ _ _ fault c.log_is_a_front.ensures c.log_is_saved.ensures before after c.in-Ok.ensures.log)
     c.converse-passed.ensures.after_fault
 
 pub returns-in-Err-clause-err : goal.returns-in-Err-clause-err

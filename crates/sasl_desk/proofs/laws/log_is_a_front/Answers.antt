@@ -2,4 +2,4 @@ use Rattle.sasl_desk.proofs.RestartLemmas.{log_is_front}
 use Rattle.sasl_desk.proofs.laws.log_is_a_front.Goals as goal
 
 pub returns : goal.returns
-returns g c = log_is_front g.S.BookStore.facts
+returns g c = log_is_front g.S.BookStore.facts g.S.BookStore.IsStored

@@ -5,4 +5,4 @@ pub returns : goal.returns
 returns g c =
     spent_over_changes c.begins_with_itself.ensures c.spent_stays_spent.ensures c.has_one_reading.ensures c.has_one_numbered_reading.ensures
     c.tokens_are_apart.ensures
-    c.candidates_are_new.ensures c.added_is_apart.ensures g.S.BookStore.facts
+    c.candidates_are_new.ensures c.added_is_apart.ensures g.S.BookStore.facts g.S.BookStore.IsStored

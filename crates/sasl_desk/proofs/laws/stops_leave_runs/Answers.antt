@@ -2,4 +2,4 @@ use Rattle.sasl_desk.proofs.RestartLemmas.{stopped_run}
 use Rattle.sasl_desk.proofs.laws.stops_leave_runs.Goals as goal
 
 pub returns : goal.returns
-returns g c = stopped_run g.S.BookStore.facts
+returns g c = stopped_run g.S.BookStore.facts g.S.BookStore.IsStored

@@ -2,4 +2,4 @@ use Rattle.sasl_desk.proofs.RestartLemmas.{left_book}
 use Rattle.sasl_desk.proofs.laws.store_holds_a_book.Goals as goal
 
 pub returns : goal.returns
-returns g c = left_book g.S.BookStore.facts
+returns g c = left_book g.S.BookStore.facts g.S.BookStore.IsStored

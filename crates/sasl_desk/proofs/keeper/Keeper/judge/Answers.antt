@@ -1,11 +1,11 @@
 use Rattle.std.proofs.Common.{refl, sym, ◌∙◌}
 use Rattle.std.specs.declared.option.Option.TheVariants.{Some}
-use Rattle.sasl_desk.proofs.KeeperLemmas.{reply_in_range, told_by, told_none, told_locked, needs_save, kept_by, put_back}
+use Rattle.sasl_desk.proofs.KeeperLemmas.{reply_in_range, told_by, told_none, told_locked, saved_unless_locked, kept_by, put_back}
 use Rattle.sasl_desk.proofs.keeper.Keeper.judge.Goals as goal
 
 pub returns-then-is_locked-clause-ok : goal.returns-then-is_locked-clause-ok
 returns-then-is_locked-clause-ok g c =
-    told_locked _ c.args.name.now c.in-Some.token c.judge-reply.new.self c.args.moment _ c.judge-reply.result c.moment_is_in_range.ensures (sym c.token.ensures ∙ c.in-Some.is)
+    told_locked g.S.BookStore.IsStored _ c.args.name.now c.in-Some.token c.judge-reply.new.self c.args.moment _ c.judge-reply.result c.moment_is_in_range.ensures (sym c.token.ensures ∙ c.in-Some.is)
     (record { due = c.judge-reply.ensures.due; after = c.judge-reply.ensures.after; state = c.judge-reply.ensures.state })
     c.if-is_locked.ensures.locked _
 
@@ -23,7 +23,7 @@ pub returns-in-Err-clause-memory : goal.returns-in-Err-clause-memory
 returns-in-Err-clause-memory g c = (
   Some c.judge-reply.result,
   c.put_token.new.self,
-  needs_save c.judge-reply.result c.if-is_locked.ensures.open,
+  saved_unless_locked c.judge-reply.result c.if-is_locked.ensures.open,
   told_by _ _ c.args.name.now c.in-Some.token c.judge-reply.new.self c.args.moment _ c.judge-reply.result c.moment_is_in_range.ensures (sym c.token.ensures ∙ c.in-Some.is)
       (record { due = c.judge-reply.ensures.due; after = c.judge-reply.ensures.after; state = c.judge-reply.ensures.state })
       c.put_token.ensures.put,
@@ -34,7 +34,7 @@ returns-in-Ok-saved-clause-ok g c = (
   told_by _ _ c.args.name.now c.in-Some.token c.judge-reply.new.self c.args.moment _ c.judge-reply.result c.moment_is_in_range.ensures (sym c.token.ensures ∙ c.in-Some.is)
       (record { due = c.judge-reply.ensures.due; after = c.judge-reply.ensures.after; state = c.judge-reply.ensures.state })
       c.put_token.ensures.put,
-  kept_by _ _ _ _ c.judge-reply.result c.if-is_locked.ensures.open (record { text = _; is_text = c.in-Ok.ensures.stands; saved = c.in-Ok-saved.ensures.saves }),
+  kept_by g.S.BookStore.IsStored _ _ _ _ c.judge-reply.result c.if-is_locked.ensures.open (record { text = _; is_text = c.in-Ok.ensures.stands; saved = c.in-Ok-saved.ensures.saves; stored = c.in-Ok-saved.ensures.stored }),
 )
 
 pub returns-in-Ok-saved-clause-counter : goal.returns-in-Ok-saved-clause-counter
@@ -47,7 +47,7 @@ returns-in-Err-saved-clause-ok g c = (
   (
     Some c.judge-reply.result,
     c.put_token.new.self,
-    needs_save c.judge-reply.result c.if-is_locked.ensures.open,
+    saved_unless_locked c.judge-reply.result c.if-is_locked.ensures.open,
     told_by _ _ c.args.name.now c.in-Some.token c.judge-reply.new.self c.args.moment _ c.judge-reply.result c.moment_is_in_range.ensures (sym c.token.ensures ∙ c.in-Some.is)
         (record { due = c.judge-reply.ensures.due; after = c.judge-reply.ensures.after; state = c.judge-reply.ensures.state })
         c.put_token.ensures.put,

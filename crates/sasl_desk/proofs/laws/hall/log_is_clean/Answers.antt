@@ -2,10 +2,10 @@ use Rattle.sasl_desk.proofs.HallLaws.{closed_is_clean, failed_is_clean, halted_i
 use Rattle.sasl_desk.proofs.laws.hall.log_is_clean.Goals as goal
 
 pub returns-clause-closed : goal.returns-clause-closed
-returns-clause-closed g c = closed_is_clean g.S.BookStore.facts
+returns-clause-closed g c = closed_is_clean g.S.BookStore.facts g.S.BookStore.IsStored
 
 pub returns-clause-failed : goal.returns-clause-failed
-returns-clause-failed g c = failed_is_clean g.S.BookStore.facts
+returns-clause-failed g c = failed_is_clean g.S.BookStore.facts g.S.BookStore.IsStored
 
 pub returns-clause-halted : goal.returns-clause-halted
-returns-clause-halted g c = halted_is_clean g.S.BookStore.facts
+returns-clause-halted g c = halted_is_clean g.S.BookStore.facts g.S.BookStore.IsStored

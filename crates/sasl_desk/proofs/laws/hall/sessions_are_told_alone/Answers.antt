@@ -11,4 +11,4 @@ returns g c =
       verdicts = c.at_most_one_verdict_is_due.ensures;
       lines = c.is_one_line.ensures;
     })
-    g.S.BookStore.facts
+    g.S.BookStore.facts g.S.BookStore.IsStored

@@ -2,4 +2,4 @@ use Rattle.sasl_desk.proofs.HallLaws.{session_records}
 use Rattle.sasl_desk.proofs.laws.hall.sessions_have_their_records.Goals as goal
 
 pub returns : goal.returns
-returns g c = session_records g.S.BookStore.facts
+returns g c = session_records g.S.BookStore.facts g.S.BookStore.IsStored

@@ -2,4 +2,4 @@ use Rattle.sasl_desk.proofs.HallLaws.{stopped_hall}
 use Rattle.sasl_desk.proofs.laws.hall.stops_leave_runs.Goals as goal
 
 pub returns : goal.returns
-returns g c = stopped_hall g.S.BookStore.facts
+returns g c = stopped_hall g.S.BookStore.facts g.S.BookStore.IsStored

@@ -2,4 +2,4 @@ use Rattle.sasl_desk.proofs.HallLaws.{left_by_hall}
 use Rattle.sasl_desk.proofs.laws.hall.store_holds_a_book.Goals as goal
 
 pub returns : goal.returns
-returns g c = left_by_hall g.S.BookStore.facts
+returns g c = left_by_hall g.S.BookStore.facts g.S.BookStore.IsStored
