@@ -1,6 +1,7 @@
 -- The lines of an input, one after another.
 use Rattle.std.proofs.Common.{◌≡◌, inl, inr, ℕ, ◌≤◌, Bool, true, false, List, [], ◌∷◌, ◌++◌, length, Option, None, Some, IfSome, refl, sym, ◌∙◌, ap, ap₂, subst, arith, append_assoc, append-nil}
 use Rattle.std.specs.Io.KnownBytes.{IsAtEnd}
+use Rattle.std.specs.Str.{byte}
 use Rattle.log_grammar.specs.Bytes.{LacksLf, ended_by_lf, IsCut}
 use Rattle.log_grammar.proofs.CutLemmas.{cut_somehow, cut_one_way}
 use Rattle.account_commands.specs.Input.{line_bytes, TakesLine, IsFirstLine, last_line, AreLinesOf}
@@ -23,13 +24,13 @@ no_lines lines a =
     a.are ∙ ap₂ (λ (texts : List (List ℕ)) (rest : List ℕ). texts ++ last_line rest) one.0 one.1
 
 -- a line that an LF ends comes first
-with_lf : (bytes line left : List ℕ) → LacksLf line → bytes ≡ (line ++ 10 ∷ []) ++ left → (lines : List (List ℕ)) → AreLinesOf left lines
+with_lf : (bytes line left : List ℕ) → LacksLf line → bytes ≡ (line ++ byte "\n" ∷ []) ++ left → (lines : List (List ℕ)) → AreLinesOf left lines
     → AreLinesOf bytes (line ∷ lines)
 with_lf bytes line left lacks are lines a = record {
   texts = line ∷ a.texts;
   rest = a.rest;
   cut = record {
-    bytes_are = are ∙ (ap (λ (b : List ℕ). (line ++ 10 ∷ []) ++ b) a.cut.bytes_are ∙ sym (append_assoc (line ++ 10 ∷ []) (ended_by_lf a.texts) a.rest));
+    bytes_are = are ∙ (ap (λ (b : List ℕ). (line ++ byte "\n" ∷ []) ++ b) a.cut.bytes_are ∙ sym (append_assoc (line ++ byte "\n" ∷ []) (ended_by_lf a.texts) a.rest));
     lines = (lacks, a.cut.lines);
     after = a.cut.after;
   };
@@ -59,7 +60,7 @@ with_first (Some bytes) line false (Some left) takes some lines are =
 pub first_taken : (old : Option (List ℕ)) (line : List ℕ) (has_lf : Bool) (new : Option (List ℕ)) → TakesLine old line has_lf new → IsFirstLine old line
 first_taken None line has_lf new takes = (takes.lacks, tt)
 first_taken (Some bytes) line has_lf None takes = absurd takes.taken
-first_taken (Some bytes) line true (Some left) takes = (takes.lacks, inr (left, takes.taken ∙ append_assoc line (10 ∷ []) left))
+first_taken (Some bytes) line true (Some left) takes = (takes.lacks, inr (left, takes.taken ∙ append_assoc line (byte "\n" ∷ []) left))
 first_taken (Some bytes) line false (Some left) takes =
     (takes.lacks, inl (takes.taken ∙ (ap (λ (b : List ℕ). line ++ b) (takes.ended refl) ∙ append-nil line)))
 

@@ -5,12 +5,11 @@ use Rattle.std.specs.Io.KnownBytes.{Appends, Consumes}
 use Rattle.std.specs.Str.{byte}
 use Rattle.scram_text.specs.Class.{IsPassword}
 use Rattle.book_format.specs.Book.{BookFields}
-use Rattle.book_format.specs.Trees.{IsBookText}
 use Rattle.account_book.specs.Store.{StoreFacts}
-use Rattle.book_file.specs.Text.{IsRead, IsWritten}
+use Rattle.book_file.specs.Text.{IsWritten}
 use Rattle.clap.specs.declared.parser.matches.ArgMatches.{ArgMatches}
 use Rattle.command_line.specs.declared.value.OptionName.TheVariants as option
-use Rattle.account_commands.specs.HeldBook.{IsBookSaved, IsEnrolled}
+use Rattle.account_commands.specs.HeldBook.{IsBookSaved, IsEnrolled, IsReadBook}
 use Rattle.account_commands.specs.Input.{IsFirstLine}
 use Rattle.command_words.specs.Values.{given_value}
 
@@ -18,13 +17,12 @@ use Rattle.command_words.specs.Values.{given_value}
 abbrev pub new_book : (decoy_key : List ℕ) → BookFields
 new_book decoy_key = record { decoy_key = decoy_key; decoy_count = 4096; accounts = [] }
 
--- a book whose text was read from a file, of which this is what it has
-abbrev pub IsFromFile : {File : Type 0} → (bytes_of : File → Option (List ℕ)) → BookFields → Type 0
-IsFromFile bytes_of book = (text : List ℕ) × IsBookText text book × IsRead bytes_of text
-
--- a book that was read from a file, or a new one with this key
-abbrev pub IsReadOrNew : {File : Type 0} → (bytes_of : File → Option (List ℕ)) → (decoy_key : List ℕ) → BookFields → Type 0
-IsReadOrNew bytes_of decoy_key book = IsFromFile bytes_of book ⊎ (book ≡ new_book decoy_key)
+-- a book that was read from a file, for which a source of random bytes loses none; or a new one, whose key of 32 bytes the source
+-- loses
+abbrev pub IsReadOrNew : {File : Type 0} → (bytes_of : File → Option (List ℕ)) → (old new : Option (List ℕ)) → BookFields → Type 0
+IsReadOrNew bytes_of old new book =
+    ((text : List ℕ) × IsReadBook bytes_of text book × (new ≡ old))
+    ⊎ ((decoy_key : List ℕ) × (length decoy_key ≡ 32) × Consumes old new decoy_key × (book ≡ new_book decoy_key))
 
 -- a source of random bytes loses two salts of 16 bytes, one after the other: no byte is in both
 pub record TakesSalts (old : Option (List ℕ)) (salt1 salt256 : List ℕ) (new : Option (List ℕ)) : Type 0 where
@@ -37,7 +35,7 @@ pub record TakesSalts (old : Option (List ℕ)) (salt1 salt256 : List ℕ) (new 
 pub record SavesAccount {File : Type 0} (bytes_of written_to : File → Option (List ℕ)) (book : BookFields) (name password salt1 salt256 : List ℕ)
     (count : ℕ) : Type 0 where
   pub first : BookFields
-  pub is_first : (first ≡ book) ⊎ IsFromFile bytes_of first
+  pub is_first : (first ≡ book) ⊎ ((text : List ℕ) × IsReadBook bytes_of text first)
   pub last : BookFields
   pub is_enrolled : IsEnrolled name password salt1 salt256 count first last
   pub old : StoreFacts
@@ -45,8 +43,7 @@ pub record SavesAccount {File : Type 0} (bytes_of written_to : File → Option (
   pub is_saved : IsBookSaved (IsWritten written_to) old last new
 
 -- the account that the words and the first line of the input describe is added to a book that was read, or to a new one, whose
--- text is then written to a file; its salts, and before them the key of a new book, are the random bytes of a file of which this is what it has;
--- and the name is printed
+-- text is then written to a file. A file gives the random bytes: the key of a new book, and then the salts. And the name is printed.
 pub record EnrolsAsked {File : Type 0} (bytes_of written_to : File → Option (List ℕ)) (words : ArgMatches) (input old new : Option (List ℕ)) : Type 0 where
   pub password : List ℕ
   pub is_first : IsFirstLine input password
@@ -56,12 +53,10 @@ pub record EnrolsAsked {File : Type 0} (bytes_of written_to : File → Option (L
   pub file : File
   pub there : Option (List ℕ)
   pub after : File
-  pub decoy_key : List ℕ
-  pub takes_key : Consumes (bytes_of file) there decoy_key
+  pub book : BookFields
+  pub is_book : IsReadOrNew bytes_of (bytes_of file) there book
   pub salt1 : List ℕ
   pub salt256 : List ℕ
   pub takes_salts : TakesSalts there salt1 salt256 (bytes_of after)
-  pub book : BookFields
-  pub is_book : IsReadOrNew bytes_of decoy_key book
   pub is_saved : SavesAccount bytes_of written_to book (given_value words option.Name) password salt1 salt256 count
   pub printed : Appends old new (codes "enrolled " ++ (given_value words option.Name ++ byte "\n" ∷ []))

@@ -3,15 +3,14 @@ use Rattle.std.specs.Prelude.{ℕ, ◌≡◌, ◌≢◌, ◌≤◌, ◌<◌, ◌
 use Rattle.std.specs.Str.{byte}
 use Rattle.std.specs.Io.KnownBytes.{Appends}
 use Rattle.otp_core.specs.Attempt.{CodeTexts}
-use Rattle.otp_core.specs.Settings.{unlocked}
 use Rattle.otp_core.specs.declared.token.answer.Reply.{Reply}
 use Rattle.otp_core.specs.declared.token.answer.Reply.TheVariants.{Locked}
 use Rattle.book_format.specs.Book.{BookFields}
 use Rattle.book_format.specs.Trees.{IsBookText}
-use Rattle.account_book.specs.Accounts.{account_at, IsAdded, IsChanged}
+use Rattle.account_book.specs.Accounts.{account_at, IsAdded}
 use Rattle.account_book.specs.Enrolled.{enrolled}
 use Rattle.account_book.specs.Store.{StoreFacts, IsSaved, IsLost}
-use Rattle.account_book.specs.Tokens.{IsAttempt, token_at, with_token}
+use Rattle.account_book.specs.Tokens.{IsAttempt, IsUnlocked, token_at}
 use Rattle.book_file.specs.Text.{IsRead, IsWritten}
 use Rattle.book_file.specs.declared.file.TheConstants.{MOST_BOOK}
 use Rattle.clap.specs.declared.parser.matches.ArgMatches.{ArgMatches}
@@ -49,9 +48,8 @@ abbrev pub CannotBeSaved : (text : List ℕ) → StoreFacts → Type 0
 CannotBeSaved text store = (MOST_BOOK < length text) ⊎ (store.failed ≡ true)
 
 -- the account with this name has a token, whose failures are 0 after the change; nothing else is changed
-abbrev pub IsUnlocked : (name : List ℕ) → BookFields → BookFields → Type 0
-IsUnlocked name old new =
-    (is_some (token_at old name) ≡ true) × IfSome (token_at old name) (λ token. IsChanged old name (with_token (unlocked token)) new)
+abbrev pub IsTokenUnlocked : (name : List ℕ) → BookFields → BookFields → Type 0
+IsTokenUnlocked name old new = (is_some (token_at old name) ≡ true) × IsUnlocked old name new
 
 -- an account with the keys of a password, under a name that had none, is added
 abbrev pub IsEnrolled : (name password salt1 salt256 : List ℕ) → (count : ℕ) → BookFields → BookFields → Type 0
@@ -76,19 +74,19 @@ IsReplyUnsaved old name moment said new =
 
 -- the token of this name is unlocked, and the book is saved
 pub record IsUnlockSaved (IsStored : List ℕ → Type 0) (name : List ℕ) (old new : Held) : Type 0 where
-  pub unlocked : IsUnlocked name old.book new.book
+  pub unlocked : IsTokenUnlocked name old.book new.book
   pub saved : IsBookSaved IsStored old.store new.book new.store
 
--- a book whose text was read from a file, of which this is what it has
-pub record IsReadBook {File : Type 0} (bytes_of : File → Option (List ℕ)) (held : Held) : Type 0 where
-  pub is_text : IsBookText held.store.saved held.book
-  pub is_read : IsRead bytes_of held.store.saved
+-- the book of a text that was read from a file, of which this is what it has
+pub record IsReadBook {File : Type 0} (bytes_of : File → Option (List ℕ)) (text : List ℕ) (book : BookFields) : Type 0 where
+  pub is_text : IsBookText text book
+  pub is_read : IsRead bytes_of text
 
 -- a book is read from a file, the token of the name that the words give is unlocked, and the text of the book as it is then is
 -- written to a file; and the name is printed
 pub record UnlocksAsked {File : Type 0} (bytes_of written_to : File → Option (List ℕ)) (words : ArgMatches) (old new : Option (List ℕ)) : Type 0 where
   pub first : Held
   pub last : Held
-  pub is_first : IsReadBook bytes_of first
+  pub is_first : IsReadBook bytes_of first.store.saved first.book
   pub is_saved : IsUnlockSaved (IsWritten written_to) (given_value words option.Name) first last
   pub printed : Appends old new (codes "unlocked " ++ (given_value words option.Name ++ byte "\n" ∷ []))

@@ -1,17 +1,16 @@
 //! The command `enrol`: adds an account with a password to a book.
-ghost use Rattle.std.specs.Prelude.{◌≡◌, ◌≤◌, ◌++◌, ◌∷◌, [], ℕ, List, codes, IfOk, IfErr, IfSome, OnOk, string_bytes};
+ghost use Rattle.std.specs.Prelude.{◌≡◌, IfOk, IfErr, IfSome, OnOk, string_bytes};
 ghost use Rattle.std.specs.Fmt.{decimal};
-ghost use Rattle.std.specs.Io.KnownBytes.{Appends, Consumes};
-ghost use Rattle.std.specs.Str.{byte};
 ghost use Rattle.scram_text.specs.Class.{IsPassword};
-ghost use Rattle.book_format.specs.Trees.{IsBookText};
-ghost use Rattle.book_file.specs.Text.{IsRead};
 ghost use Rattle.account_commands.specs.Enrol.{EnrolsAsked, IsReadOrNew, SavesAccount, TakesSalts};
+ghost use Rattle.account_commands.specs.HeldBook.{IsReadBook};
 ghost use Rattle.account_commands.specs.Input.{IsFirstLine};
 ghost use Rattle.command_words.specs.Values.{given_value};
 ghost use Rattle.account_commands.specs.Printed.{PrintsNothing};
 
+use crate::done::print_done;
 use crate::held_book::{HeldBook, Seen};
+use crate::new_account::{NewAccount, Salts};
 use crate::progress::Watched;
 use crate::prompt::{PASSWORD, Typed, ask};
 use crate::random::Random;
@@ -22,7 +21,7 @@ use clap::ArgMatches;
 use command_line::value::OptionName;
 use command_line::{Fault, value};
 use command_words::given;
-use scram_text::{Password, PlainName, Salt};
+use scram_text::{Password, Salt};
 use std::alloc::Global;
 use std::fs::Files;
 use std::io::{Read, Write};
@@ -30,16 +29,6 @@ use std::time::Clock;
 
 /// The iteration count of a new book's decoys; it is the default of `--count` too.
 const DECOY_COUNT: u32 = 4096;
-
-// The account that the words and the input describe.
-#[derive(Drop)]
-struct NewAccount {
-    name: PlainName,
-    password: Password,
-    count: u32,
-
-    ghost at_least: { 1 ≤ count },
-}
 
 /// Judges the options in their order, reads the password, the book and the random bytes, and adds the account. A book
 /// is made where the file is not there. The keys are made while others may use the book; where it has changed by
@@ -68,7 +57,7 @@ where
     let (book, text) = seen_or_new(rt.alloc(), seen, &mut random)?;
     let salts = two_salts(&mut random)?;
     save(rt, path, book, text, &asked, &salts, faults)?;
-    print_enrolled(asked.name.text(), output)
+    print_done("enrolled", asked.name.text(), output)
 }
 
 // The book that was seen and its text; or, where there was no file, a new book, whose key is the next random bytes.
@@ -77,10 +66,8 @@ fn seen_or_new<F: Read + Drop>(
     seen: Option<Seen>,
     random: &mut Random<'_, F>,
 ) -> Result<(Book, Option<String>), Fault>
-    requires text { IfSome seen (λ seen. IsBookText (string_bytes seen.text) seen.book) }
-    requires read { IfSome seen (λ seen. IsRead F.remaining (string_bytes seen.text)) }
-    ensures { IfOk result (λ found. (key : List ℕ) × Consumes (F.remaining random.old.file) (F.remaining random.new.file) key
-        × IsReadOrNew F.remaining key found.0) }
+    requires { IfSome seen (λ seen. IsReadBook F.remaining (string_bytes seen.text) seen.book) }
+    ensures { IfOk result (λ found. IsReadOrNew F.remaining (F.remaining random.old.file) (F.remaining random.new.file) found.0) }
 {
     match seen {
         Some(seen) => Ok((seen.book, Some(seen.text))),
@@ -92,21 +79,12 @@ fn seen_or_new<F: Read + Drop>(
 }
 
 // Two salts of random bytes, for SCRAM-SHA-1 and for SCRAM-SHA-256.
-fn two_salts<F: Read + Drop>(random: &mut Random<'_, F>) -> Result<(Salt, Salt), Fault>
-    ensures { IfOk result (λ salts. TakesSalts (F.remaining random.old.file) salts.0 salts.1 (F.remaining random.new.file)) }
+fn two_salts<F: Read + Drop>(random: &mut Random<'_, F>) -> Result<Salts, Fault>
+    ensures { IfOk result (λ salts. TakesSalts (F.remaining random.old.file) salts.sha1 salts.sha256 (F.remaining random.new.file)) }
 {
-    let first = salt(random.bytes()?);
-    let second = salt(random.bytes()?);
-    Ok((first, second))
-}
-
-// Prints that the account of this name is added. The only fault is CannotWriteOutput.
-fn print_enrolled<O: Write>(name: &str, output: &mut O) -> Result<(), Fault>
-    ensures printed { OnOk result (Appends (O.contents output.old) (O.contents output.new)
-        (codes "enrolled " ++ (name.now ++ byte "\n" ∷ []))) }
-    ensures err { IfErr result (λ fault. fault ≡ Fault.CannotWriteOutput) }
-{
-    writeln!(output, "enrolled {name}").map_err(|_| Fault::CannotWriteOutput)
+    let sha1 = salt(random.bytes()?);
+    let sha256 = salt(random.bytes()?);
+    Ok(Salts { sha1, sha256 })
 }
 
 // Judges the options that describe the account, and reads the password.
@@ -142,27 +120,18 @@ fn save<R, E>(
     book: Book,
     text: Option<String>,
     asked: &NewAccount,
-    salts: &(Salt, Salt),
+    salts: &Salts,
     faults: &mut E,
 ) -> Result<(), Fault>
 where
     R: Files + Clock + AllocGlobal,
     R::File: Lockable,
     E: Write,
-    ensures { OnOk result (SavesAccount R.File.remaining R.File.contents book asked.now.name asked.now.password salts.now.0 salts.now.1 asked.now.count) }
+    ensures { OnOk result (SavesAccount R.File.remaining R.File.contents book asked.now.name asked.now.password salts.now.sha1 salts.now.sha256 asked.now.count) }
 {
-    let (name, password, count) = (&asked.name, &asked.password, asked.count);
     let alloc = rt.alloc();
     let mut with_account = book;
-    held_book::add(
-        alloc,
-        &mut with_account,
-        name,
-        password,
-        &salts.0,
-        &salts.1,
-        count,
-    )?;
+    held_book::add(alloc, &mut with_account, asked, salts)?;
     let held = match text {
         Some(_) => BookFile::hold(rt, path),
         None => BookFile::hold_or_make(rt, path),
@@ -170,8 +139,8 @@ where
     let (file, found) = held_book::text_held(rt, path, held, faults)?;
     match found {
         Some(found) if text.as_ref() != Some(&found) => {
-            let mut held = held_book::read_text(alloc, file, found, path)?;
-            held.enrol(alloc, name, password, &salts.0, &salts.1, count)
+            let mut held = held_book::read_held(alloc, file, found, path)?;
+            held.enrol(alloc, asked, salts)
         }
         _ => {
             let store = FileStore::new(file, text.unwrap_or(String::new(alloc)));

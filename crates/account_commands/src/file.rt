@@ -6,7 +6,7 @@ use command_line::Fault;
 use std::fs;
 use std::fs::Files;
 
-/// Opens the file at `path`. Faults: CannotRead and NoMemory.
+/// Opens the file at `path` to be read. Faults: CannotRead where it can't be opened, and NoMemory.
 pub fn open_file<R: Files + AllocGlobal>(rt: &R, path: &str) -> Result<R::File, Fault>
     ensures { IfErr result (λ fault. status_of fault ≡ 3) }
 {

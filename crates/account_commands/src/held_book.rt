@@ -8,13 +8,14 @@ ghost use Rattle.account_book.specs.Tokens.{token_at};
 ghost use Rattle.book_file.specs.Text.{IsRead};
 ghost use Rattle.otp_core.specs.Sent.{texts_of};
 ghost use Rattle.command_line.specs.Fault.{IsTokenFault, IsUnwritten, of_book};
-ghost use Rattle.account_commands.specs.HeldBook.{held_shown, CannotBeSaved, IsBookSaved, IsBookUnsaved, IsChangeUnsaved, IsEnrolled, IsAttemptAnswered, IsReadBook, IsReplyUnsaved, IsUnlocked, IsUnlockSaved};
+ghost use Rattle.account_commands.specs.HeldBook.{held_shown, CannotBeSaved, IsBookSaved, IsBookUnsaved, IsChangeUnsaved, IsEnrolled, IsAttemptAnswered, IsReadBook, IsReplyUnsaved, IsTokenUnlocked, IsUnlockSaved};
 
+use crate::new_account::{NewAccount, Salts};
 use account_book::{Book, BookStore, BookWhy, EnrolFault, Reply};
 use book_file::{BookFile, FileStore, HoldFault, Lockable, MOST_BOOK};
 use command_line::{Fault, Shown};
 use otp_core::{Moment, Sent};
-use scram_text::{Password, PlainName, Salt};
+use scram_text::PlainName;
 use std::alloc::{AllocError, Global};
 use std::fs::Files;
 use std::io::Write;
@@ -48,8 +49,7 @@ where
     R: Files + Clock + AllocGlobal,
     R::File: Lockable,
     E: Write,
-    ensures text { IfOk result (λ found. IfSome found (λ seen. IsBookText (string_bytes seen.text) seen.book)) }
-    ensures read { IfOk result (λ found. IfSome found (λ seen. IsRead R.File.remaining (string_bytes seen.text))) }
+    ensures { IfOk result (λ found. IfSome found (λ seen. IsReadBook R.File.remaining (string_bytes seen.text) seen.book)) }
 {
     let mut file = match BookFile::hold(rt, path) {
         Ok(file) => file,
@@ -74,12 +74,12 @@ where
     R: Files + Clock + AllocGlobal,
     R::File: Lockable,
     E: Write,
-    ensures read { IfOk result (λ held. IsReadBook R.File.remaining (held_shown ⟦<FileStore<'r, R> as BookStore>⟧.facts held)) }
+    ensures read { IfOk result (λ held. IsReadBook R.File.remaining (⟦<FileStore<'r, R> as BookStore>⟧.facts held.store).saved held.book) }
     ensures path { IfOk result (λ held. held.path.now ≡ path.now) }
 {
     let (file, text) = text_held(rt, path, BookFile::hold(rt, path), faults)?;
     match text {
-        Some(text) => read_text(rt.alloc(), file, text, path),
+        Some(text) => read_held(rt.alloc(), file, text, path),
         None => Err(Fault::CannotRead(String::from_str(rt.alloc(), path)?)),
     }
 }
@@ -161,7 +161,7 @@ where
 }
 
 /// Reads the book of `file`, whose text this is. Faults: BadBook where the text is no book, and NoMemory.
-pub fn read_text<'a, 'r, R>(
+pub fn read_held<'a, 'r, R>(
     alloc: Global,
     file: BookFile<'r, R>,
     text: String,
@@ -182,22 +182,15 @@ where
 }
 
 /// Adds an account with the keys of a password to a book. Faults: NameTaken and NoMemory; the book is then unchanged.
-pub fn add(
-    alloc: Global,
-    book: &mut Book,
-    name: &PlainName,
-    password: &Password,
-    salt1: &Salt,
-    salt256: &Salt,
-    count: u32,
-) -> Result<(), Fault>
-    requires { 1 ≤ count }
-    ensures added { OnOk result (IsEnrolled name.now password.now salt1.now salt256.now count book.old book.new) }
+pub fn add(alloc: Global, book: &mut Book, account: &NewAccount, salts: &Salts) -> Result<(), Fault>
+    ensures added { OnOk result (IsEnrolled account.now.name account.now.password salts.now.sha1 salts.now.sha256 account.now.count
+        book.old book.new) }
     ensures unchanged { OnErr result (book.new ≡ book.old) }
-    ensures err { IfErr result (λ fault. MatchOption (account_at book.old name.now)
+    ensures err { IfErr result (λ fault. MatchOption (account_at book.old account.now.name)
         (fault ≡ Fault.NoMemory) (λ account. fault ≡ Fault.NameTaken)) }
 {
-    match book.enrol(alloc, name, password, salt1, salt256, count) {
+    let (name, password, count) = (&account.name, &account.password, account.count);
+    match book.enrol(alloc, name, password, &salts.sha1, &salts.sha256, count) {
         Ok(()) => Ok(()),
         Err(EnrolFault::NameTaken) => Err(Fault::NameTaken),
         Err(EnrolFault::NoMemory) => Err(Fault::NoMemory),
@@ -225,25 +218,18 @@ impl<'a, S: BookStore> HeldBook<'a, S> {
 
     /// Adds an account with the keys of a password for both mechanisms, and saves the book. Faults: NameTaken,
     /// CannotWrite and NoMemory; after the first the store was not asked.
-    pub fn enrol(
-        &mut self,
-        alloc: Global,
-        name: &PlainName,
-        password: &Password,
-        salt1: &Salt,
-        salt256: &Salt,
-        count: u32,
-    ) -> Result<(), Fault>
-        requires { 1 ≤ count }
-        ensures added { OnOk result (IsEnrolled name.now password.now salt1.now salt256.now count self.old.book self.new.book) }
-        ensures err { IfErr result (λ fault. MatchOption (account_at self.old.book name.now)
+    pub fn enrol(&mut self, alloc: Global, account: &NewAccount, salts: &Salts) -> Result<(), Fault>
+        ensures added { OnOk result (IsEnrolled account.now.name account.now.password salts.now.sha1 salts.now.sha256 account.now.count
+            self.old.book self.new.book) }
+        ensures err { IfErr result (λ fault. MatchOption (account_at self.old.book account.now.name)
             (IsUnwritten self.old.path.now fault) (λ account. fault ≡ Fault.NameTaken)) }
         ensures unasked { IfErr result (λ fault. fault ≡ Fault.NoMemory → self.new.store ≡ self.old.store) }
         ensures unsaved { OnErr result (IsChangeUnsaved (held_shown S.facts self.old)
-            (IsEnrolled name.now password.now salt1.now salt256.now count) (held_shown S.facts self.new)) }
+            (IsEnrolled account.now.name account.now.password salts.now.sha1 salts.now.sha256 account.now.count)
+            (held_shown S.facts self.new)) }
         ensures saved { OnOk result (IsBookSaved S.IsStored (S.facts self.old.store) self.new.book (S.facts self.new.store)) }
     {
-        match add(alloc, &mut self.book, name, password, salt1, salt256, count) {
+        match add(alloc, &mut self.book, account, salts) {
             Ok(()) => self.save(alloc),
             Err(fault) => Err(fault),
         }
@@ -297,7 +283,7 @@ impl<'a, S: BookStore> HeldBook<'a, S> {
         ensures done { OnOk result (IsUnlockSaved S.IsStored name.now (held_shown S.facts self.old) (held_shown S.facts self.new)) }
         ensures err { IfErr result (IsTokenFault self.old.path.now (account_at self.old.book name.now)) }
         ensures unasked { IfErr result (λ fault. fault ≡ Fault.NoMemory → self.new.store ≡ self.old.store) }
-        ensures unsaved { OnErr result (IsChangeUnsaved (held_shown S.facts self.old) (IsUnlocked name.now)
+        ensures unsaved { OnErr result (IsChangeUnsaved (held_shown S.facts self.old) (IsTokenUnlocked name.now)
             (held_shown S.facts self.new)) }
     {
         self.check_token(name)?;

@@ -3,12 +3,14 @@
 #![tactic(auto)]
 
 pub mod code;
+mod done;
 pub mod enrol;
 pub mod file;
 pub mod held_book;
 pub mod input;
 pub mod keys;
 pub mod moving_factor;
+pub mod new_account;
 pub mod progress;
 pub mod prompt;
 pub mod random;

@@ -30,7 +30,9 @@ pub struct Progress<'a, R, E> {
 
 impl<'a, R: Clock, E: Watched> Progress<'a, R, E> {
     /// Begins to count. Nothing is ever shown where `faults` is no terminal, or the clock can't be read.
-    pub fn begin(clock: &'a R, faults: &'a mut E) -> Progress<'a, R, E> {
+    pub fn begin(clock: &'a R, faults: &'a mut E) -> Progress<'a, R, E>
+        ensures { (result.lines ≡ 0) × (result.bytes ≡ 0) }
+    {
         let begun = if faults.is_watched() {
             Instant::now(clock).ok()
         } else {

@@ -1,10 +1,9 @@
 //! The command `unlock`: lets a token take codes again.
-ghost use Rattle.std.specs.Prelude.{◌≡◌, ◌++◌, ◌∷◌, [], codes, OnOk, IfErr};
-ghost use Rattle.std.specs.Str.{byte};
-ghost use Rattle.std.specs.Io.KnownBytes.{Appends};
+ghost use Rattle.std.specs.Prelude.{OnOk, IfErr};
 ghost use Rattle.account_commands.specs.HeldBook.{UnlocksAsked};
 ghost use Rattle.account_commands.specs.Printed.{PrintsNothing};
 
+use crate::done::print_done;
 use crate::held_book;
 use book_file::Lockable;
 use clap::ArgMatches;
@@ -36,14 +35,5 @@ where
     let name = value::name(given(words, OptionName::Name))?;
     let mut held = held_book::open(rt, given(words, OptionName::Book), faults)?;
     held.unlock(rt.alloc(), &name)?;
-    print_unlocked(name.text(), output)
-}
-
-// Prints that the token of this name is unlocked. The only fault is CannotWriteOutput.
-fn print_unlocked<O: Write>(name: &str, output: &mut O) -> Result<(), Fault>
-    ensures printed { OnOk result (Appends (O.contents output.old) (O.contents output.new)
-        (codes "unlocked " ++ (name.now ++ byte "\n" ∷ []))) }
-    ensures err { IfErr result (λ fault. fault ≡ Fault.CannotWriteOutput) }
-{
-    writeln!(output, "unlocked {name}").map_err(|_| Fault::CannotWriteOutput)
+    print_done("unlocked", name.text(), output)
 }

@@ -9,3 +9,4 @@ pub mod NonceLemmas
 pub mod OneEvent
 pub mod Printed
 pub mod Spellings
+pub mod Told

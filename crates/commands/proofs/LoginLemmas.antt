@@ -22,8 +22,10 @@ use Rattle.sasl_desk.proofs.RunLemmas.{log_bytes-append}
 use Rattle.command_line.specs.Fault.{IsUnwritten}
 use Rattle.command_line.specs.declared.fault.Fault.{Fault}
 use Rattle.command_line.specs.declared.fault.Fault.TheVariants.{NoMemory as OutOfMemory}
-use Rattle.commands.specs.Login.{HasSavedLog, IsDeskLog, StaysItsLog, IsLogAfterFault, IsFaultOf, IsFaultInTurn}
+use Rattle.commands.specs.Login.{HasSavedLog, IsDeskLog, StaysItsLog, IsLogAfterFault, IsFaultOf, IsFaultInTurn, TalkPasses, PrintsPasses}
 use Rattle.commands.specs.PrintedLog.{StopsAfter}
+use Rattle.commands.specs.Talked.{Talked}
+use Rattle.commands.specs.declared.login.client_end.User.{User}
 
 -- the log took the lines of one more call
 one_more : {S : Type 0} (facts : S → StoreFacts) (IsStored : List ℕ → Type 0) (old new : Desk S) (asked : Asked) (lines : List LogLine) (log log' : SinkFacts)
@@ -115,6 +117,20 @@ stops_after facts IsStored book given before after old new log log' fault front 
       kept book desk.calls new desk.stands,
     ))
 
+-- what a talk logged is printed, after the lines with which the log began
+pub passes_printed : (user : User) (nonce password : List ℕ) (input left : Option (List ℕ)) (first last : Talked) (begun : List LogLine)
+    (before given after : Option (List ℕ)) → TalkPasses user nonce password input left first last → given ≡ before
+    → Appends given first.logged (log_bytes begun) → after ≡ last.logged → PrintsPasses user nonce password input before after
+passes_printed user nonce password input left first last begun before given after passes was begins is = record {
+  begun = begun;
+  first = first;
+  last = last;
+  left = left;
+  begins = subst (λ (known : Option (List ℕ)). Appends known first.logged (log_bytes begun)) was begins;
+  passes = passes;
+  printed = sym is;
+}
+
 -- being out of memory is a fault of any file
 unwritten : (path : List ℕ) (fault : Fault) → fault ≡ OutOfMemory → IsUnwritten path fault
 unwritten path fault is = subst (λ (f : Fault). IsUnwritten path f) (sym is) refl
@@ -125,5 +141,5 @@ pub turn_fault : {S : Type 0} (facts : S → StoreFacts) (IsStored : List ℕ �
 turn_fault facts IsStored moment old new path Halted result served is = inr (inl is)
 turn_fault facts IsStored moment old new path Unwritable result served is = inr (inl is)
 turn_fault facts IsStored moment old new path NoMemory result served is = inr (inl (unwritten path result is))
-turn_fault facts IsStored moment old new path WriteFault result served is = inl is
+turn_fault facts IsStored moment old new path WriteFault result served is = inr (inl (unwritten path result is))
 turn_fault facts IsStored moment old new path LogFault result (read, reads, undone) is = inr (inr (is, undone.failed))

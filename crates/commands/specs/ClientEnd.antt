@@ -1,7 +1,6 @@
 -- What the client of the command `login` says, and when it is logged in (RFC 5802, sections 3 and 5).
 use Rattle.std.specs.Prelude.{ℕ, ◌≡◌, List, [], ◌∷◌, ◌++◌}
 use Rattle.std.specs.Str.{byte}
-use Rattle.std.specs.Io.KnownBytes.{Consumes}
 use Rattle.std.specs.declared.option.Option.{Option}
 use Rattle.std.specs.declared.option.Option.TheVariants.{None, Some}
 use Rattle.mac_core.specs.Mechanism.{name_of, IsOffered}
@@ -14,6 +13,7 @@ use Rattle.scram_ends.specs.Honest.{IsHonest, honest_signature}
 use Rattle.scram_ends.specs.Login.{IsAuthentic}
 use Rattle.scram_ends.specs.declared.client.Limits.{Limits}
 use Rattle.log_grammar.specs.Lines.{IsLine, ClientLine, auth_with, resp, client_text, from_server, mechs, cont, accepts}
+use Rattle.commands.specs.Talked.{Talked, IsTold}
 use Rattle.commands.specs.declared.login.client_end.ClientEnd.{ClientEnd}
 use Rattle.commands.specs.declared.login.client_end.User.{User}
 use Rattle.commands.specs.declared.login.client_end.Next.{Next}
@@ -95,15 +95,15 @@ pub record IsOfUser (user : User) (nonce password : List ℕ) (login : Answered)
   pub is_nonce : login.nonce ≡ nonce
   pub is_password : login.password ≡ password
 
--- the service has shown that it has the account's keys: of what a source gave, the last line accepts a login of this user, and
--- bears the signature that only these keys make over the login's messages (RFC 5802, section 3)
-pub record IsLoggedIn (user : User) (nonce password : List ℕ) (old new : Option (List ℕ)) : Type 0 where
+-- the service has shown that it has the account's keys: of what the client is told, which the log has, the last line accepts a
+-- login of this user, and bears the signature that only these keys make over the login's messages (RFC 5802, section 3)
+pub record IsLoggedIn (user : User) (nonce password : List ℕ) (old new : Talked) : Type 0 where
   pub login : Answered
   pub is_of : IsOfUser user nonce password login
   pub honest : IsHonest login
   pub before : List ℕ
   pub line : List ℕ
   pub message : List ℕ
-  pub given : Consumes old new (before ++ (line ++ byte "\n" ∷ []))
+  pub told : IsTold old new (before ++ (line ++ byte "\n" ∷ []))
   pub is_acceptance : IsLine line (from_server (accepts message))
   pub authentic : IsAuthentic message (honest_signature login honest)

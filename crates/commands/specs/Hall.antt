@@ -21,7 +21,7 @@ use Rattle.sasl_desk.specs.Halls.{HallFields, hall_shown, hall_lines, hall_bytes
 use Rattle.sasl_desk.specs.Runs.{greets, hears, Call}
 use Rattle.sasl_desk.specs.Saved.{AreLinesSaved}
 use Rattle.sasl_desk.specs.declared.hall.Hall.{Hall}
-use Rattle.account_commands.specs.HeldBook.{Held, IsReadBook}
+use Rattle.account_commands.specs.HeldBook.{IsReadBook}
 use Rattle.account_commands.specs.Input.{AreLinesOf}
 use Rattle.commands.specs.PrintedLog.{IsLogFault}
 
@@ -140,6 +140,7 @@ pub record PrintsHallLog (IsStored : List ℕ → Type 0) (book : BookFields) (i
 
 -- so it was, with a book that was read from a file, and saved in being written to one
 pub record RunsHall {File : Type 0} (bytes_of written_to : File → Option (List ℕ)) (input : Option (List ℕ)) (last : List (List ℕ)) (old new : Option (List ℕ)) : Type 0 where
-  pub held : Held
-  pub is_read : IsReadBook bytes_of held
-  pub printed : PrintsHallLog (IsWritten written_to) held.book input last old new
+  pub text : List ℕ
+  pub book : BookFields
+  pub is_read : IsReadBook bytes_of text book
+  pub printed : PrintsHallLog (IsWritten written_to) book input last old new

@@ -5,4 +5,5 @@ pub mod Login
 pub mod Nonces
 pub mod PrintedLog
 pub mod Sent
+pub mod Talked
 pub mod Verify

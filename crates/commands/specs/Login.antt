@@ -10,13 +10,15 @@ use Rattle.otp_core.specs.declared.token.answer.Reply.TheVariants.{Pass}
 use Rattle.book_format.specs.Book.{BookFields}
 use Rattle.account_book.specs.Store.{StoreFacts}
 use Rattle.book_file.specs.Text.{IsWritten}
+use Rattle.clap.specs.declared.parser.matches.ArgMatches.{ArgMatches}
 use Rattle.command_line.specs.Fault.{IsUnwritten}
+use Rattle.command_line.specs.declared.value.OptionName.TheVariants as option
 use Rattle.command_line.specs.declared.fault.Fault.{Fault}
 use Rattle.command_line.specs.declared.fault.Fault.TheVariants.{Socket, CannotWriteOutput, NoMemory}
 use Rattle.log_grammar.specs.Books.{accounts_in}
 use Rattle.log_grammar.specs.Bytes.{LacksLf}
 use Rattle.log_grammar.specs.Demands.{Accounts}
-use Rattle.log_grammar.specs.Lines.{IsLine, from_server, replies, log_bytes}
+use Rattle.log_grammar.specs.Lines.{LogLine, IsLine, from_server, replies, log_bytes}
 use Rattle.sasl_log.specs.Sink.{SinkFacts}
 use Rattle.sasl_log.specs.Source.{SourceFacts}
 use Rattle.sasl_desk.specs.Desks.{Stands}
@@ -26,12 +28,13 @@ use Rattle.sasl_desk.specs.declared.desk.Desk.{Desk}
 use Rattle.sasl_desk.specs.declared.fault.ServeFault.{ServeFault}
 use Rattle.sasl_desk.specs.declared.fault.ServeFault.TheVariants as serve
 use Rattle.commands.specs.ClientEnd.{IsLoggedIn}
-use Rattle.account_commands.specs.HeldBook.{Held, IsReadBook}
-use Rattle.account_commands.specs.Input.{AreLinesOf, LinesInTurn}
+use Rattle.account_commands.specs.HeldBook.{IsReadBook}
+use Rattle.account_commands.specs.Input.{TakesLine, AreLinesOf, LinesInTurn}
+use Rattle.command_words.specs.Values.{given_value}
 use Rattle.commands.specs.PrintedLog.{IsLogFault, IsUnsavedOrUnlogged}
 use Rattle.commands.specs.Sent.{Says}
+use Rattle.commands.specs.Talked.{Talked, IsTold, LogSays}
 use Rattle.commands.specs.declared.login.client_end.User.{User}
-use Rattle.commands.specs.declared.login.socket.Wire.{Wire}
 
 -- a desk that began with this book has answered some calls, and the log took their lines after what it had before
 pub record IsDeskLog {S : Type 0} (facts : S → StoreFacts) (IsStored : List ℕ → Type 0) (start : BookFields) (before : Option (List ℕ)) (desk : Desk S) (log : SinkFacts) : Type 0 where
@@ -55,13 +58,13 @@ pub record GivesNoLine (most : ℕ) (old new : SourceFacts) : Type 0 where
   pub lacks : LacksLf begun
   pub why : (new.failed ≡ true) ⊎ (IsAtEnd new.left ⊎ (most ≤ length begun))
 
--- why a client is not served, as the command says it: the book, whose file has this path, can't be saved, the socket or the log
--- has failed, or memory ran out
+-- why a client is not served, as the command says it: the book, whose file has this path, can't be saved, the log has failed, or
+-- memory ran out, also for what is to be sent
 abbrev pub IsFaultOf : (path : List ℕ) → ServeFault → Fault → Type 0
 IsFaultOf path serve.Halted fault = IsUnwritten path fault
 IsFaultOf path serve.Unwritable fault = IsUnwritten path fault
 IsFaultOf path serve.NoMemory fault = fault ≡ NoMemory
-IsFaultOf path serve.WriteFault fault = fault ≡ Socket
+IsFaultOf path serve.WriteFault fault = fault ≡ NoMemory
 IsFaultOf path serve.LogFault fault = fault ≡ CannotWriteOutput
 
 -- a turn's fault is one of these, and it is the log only where that has failed
@@ -74,27 +77,19 @@ abbrev pub sent_for : List ℕ → CodeTexts → List ℕ
 sent_for line (TwoTexts first second) = take 6201 line ++ byte "\n" ∷ []
 sent_for line (OneText text) = codes "CODE " ++ (take 6201 line ++ byte "\n" ∷ [])
 
--- what a client has said to the service, and what it is still to be told, where these are known
-pub record Talked : Type 0 where
-  pub said : Option (List ℕ)
-  pub untold : Option (List ℕ)
-
--- such a client, by its end of the connection
-abbrev pub talked_by : {R W : Type 0} → (R → SourceFacts) → (W → SinkFacts) → Wire R W → Talked
-talked_by source sink wire = record { said = (sink wire.writer).given; untold = (source wire.reader).left }
-
 -- the service says that a code has passed
 abbrev pub IsPassLine : List ℕ → Type 0
 IsPassLine line = (moment counter : ℕ) × IsLine line (from_server (replies moment (Some (Pass counter))))
 
--- the client sends what an input line says, one code or two in a row, and is told one line; and whether that is PASS
+-- the client sends what an input line says, one code or two in a row, and is told one line, which the log has; and whether that is
+-- PASS
 pub record SendsLine (line : List ℕ) (old : Talked) (passed : Bool) (new : Talked) : Type 0 where
   pub texts : CodeTexts
   pub says : Says line texts
   pub sent : Appends old.said new.said (sent_for line texts)
   pub reply : List ℕ
   pub is_line : LacksLf reply
-  pub told : Consumes old.untold new.untold (reply ++ byte "\n" ∷ [])
+  pub told : IsTold old new (reply ++ byte "\n" ∷ [])
   pub is_pass : IsTrue passed ↔ IsPassLine reply
 
 -- the client sends the lines of its input in turn, but for those that are left; and whether each passed
@@ -106,7 +101,7 @@ pub record SendsLines (input left : Option (List ℕ)) (old : Talked) (all_passe
 -- the client is logged in, and then each line of its input that it sends passes
 pub record IsInAndPasses (user : User) (nonce password : List ℕ) (input left : Option (List ℕ)) (old new : Talked) : Type 0 where
   pub there : Talked
-  pub is_in : IsLoggedIn user nonce password old.untold there.untold
+  pub is_in : IsLoggedIn user nonce password old there
   pub passes : SendsLines input left there true new
 
 -- after the bytes from before stands a log of this kind, as a clean one, by the accounts of a book; and the book after what it
@@ -115,9 +110,38 @@ abbrev pub HasSavedLog : (IsStored : List ℕ → Type 0) → (IsOfKind : Accoun
 HasSavedLog IsStored IsOfKind book before after =
     (log : List ℕ) × IsOfKind (accounts_in book) log × Appends before after log × IsLogSaved IsStored book log
 
+-- so it is, and then the service says nothing more
+pub record TalkPasses (user : User) (nonce password : List ℕ) (input left : Option (List ℕ)) (old new : Talked) : Type 0 where
+  pub last : Talked
+  pub passes : IsInAndPasses user nonce password input left old last
+  pub ends : LogSays last.logged new.logged []
+
+-- a log is printed that begins with some lines, and goes on with a talk in which this user is let in, by this nonce and this
+-- password, and in which each line of the input that is sent passes
+pub record PrintsPasses (user : User) (nonce password : List ℕ) (input old new : Option (List ℕ)) : Type 0 where
+  pub begun : List LogLine
+  pub first : Talked
+  pub last : Talked
+  pub left : Option (List ℕ)
+  pub begins : Appends old first.logged (log_bytes begun)
+  pub passes : TalkPasses user nonce password input left first last
+  pub printed : last.logged ≡ new
+
+-- such a log is printed, of the user whom the words name, by the password that is the first line of the input
+pub record PrintsPassesAsked (words : ArgMatches) (input old new : Option (List ℕ)) : Type 0 where
+  pub user : User
+  pub is_name : user.name ≡ given_value words option.Name
+  pub nonce : List ℕ
+  pub password : List ℕ
+  pub has_lf : Bool
+  pub rest : Option (List ℕ)
+  pub is_first : TakesLine input password has_lf rest
+  pub passes : PrintsPasses user nonce password rest old new
+
 -- a log of this kind, as a clean one, is printed, by a book that was read from a file; and the text of the book after what it tells
 -- was written to a file
 pub record PrintsLogin {File : Type 0} (bytes_of written_to : File → Option (List ℕ)) (IsOfKind : Accounts → List ℕ → Type 0) (old new : Option (List ℕ)) : Type 0 where
-  pub held : Held
-  pub is_read : IsReadBook bytes_of held
-  pub printed : HasSavedLog (IsWritten written_to) IsOfKind held.book old new
+  pub text : List ℕ
+  pub book : BookFields
+  pub is_read : IsReadBook bytes_of text book
+  pub printed : HasSavedLog (IsWritten written_to) IsOfKind book old new

@@ -71,7 +71,7 @@ AnswersFirstLines IsStored name moment input old new =
 pub record BeginsToVerify {File : Type 0} (bytes_of : File → Option (List ℕ)) (words : ArgMatches) (printed : Option (List ℕ)) (moment : ℕ)
     (run : VerifyRun) : Type 0 where
   pub is_moment : given_value words option.Moment ≡ decimal moment
-  pub is_book : IsReadBook bytes_of run.held
+  pub is_book : IsReadBook bytes_of run.held.store.saved run.held.book
   pub is_printed : run.printed ≡ printed
 
 -- a run begins, and each line of the input is answered by the token of the name that the words give; what a reply changes was

@@ -1,18 +1,22 @@
 //! The command `login`: logs a user in to a service over a book, and prints the service's log.
-ghost use Rattle.std.specs.Prelude.{◌≡◌, true, ℕ, List, Option, Ok, IfOk, IfErr, OnOk};
+ghost use Rattle.std.specs.Prelude.{◌≡◌, true, ℕ, Bool, List, [], Option, Ok, IfOk, IfErr, OnOk};
 ghost use Rattle.book_format.specs.Book.{BookFields};
 ghost use Rattle.log_grammar.specs.Versions.{IsClean, IsFront};
 ghost use Rattle.sasl_desk.specs.Desks.{phase_of};
 ghost use Rattle.sasl_desk.specs.declared.desk.state.Phase.TheVariants as Phase;
 ghost use Rattle.commands.specs.declared.login.client_end.Stage.{Stage};
-ghost use Rattle.account_commands.specs.HeldBook.{held_shown, IsReadBook};
-ghost use Rattle.commands.specs.Login.{IsDeskLog, StaysItsLog, IsLogAfterFault, talked_by, IsInAndPasses, HasSavedLog, PrintsLogin};
+ghost use Rattle.account_commands.specs.HeldBook.{IsReadBook};
+ghost use Rattle.account_commands.specs.Input.{TakesLine};
+ghost use Rattle.command_words.specs.Values.{given_value};
+ghost use Rattle.commands.specs.Login.{IsDeskLog, StaysItsLog, IsLogAfterFault, TalkPasses, PrintsPasses, PrintsPassesAsked, HasSavedLog, PrintsLogin};
+ghost use Rattle.commands.specs.Talked.{LogSays, talked_in};
 ghost use Rattle.commands.specs.PrintedLog.{StopsAfter};
 
 mod client_end;
 mod code_line;
 mod moments;
 mod nonces;
+mod said;
 mod socket;
 mod talk;
 
@@ -42,8 +46,8 @@ use std::net::Net;
 use std::time::Clock;
 use talk::Talk;
 
-/// The most bytes of a line that are read, with its LF; a line of the protocol has at most 6200.
-const MOST_LINE: usize = 6201;
+/// The most bytes of a line of the protocol with its LF; more are not read.
+const MOST_WITH_LF: usize = 6201;
 
 // What the words say of a login.
 #[derive(Drop)]
@@ -87,6 +91,9 @@ where
     O: Write + Drop,
     E: Watched,
     ensures ok { OnOk result.0 (PrintsLogin R.File.remaining R.File.contents IsClean (O.contents output) (O.contents result.1)) }
+    // It answers true only where the log has a login of the user whom the words name, by the password that is the input's first line,
+    // and then nothing but passes, one for each line that is sent.
+    ensures passes { result.0 ≡ Ok true → PrintsPassesAsked words.now (I.remaining input.old) (O.contents output) (O.contents result.1) }
     ensures err { IfErr result.0 (λ fault. StopsAfter fault (O.contents output) (O.contents result.1)
         (PrintsLogin R.File.remaining R.File.contents IsFront (O.contents output) (O.contents result.1))) }
 {
@@ -113,7 +120,10 @@ where
     R::File: Lockable,
     I: Typed,
     E: Watched,
-    ensures { IfOk result (λ login. IsReadBook R.File.remaining (held_shown ⟦<FileStore<'a, R> as BookStore>⟧.facts login.held)) }
+    ensures user { IfOk result (λ login. login.client.user.name ≡ given_value words.now OptionName.Name) }
+    ensures password { IfOk result (λ login. (has_lf : Bool)
+        × TakesLine (I.remaining input.old) login.client.password has_lf (I.remaining login.lines.input.now)) }
+    ensures book { IfOk result (λ login. IsReadBook R.File.remaining (⟦<FileStore<'a, R> as BookStore>⟧.facts login.held.store).saved login.held.book) }
 {
     let options = judge(words)?;
     ask(input, faults, LOGIN);
@@ -146,6 +156,8 @@ where
     C: sasl_desk::Clock + Drop,
     O: Write + Drop,
     ensures ok { OnOk result.0 (HasSavedLog S.IsStored IsClean login.entry.held.book (O.contents output) (O.contents result.1)) }
+    ensures passes { result.0 ≡ Ok true → PrintsPasses login.entry.client.user login.entry.client.nonce login.entry.client.password
+        (I.remaining login.entry.lines.input.now) (O.contents output) (O.contents result.1) }
     ensures err { IfErr result.0 (λ fault. StopsAfter fault (O.contents output) (O.contents result.1)
         (HasSavedLog S.IsStored IsFront login.entry.held.book (O.contents output) (O.contents result.1))) }
 {
@@ -186,9 +198,9 @@ where
     I: BufRead,
     requires closed { phase_of talk.old.desk.state ≡ Phase.Closed }
     requires silent { client.stage ≡ Stage.Silent }
-    ensures passes { result ≡ Ok true → IsInAndPasses client.user client.nonce client.password
+    ensures passes { result ≡ Ok true → TalkPasses client.user client.nonce client.password
         (I.remaining lines.old.input.now) (I.remaining lines.new.input.now)
-        (talked_by R.facts W.facts talk.old.wires.of_client) (talked_by R.facts W.facts talk.new.wires.of_client) }
+        (talked_in R.facts W.facts L.facts talk.old) (talked_in R.facts W.facts L.facts talk.new) }
     ensures log { OnOk result (StaysItsLog S.facts S.IsStored talk.old.desk (L.facts talk.old.log) talk.new.desk (L.facts talk.new.log)) }
     ensures closed { OnOk result (phase_of talk.new.desk.state ≡ Phase.Closed) }
     ensures clean { OnOk result ((start : BookFields) (before : Option (List ℕ)) → IsDeskLog S.facts S.IsStored start before talk.old.desk (L.facts talk.old.log)
@@ -197,13 +209,13 @@ where
 {
     log_is_clean::<S>();
     log_is_saved::<S>();
-    talk.greet(alloc, own)?;
-    let passed = talk.log_in_and_send(alloc, client, lines)?;
+    let passed = talk.log_in_and_send(alloc, own, client, lines)?;
     hang_up(alloc, talk, ends)?;
     Ok(passed)
 }
 
-// Lets the client go away, where its session is still open. Faults: those of a turn.
+// Lets the client go away, where its session is still open; the desk says nothing to that. Faults: those of a turn.
+#[tactic(auto, using(crate::proofs::Told::says_none))]
 fn hang_up<S, R, W, L, C>(
     alloc: Global,
     talk: &mut Talk<'_, S, R, W, L, C>,
@@ -216,6 +228,7 @@ where
     L: Sink + Drop,
     C: sasl_desk::Clock + Drop,
     ensures client { talk.new.wires.of_client ≡ talk.old.wires.of_client }
+    ensures silent { OnOk result (LogSays (L.facts talk.old.log).given (L.facts talk.new.log).given []) }
     ensures log { OnOk result (StaysItsLog S.facts S.IsStored talk.old.desk (L.facts talk.old.log) talk.new.desk (L.facts talk.new.log)) }
     ensures closed { OnOk result (phase_of talk.new.desk.state ≡ Phase.Closed) }
     ensures after_fault { IfErr result (IsLogAfterFault S.facts S.IsStored talk.old.desk (L.facts talk.old.log) talk.new.desk (L.facts talk.new.log)) }
@@ -224,15 +237,17 @@ where
         return Ok(());
     }
     ends.hang_up()?;
-    talk.turn(alloc)?;
-    if talk.is_open() {
+    let said = talk.turn(alloc)?;
+    if talk.is_open() || !said.is_empty() {
         return Err(Fault::Socket);
     }
     Ok(())
 }
 
 // Judges the options that are not taken as they are, in their order.
-fn judge(words: &ArgMatches<'_>) -> Result<LoginOptions, Fault> {
+fn judge(words: &ArgMatches<'_>) -> Result<LoginOptions, Fault>
+    ensures { IfOk result (λ options. options.who.name ≡ given_value words.now OptionName.Name) }
+{
     let name = value::name(given(words, OptionName::Name))?;
     let mechanism = match optional(words, OptionName::Mechanism) {
         Some(text) => Some(value::mechanism(text)?),
@@ -268,7 +283,10 @@ fn optional_nonce(words: &ArgMatches<'_>, option: OptionName) -> Result<Option<N
 }
 
 // Reads the first line, which is the password. BadPassword also where there is no line.
-fn read_password<I: BufRead>(alloc: Global, lines: &mut Lines<'_, I>) -> Result<Password, Fault> {
+fn read_password<I: BufRead>(alloc: Global, lines: &mut Lines<'_, I>) -> Result<Password, Fault>
+    ensures { IfOk result (λ password. (has_lf : Bool)
+        × TakesLine (I.remaining lines.old.input.now) password has_lf (I.remaining lines.new.input.now)) }
+{
     let Some(line) = lines.next(alloc)? else {
         return Err(Fault::BadPassword);
     };

@@ -72,7 +72,7 @@ fn answer_lines<S: BookStore, I: BufRead, O: Write>(
     let mut all_passed = true;
     while let Some(line) = lines.next(alloc)? {
         let reply = answer_line(alloc, held, name, moment, line.as_slice(), output)?;
-        all_passed = and_passed(all_passed, reply);
+        all_passed = and_reply_passed(all_passed, reply);
     }
     Ok(all_passed)
 }
@@ -97,7 +97,7 @@ fn answer_line<S: BookStore, O: Write>(
 }
 
 // Whether each reply so far is a pass, and this one too.
-fn and_passed(so_far: bool, reply: Reply) -> bool
+fn and_reply_passed(so_far: bool, reply: Reply) -> bool
     ensures { result ≡ (so_far && is_passed reply) }
 {
     so_far && matches!(reply, Reply::Pass(_))

@@ -5,7 +5,7 @@ ghost use Rattle.otp_core.specs.Attempt.{CodeTexts};
 ghost use Rattle.commands.specs.Login.{sent_for};
 ghost use Rattle.commands.specs.Sent.{Says};
 
-use crate::login::MOST_LINE;
+use crate::login::MOST_WITH_LF;
 use crate::sent::sent_by;
 use command_line::Fault;
 use otp_core::Sent;
@@ -39,7 +39,7 @@ fn line_of(alloc: Global, front: &[u8], text: &[u8]) -> Result<Vec<u8>, Fault>
 fn first_bytes(text: &[u8]) -> &[u8]
     ensures { result.now ≡ take 6201 text.now }
 {
-    match text.get(..MOST_LINE) {
+    match text.get(..MOST_WITH_LF) {
         Some(front) => front,
         None => text,
     }

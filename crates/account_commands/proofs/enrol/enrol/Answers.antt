@@ -3,8 +3,7 @@ use Rattle.account_commands.proofs.enrol.enrol.Goals as goal
 
 pub returns-clause-ok : goal.returns-clause-ok
 returns-clause-ok g c =
-    let (decoy_key, takes_key, is_book) = c.in_ok-book.ensures in
-    on_ok_weaker c.print_enrolled.result
+    on_ok_weaker c.print_done.result
     (λ printed. record {
       password = c.in_ok-asked.asked.password;
       is_first = c.in_ok-asked.ensures.password.0;
@@ -14,14 +13,12 @@ returns-clause-ok g c =
       file = c.in_ok-random.random.file;
       there = g.R.File.Read.remaining c.seen_or_new.new.random.file;
       after = c.two_salts.new.random.file;
-      decoy_key = decoy_key;
-      takes_key = takes_key;
-      salt1 = c.in_ok-salts.salts.0;
-      salt256 = c.in_ok-salts.salts.1;
-      takes_salts = c.in_ok-salts.ensures;
       book = c.in_ok-book.book;
-      is_book = is_book;
+      is_book = c.in_ok-book.ensures;
+      salt1 = c.in_ok-salts.salts.sha1;
+      salt256 = c.in_ok-salts.salts.sha256;
+      takes_salts = c.in_ok-salts.ensures;
       is_saved = rw c.in_ok-asked.ensures.name at c.in_ok-save.ensures;
       printed = rw (c.text.ensures.value, c.in_ok-asked.ensures.name) at printed;
     })
-    c.print_enrolled.ensures.printed
+    c.print_done.ensures.printed

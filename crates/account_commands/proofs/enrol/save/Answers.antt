@@ -11,7 +11,7 @@ returns-in_ok-held-in-Some-found g c =
     on_ok_both c.enrol.result c.enrol.ensures.added c.enrol.ensures.saved
     (λ added done. record {
       first = c.in_ok-held-in-Some-found.held.book;
-      is_first = inr (_, c.in_ok-held-in-Some-found.ensures.text, saved);
+      is_first = inr (_, record { is_text = c.in_ok-held-in-Some-found.ensures.text; is_read = saved });
       last = c.enrol.new.self.book;
       is_enrolled = added;
       old = _;

@@ -1,29 +1,29 @@
 use Rattle.std.proofs.Common.{inl}
 use Rattle.commands.specs.Login.{IsLogAfterFault}
+use Rattle.commands.specs.Talked.{talked_in}
 use Rattle.commands.proofs.Faults.{handed_on}
 use Rattle.commands.proofs.LoginLemmas.{stays_twice, fails_then}
 use Rattle.commands.proofs.login.converse.Goals as goal
 
-pub returns-in_err-passed-clause-after_fault : goal.returns-in_err-passed-clause-after_fault
-returns-in_err-passed-clause-after_fault g c =
-    handed_on c.from_residual-in_err-passed.result _
-    (IsLogAfterFault g.S.BookStore.facts g.S.BookStore.IsStored c.args.talk.now.desk (g.L.Sink.facts c.args.talk.now.log) c.log_in_and_send.new.self.desk (g.L.Sink.facts c.log_in_and_send.new.self.log))
-    c.from_residual-in_err-passed.ensures.1
-    (fails_then g.S.BookStore.facts g.S.BookStore.IsStored _ _ _ _ _ _ _ c.in_ok-greet.ensures.log c.in_err-passed.ensures.after_fault)
-
 pub returns-in_err-hang_up-clause-after_fault : goal.returns-in_err-hang_up-clause-after_fault
 returns-in_err-hang_up-clause-after_fault g c =
-    let talked = stays_twice g.S.BookStore.facts g.S.BookStore.IsStored _ _ _ _ _ _ c.in_ok-greet.ensures.log c.in_ok-passed.ensures.log in
     handed_on c.from_residual-in_err-hang_up.result _
     (IsLogAfterFault g.S.BookStore.facts g.S.BookStore.IsStored c.args.talk.now.desk (g.L.Sink.facts c.args.talk.now.log) c.hang_up.new.talk.desk (g.L.Sink.facts c.hang_up.new.talk.log))
     c.from_residual-in_err-hang_up.ensures.1
-    (fails_then g.S.BookStore.facts g.S.BookStore.IsStored _ _ _ _ _ _ _ talked c.in_err-hang_up.ensures.after_fault)
+    (fails_then g.S.BookStore.facts g.S.BookStore.IsStored _ _ _ _ _ _ _ c.in_ok-passed.ensures.log c.in_err-hang_up.ensures.after_fault)
+
+-- where the client was let in and each code passed, it is told nothing more
+pub returns-clause-passes : goal.returns-clause-passes
+returns-clause-passes g c = λ is. record {
+  last = talked_in g.R.Source.facts g.W.Sink.facts g.L.Sink.facts c.log_in_and_send.new.self;
+  passes = c.in_ok-passed.ensures.passes is;
+  ends = c.in_ok-hang_up.ensures.silent;
+}
 
 -- no session is open, so the log is clean
 pub returns-clause-clean : goal.returns-clause-clean
 returns-clause-clean g c = λ start before l.
-    let talked = stays_twice g.S.BookStore.facts g.S.BookStore.IsStored _ _ _ _ _ _ c.in_ok-greet.ensures.log c.in_ok-passed.ensures.log in
-    let desk = stays_twice g.S.BookStore.facts g.S.BookStore.IsStored _ _ _ _ _ _ talked c.in_ok-hang_up.ensures.log start before l in (
+    let desk = stays_twice g.S.BookStore.facts g.S.BookStore.IsStored _ _ _ _ _ _ c.in_ok-passed.ensures.log c.in_ok-hang_up.ensures.log start before l in (
       _,
       c.log_is_clean.ensures.closed start desk.calls c.hang_up.new.talk.desk desk.stands (inl c.in_ok-hang_up.ensures.closed),
       desk.logged,
