@@ -205,7 +205,7 @@ def audited(folder, before, log):
     book.write_text(after)
 
 
-def begins_clean(folder, printed):
+def printed_begins_clean(folder, printed):
     """Whether a log of `login` or `hall` is at fault in no line that it has, whole or not, by the book that it began with."""
     before = pathlib.Path(folder, "before")
     before.write_text(BOOK)

@@ -12,10 +12,10 @@ Exits at the first row that differs.
 import csv
 import pathlib
 import subprocess
-import sys
 import tempfile
 
 from outside import edited
+from suite import PROGRAM, same
 
 BOOKS = pathlib.Path(__file__).with_name("book_faults")
 TABLE = pathlib.Path(__file__).with_name("book_faults.csv")
@@ -30,16 +30,14 @@ def due(answer):
     return 1, b"", f"scramotp: {fault}\n".encode()
 
 
-def check(program, path, row):
-    """Runs a row, and returns None where all is as it should be, else what the program did."""
+def check(where, path, row):
+    """Runs a row, and compares what the program answers, and the book that it refuses."""
     book = edited((BOOKS / row["base"]).with_suffix(".toml").read_bytes(), row)
     path.write_bytes(book)
-    done = subprocess.run([program, "unlock", "--book", path, "--name", "user"], capture_output=True)
-    if (done.returncode, done.stdout, done.stderr) != due(row["answer"]):
-        return done
-    if done.returncode != 0 and path.read_bytes() != book:
-        return "the book has changed"
-    return None
+    done = subprocess.run([PROGRAM, "unlock", "--book", path, "--name", "user"], capture_output=True)
+    same(where, (done.returncode, done.stdout, done.stderr), due(row["answer"]))
+    if done.returncode != 0:
+        same(f"{where}: the book", path.read_bytes(), book)
 
 
 def main():
@@ -47,11 +45,8 @@ def main():
         rows = list(csv.DictReader(table))
     with tempfile.TemporaryDirectory() as folder:
         for line, row in enumerate(rows, 2):
-            fault = check(sys.argv[1], pathlib.Path(folder, "book"), row)
-            if fault:
-                sys.exit(f"{TABLE.name}: line {line}: {row}: {fault}")
-    if not NUMBERS <= {row["answer"] for row in rows}:
-        sys.exit(f"{TABLE.name}: a number from 60 to 67 has no row")
+            check(f"{TABLE.name}: line {line}", pathlib.Path(folder, "book"), row)
+    same("the numbers that have no row", NUMBERS - {row["answer"] for row in rows}, set())
     print(f"{TABLE.name}: {len(rows)} rows as they should be")
 
 

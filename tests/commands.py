@@ -13,7 +13,7 @@ from hmac import digest
 
 import suite
 from outside import keys_of
-from suite import KEYS_OF_PENCIL, PROGRAM, SALT, SECRET, USER, hotp, read, token, told, totp
+from suite import KEYS_OF_PENCIL, PROGRAM, SALT, SECRET, USER, hotp, read, same, token, told, totp
 
 LONGER = "3132333435363738393031323334353637383930313233343536373839303132"
 # 64 bytes
@@ -40,14 +40,13 @@ def check(words, text, status, printed="", fault=""):
     """Runs the program, and compares status, output and fault; a fault of its own is given without its beginning."""
     data = text if isinstance(text, bytes) else text.encode()
     run = subprocess.run([PROGRAM, *words], input=data, capture_output=True)
-    got = (run.returncode, run.stdout.decode(), run.stderr.decode())
-    assert got == (status, printed, told(fault)), (words, text[:100], got)
+    same((words, text[:100]), (run.returncode, run.stdout.decode(), run.stderr.decode()), (status, printed, told(fault)))
 
 
 def check_usage(words, begin):
     """Runs the program with faulty words, and compares its status and how its fault begins, which is `begin`."""
     run = subprocess.run([PROGRAM, *words], input="pencil\n", capture_output=True, text=True)
-    assert (run.returncode, run.stdout) == (2, ""), (words, run)
+    same(words, (run.returncode, run.stdout), (2, ""))
     assert run.stderr.startswith(begin), (words, run)
 
 

@@ -47,7 +47,7 @@ def used(log):
     return [int(counter) for counter in re.findall(r"^\d+ S PASS \d+ (\d+)$", log, re.M)]
 
 
-def begins_clean(here, log):
+def check_cut_log(here, log):
     """A log that was cut is at fault in no line that it has, whole or not, under the book that its hall began with."""
     for text in [log, log[: log.rfind("\n") + 1]]:
         here.audited(text, clean(0) if text == clients.FIRST_LINE else f"line {text.count(chr(10)) + 1}: cut")
@@ -76,7 +76,7 @@ def killed_at_any_moment(folder):
         with open(log) as written:
             text = written.read()
         killed += status < 0
-        begins_clean(here, text)
+        check_cut_log(here, text)
         found = used(text)
         assert not set(found) & set(passed) and len(found) == len(set(found)), (found, passed)
         passed += found

@@ -30,7 +30,7 @@ class Hall(suite.BookFolder):
         """As `prints` where nothing is printed; and no file is written."""
         seen = self.seen()
         self.prints(text, status, "", fault)
-        assert self.seen() == seen, text[:200]
+        suite.same(f"the book and its folder after {text[:200]!r}", self.seen(), seen)
 
     def token(self, name="user"):
         return suite.token(self.book, name)

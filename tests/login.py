@@ -48,7 +48,7 @@ class Login(suite.BookFolder):
         """As `prints` where nothing is printed; and the book is not written."""
         seen = self.seen()
         self.prints(words, text, status, "", fault)
-        assert self.seen() == seen, words
+        suite.same(f"the book and its folder after {words}", self.seen(), seen)
 
     def account(self):
         return suite.read(self.book)["accounts"]["user"]

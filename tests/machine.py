@@ -24,10 +24,10 @@ from typing import NamedTuple
 import shims
 import suite
 from all_commands import (
-    BOOK, audited, begins_clean, book_of, command_of, commands, is_front, is_kept, left, login_log, new_book, prepare, run,
+    BOOK, audited, book_of, command_of, commands, is_front, is_kept, left, login_log, new_book, prepare, printed_begins_clean, run,
 )
 from outside import numbered
-from suite import AS_NOBODY, NOBODY, NONCES, PROGRAM, ROOT, totp
+from suite import AS_NOBODY, NOBODY, NONCES, PROGRAM, ROOT, same, totp
 
 
 class Due(NamedTuple):
@@ -171,11 +171,11 @@ def table(folder):
             due = row.get(name, WELL)
             prepare(here.folder, command)
             answer = here.disturbed(what, name, command)
-            cell = (what, name, answer)
+            cell = (what, name)
             printed = command.printed if due.printed is None else due.printed
             fault = f"scramotp: {due.fault.format(folder=here.folder)}\n" if due.fault and "2" not in what else ""
-            assert answer == (due.status, printed if is_seen(what) else "", fault), cell
-            assert book_of(here.folder) == command.books[due.saves] and left(here.folder) == set(), (cell, left(here.folder))
+            same(cell, answer, (due.status, printed if is_seen(what) else "", fault))
+            same((*cell, "the book, and what else is left"), (book_of(here.folder), left(here.folder)), (command.books[due.saves], set()))
             assert due.saves != 0 or is_kept(here.folder, command, ""), cell
             cells += 1
     print(f"machine.py: {cells} cells of {len(TABLE)} disturbances of {len(named())} commands")
@@ -254,7 +254,7 @@ def signals(folder):
             assert status or printed == command.printed, what
             assert is_kept(here.folder, command, printed), (what, book_of(here.folder))
             assert left(here.folder) <= ({"book.new", "socket"} if status else set()), (what, left(here.folder))
-            assert name not in ("login", "hall") or begins_clean(here.folder, printed), what
+            assert name not in ("login", "hall") or printed_begins_clean(here.folder, printed), what
             ended[status] += 1
             other = enrol._replace(words=[word.replace("new", "other") for word in enrol.words])
             pathlib.Path(here.folder, "random").write_bytes(bytes(64))

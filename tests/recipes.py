@@ -4,13 +4,14 @@
 Usage: recipes.py PROGRAM [OPERATING]
 
 Blocks are taken by their section and their language. Each is run by bash in a folder of its own that has an account book,
-with the program on the PATH; a block of TOML goes into a book, and of a unit of systemd the command and the credentials
-are used. Codes, keys and verifiers are those of RFC 4226 and RFC 7677, of keys.csv (made by Dovecot and GNU SASL), or of
+with the program on the PATH, and then all of them in one folder in their order; of a unit of systemd the command and the
+credentials are used. Codes, keys and verifiers are those of RFC 4226 and RFC 7677, of keys.csv (made by Dovecot and GNU SASL), or of
 Python's hashlib. A block that no test runs is a fault. Takes the 30 seconds for which an edit waits for a book.
 """
 import base64
 import csv
 import fcntl
+import grp
 import os
 import re
 import shlex
@@ -18,21 +19,29 @@ import signal
 import subprocess
 import sys
 import time
-import tomllib
 from concurrent.futures import ThreadPoolExecutor
 from pathlib import Path
 
 import outside
 import suite
 from outside import AUDITS, keys_of
-from suite import CODES, PROGRAM, ROOT, USER, code, hotp, is_locked, read, seen
+from suite import CODES, NOBODY, PROGRAM, ROOT, USER, code, hotp, is_locked, read, same, seen
 
 HERE = Path(__file__).resolve().parent
 DOCUMENT = Path(sys.argv[2]) if len(sys.argv) > 2 else HERE.parent / "docs" / "OPERATING.md"
 NAME = "user@example.org"
+FOB = "fob@example.org"
 
 # Prints nothing where the block before it has let go of the password.
 FORGOTTEN = 'printf %s "$password"\n'
+
+# Runs a block, and prints each variable that it leaves in the shell, and the umask where that is another one.
+LEAVES_NOTHING = """umask 022
+before= status=; before=$(compgen -v)
+{}status=$?
+compgen -v | grep -vxF "$before"; [ "$(umask)" = 0022 ] || umask
+exit $status
+"""
 
 # The blocks that a test has used.
 used = set()
@@ -75,8 +84,7 @@ def ran(folder, block, text="", **more):
 
 def does(folder, block, text="", printed="", **more):
     """Runs a block that is to succeed and to print this."""
-    found = ran(folder, block, text, **more)
-    assert found == (0, printed, ""), (block, found)
+    same(block, ran(folder, block, text, **more), (0, printed, ""))
 
 
 def book_of(folder):
@@ -85,7 +93,8 @@ def book_of(folder):
 
 def with_tools(folder, text):
     """A folder with the two scripts that other recipes use, and a book with this text."""
-    for block in blocks("Edit a book"):
+    _, *scripts = blocks("Set up")
+    for block in scripts:
         does(folder, block)
     book = Path(folder, "book.toml")
     book.write_text(text)
@@ -99,6 +108,11 @@ def enrolled(folder):
     for name in [NAME, "other"]:
         enrol = f"scramotp enrol --book book.toml --name {name}"
         does(folder, enrol, "pencil\n", f"enrolled {name}\n")
+
+
+def with_fob(folder):
+    """Gives the account NAME the token of the fob that the document adds."""
+    does(folder, blocks("Set a token")[-1].replace(FOB, NAME).replace("no such account", "no token"))
 
 
 def totp(secret, moment):
@@ -126,30 +140,30 @@ def an_editor_and_a_command(folder):
     editor = Path(folder, "editor")
     editor.write_text('#!/bin/sh\nprintf \'\\n[accounts."%s"]\\n\' "$1" >>"$2"\n')
     editor.chmod(0o755)
-    does(folder, "./edit-book book.toml", EDITOR=f"{shlex.quote(str(editor))} 'a b@c'")
-    does(folder, "./edit-book book.toml sed s/4096/4097/")
+    does(folder, "tools/edit-book book.toml", EDITOR=f"{shlex.quote(str(editor))} 'a b@c'")
+    does(folder, "tools/edit-book book.toml sed s/4096/4097/")
     assert book_of(folder)["decoy_count"] == 4097
     assert set(book_of(folder)["accounts"]) == {"user", "a b@c"}
     after = book.stat()
     assert (after.st_uid, after.st_gid, after.st_mode) == (before.st_uid, before.st_gid, before.st_mode)
-    assert {path.name for path in Path(folder).iterdir()} == {"bin", "book.toml", "drop-tables", "edit-book", "editor"}
+    assert {path.name for path in Path(folder).iterdir()} == {"bin", "book.toml", "editor", "tools"}
 
 
 def an_edit_that_fails(folder):
     """A text that is no book, and a command or an editor that fails, leave the book as it was."""
     book = with_tools(folder, USER)
     real = os.path.realpath(book)
-    status, output, faults = ran(folder, "./edit-book book.toml sed s/format/former/")
+    status, output, faults = ran(folder, "tools/edit-book book.toml sed s/format/former/")
     found = re.fullmatch(rf"scramotp: bad book: 61\nedit-book: {real} is as it was; look into (.*)\n", faults)
     assert (status, output) == (1, "") and found, faults
     assert Path(found[1]).read_text() == USER.replace("format", "former")
     os.remove(found[1])
-    found = ran(folder, "./edit-book book.toml false")
+    found = ran(folder, "tools/edit-book book.toml false")
     assert found == (1, "", f"edit-book: {real} is as it was, since false failed\n"), found
-    found = ran(folder, "./edit-book book.toml", EDITOR="false")
+    found = ran(folder, "tools/edit-book book.toml", EDITOR="false")
     assert found == (1, "", f"edit-book: {real} is as it was, since the editor failed\n"), found
     assert book.read_text() == USER
-    assert len(os.listdir(folder)) == 4
+    assert set(os.listdir(folder)) == {"bin", "book.toml", "tools"}
 
 
 def an_edit_of_anothers_book(folder):
@@ -163,7 +177,7 @@ def an_edit_of_anothers_book(folder):
         book.symlink_to("/etc/passwd")
     before = seen(book)
     belongs = f"edit-book: {os.path.realpath(book)} belongs to another user: run edit-book as the book's owner\n"
-    for edit in ["./edit-book book.toml sed s/4096/4097/", "EDITOR=false ./edit-book book.toml"]:
+    for edit in ["tools/edit-book book.toml sed s/4096/4097/", "EDITOR=false tools/edit-book book.toml"]:
         found = ran(folder, edit)
         assert found == (1, "", belongs), found
         assert seen(book) == before, edit
@@ -171,16 +185,16 @@ def an_edit_of_anothers_book(folder):
         os.chown(book, 0, 0)
         os.chown(folder, 65534, 65534)
         before = seen(book)
-        found = ran(folder, "./edit-book book.toml sed s/4096/4097/")
+        found = ran(folder, "tools/edit-book book.toml sed s/4096/4097/")
         assert found == (1, "", f"edit-book: {os.path.realpath(book)} is in a folder of another user\n"), found
         assert seen(book) == before
-    assert len(os.listdir(folder)) == 4
+    assert set(os.listdir(folder)) == {"bin", "book.toml", "tools"}
 
 
 def an_edit_that_is_stopped(folder):
     """An edit whose processes are told to end leaves the book as it was, and no file beside it."""
     book = with_tools(folder, USER)
-    edit = start(folder, "exec setsid ./edit-book book.toml sh -c 'sed s/4096/4097/; exec sleep 60'")
+    edit = start(folder, "exec setsid tools/edit-book book.toml sh -c 'sed s/4096/4097/; exec sleep 60'")
     until(lambda: any(path.read_text() for path in Path(folder).glob("book.toml.*")))
     os.killpg(edit.pid, signal.SIGTERM)
     edit.communicate(timeout=30)
@@ -194,7 +208,7 @@ def an_edit_waits(folder):
     book = with_tools(folder, USER + hotp(look_ahead=3, limit=3))
     run = start(folder, "exec scramotp verify --book book.toml --name user --moment 5")
     until(lambda: is_locked(book))
-    edit = start(folder, "./edit-book book.toml sed s/4096/4097/")
+    edit = start(folder, "tools/edit-book book.toml sed s/4096/4097/")
     time.sleep(0.5)
     assert edit.poll() is None
     assert run.communicate(CODES[0] + "\n") == ("PASS 5 0\n", "")
@@ -206,7 +220,7 @@ def an_edit_waits(folder):
 def a_run_waits(folder):
     """A run that waits for an edit works on the file that the edit has put in the book's place."""
     book = with_tools(folder, USER + hotp(look_ahead=3, limit=3))
-    slow = start(folder, "./edit-book book.toml sh -c 'sed s/4096/4097/; sleep 1'")
+    slow = start(folder, "tools/edit-book book.toml sh -c 'sed s/4096/4097/; sleep 1'")
     until(lambda: is_locked(book))
     does(folder, verify("user", CODES[0]), printed="PASS 5 0\n")
     assert slow.communicate() == ("", "") and slow.returncode == 0
@@ -217,7 +231,7 @@ def a_run_waits(folder):
 def many_at_once(folder):
     """Of edits and runs at the same time none loses what another has changed."""
     with_tools(folder, USER + hotp(look_ahead=9, limit=99))
-    edits = [f"./edit-book book.toml sh -c 'cat; echo \"[accounts.a{number}]\"'" for number in range(20)]
+    edits = [f"tools/edit-book book.toml sh -c 'cat; echo \"[accounts.a{number}]\"'" for number in range(20)]
     enrols = [f"scramotp enrol --book book.toml --name b{number} --count 1" for number in range(20)]
     with ThreadPoolExecutor(40) as pool:
         found = list(pool.map(lambda block: ran(folder, block, "pencil\n"), [*edits, *enrols, verify("user", *CODES[:6])]))
@@ -232,7 +246,7 @@ def an_edit_gives_up(folder):
     book = with_tools(folder, USER)
     with open(book, "rb") as file:
         fcntl.flock(file, fcntl.LOCK_EX)
-        found = ran(folder, "./edit-book book.toml sed s/4096/4097/")
+        found = ran(folder, "tools/edit-book book.toml sed s/4096/4097/")
     assert found == (1, "", f"edit-book: {os.path.realpath(book)} is in use\n"), found
     assert book.read_text() == USER
 
@@ -241,7 +255,7 @@ def a_token(folder):
     """The token that is set takes the codes of the secret that is printed, and is taken out again. An account that has one gets no
     other, and a name without an account gets none."""
     enrolled(folder)
-    set_token, drop_token = blocks("Set a token")
+    set_token, drop_token, _ = blocks("Set a token")
     status, output, faults = ran(folder, set_token)
     assert (status, faults) == (0, ""), faults
     secret = base64.b32decode(output.strip())
@@ -266,28 +280,38 @@ def a_token(folder):
 
 
 def a_hotp_token(folder):
-    """The HOTP token in the document has RFC 4226's secret: it takes that RFC's codes, and skips as many as it says."""
+    """The fob that the document adds has RFC 4226's secret: it takes that RFC's codes, and skips as many as it says. A name that has an
+    account gets none, but by the word that the document says."""
     enrolled(folder)
-    [token] = blocks("Set a token", "toml")
-    Path(folder, "token.toml").write_text(token)
-    does(folder, "./edit-book book.toml cat - token.toml")
-    does(folder, verify(NAME, CODES[0], CODES[1]), printed="PASS 5 0\nPASS 5 1\n")
-    skipped = 2 + tomllib.loads(token)["accounts"][NAME]["token"]["look_ahead"]
-    does(folder, verify(NAME, code(skipped)), printed=f"PASS 5 {skipped}\n")
+    *_, add_fob = blocks("Set a token")
+    does(folder, add_fob)
+    assert not Path(folder, "token.toml").exists()
+    added = book_of(folder)
+    does(folder, verify(FOB, CODES[0], CODES[1]), printed="PASS 5 0\nPASS 5 1\n")
+    skipped = 2 + added["accounts"][FOB]["token"]["look_ahead"]
+    does(folder, verify(FOB, code(skipped)), printed=f"PASS 5 {skipped}\n")
+    before = book_of(folder)
+    of_user = add_fob.replace(FOB, NAME)
+    for block, why in [(add_fob, "there is one already"), (of_user, "scramotp: no token")]:
+        _, output, faults = ran(folder, block)
+        assert (output, faults) == ("", f"no token is set: {why}\n"), (output, faults)
+        assert book_of(folder) == before, why
+        assert not Path(folder, "token.toml").exists(), why
+    assert "no such account" in of_user
+    does(folder, of_user.replace("no such account", "no token"))
+    assert book_of(folder)["accounts"][NAME].pop("token") == added["accounts"][FOB]["token"]
 
 
 def a_fob_that_ran_ahead(folder):
     """Two codes in a row pass where the first alone is too far ahead, and the token goes on after them."""
     enrolled(folder)
-    [token] = blocks("Set a token", "toml")
-    Path(folder, "token.toml").write_text(token)
-    does(folder, "./edit-book book.toml cat - token.toml")
-    assert ran(folder, verify(NAME, code(8)))[:2] == (1, "FAIL 5\n")
+    does(folder, blocks("Set a token")[-1])
+    assert ran(folder, verify(FOB, code(8)))[:2] == (1, "FAIL 5\n")
     [sync] = blocks("Find a fob that ran ahead")
     status, output, faults = ran(folder, sync)
     assert (status, faults) == (0, "") and re.fullmatch(r"PASS \d+ 9\n", output), (output, faults)
     assert ran(folder, sync)[0] == 1
-    does(folder, verify(NAME, code(10)), printed="PASS 5 10\n")
+    does(folder, verify(FOB, code(10)), printed="PASS 5 10\n")
 
 
 def an_account(folder):
@@ -309,7 +333,7 @@ def an_account(folder):
     assert (after["accounts"][NAME], set(after["accounts"])) == (before["accounts"][NAME], {NAME, "other"})
     line, acts = re.findall(r"`(act_as = \[.*\])`", DOCUMENT.read_text(encoding="utf-8"))
     assert f"\n{line}\n" in Path(folder, "book.toml").read_text()
-    does(folder, f"./edit-book book.toml sed '/^.accounts.other.$/,$ s/^act_as = .*/{acts}/'")
+    does(folder, f"tools/edit-book book.toml sed '/^.accounts.other.$/,$ s/^act_as = .*/{acts}/'")
     assert book_of(folder)["accounts"]["other"]["act_as"] == ["postmaster", "list"]
     audited = "printf 'SCRAMLOG 1\\n' | scramotp audit --book book.toml --log /dev/stdin"
     does(folder, audited, printed="clean sessions=0 accepted=0 codes=0\n")
@@ -318,8 +342,7 @@ def an_account(folder):
 def a_password(folder):
     """New keys take the place of the old ones, by the new password; all else stays."""
     enrolled(folder)
-    Path(folder, "token.toml").write_text(blocks("Set a token", "toml")[0])
-    does(folder, "./edit-book book.toml cat - token.toml")
+    with_fob(folder)
     before = book_of(folder)
     [change] = blocks("Change a password")
     does(folder, change, "another one\n", f"enrolled {NAME}\n")
@@ -341,7 +364,7 @@ def a_password_of_one_mechanism(folder):
     """An account that has keys for one mechanism alone gets new ones for both."""
     for kept, lost in [("sha1", "sha256"), ("sha256", "sha1")]:
         enrolled(folder)
-        does(folder, f"./edit-book book.toml ./drop-tables '[accounts.\"{NAME}\".{lost}]'")
+        does(folder, f"tools/edit-book book.toml tools/drop-tables '[accounts.\"{NAME}\".{lost}]'")
         before = book_of(folder)
         [change] = blocks("Change a password")
         does(folder, change, "another one\n", f"enrolled {NAME}\n")
@@ -373,8 +396,7 @@ def a_removed_account(folder):
     """The account goes with all its tables, with a token or without, and no other does."""
     enrolled(folder)
     [remove] = blocks("Remove an account")
-    Path(folder, "token.toml").write_text(blocks("Set a token", "toml")[0])
-    does(folder, "./edit-book book.toml cat - token.toml")
+    with_fob(folder)
     before = book_of(folder)
     does(folder, verify(NAME, CODES[0]), printed="PASS 5 0\n")
     does(folder, remove)
@@ -385,7 +407,7 @@ def a_removed_account(folder):
     assert book_of(folder) == before
     keys = f'\n[accounts."{NAME}".sha1]\ncount = 1\nsalt = "00"\nserver = "{"00" * 20}"\nstored = "{"00" * 20}"\n'
     Path(folder, "keys.toml").write_text(keys)
-    does(folder, "./edit-book book.toml cat - keys.toml")
+    does(folder, "tools/edit-book book.toml cat - keys.toml")
     does(folder, remove)
     assert book_of(folder) == before
     assert ran(folder, remove)[0] == 1
@@ -400,7 +422,7 @@ def decoys(folder):
     does(folder, "scramotp enrol --book book.toml --name slow --count 5000", "pencil\n", "enrolled slow\n")
     keys = f'\n[accounts.old.sha1]\ncount = 4096\nsalt = "00"\nserver = "{"00" * 20}"\nstored = "{"00" * 20}"\n'
     Path(folder, "keys.toml").write_text(keys)
-    does(folder, "./edit-book book.toml cat - keys.toml")
+    does(folder, "tools/edit-book book.toml cat - keys.toml")
     status, output, faults = ran(folder, tell)
     count = "has the count 5000, decoys have 4096"
     want = {f"slow: sha1 {count}", f"slow: sha256 {count}", "old: sha1 has a salt of 1 bytes, decoys have 16"}
@@ -445,7 +467,7 @@ def a_verifier_there_and_back(folder):
     clean = "clean sessions=1 accepted=1 codes=0\n"
     does(folder, f"scramotp audit --book book.toml --log {AUDITS / 'sha256.log'}", printed=clean)
     name = "q\"\\'@ x"
-    does(folder, f"./from-verifier {shlex.quote(name)} >keys.toml && ./edit-book book.toml cat - keys.toml", both[1] + "\n")
+    does(folder, f"tools/from-verifier {shlex.quote(name)} >keys.toml && tools/edit-book book.toml cat - keys.toml", both[1] + "\n")
     assert book_of(folder)["accounts"][name] == book_of(folder)["accounts"]["user"]
     before = book_of(folder)
     for text in ["", "md5c0ffee", both[0].replace("256", "512"), both[0].replace("==", "=")]:
@@ -461,7 +483,7 @@ def a_code_in_a_script(folder):
     does(folder, script)
 
     def lets_in(text, name="user", book="book.toml"):
-        return ran(folder, f"./check-code {book} {name}", text)[0]
+        return ran(folder, f"tools/check-code {book} {name}", text)[0]
 
     for text in ["", "\n", "\r\n", " \n"]:
         assert lets_in(text) == 1, text
@@ -480,7 +502,7 @@ def a_code_in_a_script(folder):
     silent.parent.mkdir()
     silent.write_text("#!/bin/sh\n")
     silent.chmod(0o755)
-    assert ran(folder, 'PATH="$PWD/silent:$PATH" ./check-code book.toml user', CODES[4])[0] == 1
+    assert ran(folder, 'PATH="$PWD/silent:$PATH" tools/check-code book.toml user', CODES[4])[0] == 1
 
 
 def faulty(row):
@@ -491,7 +513,7 @@ def faulty(row):
 def keys_at_fault(folder):
     """Something is told of each book that is refused with 62, and nothing of a book that is read."""
     [script] = blocks("`bad book: 62`")
-    Path(folder, "book.toml").write_text(USER.replace("4096", '"4096"').replace("format = 1", "format = 1\nx = 1"))
+    with_tools(folder, USER.replace("4096", '"4096"').replace("format = 1", "format = 1\nx = 1"))
     for header, number in [("user@example.org", 60), ("example.org", 62), ('"user@example.org"', None)]:
         Path(folder, "named.toml").write_text(USER + f"\n[accounts.{header}]\n")
         fault = f"scramotp: bad book: {number}\n" if number else "scramotp: no token\n"
@@ -504,7 +526,7 @@ def keys_at_fault(folder):
     for number, row in enumerate(rows):
         Path(folder, str(number)).write_bytes(faulty(row))
     with ThreadPoolExecutor(4) as pool:
-        found = list(pool.map(lambda number: ran(folder, f"./find-key {number}"), range(len(rows))))
+        found = list(pool.map(lambda number: ran(folder, f"tools/find-key {number}"), range(len(rows))))
     for (status, output, faults), row in zip(found, rows):
         assert (status, faults, output != "") == (0, "", row["answer"] == "62"), (row, status, output, faults)
     assert {row["answer"] for row in rows} > {"62"}, rows
@@ -519,7 +541,7 @@ def a_backup(folder):
     assert found.read_bytes() == book.read_bytes()
     assert (found.stat().st_mode & 0o777, found.parent.stat().st_mode & 0o777) == (0o600, 0o700)
     Path(folder, "backups", "book-20010203T040506Z.toml").write_text("older\n")
-    does(folder, "./edit-book book.toml sed s/4096/4097/")
+    does(folder, "tools/edit-book book.toml sed s/4096/4097/")
     does(folder, put_back)
     assert book.read_text() == USER
     # A copy that is made later, where the clock was put back an hour
@@ -530,6 +552,41 @@ def a_backup(folder):
     book.write_text(USER)
     does(folder, put_back)
     assert book.read_text() == newer
+
+
+def a_shell(folder):
+    """As root, and with nobody for the user that is made: the folder is the user's alone, and the shell is the user's, in the folder."""
+    shell, *_ = blocks("Set up")
+    make_user, block = shell.split("\n", 1)
+    assert make_user == "useradd --system --user-group scramotp", make_user
+    if not ROOT:
+        return
+    os.chmod(folder, 0o711)
+    place = os.path.realpath(Path(folder, "place"))
+    group = grp.getgrgid(NOBODY.pw_gid).gr_name
+    for old, new in [("/var/lib/scramotp", place), ("-g scramotp", f"-g {group}"), ("scramotp", NOBODY.pw_name)]:
+        assert old in block, old
+        block = block.replace(old, new)
+    does(folder, block, "id -un; pwd; stat -c '%a %U' .\n", f"{NOBODY.pw_name}\n{place}\n700 {NOBODY.pw_name}\n")
+
+
+def all_in_order(folder):
+    """The shell blocks but for the first, one after another in one folder: each succeeds, prints what it should, and leaves the shell
+    as it was."""
+    salt = bytes(range(16))
+    both = texts("SCRAM-SHA-256", 4096, salt.hex(), *keys_of("sha256", b"pencil", salt, 4096))
+    inputs = {"Add an account": "pencil\n", "Change a password": "another one\n", "Keys from PostgreSQL and Dovecot": both[0] + "\n"}
+    _, *found = [(title, block) for title, language, block in all_blocks() if language == "sh"]
+    printed = []
+    for title, block in found:
+        status, output, faults = ran(folder, LEAVES_NOTHING.format(block), inputs.get(title, ""))
+        assert (status, faults) == (0, ""), (title, status, output, faults)
+        printed += output.splitlines()
+    added, secret, ahead, changed, *verifiers = printed
+    assert (added, changed, verifiers) == (f"enrolled {NAME}", f"enrolled {NAME}", list(both)), printed
+    assert len(base64.b32decode(secret)) == 20 and re.fullmatch(r"PASS \d+ 9", ahead), printed
+    accounts = book_of(folder)["accounts"]
+    assert set(accounts) == {NAME, FOB} and set(accounts[NAME]) == {"sha256"}, accounts
 
 
 def units(folder):
@@ -583,6 +640,8 @@ TESTS = [
     a_code_in_a_script,
     keys_at_fault,
     a_backup,
+    a_shell,
+    all_in_order,
     units,
     every_block,
 ]

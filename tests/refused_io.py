@@ -13,7 +13,7 @@ import re
 
 import shims
 import suite
-from all_commands import begins_clean, book_of, commands, is_done, is_front, is_kept, left, new_book, prepare, run
+from all_commands import book_of, commands, is_done, is_front, is_kept, left, new_book, prepare, printed_begins_clean, run
 
 # The calls that move bytes, and the others that are refused.
 MOVES = "read,write,recv,send"
@@ -96,7 +96,7 @@ def all_told(folder, how, calls):
             assert answer == (0, command.printed, "") or is_told(command, answer), what
             assert is_kept(here.folder, command, answer[1]), (what, book_of(here.folder))
             assert left(here.folder) <= may_be_left(how, what[2]), (what, left(here.folder))
-            assert command.name not in ("login", "hall") or begins_clean(here.folder, answer[1]), what
+            assert command.name not in ("login", "hall") or printed_begins_clean(here.folder, answer[1]), what
             count, told = count + 1, told + (answer[0] == 3)
     assert 2 * told > count, (told, count)
     print(f"refused_io.py: {count} calls {how}, of which {told} are told")

@@ -12,7 +12,7 @@ import subprocess
 
 import shims
 import suite
-from all_commands import begins_clean, book_of, commands, is_done, is_front, is_kept, left, new_book, prepare, run
+from all_commands import book_of, commands, is_done, is_front, is_kept, left, new_book, prepare, printed_begins_clean, run
 from outside import AUDITS
 from suite import PROGRAM
 
@@ -80,7 +80,7 @@ def commands_are_refused(folder):
             answer, _ = refused(command, here, shim, number)
             what = (command.name, number, answer)
             assert is_kept(here, command, answer[1]) and left(here) == set(), (what, book_of(here), left(here))
-            assert command.name not in ("login", "hall") or begins_clean(here, answer[1]), what
+            assert command.name not in ("login", "hall") or printed_begins_clean(here, answer[1]), what
             if answer != whole:
                 assert answer[0] == 3 and re.fullmatch(FAULT, answer[2]) and is_front(command, answer[1]), what
                 told += 1

@@ -14,6 +14,8 @@ import sys
 import tempfile
 from pathlib import Path
 
+from suite import PROGRAM, same
+
 ROOT = Path(__file__).resolve().parent.parent
 TITLE = "A story"
 SHOWN = "#>"
@@ -54,14 +56,14 @@ def is_whole(command):
     return read.returncode == 0 and not read.stderr
 
 
-def ran(program, story):
+def ran(story):
     """What each command of a story printed, faults too, and its status. All run in one bash."""
     mark = f"{os.urandom(16).hex()} "
     script = "".join(f"{command}printf '{mark}%d\\n' $?\n" for command, _, _ in story)
     with tempfile.TemporaryDirectory() as folder:
         commands = Path(folder, "bin")
         commands.mkdir()
-        os.symlink(os.path.abspath(program), commands / "scramotp")
+        os.symlink(PROGRAM, commands / "scramotp")
         path = f"{commands}:{os.environ['PATH']}"
         done = subprocess.run(
             ["bash", "-c", script], cwd=folder, env={**os.environ, "PATH": path}, input=PASSWORD,
@@ -72,18 +74,13 @@ def ran(program, story):
 
 
 def main():
-    program, *readme = sys.argv[1:]
-    text = Path(readme[0] if readme else ROOT / "README.md").read_text(encoding="utf-8")
+    text = Path(sys.argv[2] if len(sys.argv) > 2 else ROOT / "README.md").read_text(encoding="utf-8")
     story = [step for block in blocks(text, TITLE) for step in steps(block)]
-    missing = [word for word in NEEDED if not any(word in command for command, _, _ in story)]
-    if missing:
-        sys.exit(f"story.py: the story has no {missing}")
-    answers = ran(program, story)
+    same("what the story lacks", [word for word in NEEDED if not any(word in command for command, _, _ in story)], [])
+    answers = ran(story)
     for (command, printed, status), (output, ended) in zip(story, answers):
-        if (output.splitlines(), ended) != (printed, status):
-            sys.exit(f"story.py: {command}{output!r}, status {ended}; README has {printed}, status {status}")
-    if len(answers) != len(story):
-        sys.exit(f"story.py: {len(answers)} of {len(story)} commands ran")
+        same(command, (output.splitlines(), ended), (printed, status))
+    same("the number of commands that ran", len(answers), len(story))
     print(f"story.py: {len(story)} commands do as README says")
 
 

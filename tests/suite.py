@@ -119,9 +119,9 @@ def begins_clean(book, log):
 
 
 def same(what, got, want):
-    """Ends the script where these differ."""
+    """Fails where these differ: a test of `run_all`, or else the script, which ends with status 1."""
     if got != want:
-        sys.exit(f"{os.path.basename(sys.argv[0])}: {what}: {got!r}, not {want!r}")
+        raise AssertionError(f"{what}: {got!r}, not {want!r}")
 
 
 class BookFolder:
@@ -141,8 +141,7 @@ class BookFolder:
         """Runs the program on this input, and compares its status, log and fault."""
         data = text if isinstance(text, bytes) else text.encode()
         done = subprocess.run(words, input=data, capture_output=True, timeout=60)
-        got = (done.returncode, done.stdout.decode(), done.stderr.decode())
-        assert got == (status, log, told(fault)), (words, text[:200], got, log)
+        same((words, text[:200]), (done.returncode, done.stdout.decode(), done.stderr.decode()), (status, log, told(fault)))
 
     def seen(self):
         """What differs once the book was written or replaced, or another file was left beside it."""
@@ -152,7 +151,7 @@ class BookFolder:
         """Compares what the audit says of a log under the book that it began with."""
         words = [PROGRAM, "audit", "--book", self.before, "--log", "/dev/stdin"]
         done = subprocess.run(words, input=log, capture_output=True, text=True)
-        assert (done.stdout, done.stderr) == (answer + "\n", ""), (log, done)
+        same(log, (done.stdout, done.stderr), (answer + "\n", ""))
 
 
 def run_all(tests):

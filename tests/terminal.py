@@ -14,7 +14,7 @@ from pathlib import Path
 
 import suite
 from outside import AUDITS
-from suite import KEYS_OF_PENCIL, NONCES, PROGRAM, SALT, USER, hotp
+from suite import KEYS_OF_PENCIL, NONCES, PROGRAM, SALT, USER, hotp, same
 
 PASSWORD = "Type the password and press Enter; it is shown as you type.\r\n"
 BOTH = "Type the password and press Enter, then one code a line; all is shown as you type. Ctrl-D ends.\r\n"
@@ -100,10 +100,10 @@ def both_are_terminals(folder):
             until = time.monotonic() + 20
             while terminal.shown != said and time.monotonic() < until:
                 terminal.see(0.05)
-            assert terminal.shown == said, (words, terminal.shown)
+            same(words, terminal.shown, said)
             terminal.type(typed + END)
             got = (run.communicate(timeout=20)[0], run.returncode, terminal.all_shown())
-            assert got == (printed, 0, said + typed.replace("\n", "\r\n")), (words, got)
+            same(words, got, (printed, 0, said + typed.replace("\n", "\r\n")))
 
 
 def input_is_a_terminal(folder):
@@ -114,7 +114,7 @@ def input_is_a_terminal(folder):
             run = start(words, terminal.end, subprocess.PIPE)
             terminal.type(typed + END)
             got = (*run.communicate(timeout=20), run.returncode, terminal.all_shown())
-            assert got == (printed, "", 0, typed.replace("\n", "\r\n")), (words, got)
+            same(words, got, (printed, "", 0, typed.replace("\n", "\r\n")))
 
 
 def faults_are_a_terminal(folder):
@@ -124,7 +124,7 @@ def faults_are_a_terminal(folder):
         with Terminal() as terminal:
             run = start(words, subprocess.PIPE, terminal.end)
             got = (run.communicate(typed, timeout=20)[0], run.returncode, terminal.all_shown())
-            assert got == (printed, 0, ""), (words, got)
+            same(words, got, (printed, 0, ""))
 
 
 def nothing_to_wait_for(folder):
@@ -144,7 +144,7 @@ def nothing_to_wait_for(folder):
         with Terminal() as terminal:
             run = start(words, terminal.end, terminal.end)
             got = (run.communicate(timeout=20)[0], run.returncode, terminal.all_shown())
-            assert got == (printed, status, said), (words, got)
+            same(words, got, (printed, status, said))
 
 
 suite.run_all([both_are_terminals, input_is_a_terminal, faults_are_a_terminal, nothing_to_wait_for])

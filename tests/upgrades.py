@@ -3,9 +3,10 @@
 
 Usage: upgrades.py PROGRAM
 
-Each log of data/audits/cases.csv: what is upgraded has the audit's answer of before, line by line, and what is refused is
-refused in no line before the first at fault. Then a log's text line by line, faults and what is printed of them, limits,
-logs that are pipes, and a log of 990000 lines in at most 2 seconds. Exits at the first difference.
+Each log of data/audits/cases.csv: one that is of version 1 and whose lines are all in form is upgraded, and has the audit's
+answer of before, line by line; each other one is refused, in no line before the first at fault. Then a log's text line by
+line, faults and what is printed of them, limits, logs that are pipes, and a log of 990000 lines in at most 2 seconds. Exits
+at the first difference.
 """
 import os
 import pathlib
@@ -30,13 +31,19 @@ def run(program, words, log):
     return done.returncode, done.stdout, done.stderr
 
 
+def can_be_upgraded(log, answer):
+    """Whether a log of the table is of version 1, ends with a whole line, and has no line that is in no form. No log of the table has
+    such a line after its first line at fault, so the audit's answer in the table tells it."""
+    return log.startswith(b"SCRAMLOG 1\n") and log.endswith(b"\n") and not answer.endswith(": not a line")
+
+
 def same_answers(program):
     """The audit's answer to each log of the table, before and after. A first line in the middle has no number in either."""
     upgraded = 0
     for book, log, answer in cases():
         status, text, fault = run(program, ["upgrade"], log)
-        if status == 0:
-            same(log, (text, fault), (numbered(log.decode()).encode(), b""))
+        if can_be_upgraded(log, answer):
+            same(log, (status, text, fault), (0, numbered(log.decode()).encode(), b""))
             if b"\nSCRAMLOG" not in log:
                 same(log, run(program, ["audit", "--book", book], text)[1].decode(), answer + "\n")
                 upgraded += 1
@@ -48,8 +55,7 @@ def same_answers(program):
             assert first and int(first[1]) <= line, (log, fault, answer)
         else:
             same(log, line, 1)
-    if upgraded < 30:
-        sys.exit(f"upgrades.py: {upgraded} logs were upgraded")
+    same("the logs of the table that have the same answer", upgraded, 41)
     return upgraded
 
 
@@ -88,8 +94,7 @@ def long_logs(program, folder):
         began = time.monotonic()
         subprocess.run([program, "upgrade", "--log", path], stdout=subprocess.DEVNULL, check=True)
         times.append(time.monotonic() - began)
-    if min(times) > 2:
-        sys.exit(f"upgrades.py: 990000 lines took {min(times):.2f} s")
+    assert min(times) <= 2, times
     return min(times)
 
 

@@ -4,13 +4,14 @@
 Usage: vectors.py PROGRAM
 
 Beside this file, keys.csv has the keys of passwords as GNU SASL and Dovecot made them, and codes.csv
-one-time codes as oathtool made them; the last column of a row says which. Exit status 1 where a row
-differs, or a table has none.
+one-time codes as oathtool made them; the last column of a row says which. Exits at the first row that
+differs, and where a table has none.
 """
 import csv
 import pathlib
 import subprocess
-import sys
+
+from suite import PROGRAM, same
 
 
 def keys(row):
@@ -29,25 +30,16 @@ def codes(row):
     return words, "", row["code"] + "\n"
 
 
-def check(program, name, case):
-    """Runs each row of a table, and returns whether all are as they should be."""
-    with open(pathlib.Path(__file__).with_name(name), newline="", encoding="utf-8") as table:
-        rows = list(csv.DictReader(table))
-    failed = 0
-    for row in rows:
-        words, line, want = case(row)
-        done = subprocess.run([program, *words], input=line.encode(), capture_output=True)
-        if (done.returncode, done.stdout, done.stderr) != (0, want.encode(), b""):
-            failed += 1
-            print(f"{words}: {done.returncode} {done.stdout} {done.stderr}, not {want!r}", file=sys.stderr)
-    print(f"{name}: {len(rows) - failed} rows as made elsewhere, {failed} not")
-    return rows and not failed
-
-
 def main():
-    program = sys.argv[1]
-    good = [check(program, "keys.csv", keys), check(program, "codes.csv", codes)]
-    return 0 if all(good) else 1
+    for name, case in [("keys.csv", keys), ("codes.csv", codes)]:
+        with open(pathlib.Path(__file__).with_name(name), newline="", encoding="utf-8") as table:
+            rows = list(csv.DictReader(table))
+        assert rows, f"{name} has no rows"
+        for row in rows:
+            words, line, want = case(row)
+            done = subprocess.run([PROGRAM, *words], input=line.encode(), capture_output=True)
+            same(words, (done.returncode, done.stdout, done.stderr), (0, want.encode(), b""))
+        print(f"{name}: {len(rows)} rows as made elsewhere")
 
 
-sys.exit(main())
+main()
