@@ -161,8 +161,9 @@ def run_all(tests):
         with tempfile.TemporaryDirectory() as folder:
             try:
                 test(folder)
-            except AssertionError as fault:
+            except Exception as fault:
                 failed += 1
-                print(f"{test.__name__}: line {fault.__traceback__.tb_next.tb_lineno}: {fault}", file=sys.stderr)
+                line = (fault.__traceback__.tb_next or fault.__traceback__).tb_lineno
+                print(f"{test.__name__}: line {line}: {type(fault).__name__}: {fault}", file=sys.stderr)
     print(f"{os.path.basename(sys.argv[0])}: {len(tests) - failed} passed, {failed} failed", file=sys.stderr)
     sys.exit(failed != 0)
