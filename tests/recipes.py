@@ -471,7 +471,7 @@ def a_verifier_there_and_back(folder):
     assert book_of(folder)["accounts"][name] == book_of(folder)["accounts"]["user"]
     before = book_of(folder)
     for text in ["", "md5c0ffee", both[0].replace("256", "512"), both[0].replace("==", "=")]:
-        assert "Error" in ran(folder, into.replace(NAME, "new"), text + "\n")[2], text
+        assert "not a verifier" in ran(folder, into.replace(NAME, "new"), text + "\n")[2], text
         assert book_of(folder) == before
 
 
