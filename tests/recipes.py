@@ -16,12 +16,14 @@ import os
 import re
 import shlex
 import signal
+import socket
 import subprocess
 import sys
 import time
 from concurrent.futures import ThreadPoolExecutor
 from pathlib import Path
 
+import clients
 import outside
 import suite
 from outside import AUDITS, keys_of
@@ -475,6 +477,59 @@ def a_verifier_there_and_back(folder):
         assert book_of(folder) == before
 
 
+def line_of(client):
+    """The next line that a client is told, without its LF; nothing where it is told no more."""
+    text = b""
+    while not text.endswith(b"\n"):
+        byte = client.recv(1)
+        if not byte:
+            return text.decode()
+        text += byte
+    return text[:-1].decode()
+
+
+def a_hall_of_your_own(folder):
+    """Four clients at a time: one logs in and sends a code, one sends a line that is too long, one asks for another mechanism, and one
+    goes away. The log is clean for the book that it began with."""
+    account = clients.Account("user", "SCRAM-SHA-256")
+    with_tools(folder, clients.book([account]))
+    [script] = blocks("Let many users in at a time")
+    does(folder, script)
+    serving = start(folder, "umask 077; exec tools/serve-hall book.toml hall.sock hall.log")
+    until(lambda: Path(folder, "hall.sock").exists())
+    ends = []
+    for _ in range(4):
+        client = socket.socket(socket.AF_UNIX)
+        client.settimeout(20)
+        client.connect(str(Path(folder, "hall.sock")))
+        ends.append(client)
+    good, long, other, away = ends
+    for client in ends:
+        same("the greeting", line_of(client), clients.MECHS[2:])
+    away.close()
+    first = account.exchange("fyko", "").first
+    good.sendall(f"AUTH SCRAM-SHA-256 :{first}\n".encode())
+    long.sendall(b"x" * 7000 + b"\n")
+    same("a line that is too long", [line_of(long), line_of(long)], ["NO :", ""])
+    other.sendall(b"AUTH PLAIN\n")
+    same("another mechanism", [line_of(other), line_of(other)], ["NO :", ""])
+    challenge = line_of(good).removeprefix("CONT :")
+    own = re.match(r"r=fyko([^,]{24}),", challenge)[1]
+    it = account.exchange("fyko", own)
+    same("the challenge", challenge, it.challenge)
+    good.sendall(f"RESP :{it.final}\n".encode())
+    same("the login", line_of(good), f"OK :v={it.signature}")
+    good.sendall(f"CODE {account.code(0)}\n".encode())
+    assert re.fullmatch(r"PASS \d+ 0", line_of(good))
+    serving.send_signal(signal.SIGINT)
+    same("the end", (serving.wait(timeout=20), serving.stdout.read(), serving.stderr.read()), (0, "", ""))
+    same("the client is told no more", line_of(good), "")
+    audit = "scramotp audit --book hall.log.toml --log hall.log"
+    does(folder, audit, printed="clean sessions=4 accepted=1 codes=1\n")
+    same("the mode of the log", [Path(folder, name).stat().st_mode & 0o777 for name in ["hall.log", "hall.log.toml"]], [0o600, 0o600])
+    same("the counter is used", book_of(folder)["accounts"]["user"]["token"]["next"], 1)
+
+
 def a_code_in_a_script(folder):
     """Only a code that passes lets in. A blank line is not asked for, and counts nowhere."""
     tokens = [hotp(look_ahead=0, limit=2, name=name) for name in ["user", "-x"]]
@@ -641,6 +696,7 @@ TESTS = [
     keys_at_fault,
     a_backup,
     a_shell,
+    a_hall_of_your_own,
     all_in_order,
     units,
     every_block,
