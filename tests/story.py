@@ -57,7 +57,7 @@ def is_whole(command):
 
 
 def ran(story):
-    """What each command of a story printed, faults too, and its status. All run in one bash."""
+    """What each command of a story printed, and its status. All run in one bash, and none prints a fault."""
     mark = f"{os.urandom(16).hex()} "
     script = "".join(f"{command}printf '{mark}%d\\n' $?\n" for command, _, _ in story)
     with tempfile.TemporaryDirectory() as folder:
@@ -67,8 +67,9 @@ def ran(story):
         path = f"{commands}:{os.environ['PATH']}"
         done = subprocess.run(
             ["bash", "-c", script], cwd=folder, env={**os.environ, "PATH": path}, input=PASSWORD,
-            stdout=subprocess.PIPE, stderr=subprocess.STDOUT, text=True, timeout=120,
+            capture_output=True, text=True, timeout=120,
         )
+    same("the faults of the story", done.stderr, "")
     parts = re.split(rf"{mark}(\d+)\n", done.stdout)
     return list(zip(parts[0::2], map(int, parts[1::2])))
 

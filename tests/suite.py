@@ -4,6 +4,8 @@ import fcntl
 import os
 import pathlib
 import pwd
+import random
+import secrets
 import subprocess
 import sys
 import tempfile
@@ -15,6 +17,10 @@ if not __debug__:
     sys.exit("suite.py: the tests rest on assertions, which python3 -O and PYTHONOPTIMIZE leave out")
 
 PROGRAM = os.path.abspath(sys.argv[1])
+
+# The times at which runs are stopped and the orders that are tried follow from this number: SEED=N in the environment takes the same.
+SEED = int(os.environ.get("SEED") or secrets.randbelow(1 << 32))
+random.seed(SEED)
 
 # Whether root runs the script, and how it then runs the program as the user nobody, where permissions matter.
 ROOT = os.geteuid() == 0
@@ -166,4 +172,6 @@ def run_all(tests):
                 line = (fault.__traceback__.tb_next or fault.__traceback__).tb_lineno
                 print(f"{test.__name__}: line {line}: {type(fault).__name__}: {fault}", file=sys.stderr)
     print(f"{os.path.basename(sys.argv[0])}: {len(tests) - failed} passed, {failed} failed", file=sys.stderr)
+    if failed:
+        print(f"{os.path.basename(sys.argv[0])}: SEED={SEED}", file=sys.stderr)
     sys.exit(failed != 0)
