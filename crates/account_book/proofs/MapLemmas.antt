@@ -1,4 +1,4 @@
--- A book's entries and the finite map of them change alike.
+-- A book's accounts change alike in their order and as a map.
 use Rattle.std.proofs.Common.{◌≡◌, ◌∙◌, refl, ap, sym, subst, cond, List, [], ◌∷◌, ℕ, Bor, Option, IsSome, option_copied}
 use Rattle.std.specs.declared.option.Option.TheVariants.{None, Some}
 use Rattle.std.specs.declared.cmp.Ordering.{Ordering}

@@ -1,4 +1,5 @@
--- A book as accounts by their names: the account at a name, and books in which one account changes.
+-- A book as accounts by their names, in byte order of the names: the account at a name, and books in which one account
+-- changes. Of each change it is also said what becomes of the accounts as a map from names.
 use Rattle.std.specs.Prelude.{ℕ, ◌≡◌, List, Option}
 use Rattle.std.specs.Option.{option_map_or}
 use Rattle.std.specs.FinMap as map
@@ -39,7 +40,7 @@ with_changed book name change = record book {
 abbrev pub with_act_as : List (List ℕ) → AccountFields → AccountFields
 with_act_as names account = record account { act_as = names }
 
--- the accounts of a book, as a finite map from names
+-- the accounts of a book, as a map from names
 abbrev pub accounts_of : BookFields → FinMap name_cmp AccountFields
 accounts_of book = from_entries book.accounts
 
@@ -49,18 +50,19 @@ abbrev pub map_changed : FinMap name_cmp AccountFields → List ℕ → (Account
 map_changed accounts name change =
     option_map_or (λ account. map.insert accounts name (change account)) (map.get accounts name) accounts
 
--- the account of this name, where there is one, is changed, and nothing else: in the list of the accounts and
--- in the map of them
-pub record IsChanged (old : BookFields) (name : List ℕ) (change : AccountFields → AccountFields) (new : BookFields) : Type 0 where
-  pub book : new ≡ with_changed old name change
-  pub accounts : accounts_of new ≡ map_changed (accounts_of old) name change
+-- a book is this one, and its accounts, as a map, are these
+pub record Becomes (expected : BookFields) (mapped : FinMap name_cmp AccountFields) (new : BookFields) : Type 0 where
+  pub book : new ≡ expected
+  pub accounts : accounts_of new ≡ mapped
+
+-- the account of this name, where there is one, is changed, and nothing else
+abbrev pub IsChanged : BookFields → List ℕ → (AccountFields → AccountFields) → BookFields → Type 0
+IsChanged old name change = Becomes (with_changed old name change) (map_changed (accounts_of old) name change)
 
 -- this account is added at a name that is free, and nothing else changes
-pub record IsAdded (old : BookFields) (name : List ℕ) (account : AccountFields) (new : BookFields) : Type 0 where
-  pub book : new ≡ with_account old name account
-  pub accounts : accounts_of new ≡ map.insert (accounts_of old) name account
+abbrev pub IsAdded : BookFields → List ℕ → AccountFields → BookFields → Type 0
+IsAdded old name account = Becomes (with_account old name account) (map.insert (accounts_of old) name account)
 
 -- the account of this name, where there is one, is removed, and nothing else changes
-pub record IsRemoved (old : BookFields) (name : List ℕ) (new : BookFields) : Type 0 where
-  pub book : new ≡ without_account old name
-  pub accounts : accounts_of new ≡ map.remove (accounts_of old) name
+abbrev pub IsRemoved : BookFields → List ℕ → BookFields → Type 0
+IsRemoved old name = Becomes (without_account old name) (map.remove (accounts_of old) name)

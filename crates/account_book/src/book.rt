@@ -17,8 +17,8 @@ use std::alloc::Global;
 use std::collections::BTreeMap;
 use std::marker::Model;
 
-/// An account book. Contracts see its accounts as a list of names, each with its account, in byte order of
-/// the names, and as a map from names to accounts.
+/// An account book. Contracts see its accounts by their names, in byte order of the names, and also as a map
+/// from names.
 #[derive(Drop)]
 pub struct Book {
     contents: Contents,

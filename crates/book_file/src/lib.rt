@@ -6,7 +6,9 @@
 //! open file, which ends with the run, however it ends; the next file is locked before it is the book's. A save is
 //! made only where the file at the path is the one that was read, or saved last.
 //!
-//! No contract can say what a file has in it: what the store counts is proved, and what files have is tested.
+//! Contracts say that the text of a save was written to a file, at the end of what that had (`IsWritten`), and that
+//! what is read is all that a file had left (`IsRead`). Which path a file has, and that the file of the next text was
+//! empty, no contract can say: the kit's `open` promises nothing of what a file has. That is tested.
 //!
 //! ```rust
 //! use book_file::{BookFile, FileStore};

@@ -1,6 +1,5 @@
 //! The store of a book that is kept in a file.
-ghost use Rattle.std.specs.Prelude.{◌≡◌, ◌<◌, ◌+◌, ◌^◌, [], string_bytes, Some, None, false};
-ghost use Rattle.account_book.specs.Store.{StoreFacts};
+ghost use Rattle.std.specs.Prelude.{◌≡◌, ◌<◌, ◌+◌, ◌^◌, string_bytes, Some, None, false};
 ghost use Rattle.book_file.specs.Text.{IsWritten};
 ghost use Rattle.std.specs.Option.{is_some, option_map, unwrap_or};
 

@@ -3,7 +3,7 @@ mod Fields
 mod Lists
 mod Entries
 mod RowLemmas
-mod KindLemmas
+mod ValueTypeLemmas
 mod TableLemmas
 mod Whole
 mod WritesItself

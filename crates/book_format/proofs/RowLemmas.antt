@@ -3,7 +3,7 @@ use Rattle.std.proofs.Common.{◌≡◌, ◌⊎◌, ℕ, List, [], ◌∷◌, co
 use Prim.Native.String.{String}
 use Rattle.toml.specs.Data.{Data, table, Members, get_member}
 use Rattle.book_format.specs.Keys.{is_among, has_only}
-use Rattle.book_format.specs.Rows.{◌>>=◌, demand, Kind, Row, Table, Maker, table_keys, HasMarks, HasRows, IsTable, read_rows, read_table, table_of, table_in, in_table, HasAt, HasSome, read_or, read_some, row, row_to, row_or, optional, number_at}
+use Rattle.book_format.specs.Rows.{◌>>=◌, demand, ValueType, Row, Table, Maker, table_keys, HasMarks, HasRows, IsTable, read_rows, read_table, table_of, table_in, in_table, HasAt, HasSome, read_or, read_some, row, row_to, row_or, optional, number_at}
 use Rattle.book_format.specs.declared.fault.BookWhy.{BookWhy}
 use Rattle.book_format.specs.declared.fault.BookWhy.TheVariants.{Key}
 use Rattle.book_format.proofs.Binds.{bind_ok, demand_ok, ok_same}
@@ -79,10 +79,10 @@ unfolding read_table
 table_held t sound ms x h =
     rw h.known (read_held t.rows t.make ms (fields_of t.rows x) sound.rows (has_fields t.rows ms x h.rows) ∙ ap Ok (sound.keeps x))
 
--- kinds of values
+-- types of values
 
--- a kind reads exactly the values that it is of
-pub record IsSoundKind {V : Type 0} (k : Kind V) : Type 0 where
+-- a type reads exactly the values that it is of
+pub record IsSoundType {V : Type 0} (k : ValueType V) : Type 0 where
   pub found : (d : Data) (v : V) → k.read d ≡ Ok v → k.Is d v
   pub held : (d : Data) (v : V) → k.Is d v → k.read d ≡ Ok v
 
@@ -91,7 +91,7 @@ table_said (table ns) ms h = ap table (ok_same ns ms h)
 table_said d ms h = absurd (cc h)
 
 -- tables without marks
-pub in_table_sound : {T : Type 0} (t : Table T) → IsSound t → ((ms : Members) → HasMarks t.marks ms) → IsSoundKind (in_table t)
+pub in_table_sound : {T : Type 0} (t : Table T) → IsSound t → ((ms : Members) → HasMarks t.marks ms) → IsSoundType (in_table t)
 unfolding table_in
 in_table_sound t sound marks = record {
   found = λ d x h.
@@ -102,20 +102,20 @@ in_table_sound t sound marks = record {
 
 -- rows of each sort
 
-pub at_found : {V : Type 0} (k : Kind V) → IsSoundKind k → (v : V) (o : Option Data) → read_or (Err Key) k.read o ≡ Ok v → (d : Data) × (o ≡ Some d) × k.Is d v
+pub at_found : {V : Type 0} (k : ValueType V) → IsSoundType k → (v : V) (o : Option Data) → read_or (Err Key) k.read o ≡ Ok v → (d : Data) × (o ≡ Some d) × k.Is d v
 at_found k sound v None h = absurd (cc h)
 at_found k sound v (Some d) h = (d, refl, sound.found d v h)
 
-pub at_held : {V : Type 0} (k : Kind V) (missing : Result V BookWhy) → IsSoundKind k → (key : List ℕ) (ms : Members) (v : V) → HasAt key k ms v
+pub at_held : {V : Type 0} (k : ValueType V) (missing : Result V BookWhy) → IsSoundType k → (key : List ℕ) (ms : Members) (v : V) → HasAt key k ms v
     → read_or missing k.read (get_member key ms) ≡ Ok v
 at_held k missing sound key ms v h = rw h.1 (sound.held h.0 v h.2)
 
-pub or_found : {V : Type 0} (k : Kind V) → IsSoundKind k → (other v : V) (o : Option Data) → read_or (Ok other) k.read o ≡ Ok v
+pub or_found : {V : Type 0} (k : ValueType V) → IsSoundType k → (other v : V) (o : Option Data) → read_or (Ok other) k.read o ≡ Ok v
     → ((o ≡ None) × (v ≡ other)) ⊎ ((d : Data) × (o ≡ Some d) × k.Is d v)
 or_found k sound other v None h = inl (refl, sym (ok_same other v h))
 or_found k sound other v (Some d) h = inr (d, refl, sound.found d v h)
 
-some_found : {V : Type 0} (k : Kind V) → IsSoundKind k → (key : List ℕ) (ms : Members) (v : Option V) (o : Option Data) → get_member key ms ≡ o
+some_found : {V : Type 0} (k : ValueType V) → IsSoundType k → (key : List ℕ) (ms : Members) (v : Option V) (o : Option Data) → get_member key ms ≡ o
     → read_or (Ok None) (λ d. k.read d >>= λ v. Ok (Some v)) o ≡ Ok v → HasSome key k ms v
 some_found k sound key ms None None at h = at
 some_found k sound key ms (Some v) None at h = absurd (cc h)
@@ -123,24 +123,24 @@ some_found k sound key ms v (Some d) at h =
     let (x, said, same) = bind_ok (k.read d) (λ v. Ok (Some v)) v h in
     subst (λ o. HasSome key k ms o) (ok_same (Some x) v same) (d, at, sound.found d x said)
 
-some_held : {V : Type 0} (k : Kind V) → IsSoundKind k → (key : List ℕ) (ms : Members) (v : Option V) → HasSome key k ms v → read_some key k ms ≡ Ok v
+some_held : {V : Type 0} (k : ValueType V) → IsSoundType k → (key : List ℕ) (ms : Members) (v : Option V) → HasSome key k ms v → read_some key k ms ≡ Ok v
 some_held k sound key ms None h = rw h refl
 some_held k sound key ms (Some v) h = rw (h.1, sound.held h.0 v h.2) refl
 
-pub row_sound : {T V : Type 0} (name : String) (k : Kind V) (field : T → V) → IsSoundKind k → IsSoundRow (row name k field)
+pub row_sound : {T V : Type 0} (name : String) (k : ValueType V) (field : T → V) → IsSoundType k → IsSoundRow (row name k field)
 row_sound name k field sound = record {
   found = λ ms v h. at_found k sound v (get_member (codes name) ms) h;
   held = λ ms v h. at_held k (Err Key) sound (codes name) ms v h;
 }
 
-pub row_to_sound : {T V : Type 0} (name : String) (k : ℕ → Kind V) (bound : String) (field : T → V) → ((n : ℕ) → IsSoundKind (k n))
+pub row_to_sound : {T V : Type 0} (name : String) (k : ℕ → ValueType V) (bound : String) (field : T → V) → ((n : ℕ) → IsSoundType (k n))
     → IsSoundRow (row_to name k bound field)
 row_to_sound name k bound field sound = record {
   found = λ ms v h. at_found (k (number_at (codes bound) ms)) (sound (number_at (codes bound) ms)) v (get_member (codes name) ms) h;
   held = λ ms v h. at_held (k (number_at (codes bound) ms)) (Err Key) (sound (number_at (codes bound) ms)) (codes name) ms v h;
 }
 
-pub row_or_sound : {T V : Type 0} (other : V) (name : String) (k : Kind V) (field : T → V) → IsSoundKind k → IsSoundRow (row_or other name k field)
+pub row_or_sound : {T V : Type 0} (other : V) (name : String) (k : ValueType V) (field : T → V) → IsSoundType k → IsSoundRow (row_or other name k field)
 row_or_sound other name k field sound = record {
   found = λ ms v h. or_found k sound other v (get_member (codes name) ms) h;
   held = λ ms v h. elim h [
@@ -149,7 +149,7 @@ row_or_sound other name k field sound = record {
   ];
 }
 
-pub optional_sound : {T V : Type 0} (name : String) (k : Kind V) (field : T → Option V) → IsSoundKind k → IsSoundRow (optional name k field)
+pub optional_sound : {T V : Type 0} (name : String) (k : ValueType V) (field : T → Option V) → IsSoundType k → IsSoundRow (optional name k field)
 optional_sound name k field sound = record {
   found = λ ms v h. some_found k sound (codes name) ms v (get_member (codes name) ms) refl h;
   held = λ ms v h. some_held k sound (codes name) ms v h;

@@ -13,7 +13,7 @@ use Rattle.otp_core.specs.declared.token.kinds.Fields.{Fields}
 use Rattle.otp_core.specs.declared.token.kinds.Fields.TheVariants.{Hotp, Totp}
 use Rattle.book_format.specs.Account.{AccountFields, AreKeys, IsAccount, most_names}
 use Rattle.book_format.specs.Book.{BookFields, AreAccounts, IsBook}
-use Rattle.book_format.specs.Kinds.{text_in, plain_name_of, name_list}
+use Rattle.book_format.specs.ValueTypes.{text_in, plain_name_of, name_list}
 use Rattle.book_format.specs.Reading.{named_account_of, in_account, at_top, accounts_from, accounts_of_table, is_one, top_of, book_of}
 use Rattle.book_format.specs.Rows.{demand, IsTableIn, HasAt, HasSome, read_or, read_table, table_of, table_in, in_table}
 use Rattle.book_format.specs.Tables.{mech, hotp, totp, IsToken, token_of_kind, token_in, token, account, document}
@@ -22,17 +22,17 @@ use Rattle.book_format.specs.declared.account.MechKeys.{MechKeys}
 use Rattle.book_format.specs.declared.fault.BookWhy.{BookWhy}
 use Rattle.book_format.specs.declared.fault.BookWhy.TheVariants.{Count, Format, Key, KeyLength, Salt}
 use Rattle.book_format.proofs.Binds.{bind_ok, demand_ok, ok_same}
-use Rattle.book_format.proofs.KindLemmas.{kind_sound, number_range, bytes_range, name_found, name_held, name_list_sound}
-use Rattle.book_format.proofs.RowLemmas.{IsSound, IsSoundKind, table_found, table_held, table_said, in_table_sound, row_sound, row_to_sound, row_or_sound, optional_sound}
+use Rattle.book_format.proofs.ValueTypeLemmas.{value_type_sound, number_range, bytes_range, name_found, name_held, name_list_sound}
+use Rattle.book_format.proofs.RowLemmas.{IsSound, IsSoundType, table_found, table_held, table_said, in_table_sound, row_sound, row_to_sound, row_or_sound, optional_sound}
 
 pub mech_sound : (len : ℕ) → IsSound (mech len)
-mech_sound len = record { gives = λ vs. refl; keeps = λ m. refl; rows = search (row_sound, kind_sound) parts 8 }
+mech_sound len = record { gives = λ vs. refl; keeps = λ m. refl; rows = search (row_sound, value_type_sound) parts 8 }
 
 pub hotp_sound : IsSound hotp
-hotp_sound = record { gives = λ vs. refl; keeps = λ t. refl; rows = search (row_sound, row_or_sound, row_to_sound, kind_sound) parts 16 }
+hotp_sound = record { gives = λ vs. refl; keeps = λ t. refl; rows = search (row_sound, row_or_sound, row_to_sound, value_type_sound) parts 16 }
 
 pub totp_sound : IsSound totp
-totp_sound = record { gives = λ vs. refl; keeps = λ t. refl; rows = search (row_sound, optional_sound, row_to_sound, kind_sound) parts 24 }
+totp_sound = record { gives = λ vs. refl; keeps = λ t. refl; rows = search (row_sound, optional_sound, row_to_sound, value_type_sound) parts 24 }
 
 -- a token
 
@@ -72,7 +72,7 @@ unfolding token_in token_of_kind text_in
 token_held d (Hotp t) h = rw (h.1, h.2.marks.0, table_held hotp hotp_sound h.0 t h.2) refl
 token_held d (Totp t) h = rw (h.1, h.2.marks.0, table_held totp totp_sound h.0 t h.2) refl
 
-pub token_sound : IsSoundKind token
+pub token_sound : IsSoundType token
 token_sound = record { found = token_found; held = token_held }
 
 -- an account
@@ -84,10 +84,10 @@ account_sound = record {
   rows = search (optional_sound, row_or_sound, mechs, name_list_sound, token_sound) parts 8;
 }
   where
-    mechs : (len : ℕ) → IsSoundKind (in_table (mech len))
+    mechs : (len : ℕ) → IsSoundType (in_table (mech len))
     mechs len = in_table_sound (mech len) (mech_sound len) (λ ms. tt)
 
-accounts : IsSoundKind (in_table account)
+accounts : IsSoundType (in_table account)
 accounts = in_table_sound account account_sound (λ ms. tt)
 
 entry_parts : (key : List ℕ) (d : Data) (entry : List ℕ × AccountFields) → named_account_of key d ≡ Ok entry
@@ -136,7 +136,7 @@ of_table_held (Some ms) entries h = accounts_held 0 ms entries h
 -- the document
 
 document_sound : IsSound document
-document_sound = record { gives = λ vs. refl; keeps = λ t. refl; rows = search (row_sound, optional_sound, kind_sound) parts 8 }
+document_sound = record { gives = λ vs. refl; keeps = λ t. refl; rows = search (row_sound, optional_sound, value_type_sound) parts 8 }
 
 pub at_top_ok : {A : Type 0} (r : Result A BookWhy) (x : A) → at_top r ≡ Ok x → r ≡ Ok x
 at_top_ok (Ok y) x h = cc h

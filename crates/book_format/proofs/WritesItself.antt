@@ -12,15 +12,15 @@ use Rattle.otp_core.specs.declared.token.kinds.TotpFields.{TotpFields}
 use Rattle.book_format.specs.Account.{AccountFields, AreKeys, IsAccount}
 use Rattle.book_format.specs.Book.{BookFields, AreAccounts, IsBook}
 use Rattle.book_format.specs.Keys.{is_among, has_only}
-use Rattle.book_format.specs.Kinds.{number, number_in, signed_in, AreNames}
+use Rattle.book_format.specs.ValueTypes.{number, number_in, signed_in, AreNames}
 use Rattle.book_format.specs.Put.{put_some}
-use Rattle.book_format.specs.Rows.{Kind, WritesItself, Table, HasMarks, HasRows, HasSome, IsTable, entries, table_keys, in_table, number_at, written}
+use Rattle.book_format.specs.Rows.{ValueType, WritesItself, Table, HasMarks, HasRows, HasSome, IsTable, entries, table_keys, in_table, number_at, written}
 use Rattle.book_format.specs.Tables.{mech, hotp, totp, token, account, document}
 use Rattle.book_format.specs.Trees.{AreAccountTrees, IsBookTree}
 use Rattle.book_format.specs.Written.{accounts_tree, book_tree}
 use Rattle.book_format.specs.declared.account.MechKeys.{MechKeys}
 use Rattle.book_format.specs.declared.fault.BookWhy.TheVariants.{Count, KeyLength, Salt, Token}
-use Rattle.book_format.proofs.KindLemmas.{ComesBack, number_again, signed_again, bytes_again, hash_again}
+use Rattle.book_format.proofs.ValueTypeLemmas.{ComesBack, number_again, signed_again, bytes_again, hash_again}
 use Rattle.book_format.proofs.PutLemmas.{HasAll, are_new, has_all, none_yet, all_known, known_all}
 
 -- a table is written as that of its T, where what is written at each key makes it so
@@ -32,7 +32,7 @@ writes_itself t x new known each =
     record { marks = marks; known = known_all (is_among (table_keys t)) (entries t x) no_members known refl; rows = rows }
 
 -- where a key that may be missing has what an option is written as
-some_writes_itself : {V : Type 0} (k : Kind V) (key : List ℕ) (ms : Members) (o : Option V) → get_member key ms ≡ option_map k.write o → ForSome o (WritesItself k) → HasSome key k ms o
+some_writes_itself : {V : Type 0} (k : ValueType V) (key : List ℕ) (ms : Members) (o : Option V) → get_member key ms ≡ option_map k.write o → ForSome o (WritesItself k) → HasSome key k ms o
 some_writes_itself k key ms None at h = at
 some_writes_itself k key ms (Some v) at h = (k.write v, at, h v refl)
 

@@ -2,6 +2,8 @@
 use Rattle.std.specs.Prelude.{ℕ, ◌≤◌, ◌≡◌, List, length, Option}
 use Rattle.std.specs.Option.{ForSome}
 use Rattle.hex.specs.Hex.{IsBytes}
+use Rattle.mac_core.specs.Mechanism.{length_by}
+use Rattle.mac_core.specs.declared.mechanism.Mechanism.TheVariants.{ScramSha1, ScramSha256}
 use Rattle.scram_text.specs.Class.{IsSalt}
 use Rattle.scram_text.specs.Parts.{IsCount}
 use Rattle.book_format.specs.declared.account.MechKeys.{MechKeys}
@@ -29,6 +31,6 @@ pub record AreKeys (len : ℕ) (keys : MechKeys) : Type 0 where
 
 -- an account is in its ranges; names and tokens have ranges of their own
 pub record IsAccount (account : AccountFields) : Type 0 where
-  pub sha1 : ForSome account.sha1 (AreKeys 20)
-  pub sha256 : ForSome account.sha256 (AreKeys 32)
+  pub sha1 : ForSome account.sha1 (AreKeys (length_by ScramSha1))
+  pub sha256 : ForSome account.sha256 (AreKeys (length_by ScramSha256))
   pub names : length account.act_as ≤ most_names

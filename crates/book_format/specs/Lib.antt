@@ -4,7 +4,7 @@ pub mod Faults
 pub mod Keys
 pub mod Put
 pub mod Rows
-pub mod Kinds
+pub mod ValueTypes
 pub mod Tables
 pub mod Reading
 pub mod Trees

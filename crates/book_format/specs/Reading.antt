@@ -6,7 +6,7 @@ use Rattle.toml.specs.Data.{Data, Members, no_members, member, get_member, as_in
 use Rattle.toml.specs.Parse.{parse_document}
 use Rattle.book_format.specs.Account.{AccountFields}
 use Rattle.book_format.specs.Book.{BookFields}
-use Rattle.book_format.specs.Kinds.{plain_name_of}
+use Rattle.book_format.specs.ValueTypes.{plain_name_of}
 use Rattle.book_format.specs.Rows.{◌>>=◌, demand, read_table, table_in}
 use Rattle.book_format.specs.Tables.{account, document, TopFields}
 use Rattle.book_format.specs.declared.fault.BookFault.{BookFault}

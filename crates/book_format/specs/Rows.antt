@@ -19,14 +19,14 @@ abbrev pub demand : Bool → BookWhy → Result (Unit {0}) BookWhy
 demand true why = Ok tt
 demand false why = Err why
 
--- a kind of value: which TOML value is that of which V, the V or the fault of each, and as what a V is written
-pub record Kind (V : Type 0) : Type 1 where
+-- a type of values: which TOML value is that of which V, the V or the fault of each, and as what a V is written
+pub record ValueType (V : Type 0) : Type 1 where
   pub Is : Data → V → Type 0
   pub read : Data → Result V BookWhy
   pub write : V → Data
 
 -- what a V is written as is that V's value
-abbrev pub WritesItself : {V : Type 0} → Kind V → V → Type 0
+abbrev pub WritesItself : {V : Type 0} → ValueType V → V → Type 0
 WritesItself k v = k.Is (k.write v) v
 
 -- a row of the table of a T: a key, what the table has there, or its fault, what is written there, and which field it is
@@ -108,12 +108,12 @@ table_in t d = table_of d >>= read_table t
 abbrev pub IsTableIn : {T : Type 0} → Table T → Data → T → Type 0
 IsTableIn t d x = (ms : Members) × (d ≡ table ms) × IsTable t ms x
 
--- tables without marks as a kind of value
-abbrev pub in_table : {T : Type 0} → Table T → Kind T
+-- tables without marks as a type of values
+abbrev pub in_table : {T : Type 0} → Table T → ValueType T
 in_table t = record { Is = IsTableIn t; read = table_in t; write = λ x. table (written t x) }
 
--- the table has a value of this kind at a key
-abbrev pub HasAt : {V : Type 0} → List ℕ → Kind V → Members → V → Type 0
+-- the table has a value of this type at a key
+abbrev pub HasAt : {V : Type 0} → List ℕ → ValueType V → Members → V → Type 0
 HasAt key k ms v = (d : Data) × (get_member key ms ≡ Some d) × k.Is d v
 
 -- what is read of a value, where what a missing one gives is given
@@ -122,15 +122,15 @@ read_or missing read None = missing
 read_or missing read (Some d) = read d
 
 -- the value at a key, or the fault: a missing key is one
-abbrev pub read_at : {V : Type 0} → List ℕ → Kind V → Members → Result V BookWhy
+abbrev pub read_at : {V : Type 0} → List ℕ → ValueType V → Members → Result V BookWhy
 read_at key k ms = read_or (Err Key) k.read (get_member key ms)
 
 -- the value at a key, or None where the key is missing
-abbrev pub read_some : {V : Type 0} → List ℕ → Kind V → Members → Result (Option V) BookWhy
+abbrev pub read_some : {V : Type 0} → List ℕ → ValueType V → Members → Result (Option V) BookWhy
 read_some key k ms = read_or (Ok None) (λ d. k.read d >>= λ v. Ok (Some v)) (get_member key ms)
 
--- the table has a value of this kind at a key, or has neither key nor value
-abbrev pub HasSome : {V : Type 0} → List ℕ → Kind V → Members → Option V → Type 0
+-- the table has a value of this type at a key, or has neither key nor value
+abbrev pub HasSome : {V : Type 0} → List ℕ → ValueType V → Members → Option V → Type 0
 HasSome key k ms None = get_member key ms ≡ None
 HasSome key k ms (Some v) = HasAt key k ms v
 
@@ -143,7 +143,7 @@ number_at key ms = number_of (get_member key ms)
     number_of o = 0
 
 -- a row whose key has to be there
-abbrev pub row : {T V : Type 0} → String → Kind V → (T → V) → Row T
+abbrev pub row : {T V : Type 0} → String → ValueType V → (T → V) → Row T
 row name k field = record {
   V = _;
   key = codes name;
@@ -153,8 +153,8 @@ row name k field = record {
   field = field;
 }
 
--- a row whose key has to be there, of a kind with a bound: the whole number at another key
-abbrev pub row_to : {T V : Type 0} → String → (ℕ → Kind V) → String → (T → V) → Row T
+-- a row whose key has to be there, of a type with a bound: the whole number at another key
+abbrev pub row_to : {T V : Type 0} → String → (ℕ → ValueType V) → String → (T → V) → Row T
 row_to name k bound field = record {
   V = _;
   key = codes name;
@@ -165,7 +165,7 @@ row_to name k bound field = record {
 }
 
 -- a row whose key may be missing, which stands for a value that is then written all the same
-abbrev pub row_or : {T V : Type 0} → V → String → Kind V → (T → V) → Row T
+abbrev pub row_or : {T V : Type 0} → V → String → ValueType V → (T → V) → Row T
 row_or other name k field = record {
   V = _;
   key = codes name;
@@ -176,7 +176,7 @@ row_or other name k field = record {
 }
 
 -- a row whose key may be missing, and then has no value
-abbrev pub optional : {T V : Type 0} → String → Kind V → (T → Option V) → Row T
+abbrev pub optional : {T V : Type 0} → String → ValueType V → (T → Option V) → Row T
 optional name k field = record {
   V = Option _;
   key = codes name;

@@ -1,8 +1,10 @@
--- The tables of the format. A row has a key, the kind of its value with its range, and the field that it is; rows
+-- The tables of the format. A row has a key, the type of its value with its range, and the field that it is; rows
 -- stand in the order in which their faults come.
 use Rattle.std.specs.Prelude.{ℕ, ◌+◌, pos, List, [], ◌∷◌, codes, if◌then◌else◌, Option, Result, Ok, Err}
 use Rattle.std.specs.Str.{bytes_eq}
 use Rattle.toml.specs.Data.{Data, string, integer, table, Members, get_member}
+use Rattle.mac_core.specs.Mechanism.{length_by}
+use Rattle.mac_core.specs.declared.mechanism.Mechanism.TheVariants.{ScramSha1, ScramSha256}
 use Rattle.scram_text.specs.Parts.{most_count}
 use Rattle.otp_core.specs.Ranges.{least_secret, most_secret, least_digits, most_digits, last_moment, most_counter, most_look_ahead, most_sync_ahead, longest_step, most_steps, most_drift, most_limit}
 use Rattle.otp_core.specs.declared.token.kinds.Fields.{Fields}
@@ -10,8 +12,8 @@ use Rattle.otp_core.specs.declared.token.kinds.Fields.TheVariants.{Hotp, Totp}
 use Rattle.otp_core.specs.declared.token.kinds.HotpFields.{HotpFields}
 use Rattle.otp_core.specs.declared.token.kinds.TotpFields.{TotpFields}
 use Rattle.book_format.specs.Account.{AccountFields}
-use Rattle.book_format.specs.Kinds.{number, signed, bytes, text_in, hash, name_list, any_table}
-use Rattle.book_format.specs.Rows.{◌>>=◌, table_of, Kind, Table, row, row_to, row_or, optional, IsTableIn, read_or, read_table, written, in_table}
+use Rattle.book_format.specs.ValueTypes.{number, signed, bytes, text_in, hash, name_list, any_table}
+use Rattle.book_format.specs.Rows.{◌>>=◌, table_of, ValueType, Table, row, row_to, row_or, optional, IsTableIn, read_or, read_table, written, in_table}
 use Rattle.book_format.specs.declared.account.MechKeys.{MechKeys}
 use Rattle.book_format.specs.declared.fault.BookWhy.{BookWhy}
 use Rattle.book_format.specs.declared.fault.BookWhy.TheVariants.{Salt, Count, Key, KeyLength, Token}
@@ -113,7 +115,7 @@ token_tree (Hotp t) = table (written hotp t)
 token_tree (Totp t) = table (written totp t)
 
 -- tokens of either kind
-abbrev pub token : Kind Fields
+abbrev pub token : ValueType Fields
 token = record { Is = IsToken; read = token_in; write = token_tree }
 
 -- an account: a mechanism without its key has no keys, and without `token` there is none
@@ -121,8 +123,8 @@ abbrev pub account : Table AccountFields
 account = record {
   marks = [];
   rows =
-      optional "sha1" (in_table (mech 20)) (λ a. a.sha1)
-      ∷ optional "sha256" (in_table (mech 32)) (λ a. a.sha256)
+      optional "sha1" (in_table (mech (length_by ScramSha1))) (λ a. a.sha1)
+      ∷ optional "sha256" (in_table (mech (length_by ScramSha256))) (λ a. a.sha256)
       ∷ row_or [] "act_as" name_list (λ a. a.act_as)
       ∷ optional "token" token (λ a. a.token)
       ∷ [];
@@ -140,7 +142,7 @@ abbrev pub document : Table TopFields
 document = record {
   marks = (codes "format", integer (pos 1)) ∷ [];
   rows =
-      row "decoy_key" (bytes KeyLength 32 32) (λ t. t.decoy_key)
+      row "decoy_key" (bytes KeyLength (length_by ScramSha256) (length_by ScramSha256)) (λ t. t.decoy_key)
       ∷ row "decoy_count" (number Count 1 most_count) (λ t. t.decoy_count)
       ∷ optional "accounts" any_table (λ t. t.accounts)
       ∷ [];

@@ -1,8 +1,8 @@
 //! The accounts of a book.
-ghost use Rattle.std.specs.Prelude.{◌≡◌, ◌≤◌, IfOk, MatchResult, ◌⊎◌, codes, [], Ok, Some};
+ghost use Rattle.std.specs.Prelude.{◌≡◌, ◌≤◌, codes, [], Ok, Some};
 ghost use Rattle.toml.specs.Data.{get_member};
 ghost use Rattle.toml.specs.View.{view, items_view, table_view};
-ghost use Rattle.book_format.specs.Kinds.{plain_name_of, are_texts, names_in, names_of, name_list_in};
+ghost use Rattle.book_format.specs.ValueTypes.{plain_name_of, are_texts, names_in, names_of, name_list_in};
 ghost use Rattle.book_format.specs.Reading.{IsReadAs, IsReadOrFault, named_account_of, accounts_from, in_account};
 ghost use Rattle.book_format.specs.Rows.{in_table, read_or, read_some, table_in};
 ghost use Rattle.book_format.specs.Tables.{mech, token, account};
@@ -22,8 +22,8 @@ use toml::{Table, Value};
 // The most names that an account may act as.
 const MOST_NAMES: usize = 16;
 
-/// The accounts of a table in byte order of names, each wholly read before the next. A fault has the
-/// index of its account.
+/// The accounts of a table in byte order of names, each wholly read before the next. The fault is that of the first account at
+/// fault, with its index; or, at any place, `NoMemory`.
 #[tactic(auto, unfolding(crate::specs::Reading::accounts_from))]
 pub(crate) fn accounts_from(
     alloc: Global,
@@ -46,6 +46,7 @@ pub(crate) fn accounts_from(
     Ok(accounts)
 }
 
+// The fault in the account of this index.
 fn in_account(why: BookWhy, index: usize) -> BookFault
     ensures { result ≡ record { why = why; account = Some index } }
 {
@@ -55,6 +56,7 @@ fn in_account(why: BookWhy, index: usize) -> BookFault
     }
 }
 
+// An account and its name. `Name` where the key is no plain name, then the fault of the account.
 #[tactic(auto, unfolding(crate::specs::Reading::named_account_of))]
 fn named_account_of(
     alloc: Global,
@@ -68,12 +70,15 @@ fn named_account_of(
     Ok((name, account))
 }
 
+// The name. `Name` where the text is not 1 to 255 bytes of 20 to 7E hex.
 fn plain_name_of(text: &str) -> Result<PlainName, BookWhy>
     ensures { result ≡ plain_name_of text.now }
 {
     PlainName::new(text.as_bytes()).ok_or(BookWhy::Name)
 }
 
+// The account of a table. `Key` where the value is no table or a key is unknown; then the fault of the first of `sha1`,
+// `sha256`, `act_as` and `token` at fault. Each may be missing.
 #[tactic(auto, unfolding(crate::specs::Rows::table_in, crate::specs::Rows::read_table))]
 fn account_of(alloc: Global, value: &Value) -> Result<Account, BookWhy>
     ensures { IsReadAs (λ a. a) result (table_in account (view value.now)) }
@@ -92,7 +97,7 @@ fn account_of(alloc: Global, value: &Value) -> Result<Account, BookWhy>
     })
 }
 
-// What is kept for a mechanism, or None where its key is missing.
+// What is kept for a mechanism, or None where its key is missing. The faults are those of `mech_of`.
 fn mech_at(len: usize, table: &Table, key: &str) -> Result<Option<MechKeys>, BookWhy>
     requires { len ≤ 64 }
     ensures { result ≡ read_some key.now (in_table (mech len)) (table_view table.now) }
@@ -103,7 +108,7 @@ fn mech_at(len: usize, table: &Table, key: &str) -> Result<Option<MechKeys>, Boo
     }
 }
 
-// The token, or None where there is no key `token`.
+// The token, or None where there is no key `token`. The faults are those of `token_of`.
 fn token_at(table: &Table) -> Result<Option<Token>, BookWhy>
     ensures { result ≡ read_some (codes "token") token (table_view table.now) }
 {
@@ -113,7 +118,7 @@ fn token_at(table: &Table) -> Result<Option<Token>, BookWhy>
     }
 }
 
-// The names that the account may act as: none where there is no key `act_as`.
+// The names that the account may act as: none where there is no key `act_as`. The faults are those of `act_as_of`.
 fn act_as_at(alloc: Global, table: &Table) -> Result<Vec<PlainName>, BookWhy>
     ensures { IsReadAs (λ v. v.items) result (read_or (Ok []) name_list_in (get_member (codes "act_as") (table_view table.now))) }
 {
@@ -123,8 +128,9 @@ fn act_as_at(alloc: Global, table: &Table) -> Result<Vec<PlainName>, BookWhy>
     }
 }
 
-// The names of a list.
-#[tactic(auto, unfolding(crate::specs::Kinds::name_list_in))]
+// The names of a list. `Key` where the value is no list or has a value that is no text, then `Name` where there are more than
+// 16 or one is not plain.
+#[tactic(auto, unfolding(crate::specs::ValueTypes::name_list_in))]
 fn act_as_of(alloc: Global, value: &Value) -> Result<Vec<PlainName>, BookWhy>
     ensures { IsReadAs (λ v. v.items) result (name_list_in (view value.now)) }
 {
@@ -146,6 +152,7 @@ fn names_of(alloc: Global, list: &[Value]) -> Result<Vec<PlainName>, BookWhy>
     names_in(alloc, list)
 }
 
+// Whether each value is a text.
 fn are_texts(list: &[Value]) -> bool
     ensures { result ≡ are_texts (items_view list.now) }
 {
@@ -157,7 +164,8 @@ fn are_texts(list: &[Value]) -> bool
     true
 }
 
-#[tactic(auto, unfolding(crate::specs::Kinds::names_in, crate::specs::Kinds::text_in))]
+// The names of texts. `Key` at the first value that is no text, and `Name` at the first that is no plain name.
+#[tactic(auto, unfolding(crate::specs::ValueTypes::names_in, crate::specs::ValueTypes::text_in))]
 fn names_in(alloc: Global, list: &[Value]) -> Result<Vec<PlainName>, BookWhy>
     ensures { IsReadAs (λ v. v.items) result (names_in (items_view list.now)) }
 {

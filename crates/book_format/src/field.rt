@@ -1,12 +1,12 @@
 //! The values of a table: texts, whole numbers, bytes, tables.
-ghost use Rattle.std.specs.Prelude.{◌≡◌, ◌≤◌, ℤ, ℕ, List, Err, Ok, option_map, ok_or, IfOk, IfSome, length};
+ghost use Rattle.std.specs.Prelude.{◌≡◌, ◌≤◌, Err, Ok, option_map, ok_or, IfOk, IfSome, length};
 ghost use Rattle.std.specs.List.{list_any};
 ghost use Rattle.std.specs.Str.{bytes_eq};
 ghost use Rattle.toml.specs.Data.{get_member};
 ghost use Rattle.toml.specs.View.{view, table_view};
 ghost use Rattle.book_format.specs.Keys.{has_only};
 ghost use Rattle.hex.specs.Hex.{decode_of};
-ghost use Rattle.book_format.specs.Kinds.{number, number_in, bytes, bytes_in, decoded, text_in};
+ghost use Rattle.book_format.specs.ValueTypes.{number, number_in, bytes, bytes_in, decoded, text_in};
 ghost use Rattle.book_format.specs.Reading.{seen};
 ghost use Rattle.book_format.specs.Rows.{demand, number_at, read_at, read_or, table_of};
 ghost use Rattle.book_format.specs.declared.fault.BookWhy.{BookWhy};
@@ -31,7 +31,7 @@ pub(crate) fn needed<'a>(table: &'a Table, key: &str) -> Result<&'a Value, BookW
     at(table, key).ok_or(BookWhy::Key)
 }
 
-/// The members of a table.
+/// The members of a table. `Key` for another value.
 pub(crate) fn table_of(value: &Value) -> Result<&Table, BookWhy>
     ensures { seen (λ t. table_view t.now) result ≡ table_of (view value.now) }
 {
@@ -49,6 +49,7 @@ pub(crate) fn known_keys(table: &Table, keys: &[&str]) -> Result<(), BookWhy>
     }
 }
 
+// Whether each key of the table is among these.
 #[tactic(auto, unfolding(crate::specs::Keys::has_only))]
 fn has_only(table: &Table, keys: &[&str]) -> bool
     ensures { result ≡ has_only (λ key. list_any (λ k. bytes_eq k.now key) keys.now) (table_view table.now) }
@@ -61,6 +62,7 @@ fn has_only(table: &Table, keys: &[&str]) -> bool
     true
 }
 
+// Whether the key is among these.
 fn is_among(keys: &[&str], key: &str) -> bool
     ensures { result ≡ list_any (λ k. bytes_eq k.now key.now) keys.now }
 {
@@ -68,7 +70,7 @@ fn is_among(keys: &[&str], key: &str) -> bool
 }
 
 /// The text at a key. `Key` where it is missing or the value has another type.
-#[tactic(auto, unfolding(crate::specs::Kinds::text_in))]
+#[tactic(auto, unfolding(crate::specs::ValueTypes::text_in))]
 pub(crate) fn text_of<'a>(table: &'a Table, key: &str) -> Result<&'a str, BookWhy>
     ensures { seen (λ t. t.now) result ≡ read_or (Err Key) text_in (get_member key.now (table_view table.now)) }
 {
@@ -76,7 +78,7 @@ pub(crate) fn text_of<'a>(table: &'a Table, key: &str) -> Result<&'a str, BookWh
 }
 
 /// The whole number, from `least` to `most`. `Key` for a value of another type, and `why` for another number.
-#[tactic(auto, unfolding(crate::specs::Kinds::number_in))]
+#[tactic(auto, unfolding(crate::specs::ValueTypes::number_in))]
 pub(crate) fn number_in(value: &Value, least: u64, most: u64, why: BookWhy) -> Result<u64, BookWhy>
     ensures value { result ≡ number_in why least most (view value.now) }
     ensures least { IfOk result (λ n. least ≤ n) }
@@ -96,7 +98,7 @@ pub(crate) fn number_in(value: &Value, least: u64, most: u64, why: BookWhy) -> R
 
 /// The whole number from `least` to `most` at a key. `Key` where it is missing or the value has another
 /// type, and `why` where it is another number.
-#[tactic(auto, unfolding(crate::specs::Kinds::number_in))]
+#[tactic(auto, unfolding(crate::specs::ValueTypes::number_in))]
 pub(crate) fn number_of(
     table: &Table,
     key: &str,
@@ -129,7 +131,7 @@ pub(crate) fn number_or_zero(
     }
 }
 
-/// The bytes of a hexadecimal text in either case, where their number is from `least` to `most`.
+// The bytes of a hexadecimal text in either case, or None where it is not one of `least` to `most` bytes.
 fn bytes_within(least: usize, most: usize, text: &str) -> Option<Tag>
     requires { most ≤ 64 }
     ensures value { (why : BookWhy) → ok_or (option_map (λ bytes. bytes.items) result) why ≡ decoded why least most (decode_of text.now) }
@@ -147,7 +149,7 @@ fn bytes_within(least: usize, most: usize, text: &str) -> Option<Tag>
 
 /// The bytes, `least` to `most` of them, whose hexadecimal text, in either case, is at a key. `Key`
 /// where it is missing or the value has another type, and `why` for another text.
-#[tactic(auto, unfolding(crate::specs::Kinds::bytes_in, crate::specs::Kinds::text_in))]
+#[tactic(auto, unfolding(crate::specs::ValueTypes::bytes_in, crate::specs::ValueTypes::text_in))]
 pub(crate) fn bytes_of(
     table: &Table,
     key: &str,

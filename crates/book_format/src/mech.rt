@@ -11,7 +11,9 @@ use mac_core::{ScramKeys, Tag};
 use scram_text::Salt;
 use toml::Value;
 
-/// What is kept for a mechanism whose keys have `len` bytes.
+/// What is kept for a mechanism whose keys have `len` bytes. `Key` where the value is no table or a key is unknown; then of the
+/// first key at fault, in the order above: `Key` where it is missing or its value has another type, else `Salt`, `Count` or
+/// `KeyLength` where the value is out of its range.
 #[tactic(auto, unfolding(crate::specs::Rows::table_in, crate::specs::Rows::read_table))]
 pub(crate) fn mech_of(len: usize, value: &Value) -> Result<MechKeys, BookWhy>
     requires { len ≤ 64 }
@@ -30,6 +32,7 @@ pub(crate) fn mech_of(len: usize, value: &Value) -> Result<MechKeys, BookWhy>
     })
 }
 
+// The salt of 1 to 64 bytes.
 fn salt_of(bytes: &Tag) -> Salt
     requires { 1 ≤ length bytes.now.items }
     ensures { result ≡ bytes.now.items }

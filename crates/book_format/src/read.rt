@@ -4,10 +4,9 @@ ghost use Rattle.toml.specs.Data.{get_member, as_integer};
 ghost use Rattle.toml.specs.View.{table_view};
 ghost use Rattle.book_format.specs.Book.{BookFields};
 ghost use Rattle.book_format.specs.Trees.{IsBookText};
-ghost use Rattle.book_format.specs.Reading.{IsReadAs, IsReadOrFault, seen, at_top, tree_in, top_of, accounts_of_table, book_of, book_in, is_one, IsFirstFault};
-ghost use Rattle.book_format.specs.Kinds.{any_table};
+ghost use Rattle.book_format.specs.Reading.{IsReadAs, IsReadOrFault, seen, at_top, tree_in, top_of, accounts_of_table, book_in, is_one, IsFirstFault};
+ghost use Rattle.book_format.specs.ValueTypes.{any_table};
 ghost use Rattle.book_format.specs.Rows.{read_some};
-ghost use Rattle.book_format.specs.Tables.{TopFields};
 ghost use Rattle.book_format.specs.declared.fault.BookWhy.TheVariants.{NoMemory};
 ghost use Rattle.book_format.specs.declared.read.Top.{Top};
 
@@ -44,6 +43,7 @@ impl Contents {
     }
 }
 
+// The contents of a text, or the first fault: of the document, of its keys, then of its accounts.
 fn contents_of(alloc: Global, bytes: &[u8]) -> Result<Contents, BookFault>
     ensures { IsReadOrFault (λ c. c) result (book_in bytes.now) }
 {
@@ -65,13 +65,14 @@ fn contents_of(alloc: Global, bytes: &[u8]) -> Result<Contents, BookFault>
     }
 }
 
+// The fault in no account.
 fn at_top(why: BookWhy) -> BookFault
     ensures { result ≡ record { why = why; account = None } }
 {
     BookFault { why, account: None }
 }
 
-// The TOML document of the bytes.
+// The TOML document of the bytes. `Toml` where they are not UTF-8 or no document, and `NoMemory` where memory runs out.
 #[tactic(auto, unfolding(crate::specs::Reading::tree_in))]
 fn document_of(alloc: Global, bytes: &[u8]) -> Result<Table, BookWhy>
     ensures { IsReadAs table_view result (tree_in bytes.now) }
@@ -88,6 +89,8 @@ fn document_of(alloc: Global, bytes: &[u8]) -> Result<Table, BookWhy>
     }
 }
 
+// The keys of the document itself. `Format` where `format` is missing or not 1; `Key` where a key is unknown; then of the first
+// key at fault: `Key` where it is missing or its value has another type, else `KeyLength` or `Count`.
 #[tactic(auto, unfolding(crate::specs::Reading::top_of, crate::specs::Rows::read_table))]
 fn top_of(table: &Table) -> Result<Top<'_>, BookWhy>
     ensures { seen (λ t. record { decoy_key = t.decoy_key; decoy_count = t.decoy_count; accounts = option_map (λ m. table_view m.now) t.accounts }) result ≡ top_of (table_view table.now) }
@@ -116,6 +119,7 @@ fn is_format(table: &Table) -> bool
     }
 }
 
+// The decoy key, of its 32 bytes.
 fn key_of(bytes: &Tag) -> [u8; 32]
     requires { length bytes.now.items ≡ 32 }
     ensures { result ≡ bytes.now.items }
@@ -125,7 +129,7 @@ fn key_of(bytes: &Tag) -> [u8; 32]
     key
 }
 
-// The table at a key, or None where it is missing.
+// The table at a key, or None where it is missing. `Key` for another value.
 fn table_at<'a>(table: &'a Table, key: &str) -> Result<Option<&'a Table>, BookWhy>
     ensures { seen (λ t. option_map (λ m. table_view m.now) t) result ≡ read_some key.now any_table (table_view table.now) }
 {
@@ -135,7 +139,7 @@ fn table_at<'a>(table: &'a Table, key: &str) -> Result<Option<&'a Table>, BookWh
     }
 }
 
-// The accounts of a table, or none where it is missing.
+// The accounts of a table, or none where it is missing. The faults are those of `accounts_from`.
 fn accounts_of_table(
     alloc: Global,
     table: Option<&Table>,

@@ -14,7 +14,7 @@ use otp_core::Token;
 use toml::{Table, Value};
 use totp::{totp_of, totp_token};
 
-/// Reads a token.
+/// The token of a table. `Key` where the value is no table or `kind` is missing or no text, then what `kind_of` answers.
 #[tactic(auto, unfolding(crate::specs::Tables::token_in))]
 pub(crate) fn token_of(value: &Value) -> Result<Token, BookWhy>
     ensures { result ≡ token_in (view value.now) }
@@ -24,6 +24,7 @@ pub(crate) fn token_of(value: &Value) -> Result<Token, BookWhy>
     kind_of(kind, table)
 }
 
+// The token of the kind of this name. `Token` for another name, else the fault of the first key at fault.
 #[tactic(auto, unfolding(crate::specs::Tables::token_of_kind))]
 fn kind_of(kind: &str, table: &Table) -> Result<Token, BookWhy>
     ensures { result ≡ token_of_kind kind.now (table_view table.now) }

@@ -3,7 +3,6 @@ use Rattle.std.proofs.Common.{◌≡◌, ◌≤◌, ◌<◌, ◌+◌, ◌↔◌,
 use Rattle.std.specs.Prelude.{IfSome, IfNone}
 use Rattle.otp_core.specs.Ranges.{most_counter}
 use Rattle.otp_core.specs.Code.{hotp_text_by}
-use Rattle.otp_core.specs.Attempt.{CodeTexts}
 use Rattle.otp_core.specs.Attempt.CodeTexts.{TwoTexts}
 use Rattle.otp_core.specs.Window.{IsInWindow}
 use Rattle.otp_core.specs.Reply.{IsFitting, IsDueReply, limit_of, failures_of}

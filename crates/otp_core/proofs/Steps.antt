@@ -7,7 +7,7 @@ use Rattle.otp_core.specs.Attempt.CodeTexts.{OneText, TwoTexts}
 use Rattle.otp_core.specs.Window.{IsCandidate, IsPairCandidate, IsInWindow, IsStepNear, IsAbove, first_in_window, greatest, step_at}
 use Rattle.otp_core.specs.Reply.{IsDueReply, IsFitting, code_text, limit_of, failures_of, failures_after, failures_by}
 use Rattle.otp_core.specs.History.{IsAfter, AreAlike, settings_of}
-use Rattle.otp_core.specs.State.{advanced, after_pass, after_fail}
+use Rattle.otp_core.specs.State.{advanced, after_pass}
 use Rattle.otp_core.specs.declared.token.answer.Reply.{Reply}
 use Rattle.otp_core.specs.declared.token.answer.Reply.TheVariants.{Pass, Fail, Locked}
 use Rattle.otp_core.specs.declared.token.kinds.HotpFields.{HotpFields}
@@ -31,29 +31,40 @@ limit_alike s t e = sym (limit_settled s) ∙ (ap limit_of e ∙ limit_settled t
 code_alike : (s t : Fields) (c : ℕ) → settings_of s ≡ settings_of t → code_text s c ≡ code_text t c
 code_alike s t c e = sym (code_settled s c) ∙ (ap (λ f. code_text f c) e ∙ code_settled t c)
 
+-- equivalences go both ways, and from one to the next
+back : {A B : Type 0} → A ↔ B → B ↔ A
+back one = (one.1, one.0)
+
+onward : {A B C : Type 0} → A ↔ B → B ↔ C → A ↔ C
+onward one other = ((λ x. other.0 (one.0 x)), (λ x. one.1 (other.1 x)))
+
+alike_back : (s t : Fields) (h k : List Attempt) → AreAlike s h t k → AreAlike t k s h
+alike_back s t h k alike = record {
+  settings = sym alike.settings;
+  failures = sym alike.failures;
+  candidates = λ m c is. back (alike.candidates m c is);
+  pairs = λ w. back (alike.pairs w);
+}
+
+pub alike_onward : (s t u : Fields) (h k l : List Attempt) → AreAlike s h t k → AreAlike t k u l → AreAlike s h u l
+alike_onward s t u h k l one other = record {
+  settings = one.settings ∙ other.settings;
+  failures = one.failures ∙ other.failures;
+  candidates = λ m c is. onward (one.candidates m c is) (other.candidates m c is);
+  pairs = λ w. onward (one.pairs w) (other.pairs w);
+}
+
 -- a counter that fits after one of two alike pasts fits after the other
-fits_to : (s t : Fields) (h k : List Attempt) (m : ℕ) (sent : CodeTexts) (c : ℕ) → AreAlike s h t k → IsMoment m
+fits_alike : (s t : Fields) (h k : List Attempt) (m : ℕ) (sent : CodeTexts) (c : ℕ) → AreAlike s h t k → IsMoment m
     → IsFitting s h m sent c → IsFitting t k m sent c
-fits_to s t h k m (OneText text) c alike is fits =
+fits_alike s t h k m (OneText text) c alike is fits =
     ((alike.candidates m c is).0 fits.0, sym (code_alike s t c alike.settings) ∙ fits.1)
-fits_to s t h k m (TwoTexts one other) c alike is (w, next, pair, first, second) = (
+fits_alike s t h k m (TwoTexts one other) c alike is (w, next, pair, first, second) = (
   w,
   next,
   (alike.pairs w).0 pair,
   sym (code_alike s t w alike.settings) ∙ first,
   sym (code_alike s t (w + 1) alike.settings) ∙ second,
-)
-
-pub fits_from : (s t : Fields) (h k : List Attempt) (m : ℕ) (sent : CodeTexts) (c : ℕ) → AreAlike s h t k → IsMoment m
-    → IsFitting t k m sent c → IsFitting s h m sent c
-fits_from s t h k m (OneText text) c alike is fits =
-    ((alike.candidates m c is).1 fits.0, code_alike s t c alike.settings ∙ fits.1)
-fits_from s t h k m (TwoTexts one other) c alike is (w, next, pair, first, second) = (
-  w,
-  next,
-  (alike.pairs w).1 pair,
-  code_alike s t w alike.settings ∙ first,
-  code_alike s t (w + 1) alike.settings ∙ second,
 )
 
 -- a reply that is due after one of two alike pasts is due after the other
@@ -66,36 +77,28 @@ due_alike s t h k m sent Fail alike is due =
     let limit = limit_alike s t alike.settings in
     let failures = alike.failures in
     let below_limit : failures_after t k < limit_of t = due.0 in
-    (omega arith, λ c fits. due.1 c (fits_to s t h k m sent c alike is fits))
+    (omega arith, λ c fits. due.1 c (fits_alike s t h k m sent c alike is fits))
 due_alike s t h k m sent (Pass p) alike is due =
     let limit = limit_alike s t alike.settings in
     let failures = alike.failures in
     let below_limit : failures_after t k < limit_of t = due.0 in (
       (omega arith),
-      fits_from s t h k m sent p alike is due.1,
-      λ c fits. due.2 c (fits_to s t h k m sent c alike is fits),
+      fits_alike t s k h m sent p (alike_back s t h k alike) is due.1,
+      λ c fits. due.2 c (fits_alike s t h k m sent c alike is fits),
     )
 
--- no reply changes a setting
-settings_advanced : (t : Fields) (m : ℕ) (reply : Reply) → settings_of (advanced t m reply) ≡ settings_of t
-settings_advanced (Hotp t) m (Pass p) = refl
-settings_advanced (Hotp t) m Fail = refl
-settings_advanced (Hotp t) m Locked = refl
-settings_advanced (Totp t) m (Pass p) = refl
-settings_advanced (Totp t) m Fail = refl
-settings_advanced (Totp t) m Locked = refl
-
--- the failures change as the replies say
-failures_advanced : (t : Fields) (m : ℕ) (reply : Reply) → failures_of (advanced t m reply) ≡ failures_by reply (failures_of t)
-failures_advanced (Hotp t) m (Pass p) = refl
-failures_advanced (Hotp t) m Fail = refl
-failures_advanced (Hotp t) m Locked = refl
-failures_advanced (Totp t) m (Pass p) = refl
-failures_advanced (Totp t) m Fail = refl
-failures_advanced (Totp t) m Locked = refl
+-- no reply changes a setting, and the failures change as the replies say
+parts_advanced : (t : Fields) (m : ℕ) (reply : Reply)
+    → (settings_of t ≡ settings_of (advanced t m reply)) × (failures_by reply (failures_of t) ≡ failures_of (advanced t m reply))
+parts_advanced (Hotp t) m (Pass p) = (refl, refl)
+parts_advanced (Hotp t) m Fail = (refl, refl)
+parts_advanced (Hotp t) m Locked = (refl, refl)
+parts_advanced (Totp t) m (Pass p) = (refl, refl)
+parts_advanced (Totp t) m Fail = (refl, refl)
+parts_advanced (Totp t) m Locked = (refl, refl)
 
 -- after a pass of a counter that is due, HOTP's first counter is one more
-pub first_of : (o : Option ℕ) (next p : ℕ) → option_map_or (λ m. m + 1) o next ≤ p
+first_of : (o : Option ℕ) (next p : ℕ) → option_map_or (λ m. m + 1) o next ≤ p
     → option_map_or (λ m. m + 1) (Some (option_map_or (λ most. max p most) o p)) next ≡ p + 1
 first_of None next p h = refl
 first_of (Some m) next p h = omega arith
@@ -135,100 +138,110 @@ pairs_by : Fields → ℕ → ℕ → Type 0
 pairs_by (Hotp t) p w = IsInWindow (p + 1) t.sync_ahead w × (w + 1 ≤ most_counter)
 pairs_by (Totp t) p w = ⊥
 
--- candidates after a pass
-pub pass_alike : (s t : Fields) (h : List Attempt) (m : ℕ) (sent : CodeTexts) (p later c : ℕ)
-    → settings_of s ≡ settings_of t → IsFitting s h m sent p
-    → IsCandidate s (attempt_of m sent (Pass p) ∷ h) later c ↔ IsCandidate (after_pass t m p) [] later c
-unfolding window_by
-pass_alike (Hotp s) (Hotp t) h m sent p later c e fits =
+-- the same counters can pass, alone and in pairs, after two pasts
+abbrev CanPassAlike : Fields → List Attempt → Fields → List Attempt → Type 0
+CanPassAlike s h t k =
+    ((m c : ℕ) → IsMoment m → IsCandidate s h m c ↔ IsCandidate t k m c)
+    × ((w : ℕ) → IsPairCandidate s h w ↔ IsPairCandidate t k w)
+
+-- after a pass of a counter that fits the same can pass as in the token that the pass makes, whatever the past
+passed : (s t : Fields) (h : List Attempt) (m : ℕ) (sent : CodeTexts) (p : ℕ) → settings_of s ≡ settings_of t
+    → IsFitting s h m sent p → CanPassAlike s (attempt_of m sent (Pass p) ∷ h) (after_pass t m p) []
+unfolding window_by pairs_by
+passed (Hotp s) (Hotp t) h m sent p e fits =
     let first : first_in_window s.next (counters_of sent p ++ used_in h) ≡ p + 1 = first_after s h m sent p fits in (
-      (λ w. subst (λ f. window_by f m p later c) e (subst (λ n. IsInWindow n s.look_ahead c) first w)),
-      (λ w. subst (λ n. IsInWindow n s.look_ahead c) (sym first) (subst (λ f. window_by f m p later c) (sym e) w)),
+      (λ later c when. (
+        (λ w. subst (λ f. window_by f m p later c) e (subst (λ n. IsInWindow n s.look_ahead c) first w)),
+        (λ w. subst (λ n. IsInWindow n s.look_ahead c) (sym first) (subst (λ f. window_by f m p later c) (sym e) w)),
+      )),
+      (λ w. (
+        (λ x. subst (λ f. pairs_by f p w) e (subst (λ n. IsInWindow n s.sync_ahead w × (w + 1 ≤ most_counter)) first x)),
+        (λ x. subst (λ n. IsInWindow n s.sync_ahead w × (w + 1 ≤ most_counter)) (sym first) (subst (λ f. pairs_by f p w) (sym e) x)),
+      )),
     )
-pass_alike (Totp s) (Totp t) h m (OneText text) p later c e fits = (
-  (λ w. let near = subst (λ f. window_by f m p later c) e (w.0, w.1) in
-      let above : p < c = w.3.0 in
-      (near.0, near.1, (λ l is. let same : p ≡ l = cc in omega arith), tt)),
-  (λ w. let near = subst (λ f. window_by f m p later c) (sym e) (w.0, w.1) in
-      let above : p < c = w.2 p refl in
-      (near.0, near.1, (λ l is. let below : l < p = fits.0.2 l is in omega arith), (above, above_more (used_in h) p c fits.0.3 above))),
+passed (Totp s) (Totp t) h m (OneText text) p e fits = (
+  (λ later c when. (
+    (λ w. let near = subst (λ f. window_by f m p later c) e (w.0, w.1) in
+        let above : p < c = w.3.0 in
+        (near.0, near.1, (λ l is. let same : p ≡ l = cc in omega arith), tt)),
+    (λ w. let near = subst (λ f. window_by f m p later c) (sym e) (w.0, w.1) in
+        let above : p < c = w.2 p refl in
+        (near.0, near.1, (λ l is. let below : l < p = fits.0.2 l is in omega arith), (above, above_more (used_in h) p c fits.0.3 above))),
+  )),
+  (λ w. ((λ x. x), (λ x. x))),
 )
-pass_alike (Totp s) (Totp t) h m (TwoTexts one other) p later c e fits = absurd (no_pair s h m one other p fits)
-pass_alike (Hotp s) (Totp t) h m sent p later c e fits = absurd (cc)
-pass_alike (Totp s) (Hotp t) h m sent p later c e fits = absurd (cc)
+passed (Totp s) (Totp t) h m (TwoTexts one other) p e fits = absurd (no_pair s h m one other p fits)
+passed (Hotp s) (Totp t) h m sent p e fits = absurd (cc)
+passed (Totp s) (Hotp t) h m sent p e fits = absurd (cc)
 
--- pairs after a pass
-pub pairs_alike : (s t : Fields) (h : List Attempt) (m : ℕ) (sent : CodeTexts) (p w : ℕ)
-    → settings_of s ≡ settings_of t → IsFitting s h m sent p
-    → IsPairCandidate s (attempt_of m sent (Pass p) ∷ h) w ↔ IsPairCandidate (after_pass t m p) [] w
-unfolding pairs_by
-pairs_alike (Hotp s) (Hotp t) h m sent p w e fits =
-    let first : first_in_window s.next (counters_of sent p ++ used_in h) ≡ p + 1 = first_after s h m sent p fits in (
-      (λ x. subst (λ f. pairs_by f p w) e (subst (λ n. IsInWindow n s.sync_ahead w × (w + 1 ≤ most_counter)) first x)),
-      (λ x. subst (λ n. IsInWindow n s.sync_ahead w × (w + 1 ≤ most_counter)) (sym first) (subst (λ f. pairs_by f p w) (sym e) x)),
+-- after a past the same can pass as after itself
+same : (s : Fields) (h : List Attempt) → CanPassAlike s h s h
+same s h = ((λ m c is. ((λ x. x), (λ x. x))), (λ w. ((λ x. x), (λ x. x))))
+
+-- a reply that passes no counter
+abbrev IsNoPass : Reply → Type 0
+IsNoPass (Pass p) = ⊥
+IsNoPass Fail = Unit {0}
+IsNoPass Locked = Unit {0}
+
+-- such a reply leaves what can pass as it was, after the history and in the token that it makes
+kept : (s : Fields) (h : List Attempt) (m : ℕ) (sent : CodeTexts) (reply : Reply) → IsNoPass reply
+    → CanPassAlike s (attempt_of m sent reply ∷ h) s h × CanPassAlike s (attempt_of m sent reply ∷ h) (advanced s m reply) h
+kept s h m sent (Pass p) idle = absurd idle
+kept (Hotp s) h m sent Fail idle = (same (Hotp s) h, same (Hotp s) h)
+kept (Totp s) h m sent Fail idle = (same (Totp s) h, same (Totp s) h)
+kept (Hotp s) h m sent Locked idle = (same (Hotp s) h, same (Hotp s) h)
+kept (Totp s) h m sent Locked idle = (same (Totp s) h, same (Totp s) h)
+
+-- so after two alike pasts the same can pass still
+still : (s t : Fields) (h k : List Attempt) (m : ℕ) (sent : CodeTexts) (reply : Reply) → IsNoPass reply → AreAlike s h t k
+    → CanPassAlike s (attempt_of m sent reply ∷ h) t (attempt_of m sent reply ∷ k)
+still s t h k m sent reply idle alike =
+    let one = (kept s h m sent reply idle).0 in
+    let other = (kept t k m sent reply idle).0 in (
+      (λ later c when. onward (one.0 later c when) (onward (alike.candidates later c when) (back (other.0 later c when)))),
+      (λ w. onward (one.1 w) (onward (alike.pairs w) (back (other.1 w)))),
     )
-pairs_alike (Totp s) (Totp t) h m sent p w e fits = ((λ x. x), (λ x. x))
-pairs_alike (Hotp s) (Totp t) h m sent p w e fits = absurd (cc)
-pairs_alike (Totp s) (Hotp t) h m sent p w e fits = absurd (cc)
 
--- candidates and pairs after a failure
-fail_alike : (s t : Fields) (h : List Attempt) (m : ℕ) (sent : CodeTexts) (later c : ℕ)
-    → (IsCandidate s h later c ↔ IsCandidate t [] later c)
-    → IsCandidate s (attempt_of m sent Fail ∷ h) later c ↔ IsCandidate (after_fail t) [] later c
-fail_alike (Hotp s) (Hotp t) h m sent later c same = same
-fail_alike (Hotp s) (Totp t) h m sent later c same = same
-fail_alike (Totp s) (Hotp t) h m sent later c same = same
-fail_alike (Totp s) (Totp t) h m sent later c same = same
+-- what can pass after a due reply, in two alike pasts
+can_pass_more : (s t : Fields) (h k : List Attempt) (m : ℕ) (sent : CodeTexts) (reply : Reply) → AreAlike s h t k → IsMoment m
+    → IsDueReply t k m sent reply → CanPassAlike s (attempt_of m sent reply ∷ h) t (attempt_of m sent reply ∷ k)
+can_pass_more s t h k m sent (Pass p) alike is due =
+    let one = passed s t h m sent p alike.settings (fits_alike t s k h m sent p (alike_back s t h k alike) is due.1) in
+    let other = passed t t k m sent p refl due.1 in
+    ((λ later c when. onward (one.0 later c when) (back (other.0 later c when))), (λ w. onward (one.1 w) (back (other.1 w))))
+can_pass_more s t h k m sent Fail alike is due = still s t h k m sent Fail tt alike
+can_pass_more s t h k m sent Locked alike is due = still s t h k m sent Locked tt alike
 
-fail_pairs : (s t : Fields) (h : List Attempt) (m : ℕ) (sent : CodeTexts) (w : ℕ)
-    → (IsPairCandidate s h w ↔ IsPairCandidate t [] w)
-    → IsPairCandidate s (attempt_of m sent Fail ∷ h) w ↔ IsPairCandidate (after_fail t) [] w
-fail_pairs (Hotp s) (Hotp t) h m sent w same = same
-fail_pairs (Hotp s) (Totp t) h m sent w same = same
-fail_pairs (Totp s) (Hotp t) h m sent w same = same
-fail_pairs (Totp s) (Totp t) h m sent w same = same
+-- one more attempt keeps two pasts alike
+pub alike_more : (s t : Fields) (h k : List Attempt) (m : ℕ) (sent : CodeTexts) (reply : Reply) → AreAlike s h t k → IsMoment m
+    → IsDueReply t k m sent reply → AreAlike s (attempt_of m sent reply ∷ h) t (attempt_of m sent reply ∷ k)
+alike_more s t h k m sent reply alike is due =
+    let passing = can_pass_more s t h k m sent reply alike is due in record {
+      settings = alike.settings;
+      failures = ap (failures_by reply) alike.failures;
+      candidates = passing.0;
+      pairs = passing.1;
+    }
 
--- and where the token is locked
-locked_alike : (s t : Fields) (h : List Attempt) (m : ℕ) (sent : CodeTexts) (later c : ℕ)
-    → (IsCandidate s h later c ↔ IsCandidate t [] later c)
-    → IsCandidate s (attempt_of m sent Locked ∷ h) later c ↔ IsCandidate t [] later c
-locked_alike (Hotp s) t h m sent later c same = same
-locked_alike (Totp s) t h m sent later c same = same
-
-locked_pairs : (s t : Fields) (h : List Attempt) (m : ℕ) (sent : CodeTexts) (w : ℕ)
-    → (IsPairCandidate s h w ↔ IsPairCandidate t [] w)
-    → IsPairCandidate s (attempt_of m sent Locked ∷ h) w ↔ IsPairCandidate t [] w
-locked_pairs (Hotp s) t h m sent w same = same
-locked_pairs (Totp s) t h m sent w same = same
-
--- candidates after a due reply
-candidates_advanced : (s t : Fields) (h : List Attempt) (m : ℕ) (sent : CodeTexts) (reply : Reply) → AreAlike s h t [] → IsMoment m
-    → IsDueReply t [] m sent reply → (later c : ℕ) → IsMoment later
-    → IsCandidate s (attempt_of m sent reply ∷ h) later c ↔ IsCandidate (advanced t m reply) [] later c
-candidates_advanced s t h m sent (Pass p) alike is due later c when =
-    pass_alike s t h m sent p later c alike.settings (fits_from s t h [] m sent p alike is due.1)
-candidates_advanced s t h m sent Fail alike is due later c when =
-    fail_alike s t h m sent later c (alike.candidates later c when)
-candidates_advanced s t h m sent Locked alike is due later c when =
-    locked_alike s t h m sent later c (alike.candidates later c when)
-
--- pairs after a due reply
-pairs_advanced : (s t : Fields) (h : List Attempt) (m : ℕ) (sent : CodeTexts) (reply : Reply) → AreAlike s h t [] → IsMoment m
-    → IsDueReply t [] m sent reply → (w : ℕ) → IsPairCandidate s (attempt_of m sent reply ∷ h) w ↔ IsPairCandidate (advanced t m reply) [] w
-pairs_advanced s t h m sent (Pass p) alike is due w =
-    pairs_alike s t h m sent p w alike.settings (fits_from s t h [] m sent p alike is due.1)
-pairs_advanced s t h m sent Fail alike is due w = fail_pairs s t h m sent w (alike.pairs w)
-pairs_advanced s t h m sent Locked alike is due w = locked_pairs s t h m sent w (alike.pairs w)
+-- what can pass in a token after a due reply
+can_pass_advanced : (t : Fields) (m : ℕ) (sent : CodeTexts) (reply : Reply) → IsDueReply t [] m sent reply
+    → CanPassAlike t (attempt_of m sent reply ∷ []) (advanced t m reply) []
+can_pass_advanced t m sent (Pass p) due = passed t t [] m sent p refl due.1
+can_pass_advanced t m sent Fail due = (kept t [] m sent Fail tt).1
+can_pass_advanced t m sent Locked due = (kept t [] m sent Locked tt).1
 
 -- a due reply leads from a past to that past with the attempt added
 pub after_attempt : (s t : Fields) (h : List Attempt) (m : ℕ) (sent : CodeTexts) (reply : Reply) → IsMoment m
     → IsAfter s h t → IsDueReply t [] m sent reply → IsAfter s (attempt_of m sent reply ∷ h) (advanced t m reply)
-after_attempt s t h m sent reply is after due = record {
-  legal = (is, due_alike s t h [] m sent reply after.alike is due, after.legal);
-  alike = record {
-    settings = after.alike.settings ∙ sym (settings_advanced t m reply);
-    failures = ap (failures_by reply) after.alike.failures ∙ sym (failures_advanced t m reply);
-    candidates = candidates_advanced s t h m sent reply after.alike is due;
-    pairs = pairs_advanced s t h m sent reply after.alike is due;
-  };
-}
+after_attempt s t h m sent reply is after due =
+    let passing = can_pass_advanced t m sent reply due in record {
+      legal = (is, due_alike s t h [] m sent reply after.alike is due, after.legal);
+      alike = alike_onward s t (advanced t m reply) (attempt_of m sent reply ∷ h) (attempt_of m sent reply ∷ []) []
+          (alike_more s t h [] m sent reply after.alike is due) (record {
+            settings = (parts_advanced t m reply).0;
+            failures = (parts_advanced t m reply).1;
+            candidates = passing.0;
+            pairs = passing.1;
+          });
+    }

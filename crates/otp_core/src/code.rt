@@ -1,11 +1,12 @@
 //! HOTP values (RFC 4226, section 5) and the steps of TOTP (RFC 6238, section 4.2).
 ghost use Rattle.std.specs.Prelude.{◌≡◌, ◌≤◌, ◌<◌, ◌%◌, ◌^◌, ℕ, List, length, MatchOption};
-ghost use Rattle.std.specs.Int.{w64, to_be_bytes};
-ghost use Rattle.mac_core.specs.Hmac.{hmac, IsPreparedFor};
+ghost use Rattle.mac_core.specs.Hmac.{IsPreparedFor};
 ghost use Rattle.otp_core.specs.Code.{truncated, last_digits, code_of, hotp_text, IsCodeText, steps_from};
 ghost use Rattle.otp_core.specs.Ranges.{most_digits};
 
-use crate::secret::{Digits, Moment, Secret};
+use crate::digits::Digits;
+use crate::moment::Moment;
+use crate::secret::Secret;
 use arrayvec::ArrayVec;
 use mac_core::{HashFn, Prepared, Tag};
 use std::marker::Model;

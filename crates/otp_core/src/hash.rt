@@ -4,7 +4,8 @@ ghost use Rattle.otp_core.specs.Code.{hotp_text_by};
 ghost use Rattle.otp_core.specs.Hash.{hash_name, hash_named};
 
 use crate::code::{Code, hotp};
-use crate::secret::{Digits, Secret};
+use crate::digits::Digits;
+use crate::secret::Secret;
 use mac_core::{HSha1, HSha256, HSha512};
 
 /// A hash function of TOTP (RFC 6238, section 1.2). HOTP uses SHA-1 only.

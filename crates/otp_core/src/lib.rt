@@ -15,19 +15,21 @@
 #![tactic(auto)]
 
 mod code;
+mod digits;
 mod fault;
 mod hash;
 pub mod laws;
+mod moment;
 mod secret;
 mod sent;
 mod token;
 
 pub use code::{Code, hotp, hotp_with, step, truncate};
+pub use digits::{Digits, LEAST_DIGITS, MOST_DIGITS};
 pub use fault::{OtpFault, Setting};
 pub use hash::OtpHash;
-pub use secret::{
-    Digits, LAST_MOMENT, LEAST_DIGITS, LEAST_SECRET, MOST_DIGITS, MOST_SECRET, Moment, Secret,
-};
+pub use moment::{LAST_MOMENT, Moment};
+pub use secret::{LEAST_SECRET, MOST_SECRET, Secret};
 pub use sent::Sent;
 pub use token::{
     Fields, HotpFields, LONGEST_STEP, MOST_COUNTER, MOST_DRIFT, MOST_LIMIT, MOST_LOOK_AHEAD,

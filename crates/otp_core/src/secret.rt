@@ -1,8 +1,7 @@
-//! A token's secret, the number of digits of its codes, and moments: each within its range.
-ghost use Rattle.std.specs.Prelude.{◌≡◌, ◌≤◌, List, ℕ, length, MatchResult, MatchOption};
+//! A token's secret: the key of its codes.
+ghost use Rattle.std.specs.Prelude.{◌≡◌, List, ℕ, length, MatchResult};
 ghost use Rattle.otp_core.specs.Secret.{IsSecretLength};
-ghost use Rattle.otp_core.specs.Ranges.{IsDigitCount, IsMoment};
-ghost use Rattle.otp_core.specs.declared.fault.OtpFault.TheVariants.{SecretLength, DigitCount};
+ghost use Rattle.otp_core.specs.declared.fault.OtpFault.TheVariants.{SecretLength};
 
 use crate::fault::OtpFault;
 use arrayvec::ArrayVec;
@@ -14,12 +13,6 @@ pub const LEAST_SECRET: usize = 10;
 
 /// The greatest number of bytes of a secret.
 pub const MOST_SECRET: usize = 64;
-
-/// The least number of digits of a code (RFC 4226, section 5.3).
-pub const LEAST_DIGITS: u8 = 6;
-
-/// The greatest number of digits of a code.
-pub const MOST_DIGITS: u8 = 8;
 
 /// The key of a token's HMAC: 10 to 64 bytes. Contracts see it as the list of its bytes.
 #[derive(Drop)]
@@ -67,88 +60,5 @@ impl Secret {
         Secret {
             bytes: copy_of(self.bytes.as_slice()),
         }
-    }
-}
-
-/// The number of digits of a code: 6 to 8 (RFC 4226, section 5.3). Contracts see it as that number.
-#[derive(Clone, Copy, Debug, PartialEq, Eq)]
-pub struct Digits {
-    count: u8,
-}
-
-impl Model for Digits {
-    ghost Value = { ℕ };
-
-    ghost view = { λ d. d.count };
-
-    ghost invariant = { λ d. IsDigitCount d.count };
-
-    ghost inverse = { λ count. record { count = count } };
-}
-
-impl Digits {
-    /// The number `count` of digits. Answers 41 DigitCount exactly where it is below 6 or above 8.
-    pub fn new(count: u8) -> Result<Digits, OtpFault>
-        ensures { MatchResult result
-            (λ digits. (digits ≡ count) × IsDigitCount count)
-            (λ fault. (fault ≡ DigitCount) × ¬ (IsDigitCount count)) }
-    {
-        if LEAST_DIGITS <= count && count <= MOST_DIGITS {
-            Ok(Digits { count })
-        } else {
-            Err(OtpFault::DigitCount)
-        }
-    }
-
-    /// The number of digits.
-    pub fn count(self) -> u8
-        ensures value { result ≡ self }
-        ensures range { IsDigitCount self }
-    {
-        self.count
-    }
-}
-
-/// The last moment, in seconds since 1970-01-01 00:00 UTC: the last second of the year 9999.
-pub const LAST_MOMENT: u64 = 253_402_300_799;
-
-/// A moment: whole seconds since 1970-01-01 00:00 UTC, at most 253402300799, the last second of
-/// the year 9999. Contracts see it as that number.
-#[derive(Clone, Copy, Debug, PartialEq, Eq)]
-pub struct Moment {
-    seconds: u64,
-}
-
-impl Model for Moment {
-    ghost Value = { ℕ };
-
-    ghost view = { λ m. m.seconds };
-
-    ghost invariant = { λ m. IsMoment m.seconds };
-
-    ghost inverse = { λ seconds. record { seconds = seconds } };
-}
-
-impl Moment {
-    /// The moment `seconds` after the start of 1970 (UTC), or None exactly where they are more than
-    /// 253402300799.
-    pub fn new(seconds: u64) -> Option<Moment>
-        ensures { MatchOption result
-            (¬ (IsMoment seconds))
-            (λ moment. (moment ≡ seconds) × IsMoment seconds) }
-    {
-        if seconds <= LAST_MOMENT {
-            Some(Moment { seconds })
-        } else {
-            None
-        }
-    }
-
-    /// The seconds since the start of 1970 (UTC).
-    pub fn seconds(self) -> u64
-        ensures value { result ≡ self }
-        ensures range { IsMoment self }
-    {
-        self.seconds
     }
 }

@@ -16,7 +16,7 @@ mod kinds;
 mod window;
 
 use crate::fault::OtpFault;
-use crate::secret::{LAST_MOMENT, Moment};
+use crate::moment::{LAST_MOMENT, Moment};
 use crate::sent::Sent;
 pub use answer::Reply;
 use answer::{answer, answer_pair};
@@ -124,8 +124,8 @@ impl Token {
     /// lead to this token, the reply is the one due after them, and with this attempt added they lead to the token as it is
     /// afterwards: both counters of a pair that passed are used.
     ///
-    /// It makes at most two codes more than `sync_ahead`. The fields change as by `attempt`,
-    /// and a counter that passes is at most 2^63 - 2.
+    /// The fields change as by `attempt`, and a counter that passes is at most 2^63 - 2. At most two codes more than
+    /// `sync_ahead` are made, which no clause says.
     pub fn sync(&mut self, moment: Moment, first: &[u8], second: &[u8]) -> Reply
         ensures due { (start : TheFields) (history : List Attempt) → IsAfter start history self.old
             → IsDueReply start history moment (TwoTexts first.now second.now) result }

@@ -15,8 +15,9 @@ use otp_core::{
 };
 use toml::Table;
 
-/// Reads the settings and the state of a HOTP token, from a table whose `kind`
-/// says that it is one.
+/// The settings and the state of a HOTP token, of a table whose `kind` says that it is one. `Key` where a key is unknown;
+/// then of the first key at fault, in the order above: `Key` where it is missing or its value has another type, and `Token`
+/// where the value is out of its range. `sync_ahead` may be missing.
 #[tactic(auto, unfolding(crate::specs::Rows::read_table))]
 pub(super) fn hotp_of(table: &Table) -> Result<HotpFields, BookWhy>
     ensures value { result ≡ read_table hotp (table_view table.now) }

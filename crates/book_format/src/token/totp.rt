@@ -7,7 +7,7 @@ ghost use Rattle.otp_core.specs.Ranges.{most_counter};
 ghost use Rattle.otp_core.specs.Settings.{IsTotpInRange};
 ghost use Rattle.otp_core.specs.declared.token.kinds.Fields.TheVariants.{Totp};
 ghost use Rattle.book_format.specs.Keys.{is_among, has_only};
-ghost use Rattle.book_format.specs.Kinds.{number, signed, hash};
+ghost use Rattle.book_format.specs.ValueTypes.{number, signed, hash};
 ghost use Rattle.book_format.specs.Rows.{demand, read_at, read_some, read_table, table_keys};
 ghost use Rattle.book_format.specs.Tables.{totp};
 ghost use Rattle.book_format.specs.declared.fault.BookWhy.TheVariants as why;
@@ -21,7 +21,9 @@ use otp_core::{
 };
 use toml::Table;
 
-/// Reads the settings and the state of a TOTP token, from a table whose `kind` says that it is one.
+/// The settings and the state of a TOTP token, of a table whose `kind` says that it is one. `Key` where a key is unknown;
+/// then of the first key at fault, in the order above: `Key` where it is missing or its value has another type, and `Token`
+/// where the value is out of its range. `last` may be missing.
 #[tactic(auto, unfolding(crate::specs::Rows::read_table))]
 pub(super) fn totp_of(table: &Table) -> Result<TotpFields, BookWhy>
     ensures value { result ≡ read_table totp (table_view table.now) }
@@ -62,6 +64,7 @@ pub(super) fn totp_of(table: &Table) -> Result<TotpFields, BookWhy>
     })
 }
 
+// Answers `Key` where the table has a key that a TOTP token has not.
 fn known_totp_keys(table: &Table) -> Result<(), BookWhy>
     ensures { result ≡ demand (has_only (is_among (table_keys totp)) (table_view table.now)) why.Key }
 {
@@ -96,7 +99,8 @@ pub(super) fn totp_token(fields: TotpFields) -> Token
     token
 }
 
-#[tactic(auto, unfolding(crate::specs::Kinds::hash_in))]
+// The hash function at a key. `Key` where it is missing or no text, and `Token` where no hash function has the name.
+#[tactic(auto, unfolding(crate::specs::ValueTypes::hash_in))]
 fn hash_of(table: &Table, key: &str) -> Result<OtpHash, BookWhy>
     ensures { result ≡ read_at key.now hash (table_view table.now) }
 {
@@ -104,7 +108,7 @@ fn hash_of(table: &Table, key: &str) -> Result<OtpHash, BookWhy>
     OtpHash::of_name(name).ok_or(BookWhy::Token)
 }
 
-// The last step, or None where there is no key `last`.
+// The last step, or None where there is no key `last`. `Key` for a value of another type, and `Token` for one out of its range.
 fn last_at(table: &Table) -> Result<Option<u64>, BookWhy>
     ensures value { result ≡ read_some (codes "last") (number why.Token 0 most_counter) (table_view table.now) }
     ensures range { IfOk result (λ last. ForSome last (λ l. l ≤ most_counter)) }
@@ -115,8 +119,9 @@ fn last_at(table: &Table) -> Result<Option<u64>, BookWhy>
     }
 }
 
-// The drift, at most `most` steps to either side.
-#[tactic(auto, unfolding(crate::specs::Kinds::signed_in))]
+// The drift at a key, at most `most` steps to either side. `Key` where it is missing or no whole number, and `Token` where it
+// is further off.
+#[tactic(auto, unfolding(crate::specs::ValueTypes::signed_in))]
 fn drift_of(table: &Table, key: &str, most: u64) -> Result<i64, BookWhy>
     ensures value { result ≡ read_at key.now (signed why.Token most) (table_view table.now) }
     ensures range { IfOk result (λ drift. nat_abs drift ≤ most) }

@@ -4,9 +4,11 @@ ghost use Rattle.std.specs.Option.{ForSome};
 ghost use Rattle.otp_core.specs.Ranges.{most_counter};
 ghost use Rattle.otp_core.specs.Settings.{IsHotpInRange, IsTotpInRange, IsFirstOutside, hotp_ranges, totp_ranges};
 
+use crate::digits::Digits;
 use crate::fault::Setting;
 use crate::hash::OtpHash;
-use crate::secret::{Digits, Moment, Secret};
+use crate::moment::Moment;
+use crate::secret::Secret;
 
 /// The greatest `limit` of a token.
 pub const MOST_LIMIT: u64 = 100;

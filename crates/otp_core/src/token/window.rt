@@ -1,12 +1,12 @@
 //! The counters that can pass now, as one range.
-ghost use Rattle.std.specs.Prelude.{◌≡◌, ◌≤◌, ◌<◌, ◌↔◌, ◌+◌, ◌^◌, ℕ, pos, ◌-ℤ◌, [], nat_abs, Option};
+ghost use Rattle.std.specs.Prelude.{◌≡◌, ◌≤◌, ◌<◌, ◌↔◌, ◌+◌, ◌^◌, ℕ, pos, ◌-ℤ◌, [], nat_abs};
 ghost use Rattle.std.specs.Option.{ForSome};
 ghost use Rattle.otp_core.specs.Settings.{IsHotpInRange, IsTotpInRange, IsInRange};
-ghost use Rattle.otp_core.specs.Window.{IsInWindow, IsStepNear, IsCandidate, step_at};
+ghost use Rattle.otp_core.specs.Window.{IsInWindow, IsStepNear, IsCandidate};
 ghost use Rattle.otp_core.specs.Ranges.{IsMoment, last_moment, most_counter, most_steps, most_drift};
 
 use crate::code::step;
-use crate::secret::Moment;
+use crate::moment::Moment;
 use crate::token::kinds::{Fields, HotpFields, MOST_COUNTER, TotpFields};
 
 // The counters from `first` up to but not including `end`.

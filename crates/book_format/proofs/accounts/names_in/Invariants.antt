@@ -1,6 +1,6 @@
 use Rattle.std.proofs.Common.{◌≡◌, ◌++◌, drop, Ok}
 use Rattle.toml.specs.View.{items_view}
-use Rattle.book_format.specs.Kinds.{names_in}
+use Rattle.book_format.specs.ValueTypes.{names_in}
 use Rattle.book_format.specs.Rows.{◌>>=◌}
 use Rattle.book_format.proofs.accounts.names_in.Given as goal
 

@@ -1,6 +1,6 @@
 use Rattle.std.proofs.Common.{subst}
 use Rattle.book_format.specs.Account.{IsAccount}
-use Rattle.book_format.specs.Kinds.{AreNames}
+use Rattle.book_format.specs.ValueTypes.{AreNames}
 use Rattle.book_format.specs.Rows.{WritesItself, in_table}
 use Rattle.book_format.specs.Tables.{account}
 use Rattle.book_format.proofs.WritesItself.{account_writes_itself}

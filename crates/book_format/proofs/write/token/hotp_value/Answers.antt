@@ -1,5 +1,5 @@
 use Rattle.std.proofs.Common.{subst}
-use Rattle.book_format.proofs.KindLemmas.{ComesBack}
+use Rattle.book_format.proofs.ValueTypeLemmas.{ComesBack}
 use Rattle.book_format.proofs.WritesItself.{hotp_writes_itself}
 use Rattle.book_format.proofs.write.token.hotp_value.Goals as goal
 

@@ -1,5 +1,5 @@
--- The kinds of values of the format: texts, whole numbers, bytes, names. Of each, the fault of a value of another
--- type comes before that of a value out of its range.
+-- The types of values of the format, each with its range: texts, whole numbers, bytes, names. The fault of a value of
+-- another TOML type comes before that of a value out of its range.
 use Rattle.std.specs.Prelude.{ℕ, ◌≡◌, ◌≤◌, ◌&&◌, ◌+◌, nat_le, ℤ, pos, negsuc, nat_abs, Bool, true, if◌then◌else◌, List, [], ◌∷◌, length, map, is_some, ok_or, Result, Ok, Err}
 use Rattle.std.specs.List.{AllByRecursion, list_all}
 use Rattle.hex.specs.Hex.{decode_of, encode_lower}
@@ -9,13 +9,13 @@ use Rattle.scram_text.specs.Class.{is_plain, IsPlainName}
 use Rattle.otp_core.specs.Hash.{hash_name, hash_named}
 use Rattle.otp_core.specs.declared.hash.OtpHash.{OtpHash}
 use Rattle.book_format.specs.Account.{most_names}
-use Rattle.book_format.specs.Rows.{◌>>=◌, demand, table_of, Kind}
+use Rattle.book_format.specs.Rows.{◌>>=◌, demand, table_of, ValueType}
 use Rattle.book_format.specs.declared.fault.BookWhy.{BookWhy}
 use Rattle.book_format.specs.declared.fault.BookWhy.TheVariants.{Key, Name, Token}
 
--- the kind of value whose V is what is read of it
-abbrev pub kind : {V : Type 0} → (Data → Result V BookWhy) → (V → Data) → Kind V
-kind read write = record { Is = λ d v. read d ≡ Ok v; read = read; write = write }
+-- the type of values whose V is what is read of them
+abbrev pub value_type : {V : Type 0} → (Data → Result V BookWhy) → (V → Data) → ValueType V
+value_type read write = record { Is = λ d v. read d ≡ Ok v; read = read; write = write }
 
 -- a value that passes a test
 abbrev pub such : {V : Type 0} → Bool → V → BookWhy → Result V BookWhy
@@ -28,8 +28,8 @@ number_in why least most (integer (negsuc n)) = Err why
 number_in why least most d = Err Key
 
 -- whole numbers from `least` to `most`
-abbrev pub number : BookWhy → ℕ → ℕ → Kind ℕ
-number why least most = kind (number_in why least most) (λ n. integer (pos n))
+abbrev pub number : BookWhy → ℕ → ℕ → ValueType ℕ
+number why least most = value_type (number_in why least most) (λ n. integer (pos n))
 
 -- a whole number of at most `most` to either side of 0
 unfoldable pub signed_in : BookWhy → ℕ → Data → Result ℤ BookWhy
@@ -37,8 +37,8 @@ signed_in why most (integer z) = such (nat_le (nat_abs z) most) z why
 signed_in why most d = Err Key
 
 -- whole numbers of at most `most` to either side of 0
-abbrev pub signed : BookWhy → ℕ → Kind ℤ
-signed why most = kind (signed_in why most) integer
+abbrev pub signed : BookWhy → ℕ → ValueType ℤ
+signed why most = value_type (signed_in why most) integer
 
 -- bytes that were decoded, `least` to `most` of them
 abbrev pub decoded : {E : Type 0} → BookWhy → ℕ → ℕ → Result (List ℕ) E → Result (List ℕ) BookWhy
@@ -51,8 +51,8 @@ bytes_in why least most (string text) = decoded why least most (decode_of text)
 bytes_in why least most d = Err Key
 
 -- `least` to `most` bytes, in lower-case hexadecimal
-abbrev pub bytes : BookWhy → ℕ → ℕ → Kind (List ℕ)
-bytes why least most = kind (bytes_in why least most) (λ bs. string (encode_lower bs))
+abbrev pub bytes : BookWhy → ℕ → ℕ → ValueType (List ℕ)
+bytes why least most = value_type (bytes_in why least most) (λ bs. string (encode_lower bs))
 
 -- any text
 unfoldable pub text_in : Data → Result (List ℕ) BookWhy
@@ -63,8 +63,8 @@ unfoldable pub hash_in : Data → Result OtpHash BookWhy
 hash_in d = text_in d >>= λ name. ok_or (hash_named name) Token
 
 -- hash functions, by their names
-abbrev pub hash : Kind OtpHash
-hash = kind hash_in (λ h. string (hash_name h))
+abbrev pub hash : ValueType OtpHash
+hash = value_type hash_in (λ h. string (hash_name h))
 
 -- each value of a list is a text
 abbrev pub are_texts : Items → Bool
@@ -116,9 +116,9 @@ pub record IsNameList (d : Data) (names : List (List ℕ)) : Type 0 where
   pub few : length names ≤ most_names
 
 -- lists of names that an account may act as
-abbrev pub name_list : Kind (List (List ℕ))
+abbrev pub name_list : ValueType (List (List ℕ))
 name_list = record { Is = IsNameList; read = name_list_in; write = names_tree }
 
 -- tables of any keys
-abbrev pub any_table : Kind Members
-any_table = kind table_of table
+abbrev pub any_table : ValueType Members
+any_table = value_type table_of table

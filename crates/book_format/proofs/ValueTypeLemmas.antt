@@ -1,4 +1,4 @@
--- What the kinds of values read: exactly what they are of, in its range.
+-- What the types of values read: exactly what they are of, in its range.
 use Rattle.std.proofs.Common.{◌≡◌, ◌≤◌, ◌&&◌, nat_le, le-leb, ℤ, pos, negsuc, nat_abs, ℕ, List, [], ◌∷◌, length, map, Bool, true, false, ok_or, Result, Ok, Err, refl, ap, subst, ◌∙◌, arith}
 use Rattle.std.proofs.lemmas.Bool.{and_parts}
 use Rattle.std.proofs.lemmas.Bool.Decides.{nat_tests}
@@ -11,16 +11,16 @@ use Rattle.otp_core.specs.Hash.{hash_name}
 use Rattle.otp_core.specs.declared.hash.OtpHash.{OtpHash}
 use Rattle.otp_core.specs.declared.hash.OtpHash.TheVariants.{Sha1, Sha256, Sha512}
 use Rattle.book_format.specs.Account.{most_names}
-use Rattle.book_format.specs.Kinds.{kind, such, number_in, signed_in, decoded, bytes_in, text_in, hash_in, are_texts, item_count, plain_name_of, names_in, names_of, name_list_in, AreNames, IsNameList, name_list}
+use Rattle.book_format.specs.ValueTypes.{value_type, such, number_in, signed_in, decoded, bytes_in, text_in, hash_in, are_texts, item_count, plain_name_of, names_in, names_of, name_list_in, AreNames, IsNameList, name_list}
 use Rattle.book_format.specs.Rows.{demand}
 use Rattle.book_format.specs.declared.fault.BookWhy.{BookWhy}
 use Rattle.book_format.specs.declared.fault.BookWhy.TheVariants.{Key, Name}
 use Rattle.book_format.proofs.Binds.{bind_ok, demand_ok, ok_same}
-use Rattle.book_format.proofs.RowLemmas.{IsSoundKind}
+use Rattle.book_format.proofs.RowLemmas.{IsSoundType}
 
--- a kind that is what it reads
-pub kind_sound : {V : Type 0} (read : Data → Result V BookWhy) (write : V → Data) → IsSoundKind (kind read write)
-kind_sound read write = record { found = λ d v h. h; held = λ d v h. h }
+-- a type that is what it reads
+pub value_type_sound : {V : Type 0} (read : Data → Result V BookWhy) (write : V → Data) → IsSoundType (value_type read write)
+value_type_sound read write = record { found = λ d v h. h; held = λ d v h. h }
 
 such_ok : {V : Type 0} (fits : Bool) (v x : V) (why : BookWhy) → such fits v why ≡ Ok x → (fits ≡ true) × (v ≡ x)
 such_ok true v x why h = (refl, ok_same v x h)
@@ -158,5 +158,5 @@ unfolding name_list_in names_of
 name_list_held d names h =
     rw (h.there, texts_again names, count_again names, le-leb (length names) most_names h.few, names_held names h.plain) refl
 
-pub name_list_sound : IsSoundKind name_list
+pub name_list_sound : IsSoundType name_list
 name_list_sound = record { found = name_list_found; held = name_list_held }
