@@ -3,7 +3,7 @@ use Rattle.std.proofs.Common.{◌≡◌, inl, inr, ℕ, ◌≤◌, Bool, true, f
 use Rattle.std.specs.Io.KnownBytes.{IsAtEnd}
 use Rattle.std.specs.Str.{byte}
 use Rattle.log_grammar.specs.Bytes.{LacksLf, ended_by_lf, IsCut}
-use Rattle.log_grammar.proofs.CutLemmas.{cut_somehow, cut_one_way}
+use Rattle.log_grammar.proofs.lines.Cuts.{cut_somehow, cut_one_way}
 use Rattle.account_commands.specs.Input.{line_bytes, TakesLine, IsFirstLine, last_line, AreLinesOf}
 
 no_cut : IsCut [] [] []

@@ -4,11 +4,11 @@ use Rattle.std.specs.Prelude.{codes, decimal}
 use Rattle.std.specs.Str.{byte}
 use Rattle.otp_core.specs.Ranges.{IsMoment}
 use Rattle.log_grammar.specs.NumberedLines.{IsSessionNumber}
-use Rattle.log_grammar.proofs.WordLemmas.{spaceless_number, moment_fits}
+use Rattle.log_grammar.proofs.lines.Words.{spaceless_number, moment_fits}
 use Rattle.sasl_log.specs.NumberedFaults.{BeginsWithNumber}
 use Rattle.sasl_log.specs.Words.{LacksSpace}
-use Rattle.sasl_log.proofs.NumberedTexts.{one_rest}
-use Rattle.sasl_log.proofs.Spaces.{spaceless, no_space, cut_once}
+use Rattle.sasl_log.proofs.texts.NumberedLines.{one_rest}
+use Rattle.sasl_log.proofs.texts.Spaces.{spaceless, no_space, cut_once}
 
 -- a text without a space begins with no moment and a space
 pub moment_alone : (text : List ℕ) → LacksSpace text → (n : ℕ) (rest : List ℕ) → text ≢ decimal n ++ byte " " ∷ rest

@@ -17,8 +17,8 @@ use Rattle.sasl_desk.specs.Halls.{phase_in, HallFields, hall_of, hall_shown, hal
 use Rattle.sasl_desk.specs.Runs.{Asked, hears, Call, call_of}
 use Rattle.sasl_desk.specs.declared.desk.state.Phase.{Phase}
 use Rattle.sasl_desk.specs.declared.hall.Hall.{Hall}
-use Rattle.sasl_desk.proofs.HallLaws.{hall_bytes_next}
-use Rattle.sasl_desk.proofs.HallSteps.{stands_reordered}
+use Rattle.sasl_desk.proofs.halls.Laws.{hall_bytes_next}
+use Rattle.sasl_desk.proofs.halls.Turns.{stands_reordered}
 use Rattle.commands.specs.PrintedLog.{IsUnsavedOrUnlogged}
 use Rattle.commands.specs.Hall.{InputEvent, opens, says, goes, does_at, SaysEvent, SaysNothing, IsOfNobody, IsCallFor, IsHallLogOf, Hears}
 

@@ -8,16 +8,16 @@ use Rattle.sasl_desk.specs.Runs.{Asked, greets, hears, Call}
 
 -- two sessions are asked the same, at whichever moments: they are greeted with one part of the nonce, or their clients do
 -- the same
-abbrev pub AsksTheSame : Asked → Asked → Type 0
-AsksTheSame (greets own) (greets part) = own ≡ part
-AsksTheSame (hears event moment) (hears other later) = event ≡ other
-AsksTheSame one other = ⊥
+abbrev pub IsSameRequest : Asked → Asked → Type 0
+IsSameRequest (greets own) (greets part) = own ≡ part
+IsSameRequest (hears event moment) (hears other later) = event ≡ other
+IsSameRequest one other = ⊥
 
 -- in all their calls, one after another
-abbrev pub AskTheSame : List Call → List Call → Type 0
-AskTheSame [] [] = Unit {0}
-AskTheSame (c ∷ calls) (d ∷ others) = AsksTheSame c.asked d.asked × AskTheSame calls others
-AskTheSame calls others = ⊥
+abbrev pub HaveSameRequests : List Call → List Call → Type 0
+HaveSameRequests [] [] = Unit {0}
+HaveSameRequests (c ∷ calls) (d ∷ others) = IsSameRequest c.asked d.asked × HaveSameRequests calls others
+HaveSameRequests calls others = ⊥
 
 -- the lines up to the first `S OK`, the outcome of a login that is accepted. A login that is refused is over with its outcome.
 abbrev pub up_to_acceptance : List LogLine → List LogLine

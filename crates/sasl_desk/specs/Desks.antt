@@ -47,7 +47,7 @@ IsStateAt accounts own at (Open going part) = StandsAt accounts at going × (par
 IsStateAt accounts own at Halted = Unit {0}
 
 -- the store has not failed, and holds the text of the book, of which this holds
-pub record IsHeld (IsStored : List ℕ → Type 0) (book : BookFields) (store : StoreFacts) : Type 0 where
+pub record HoldsBook (IsStored : List ℕ → Type 0) (book : BookFields) (store : StoreFacts) : Type 0 where
   pub working : store.failed ≡ false
   pub saved : IsBookText store.saved book
   pub stored : IsStored store.saved
@@ -82,7 +82,7 @@ pub record IsLostAfter (IsStored : List ℕ → Type 0) (accounts : Accounts) (c
 -- store holds the book
 abbrev pub IsStoredAt : (IsStored : List ℕ → Type 0) → Accounts → List Call → Place → BookFields → StoreFacts → Type 0
 IsStoredAt IsStored accounts calls halted book store = IsLostAfter IsStored accounts calls book store
-IsStoredAt IsStored accounts calls at book store = IsHeld IsStored book store
+IsStoredAt IsStored accounts calls at book store = HoldsBook IsStored book store
 
 -- the book after what was told, the latest first: each attempt was judged by the book before it
 abbrev pub IsBookWith : BookFields → List Told → BookFields → Type 0

@@ -17,7 +17,7 @@ use Rattle.log_grammar.specs.Numbered.{Numbered, numbered, of_number, begun, clo
 use Rattle.log_grammar.specs.Versions.{most_open}
 use Rattle.log_grammar.specs.NumberedLines.{numbered_text, IsNumberedWritable, last_session_number}
 use Rattle.log_grammar.specs.state_machine.OpenNumbers.{is_closed}
-use Rattle.sasl_desk.specs.Desks.{session_phase, IsStoredAt, IsHeld, IsBookWith, IsAttemptOf, all_spent, is_saving}
+use Rattle.sasl_desk.specs.Desks.{session_phase, IsStoredAt, HoldsBook, IsBookWith, IsAttemptOf, all_spent, is_saving}
 use Rattle.sasl_desk.specs.Guests.{is_of}
 use Rattle.sasl_desk.specs.Keeper.{IsAttemptJudged}
 use Rattle.sasl_desk.specs.Runs.{Asked, greets, Call, call_of, own_part, wire_bytes, IsRun}
@@ -79,7 +79,7 @@ IsSeated accounts calls places guest =
 
 -- what the store holds after these calls: where the latest was answered by `S HALT`, its save has failed; else the book
 abbrev pub IsStoredAfter : (IsStored : List ℕ → Type 0) → Accounts → List (Numbered Call) → (ℕ → Place) → BookFields → StoreFacts → Type 0
-IsStoredAfter IsStored accounts [] places book store = IsHeld IsStored book store
+IsStoredAfter IsStored accounts [] places book store = HoldsBook IsStored book store
 IsStoredAfter IsStored accounts (c ∷ before) places book store = IsStoredAt IsStored accounts (of_number c.number (c ∷ before)) (places c.number) book store
 
 -- a hall that began with a book has answered these calls, the latest of which comes first, each of the session of its number

@@ -94,28 +94,28 @@ IsTurnFault facts IsStored moment old new fault =
     × IsUndone facts IsStored (hears (event_read read) moment) old.desk new.desk old.wire new.wire old.log new.log fault
 
 -- what was read in a turn, its moment, and the lines by which it was answered
-pub record Exchange : Type 0 where
+pub record ServedTurn : Type 0 where
   pub read : LineRead
   pub moment : ℕ
   pub lines : List LogLine
 
 -- the call of a turn
-abbrev pub call_in : Exchange → Call
+abbrev pub call_in : ServedTurn → Call
 call_in e = call_of (hears (event_read e.read) e.moment) e.lines
 
 -- what was read in these turns
-abbrev pub reads_in : List Exchange → List LineRead
+abbrev pub reads_in : List ServedTurn → List LineRead
 reads_in [] = []
 reads_in (e ∷ before) = e.read ∷ reads_in before
 
 -- the calls of a session: its greeting, with this server's part of the nonce, and its turns, the latest of which comes first
-abbrev pub session_calls : (own : List ℕ) → (greeting : List LogLine) → List Exchange → List Call
+abbrev pub session_calls : (own : List ℕ) → (greeting : List LogLine) → List ServedTurn → List Call
 session_calls own greeting [] = call_of (greets own) greeting ∷ []
 session_calls own greeting (e ∷ before) = call_in e ∷ session_calls own greeting before
 
 -- a session as far as these turns: its client was greeted, what it sent was read and answered, turn by turn, at a moment of the
 -- clock, and all lines were written
-pub record IsServedUpTo {S : Type 0} (facts : S → StoreFacts) (IsStored : List ℕ → Type 0) (IsNow : ℕ → Type 0) (own : List ℕ) (turns : List Exchange) (old new : Service S) : Type 0 where
+pub record IsServedUpTo {S : Type 0} (facts : S → StoreFacts) (IsStored : List ℕ → Type 0) (IsNow : ℕ → Type 0) (own : List ℕ) (turns : List ServedTurn) (old new : Service S) : Type 0 where
   pub greeting : List LogLine
   pub reads : ReadsLines old.input (reads_in turns) new.input
   pub moments : AllByRecursion (λ e. IsNow e.moment) turns
@@ -125,14 +125,14 @@ pub record IsServedUpTo {S : Type 0} (facts : S → StoreFacts) (IsStored : List
 
 -- a session that its turns, of which there are no more than the most, have ended
 pub record IsServedToEnd {S : Type 0} (facts : S → StoreFacts) (IsStored : List ℕ → Type 0) (IsNow : ℕ → Type 0) (own : List ℕ) (old new : Service S) : Type 0 where
-  pub turns : List Exchange
+  pub turns : List ServedTurn
   pub few : length turns ≤ most_turns
   pub served : IsServedUpTo facts IsStored IsNow own turns old new
   pub ended : (phase_of new.desk.state ≡ phase.Closed) ⊎ (phase_of new.desk.state ≡ phase.Halted)
 
 -- a session whose turns are used up. Nothing more was read of its client.
 pub record HasUsedAllTurns {S : Type 0} (facts : S → StoreFacts) (IsStored : List ℕ → Type 0) (IsNow : ℕ → Type 0) (own : List ℕ) (old middle new : Service S) : Type 0 where
-  pub turns : List Exchange
+  pub turns : List ServedTurn
   pub all : length turns ≡ most_turns
   pub served : IsServedUpTo facts IsStored IsNow own turns old middle
   pub unread : new.input ≡ middle.input
@@ -157,7 +157,7 @@ pub record FailsInGreeting {S : Type 0} (facts : S → StoreFacts) (IsStored : L
 -- a turn was not served, for this reason. All turns before it were.
 pub record FailsInTurn {S : Type 0} (facts : S → StoreFacts) (IsStored : List ℕ → Type 0) (IsNow : ℕ → Type 0) (own : List ℕ) (old new : Service S) (fault : ServeFault) : Type 0 where
   pub middle : Service S
-  pub turns : List Exchange
+  pub turns : List ServedTurn
   pub few : length turns < most_turns
   pub served : IsServedUpTo facts IsStored IsNow own turns old middle
   pub moment : ℕ

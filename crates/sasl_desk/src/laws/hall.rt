@@ -7,7 +7,7 @@ ghost use Rattle.log_grammar.specs.Lines.{LogLine, said, halt};
 ghost use Rattle.log_grammar.specs.Numbered.{Numbered, numbered, of_number};
 ghost use Rattle.log_grammar.specs.Told.{Told};
 ghost use Rattle.log_grammar.specs.Versions.{IsFront, IsClean};
-ghost use Rattle.sasl_desk.specs.Alone.{AskTheSame, HaveSameEntries, up_to_acceptance};
+ghost use Rattle.sasl_desk.specs.Alone.{HaveSameRequests, HaveSameEntries, up_to_acceptance};
 ghost use Rattle.sasl_desk.specs.Desks.{all_spent};
 ghost use Rattle.sasl_desk.specs.Halls.{HallFields, busy_lines, hall_lines, hall_bytes, numbered_bytes, phase_in, IsPhaseIn, StandsHall};
 ghost use Rattle.sasl_desk.specs.Keeper.{IsAttemptJudged};
@@ -107,7 +107,7 @@ pub fn sessions_are_told_alone<S: BookStore>()
     ensures { (start begun : BookFields) (calls others : List (Numbered Call)) (hall other : HallFields S) (n m : ℕ)
         → StandsHall S.facts S.IsStored start calls hall → StandsHall S.facts S.IsStored begun others other
         → HaveSameEntries (accounts_in start) (accounts_in begun)
-        → of_number n (hall_lines calls) ≢ busy_lines → of_number m (hall_lines others) ≢ busy_lines → AskTheSame (of_number n calls) (of_number m others)
+        → of_number n (hall_lines calls) ≢ busy_lines → of_number m (hall_lines others) ≢ busy_lines → HaveSameRequests (of_number n calls) (of_number m others)
         → up_to_acceptance (of_number n (hall_lines calls)) ≡ up_to_acceptance (of_number m (hall_lines others)) }
 {
     has_one_client_first();

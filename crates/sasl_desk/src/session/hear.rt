@@ -10,7 +10,7 @@ ghost use Rattle.sasl_log.specs.Shown.{client_shown};
 ghost use Rattle.sasl_log.specs.Texts.{CanBeLine};
 ghost use Rattle.sasl_desk.specs.Events.{ClientEvent};
 ghost use Rattle.sasl_desk.specs.Turns.{is_client_turn, is_due, BearsMessage};
-ghost use Rattle.sasl_desk.specs.Sessions.{IsWaitingAt, IsRecord, turn_lines, heard_lines, CanBeWritten, IsTurn, IsLineTurn, IsLineHeard, IsOfCode, AsksFor};
+ghost use Rattle.sasl_desk.specs.Sessions.{IsWaitingAt, IsRecord, turn_lines, heard_lines, CanBeWritten, IsTurnOnEvent, IsTurnOnLine, ComesOfLine, IsOfCode, AsksFor};
 
 use crate::session::Session;
 use crate::session::answer::{departure, invitation, refusal};
@@ -27,7 +27,7 @@ use std::alloc::{Allocator, Global};
 /// A client that has gone away: it is recorded, and the session is over.
 pub(crate) fn departed<'a>() -> Turn<'a>
     ensures turn { (accounts : Accounts) (own : List ℕ) (at : Place) (event : ClientEvent) → IsRecord event at gone
-        → IsTurn accounts own event at result [] }
+        → IsTurnOnEvent accounts own event at result [] }
     ensures lines { CanBeWritten (turn_lines result []) }
 {
     Turn {
@@ -39,9 +39,9 @@ pub(crate) fn departed<'a>() -> Turn<'a>
 /// A line that is not due, or a text that is no line: it is recorded as `C BAD`, and refused.
 pub(crate) fn spoiled<'a>() -> Turn<'a>
     ensures turn { (accounts : Accounts) (own : List ℕ) (at : Place) (event : ClientEvent) → IsRecord event at bad
-        → IsTurn accounts own event at result [] }
+        → IsTurnOnEvent accounts own event at result [] }
     ensures line { (accounts : Accounts) (own : List ℕ) (at : Place) (line : grammar.ClientLine) → is_due at line ≡ false
-        → IsLineTurn accounts own line at result [] }
+        → IsTurnOnLine accounts own line at result [] }
     ensures lines { CanBeWritten (turn_lines result []) }
 {
     Turn {
@@ -53,7 +53,7 @@ pub(crate) fn spoiled<'a>() -> Turn<'a>
 // A client that gives up: it is refused, and the session is over.
 fn aborted<'a>() -> Turn<'a>
     ensures line { (accounts : Accounts) (own : List ℕ) (at : Place) → is_client_turn at ≡ true
-        → IsLineTurn accounts own abort at result [] }
+        → IsTurnOnLine accounts own abort at result [] }
     ensures lines { CanBeWritten (turn_lines result []) }
 {
     Turn {
@@ -73,7 +73,7 @@ pub(crate) fn hear_offered<'a, A: Allocator>(
     requires empty { message.old.items ≡ [] }
     requires line { CanBeLine (from_client (client_shown line)) }
     ensures turn { (accounts : Accounts) → KeepsEntries accounts book.now
-        → IfOk result (λ turn. IsLineTurn accounts own.now (client_shown line.entry) offered turn message.new.items) }
+        → IfOk result (λ turn. IsTurnOnLine accounts own.now (client_shown line.entry) offered turn message.new.items) }
     ensures lines { IfOk result (λ turn. CanBeWritten (turn_lines turn message.new.items)) }
     ensures err { IfErr result (λ session. (session ≡ Session.Offered) × (message.new.items ≡ [])) }
     ensures memory { OnErr result (BearsMessage (client_shown line.entry)) }
@@ -112,7 +112,7 @@ pub(crate) fn hear_first<'a, A: Allocator>(
     requires empty { message.old.items ≡ [] }
     requires line { CanBeLine (from_client (client_shown line)) }
     ensures turn { (accounts : Accounts) → KeepsEntries accounts book.now
-        → IfOk result (λ turn. IsLineTurn accounts own.now (client_shown line.entry) (waits_first (name_of mechanism))
+        → IfOk result (λ turn. IsTurnOnLine accounts own.now (client_shown line.entry) (waits_first (name_of mechanism))
         turn message.new.items) }
     ensures lines { IfOk result (λ turn. CanBeWritten (turn_lines turn message.new.items)) }
     ensures err { IfErr result (λ session. (session ≡ Session.WaitsFirst mechanism) × (message.new.items ≡ [])) }
@@ -146,7 +146,7 @@ pub(crate) fn hear_final<'a, A: Allocator>(
     requires empty { message.old.items ≡ [] }
     requires line { CanBeLine (from_client (client_shown line)) }
     ensures turn { (accounts : Accounts) (own : List ℕ) (at : Place) → IsWaitingAt accounts at waiting
-        → IfOk result (λ turn. IsLineTurn accounts own (client_shown line.entry) at turn message.new.items) }
+        → IfOk result (λ turn. IsTurnOnLine accounts own (client_shown line.entry) at turn message.new.items) }
     ensures lines { IfOk result (λ turn. CanBeWritten (turn_lines turn message.new.items)) }
     ensures err { IfErr result (λ session. (session ≡ Session.WaitsFinal waiting) × (message.new.items ≡ [])) }
     ensures memory { OnErr result (BearsMessage (client_shown line.entry)) }
@@ -173,7 +173,7 @@ pub(crate) fn hear_final<'a, A: Allocator>(
 pub(crate) fn hear_code<'a>(name: PlainName, line: ClientLine<'a>) -> Heard<'a>
     requires { CanBeLine (from_client (client_shown line)) }
     ensures heard { (accounts : Accounts) (own : List ℕ)
-        → IsLineHeard accounts own (client_shown line.entry) (waits_code name) result [] }
+        → ComesOfLine accounts own (client_shown line.entry) (waits_code name) result [] }
     ensures asks { IsOfCode result (Session.WaitsCode name) }
     ensures asked { AsksFor result (client_shown line.entry) }
     ensures lines { CanBeWritten (heard_lines result []) }

@@ -1,6 +1,6 @@
 use Rattle.log_grammar.specs.Versions.{any_version}
-use Rattle.log_grammar.proofs.KindFaults.{fault_lines}
-use Rattle.log_grammar.proofs.VersionLemmas.{nothing_both, shorter_both, ends_stand_both}
+use Rattle.log_grammar.proofs.kinds.FaultLines.{fault_lines}
+use Rattle.log_grammar.proofs.kinds.AllVersions.{nothing_both, shorter_both, ends_stand_both}
 use Rattle.log_grammar.proofs.headline.fault_lines_begin_no_clean_log.Goals as goal
 
 pub returns : goal.returns

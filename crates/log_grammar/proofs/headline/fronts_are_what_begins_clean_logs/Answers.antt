@@ -1,6 +1,6 @@
 use Rattle.log_grammar.specs.Versions.{any_version}
-use Rattle.log_grammar.proofs.KindFaults.{fronts_are_what_begins}
-use Rattle.log_grammar.proofs.VersionLemmas.{shorter_both, ends_stand_both}
+use Rattle.log_grammar.proofs.kinds.FaultLines.{fronts_are_what_begins}
+use Rattle.log_grammar.proofs.kinds.AllVersions.{shorter_both, ends_stand_both}
 use Rattle.log_grammar.proofs.headline.fronts_are_what_begins_clean_logs.Goals as goal
 
 pub returns : goal.returns

@@ -1,6 +1,6 @@
 use Rattle.std.proofs.Common.{length, arith}
 use Rattle.log_grammar.specs.Demands.{demands}
-use Rattle.log_grammar.proofs.NumberedReadings.{numbered_front}
+use Rattle.log_grammar.proofs.many_sessions.OneReading.{numbered_front}
 use Rattle.log_grammar.proofs.numbered.first_numbered_lines_are_logs.Goals as goal
 
 pub returns : goal.returns

@@ -7,10 +7,10 @@ use Rattle.log_grammar.specs.state_machine.Steps.{told_at}
 use Rattle.log_grammar.specs.Numbered.{Numbered, numbered, SpellsNumbered}
 use Rattle.log_grammar.specs.state_machine.NumberedSteps.{put, GoesNumbered, StoodNumbered}
 use Rattle.log_grammar.specs.laws.NumberedLaws.{GoesOnByANumberedLine}
-use Rattle.log_grammar.proofs.NumberedReadings.{goes_moved}
-use Rattle.log_grammar.proofs.Owns.{at_each, put_here, put_other}
+use Rattle.log_grammar.proofs.many_sessions.OneReading.{goes_moved}
+use Rattle.log_grammar.proofs.many_sessions.LinesOfNumber.{at_each, put_here, put_other}
 use Rattle.log_grammar.proofs.numbered.numbered_logs_go_on_exactly_so.Goals as goal
-use Rattle.log_grammar.proofs.NumberedLogSteps.{with_places}
+use Rattle.log_grammar.proofs.many_sessions.LogSteps.{with_places}
 
 abbrev Stands : ℕ → Demands → List (Numbered LogLine) → (ℕ → Place) → List Told → ℕ → LogLine → (ℕ → Place) → List Told → Type 0
 Stands limit d log places told n line next all =

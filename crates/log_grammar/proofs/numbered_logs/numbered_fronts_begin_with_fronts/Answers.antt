@@ -1,6 +1,6 @@
 use Rattle.log_grammar.specs.KindTwo.{version_two}
-use Rattle.log_grammar.proofs.KindLemmas.{fronts_front}
-use Rattle.log_grammar.proofs.KindTwo.{shorter_two}
+use Rattle.log_grammar.proofs.kinds.Judged.{fronts_front}
+use Rattle.log_grammar.proofs.kinds.VersionTwo.{shorter_two}
 use Rattle.log_grammar.proofs.numbered_logs.numbered_fronts_begin_with_fronts.Goals as goal
 
 pub returns : goal.returns

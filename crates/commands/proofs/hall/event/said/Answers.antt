@@ -1,7 +1,7 @@
 use Rattle.std.proofs.Common.{◌∷◌, ◌++◌}
 use Rattle.std.specs.Prelude.{decimal}
 use Rattle.std.specs.Str.{byte}
-use Rattle.sasl_log.proofs.NumberedTexts.{one_rest}
+use Rattle.sasl_log.proofs.texts.NumberedLines.{one_rest}
 use Rattle.commands.proofs.hall.event.said.Goals as goal
 
 pub returns-in-None-clause-none : goal.returns-in-None-clause-none

@@ -1,6 +1,6 @@
 use Rattle.std.proofs.Common.{refl, sym, ◌∙◌}
 use Rattle.std.specs.declared.option.Option.TheVariants.{Some}
-use Rattle.sasl_desk.proofs.KeeperLemmas.{reply_in_range, told_by, told_none, told_locked, saved_unless_locked, kept_by, put_back}
+use Rattle.sasl_desk.proofs.turns.Keepers.{reply_in_range, told_by, told_none, told_locked, saved_unless_locked, kept_by, put_back}
 use Rattle.sasl_desk.proofs.keeper.Keeper.judge.Goals as goal
 
 pub returns-then-is_locked-clause-ok : goal.returns-then-is_locked-clause-ok

@@ -1,7 +1,7 @@
 use Rattle.std.proofs.lemmas.Result.{on_err_weaker}
 use Rattle.sasl_log.specs.Shown.{client_shown}
 use Rattle.sasl_desk.specs.Events.{sends, goes_away}
-use Rattle.sasl_desk.proofs.HeardLemmas.{all_heard_of_line, no_line_record, all_asks_of_line}
+use Rattle.sasl_desk.proofs.turns.HeardLines.{all_heard_of_line, no_line_record, all_asks_of_line}
 use Rattle.sasl_desk.proofs.session.Session.hear.Goals as goal
 
 pub returns-in-Gone-clause-heard : goal.returns-in-Gone-clause-heard

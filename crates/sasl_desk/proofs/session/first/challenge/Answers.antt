@@ -3,8 +3,8 @@ use Rattle.scram_ends.specs.Entry.{entry_of}
 use Rattle.log_grammar.specs.Lines.{said, cont}
 use Rattle.log_grammar.specs.Places.{got_first}
 use Rattle.sasl_desk.specs.Sessions.{CanBeWritten}
-use Rattle.sasl_desk.proofs.AnswerLemmas.{first_of, not_first, challenge_due}
-use Rattle.sasl_desk.proofs.WritableLemmas.{challenge_written}
+use Rattle.sasl_desk.proofs.turns.DueAnswers.{first_of, not_first, challenge_due}
+use Rattle.sasl_desk.proofs.turns.Writable.{challenge_written}
 use Rattle.sasl_desk.proofs.session.first.challenge.Goals as goal
 
 pub new-requires : goal.new-requires

@@ -1,5 +1,5 @@
 use Rattle.log_grammar.specs.Places.{got_first}
-use Rattle.sasl_desk.proofs.AnswerLemmas.{not_offered}
+use Rattle.sasl_desk.proofs.turns.DueAnswers.{not_offered}
 use Rattle.sasl_desk.proofs.session.first.opening.Goals as goal
 
 pub returns-in-None-clause-due : goal.returns-in-None-clause-due

@@ -1,6 +1,6 @@
 use Rattle.std.proofs.Common.{refl}
 use Rattle.log_grammar.specs.Places.{waits_code}
-use Rattle.sasl_desk.proofs.WritableLemmas.{heard_can_be}
+use Rattle.sasl_desk.proofs.turns.Writable.{heard_can_be}
 use Rattle.sasl_desk.proofs.session.hear.hear_code.Goals as goal
 
 pub returns-in-Abort-clause-heard : goal.returns-in-Abort-clause-heard

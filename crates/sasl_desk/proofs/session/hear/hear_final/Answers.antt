@@ -1,5 +1,5 @@
 use Rattle.std.proofs.Common.{refl}
-use Rattle.sasl_desk.proofs.WritableLemmas.{heard_can_be}
+use Rattle.sasl_desk.proofs.turns.Writable.{heard_can_be}
 use Rattle.sasl_desk.proofs.session.hear.hear_final.Goals as goal
 
 pub returns-in-Ok-clause-turn : goal.returns-in-Ok-clause-turn

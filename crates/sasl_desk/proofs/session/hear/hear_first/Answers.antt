@@ -1,7 +1,7 @@
 use Rattle.std.proofs.Common.{refl}
 use Rattle.mac_core.specs.Mechanism.{name_of}
 use Rattle.log_grammar.specs.Places.{waits_first}
-use Rattle.sasl_desk.proofs.WritableLemmas.{heard_can_be}
+use Rattle.sasl_desk.proofs.turns.Writable.{heard_can_be}
 use Rattle.sasl_desk.proofs.session.hear.hear_first.Goals as goal
 
 pub returns-in-Abort-clause-turn : goal.returns-in-Abort-clause-turn

@@ -1,6 +1,6 @@
 use Rattle.std.proofs.Common.{refl}
 use Rattle.log_grammar.specs.Places.{offered}
-use Rattle.sasl_desk.proofs.WritableLemmas.{heard_can_be}
+use Rattle.sasl_desk.proofs.turns.Writable.{heard_can_be}
 use Rattle.sasl_desk.proofs.session.hear.hear_offered.Goals as goal
 
 pub returns-in-Abort-clause-turn : goal.returns-in-Abort-clause-turn

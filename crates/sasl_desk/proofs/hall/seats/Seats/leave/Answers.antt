@@ -3,7 +3,7 @@ use Rattle.std.proofs.lemmas.Bool.{eqb-true}
 use Rattle.std.proofs.lemmas.List.Quantifiers.{position-Some}
 use Rattle.std.proofs.lemmas.List.Sorted.{IsPermutation-swap_remove}
 use Rattle.sasl_desk.specs.Guests.{is_of}
-use Rattle.sasl_desk.proofs.GuestLemmas.{found_nowhere}
+use Rattle.sasl_desk.proofs.halls.Guests.{found_nowhere}
 use Rattle.sasl_desk.proofs.hall.seats.Seats.leave.Goals as goal
 
 pub returns-in-Some-clause-some : goal.returns-in-Some-clause-some

@@ -3,7 +3,7 @@ use Rattle.std.specs.declared.option.Option.TheVariants.{Some}
 use Rattle.std.proofs.lemmas.List.Quantifiers.{position-Some}
 use Rattle.std.proofs.lemmas.Option.{slice_get-get_or}
 use Rattle.sasl_desk.specs.Guests.{is_of}
-use Rattle.sasl_desk.proofs.GuestLemmas.{found_at, found_nowhere}
+use Rattle.sasl_desk.proofs.halls.Guests.{found_at, found_nowhere}
 use Rattle.sasl_desk.proofs.hall.seats.Seats.session.Goals as goal
 
 pub returns-in-Some-clause-some : goal.returns-in-Some-clause-some

@@ -3,8 +3,8 @@ use Rattle.scram_ends.specs.Stages.{challenged_login}
 use Rattle.scram_ends.specs.Verdict.{due_text, final_due}
 use Rattle.scram_ends.specs.declared.server.ServerWait.{ServerWait}
 use Rattle.sasl_desk.specs.Waiting.{waiting_of, IsChallenging}
-use Rattle.sasl_desk.proofs.AnswerLemmas.{verdict_due}
-use Rattle.sasl_desk.proofs.WritableLemmas.{final_written}
+use Rattle.sasl_desk.proofs.turns.DueAnswers.{verdict_due}
+use Rattle.sasl_desk.proofs.turns.Writable.{final_written}
 use Rattle.sasl_desk.proofs.session.waiting.Waiting.finish.Goals as goal
 
 pub returns-in-Ok-clause-due : goal.returns-in-Ok-clause-due

@@ -1,0 +1,4 @@
+pub mod EachPlace
+pub mod Closings
+pub mod OpenSessions
+pub mod NumberedFronts

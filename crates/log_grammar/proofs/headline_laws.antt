@@ -1,0 +1,4 @@
+pub mod SessionCounts
+pub mod MomentRanges
+pub mod OfSessions
+pub mod NumberedOfSessions

@@ -1,0 +1,5 @@
+pub mod ValidLogins
+pub mod PlaceMessages
+pub mod CodesOfLogin
+pub mod OtherAnswers
+pub mod Upgraded

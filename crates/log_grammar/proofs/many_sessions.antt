@@ -1,0 +1,12 @@
+pub mod LinesOfNumber
+pub mod Visits
+pub mod Told
+pub mod LogSteps
+pub mod WithoutLast
+pub mod OneReading
+pub mod OwnPlaces
+pub mod OpenCounts
+pub mod DemandsAside
+pub mod DueClasses
+pub mod Standings
+pub mod Ends

@@ -1,0 +1,3 @@
+pub mod Mended
+pub mod DueLines
+pub mod NumberedMended

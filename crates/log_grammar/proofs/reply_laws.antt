@@ -1,0 +1,4 @@
+pub mod Passed
+pub mod UsedCounters
+pub mod ServerLines
+pub mod NumberedPassed

@@ -1,0 +1,4 @@
+pub mod Renumbered
+pub mod GoesOnAlike
+pub mod Texts
+pub mod SameFault
