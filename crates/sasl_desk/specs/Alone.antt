@@ -6,14 +6,13 @@ use Rattle.log_grammar.specs.Lines.{LogLine, said, accepts}
 use Rattle.log_grammar.specs.Demands.{Accounts}
 use Rattle.sasl_desk.specs.Runs.{Asked, greets, hears, Call}
 
--- two sessions are asked the same, at whichever moments: they are greeted with one part of the nonce, or their clients do
--- the same
+-- two requests are the same, at whichever moments: greetings with one part of the nonce, or clients that do the same
 abbrev pub IsSameRequest : Asked → Asked → Type 0
-IsSameRequest (greets own) (greets part) = own ≡ part
+IsSameRequest (greets own) (greets other) = own ≡ other
 IsSameRequest (hears event moment) (hears other later) = event ≡ other
 IsSameRequest one other = ⊥
 
--- in all their calls, one after another
+-- the calls of two sessions have the same requests, one after another
 abbrev pub HaveSameRequests : List Call → List Call → Type 0
 HaveSameRequests [] [] = Unit {0}
 HaveSameRequests (c ∷ calls) (d ∷ others) = IsSameRequest c.asked d.asked × HaveSameRequests calls others

@@ -10,9 +10,17 @@ most_line_bytes = longest_log_line + 1
 abbrev pub most_bytes : ℕ
 most_bytes = 3 * most_line_bytes
 
--- the most bytes that a call adds to a log whose lines have numbers: each has at most 21 bytes more
+-- the most digits of a number below 2^64
+abbrev pub most_digits : ℕ
+most_digits = 20
+
+-- the most bytes of a session's number and the space after it
+abbrev pub most_prefix : ℕ
+most_prefix = most_digits + 1
+
+-- the most bytes that a call adds to a log whose lines have numbers
 abbrev pub most_numbered_bytes : ℕ
-most_numbered_bytes = 3 * (most_line_bytes + 21)
+most_numbered_bytes = 3 * (most_line_bytes + most_prefix)
 
 -- the most turns that one client is given
 abbrev pub most_turns : ℕ

@@ -43,7 +43,7 @@ phase_of Halted = phase.Halted
 -- the state of a desk whose log stands at this place. A desk that has halted may stand at any.
 abbrev pub IsStateAt : Accounts → (own : List ℕ) → Place → State → Type 0
 IsStateAt accounts own at Closed = at ≡ between
-IsStateAt accounts own at (Open going part) = StandsAt accounts at going × (part ≡ own)
+IsStateAt accounts own at (Open going kept) = StandsAt accounts at going × (kept ≡ own)
 IsStateAt accounts own at Halted = Unit {0}
 
 -- the store has not failed, and holds the text of the book, of which this holds

@@ -66,7 +66,7 @@ busy_lines = said busy ∷ ended ∷ []
 -- where it was turned away. The session then stands at this place.
 abbrev pub IsStay : Accounts → List Call → Place → Type 0
 IsStay accounts calls at =
-    IsRun accounts calls at ⊎ ((part : List ℕ) × (calls ≡ call_of (greets part) busy_lines ∷ []) × (at ≡ between))
+    IsRun accounts calls at ⊎ ((own : List ℕ) × (calls ≡ call_of (greets own) busy_lines ∷ []) × (at ≡ between))
 
 -- the guests of a number are one where its session is open, and none where it is not
 abbrev pub open_at : Place → ℕ

@@ -48,4 +48,4 @@ pub record HasItsRecords (accounts : Accounts) (calls : List Call) : Type 0 wher
 -- the records of a session of a hall: as at a desk; or it was turned away, when it was greeted, and nothing more was asked of it
 abbrev pub HasSessionRecords : Accounts → List Call → Type 0
 HasSessionRecords accounts calls =
-    HasItsRecords accounts calls ⊎ ((part : List ℕ) × (calls ≡ call_of (greets part) busy_lines ∷ []))
+    HasItsRecords accounts calls ⊎ ((own : List ℕ) × (calls ≡ call_of (greets own) busy_lines ∷ []))

@@ -8,7 +8,7 @@ use Rattle.scram_text.proofs.DecisionLemmas.{run_decided}
 use Rattle.otp_core.specs.declared.token.answer.Reply.{Reply}
 use Rattle.otp_core.specs.declared.token.answer.Reply.TheVariants.{Pass, Fail, Locked}
 use Rattle.log_grammar.specs.Payload.{IsMessage}
-use Rattle.log_grammar.specs.Words.{is_mech_char, is_code_char, is_space, IsMechName}
+use Rattle.log_grammar.specs.Words.{is_mech_char, is_code_char, is_space, longest_mech_name, longest_code, IsMechName}
 use Rattle.log_grammar.specs.Lines.{ServerLine, mechs, cont, accepts, refuses, replies, halt, busy, ClientLine, auth, auth_with, resp, abort, code, sync, Line, from_server, from_client, LogLine, header, second_header, said, heard, bad, gone, ended, line_text, log_text, IsReplyInRange, IsServerInRange, IsClientInRange, IsLineInRange, IsLogInRange, IsLine, IsLogLine, IsNoLogLine, longest_log_line}
 use Rattle.log_grammar.proofs.lines.ReadBack.{line_in, line_back, log_line_in, log_line_back}
 
@@ -20,7 +20,7 @@ message_decided : (message : List ℕ) → Decided (IsMessage message)
 message_decided message = decided_each (λ c. c < 256) (λ c. decided_le (suc c) 256) message
 
 name_decided : (name : List ℕ) → Decided (IsMechName name)
-name_decided name = run_decided is_mech_char 20 name
+name_decided name = run_decided is_mech_char longest_mech_name name
 
 reply_decided : (reply : Option Reply) → Decided (IsReplyInRange reply)
 reply_decided (Some (Pass counter)) = decided_le counter 9223372036854775806
@@ -42,8 +42,8 @@ client_decided (auth mechanism) = name_decided mechanism
 client_decided (auth_with mechanism message) = decided_both _ _ (name_decided mechanism) (message_decided message)
 client_decided (resp message) = message_decided message
 client_decided abort = inl tt
-client_decided (code text) = run_decided is_code_char 16 text
-client_decided (sync first second) = decided_both _ _ (run_decided is_code_char 16 first) (run_decided is_code_char 16 second)
+client_decided (code text) = run_decided is_code_char longest_code text
+client_decided (sync first second) = decided_both _ _ (run_decided is_code_char longest_code first) (run_decided is_code_char longest_code second)
 
 ranges_decided : (line : Line) → Decided (IsLineInRange line)
 ranges_decided (from_server line) = server_decided line

@@ -13,7 +13,7 @@ use Rattle.log_grammar.specs.state_machine.DueClasses.{IsDueAt}
 use Rattle.log_grammar.specs.LogKinds.{IsWhyOf, BeginsCleanOf}
 use Rattle.log_grammar.specs.KindTwo.{MayBeginTwo, IsWrongAfterFirst, version_two}
 use Rattle.log_grammar.specs.Numbered.{Numbered, numbered, SpellsNumbered}
-use Rattle.log_grammar.specs.state_machine.NumberedDueClasses.{RoomFor, MayFollowBy, IsNumberDueAt}
+use Rattle.log_grammar.specs.state_machine.NumberedDueClasses.{ClassHasRoom, ClassMayFollow, IsNumberDueAt}
 use Rattle.log_grammar.specs.NumberedLines.{HasNumber, numbered_text, IsNumberedLine, IsNumberedWritable}
 use Rattle.log_grammar.specs.laws.NumberedLogLaws.{NumberedFrontsBeginClean}
 use Rattle.log_grammar.specs.state_machine.NumberedSteps.{put, GoesNumbered}
@@ -153,8 +153,8 @@ begins_with completes limit accounts fit before x why f line next lack says writ
     let y = numbered n line in
     let same = one_class why (class_of x.value) (class_of line) (wrong_class accounts (f.places n) f.told x.value why f.wrong) (says_class why line says) in
     let g : GoesNumbered limit (demands accounts) f.log f.places f.told n line next = record {
-      room = room_line limit f.log n line (subst (RoomFor limit f.log n) same f.due.room);
-      next = λ earlier z e. next_line z.number z.value n line (subst (MayFollowBy z.number z.value n) same (f.due.next earlier z e));
+      room = room_line limit f.log n line (subst (ClassHasRoom limit f.log n) same f.due.room);
+      next = λ earlier z e. next_line z.number z.value n line (subst (ClassMayFollow z.number z.value n) same (f.due.next earlier z e));
       goes = inl goes;
       due = answer;
     } in

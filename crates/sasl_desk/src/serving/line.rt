@@ -5,10 +5,10 @@ ghost use Rattle.sasl_desk.specs.Inputs.{ReadsLine, line_read, event_read};
 
 use crate::session::Event;
 use arrayvec::ArrayVec;
-use sasl_log::{Got, Source};
+use sasl_log::{Got, MOST_LINE, Source};
 
 /// How many bytes are read for a line: one more than a line may have.
-const MOST_READ: usize = 6201;
+const MOST_READ: usize = MOST_LINE + 1;
 
 /// The bytes of a line, with room for one more than a line may have.
 pub(crate) type Text = ArrayVec<u8, MOST_READ>;
