@@ -1,3 +1,4 @@
 pub mod InputLines
 pub mod LinesInTurn
+mod HeldFaults
 mod Results

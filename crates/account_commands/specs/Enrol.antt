@@ -5,11 +5,11 @@ use Rattle.std.specs.Io.KnownBytes.{Appends, Consumes}
 use Rattle.std.specs.Str.{byte}
 use Rattle.scram_text.specs.Class.{IsPassword}
 use Rattle.book_format.specs.Book.{BookFields}
-use Rattle.account_book.specs.Store.{StoreFacts}
+use Rattle.account_book.specs.Saves.{WasSaved}
 use Rattle.book_file.specs.Text.{IsWritten}
 use Rattle.clap.specs.declared.parser.matches.ArgMatches.{ArgMatches}
 use Rattle.command_line.specs.declared.value.OptionName.TheVariants as option
-use Rattle.account_commands.specs.HeldBook.{IsBookSaved, IsEnrolled, IsReadBook}
+use Rattle.account_commands.specs.HeldBook.{IsEnrolled, IsReadBook, IsStoredShort}
 use Rattle.account_commands.specs.Input.{IsFirstLine}
 use Rattle.command_words.specs.Values.{given_value}
 
@@ -38,9 +38,7 @@ pub record SavesAccount {File : Type 0} (bytes_of written_to : File → Option (
   pub is_first : (first ≡ book) ⊎ ((text : List ℕ) × IsReadBook bytes_of text first)
   pub last : BookFields
   pub is_enrolled : IsEnrolled name password salt1 salt256 count first last
-  pub old : StoreFacts
-  pub new : StoreFacts
-  pub is_saved : IsBookSaved (IsWritten written_to) old last new
+  pub is_saved : WasSaved (IsStoredShort (IsWritten written_to)) last
 
 -- the account that the words and the first line of the input describe is added to a book that was read, or to a new one, whose
 -- text is then written to a file. A file gives the random bytes: the key of a new book, and then the salts. And the name is printed.

@@ -1,51 +1,66 @@
 -- What becomes of a held book and of its store.
-use Rattle.std.specs.Prelude.{ℕ, ◌≡◌, ◌≢◌, ◌≤◌, ◌<◌, ◌⊎◌, true, List, [], ◌∷◌, ◌++◌, length, codes, Option, is_some, None, IfSome}
+use Rattle.std.specs.Prelude.{ℕ, ⊤, ◌≡◌, ◌≤◌, ◌<◌, ◌⊎◌, true, false, List, [], ◌∷◌, ◌++◌, length, codes, string_bytes, Option, is_some, None, Some, IfSome, MatchOption}
 use Rattle.std.specs.Str.{byte}
 use Rattle.std.specs.Io.KnownBytes.{Appends}
 use Rattle.otp_core.specs.Attempt.{CodeTexts}
 use Rattle.otp_core.specs.declared.token.answer.Reply.{Reply}
-use Rattle.otp_core.specs.declared.token.answer.Reply.TheVariants.{Locked}
+use Rattle.book_format.specs.Account.{AccountFields}
 use Rattle.book_format.specs.Book.{BookFields}
 use Rattle.book_format.specs.Trees.{IsBookText}
 use Rattle.account_book.specs.Accounts.{account_at, IsAdded}
 use Rattle.account_book.specs.Enrolled.{enrolled}
-use Rattle.account_book.specs.Store.{StoreFacts, IsSaved, IsLost}
+use Rattle.account_book.specs.Saves.{needs_save, SavesBook, WasSaved}
+use Rattle.account_book.specs.Store.{StoreFacts, IsLost}
 use Rattle.account_book.specs.Tokens.{IsAttempt, IsUnlocked, token_at}
 use Rattle.book_file.specs.Text.{IsRead, IsWritten}
 use Rattle.book_file.specs.declared.file.TheConstants.{MOST_BOOK}
 use Rattle.clap.specs.declared.parser.matches.ArgMatches.{ArgMatches}
+use Rattle.command_line.specs.declared.fault.Fault.{Fault}
+use Rattle.command_line.specs.declared.fault.Fault.TheVariants.{NoSuchAccount, NoToken, BadBook, CannotRead, CannotWrite, NoMemory}
 use Rattle.command_line.specs.declared.value.OptionName.TheVariants as option
 use Rattle.command_words.specs.Values.{given_value}
 use Rattle.account_commands.specs.declared.held_book.HeldBook.{HeldBook}
 
--- a book, and what is known of its store
-pub record Held : Type 0 where
+-- what is known of a held book: the book, and the facts of its store
+pub record HeldFacts : Type 0 where
   pub book : BookFields
   pub store : StoreFacts
 
 -- a held book, as what is known of it
-abbrev pub held_shown : {S : Type 0} → (S → StoreFacts) → HeldBook S → Held
+abbrev pub held_shown : {S : Type 0} → (S → StoreFacts) → HeldBook S → HeldFacts
 held_shown facts held = record { book = held.book; store = facts held.store }
 
--- the store has saved the book: it holds its text, which is not longer than the text of a book may be, and of which this holds
-pub record IsBookSaved (IsStored : List ℕ → Type 0) (old : StoreFacts) (book : BookFields) (new : StoreFacts) : Type 0 where
-  pub text : List ℕ
-  pub is_text : IsBookText text book
-  pub short : length text ≤ MOST_BOOK
-  pub done : IsSaved old text new
-  pub stored : IsStored text
+-- a text is stored, and is no longer than the text of a book may be
+abbrev pub IsStoredShort : (IsStored : List ℕ → Type 0) → List ℕ → Type 0
+IsStoredShort IsStored text = (length text ≤ MOST_BOOK) × IsStored text
 
--- the book is not saved: the store is as it was, or it failed in saving the book's text, and has that or the text from before
-abbrev pub IsBookUnsaved : StoreFacts → BookFields → StoreFacts → Type 0
+-- the store has saved the book
+abbrev pub IsBookSaved : (IsStored : List ℕ → Type 0) → (old : StoreFacts) → BookFields → (new : StoreFacts) → Type 0
+IsBookSaved IsStored old book new = SavesBook (IsStoredShort IsStored) old book new
+
+-- the book is not saved: the store is as it was; or it failed in saving the book, and has that text or the one from before
+abbrev pub IsBookUnsaved : (old : StoreFacts) → BookFields → (new : StoreFacts) → Type 0
 IsBookUnsaved old book new = (new ≡ old) ⊎ ((text : List ℕ) × IsBookText text book × IsLost old text new)
 
--- a change of the book that is not saved: nothing has changed, or the book is changed and that is not saved
-abbrev pub IsChangeUnsaved : Held → (Changes : BookFields → BookFields → Type 0) → Held → Type 0
+-- a change of the book failed: nothing has changed, or the book has changed and is not saved
+abbrev pub IsChangeUnsaved : (old : HeldFacts) → (Changes : BookFields → BookFields → Type 0) → (new : HeldFacts) → Type 0
 IsChangeUnsaved old Changes new = (new ≡ old) ⊎ (Changes old.book new.book × IsBookUnsaved old.store new.book new.store)
 
--- no book of this text can be saved: it is too long, or the store has failed
+-- a book of this text can't be saved: the text is too long, or the store has failed
 abbrev pub CannotBeSaved : (text : List ℕ) → StoreFacts → Type 0
 CannotBeSaved text store = (MOST_BOOK < length text) ⊎ (store.failed ≡ true)
+
+-- the fault of a book that can't be held or read: the file of this path can't be read; that file or the one of its next text
+-- can't be written; its text is no book; or memory ran out
+abbrev pub IsUnheld : (path : List ℕ) → Fault → Type 0
+IsUnheld path (CannotRead file) = string_bytes file ≡ path
+IsUnheld path (CannotWrite file) = ⊤
+IsUnheld path (BadBook number) = ⊤
+IsUnheld path fault = fault ≡ NoMemory
+
+-- the account that was looked up is not there, or has no token: the fault says which
+abbrev pub LacksToken : Option AccountFields → Fault → Type 0
+LacksToken found fault = MatchOption found (fault ≡ NoSuchAccount) (λ account. (fault ≡ NoToken) × (account.token ≡ None))
 
 -- the account with this name has a token, whose failures are 0 after the change; nothing else is changed
 abbrev pub IsTokenUnlocked : (name : List ℕ) → BookFields → BookFields → Type 0
@@ -61,23 +76,23 @@ pub record IsAttemptAnswered (old : BookFields) (name : List ℕ) (moment : ℕ)
   pub there : is_some (token_at old name) ≡ true
   pub due : IfSome (token_at old name) (λ token. IsAttempt old name token moment said reply new)
 
--- the reply is due, and the book after it is saved; a token that is locked changes nothing, and nothing is saved
-pub record IsReplySaved (IsStored : List ℕ → Type 0) (old : Held) (name : List ℕ) (moment : ℕ) (said : CodeTexts) (reply : Reply) (new : Held) : Type 0 where
+-- the reply is due, and the book after it is saved where the reply needs that; else the store is as it was
+pub record IsReplySaved (IsStored : List ℕ → Type 0) (old : HeldFacts) (name : List ℕ) (moment : ℕ) (said : CodeTexts) (reply : Reply) (new : HeldFacts) : Type 0 where
   pub due : IsAttemptAnswered old.book name moment said reply new.book
-  pub saved : reply ≢ Locked → IsBookSaved IsStored old.store new.book new.store
-  pub unsaved : reply ≡ Locked → new.store ≡ old.store
+  pub saved : needs_save (Some reply) ≡ true → IsBookSaved IsStored old.store new.book new.store
+  pub unasked : needs_save (Some reply) ≡ false → new.store ≡ old.store
 
--- nothing has changed, or a reply was due and the book after it is not saved
-abbrev pub IsReplyUnsaved : Held → (name : List ℕ) → (moment : ℕ) → CodeTexts → Held → Type 0
+-- nothing has changed; or a reply was due, and the book after it is not saved
+abbrev pub IsReplyUnsaved : (old : HeldFacts) → (name : List ℕ) → (moment : ℕ) → CodeTexts → (new : HeldFacts) → Type 0
 IsReplyUnsaved old name moment said new =
     (new ≡ old) ⊎ ((reply : Reply) × IsAttemptAnswered old.book name moment said reply new.book × IsBookUnsaved old.store new.book new.store)
 
 -- the token of this name is unlocked, and the book is saved
-pub record IsUnlockSaved (IsStored : List ℕ → Type 0) (name : List ℕ) (old new : Held) : Type 0 where
+pub record IsUnlockSaved (IsStored : List ℕ → Type 0) (name : List ℕ) (old new : HeldFacts) : Type 0 where
   pub unlocked : IsTokenUnlocked name old.book new.book
   pub saved : IsBookSaved IsStored old.store new.book new.store
 
--- the book of a text that was read from a file, of which this is what it has
+-- a book is that of this text, and the text was read from a file
 pub record IsReadBook {File : Type 0} (bytes_of : File → Option (List ℕ)) (text : List ℕ) (book : BookFields) : Type 0 where
   pub is_text : IsBookText text book
   pub is_read : IsRead bytes_of text
@@ -85,8 +100,10 @@ pub record IsReadBook {File : Type 0} (bytes_of : File → Option (List ℕ)) (t
 -- a book is read from a file, the token of the name that the words give is unlocked, and the text of the book as it is then is
 -- written to a file; and the name is printed
 pub record UnlocksAsked {File : Type 0} (bytes_of written_to : File → Option (List ℕ)) (words : ArgMatches) (old new : Option (List ℕ)) : Type 0 where
-  pub first : Held
-  pub last : Held
-  pub is_first : IsReadBook bytes_of first.store.saved first.book
-  pub is_saved : IsUnlockSaved (IsWritten written_to) (given_value words option.Name) first last
+  pub text : List ℕ
+  pub first : BookFields
+  pub is_first : IsReadBook bytes_of text first
+  pub last : BookFields
+  pub is_unlocked : IsTokenUnlocked (given_value words option.Name) first last
+  pub is_saved : WasSaved (IsStoredShort (IsWritten written_to)) last
   pub printed : Appends old new (codes "unlocked " ++ (given_value words option.Name ++ byte "\n" ∷ []))

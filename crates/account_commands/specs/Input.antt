@@ -3,7 +3,13 @@ use Rattle.std.specs.Prelude.{ℕ, ◌≡◌, ◌⊎◌, Bool, ◌&&◌, true, f
 use Rattle.std.specs.Str.{byte}
 use Rattle.std.specs.Io.KnownBytes.{Consumes, IsAtEnd}
 use Rattle.std.specs.declared.option.Option.{Option}
+use Rattle.command_line.specs.declared.fault.Fault.{Fault}
+use Rattle.command_line.specs.declared.fault.Fault.TheVariants.{CannotReadInput, NoMemory}
 use Rattle.log_grammar.specs.Bytes.{LacksLf, IsCut}
+
+-- a line can't be read: the input failed, or has more bytes than a command reads; or memory ran out
+abbrev pub IsUnread : Fault → Type 0
+IsUnread fault = (fault ≡ CannotReadInput) ⊎ (fault ≡ NoMemory)
 
 -- the bytes of a line in its input: its own, and its LF where it has one
 abbrev pub line_bytes : (line : List ℕ) → (has_lf : Bool) → List ℕ

@@ -1,14 +1,15 @@
 //! A book that this run holds, and its store: each change is saved before it is reported.
-ghost use Rattle.std.specs.Prelude.{◌≡◌, ◌≢◌, ◌≤◌, ◌⊎◌, ℕ, List, true, is_some, None, IfErr, IfOk, IfSome, MatchOption, OnOk, OnErr, string_bytes};
+ghost use Rattle.std.specs.Prelude.{◌≡◌, ◌≢◌, ◌≤◌, ◌⊎◌, ℕ, List, true, false, is_some, None, Some, IfErr, IfOk, IfSome, MatchOption, OnOk, OnErr, string_bytes};
 ghost use Rattle.book_format.specs.Reading.{IsFirstFault};
 ghost use Rattle.book_format.specs.Trees.{IsBookText};
 ghost use Rattle.book_format.specs.declared.fault.BookFault.{BookFault};
 ghost use Rattle.account_book.specs.Accounts.{account_at};
+ghost use Rattle.account_book.specs.Saves.{needs_save};
 ghost use Rattle.account_book.specs.Tokens.{token_at};
 ghost use Rattle.book_file.specs.Text.{IsRead};
 ghost use Rattle.otp_core.specs.Sent.{texts_of};
 ghost use Rattle.command_line.specs.Fault.{IsTokenFault, IsUnwritten, of_book};
-ghost use Rattle.account_commands.specs.HeldBook.{held_shown, CannotBeSaved, IsBookSaved, IsBookUnsaved, IsChangeUnsaved, IsEnrolled, IsAttemptAnswered, IsReadBook, IsReplyUnsaved, IsTokenUnlocked, IsUnlockSaved};
+ghost use Rattle.account_commands.specs.HeldBook.{held_shown, CannotBeSaved, IsBookSaved, IsBookUnsaved, IsChangeUnsaved, IsEnrolled, IsAttemptAnswered, IsReadBook, IsReplyUnsaved, IsTokenUnlocked, IsUnheld, IsUnlockSaved, LacksToken};
 
 use crate::new_account::{NewAccount, Salts};
 use account_book::{Book, BookStore, BookWhy, EnrolFault, Reply};
@@ -31,25 +32,27 @@ pub struct HeldBook<'a, S> {
     path: &'a str,
 }
 
-/// A book, and the text that it was read from.
+/// A book as it was when its file was read; others may have changed the file since.
 #[derive(Drop)]
 pub struct Seen {
-    /// The book.
+    /// What the text says.
     pub book: Book,
 
-    /// Its file's text.
+    /// All of the file.
     pub text: String,
 }
 
 /// Takes hold of the book at `path`, reads it and lets it go; None where there is no file. Faults: CannotRead where
 /// the file can't be read or other runs hold it for 30 seconds, CannotWrite where the file of the next text can't
 /// be made, BadBook where the text is no book, and NoMemory.
+#[tactic(auto, using(crate::proofs::HeldFaults::no_book))]
 pub fn read_and_release<R, E>(rt: &R, path: &str, faults: &mut E) -> Result<Option<Seen>, Fault>
 where
     R: Files + Clock + AllocGlobal,
     R::File: Lockable,
     E: Write,
-    ensures { IfOk result (λ found. IfSome found (λ seen. IsReadBook R.File.remaining (string_bytes seen.text) seen.book)) }
+    ensures read { IfOk result (λ found. IfSome found (λ seen. IsReadBook R.File.remaining (string_bytes seen.text) seen.book)) }
+    ensures err { IfErr result (IsUnheld path.now) }
 {
     let mut file = match BookFile::hold(rt, path) {
         Ok(file) => file,
@@ -65,6 +68,7 @@ where
 
 /// Takes hold of the book at `path`, which has to be there, and reads it. Faults: as `read_and_release`, and CannotRead where
 /// there is no file.
+#[tactic(auto, using(crate::proofs::HeldFaults::no_book))]
 pub fn open<'a, 'r, R, E>(
     rt: &'r R,
     path: &'a str,
@@ -76,6 +80,7 @@ where
     E: Write,
     ensures read { IfOk result (λ held. IsReadBook R.File.remaining (⟦<FileStore<'r, R> as BookStore>⟧.facts held.store).saved held.book) }
     ensures path { IfOk result (λ held. held.path.now ≡ path.now) }
+    ensures err { IfErr result (IsUnheld path.now) }
 {
     let (file, text) = text_held(rt, path, BookFile::hold(rt, path), faults)?;
     match text {
@@ -97,7 +102,8 @@ where
     R: Files + Clock + AllocGlobal,
     R::File: Lockable,
     E: Write,
-    ensures { IfOk result (λ found. IfSome found.1 (λ text. IsRead R.File.remaining (string_bytes text))) }
+    ensures read { IfOk result (λ found. IfSome found.1 (λ text. IsRead R.File.remaining (string_bytes text))) }
+    ensures err { IfErr result (IsUnheld path.now) }
 {
     let mut file = match held {
         Ok(file) => file,
@@ -110,12 +116,15 @@ where
 // The fault of a command that could not hold the book at `path`: that it can't be read, or that a file can't be
 // written. Where other runs held the book, or it belongs to another user, a line on `faults` says so first. The error
 // is that memory ran out.
+#[tactic(auto, using(crate::proofs::HeldFaults::unread))]
 fn unheld<E: Write>(
     alloc: Global,
     path: &str,
     fault: HoldFault,
     faults: &mut E,
-) -> Result<Fault, AllocError> {
+) -> Result<Fault, AllocError>
+    ensures { IfOk result (IsUnheld path.now) }
+{
     let file = String::from_str(alloc, path)?;
     Ok(match fault {
         HoldFault::Unreadable(error) => Fault::of_reading(file, &error),
@@ -138,7 +147,9 @@ fn unheld<E: Write>(
     })
 }
 
-// The text of a book's file, or None where there is no file.
+// The text of a book's file, or None where there is no file. Faults: CannotRead, BadBook where the text is not UTF-8, and
+// NoMemory.
+#[tactic(auto, using(crate::proofs::HeldFaults::unread))]
 fn text_of<R>(
     alloc: Global,
     file: &mut BookFile<'_, R>,
@@ -147,7 +158,8 @@ fn text_of<R>(
 where
     R: Files + Clock + AllocGlobal,
     R::File: Lockable,
-    ensures { IfOk result (λ found. IfSome found (λ text. IsRead R.File.remaining (string_bytes text))) }
+    ensures read { IfOk result (λ found. IfSome found (λ text. IsRead R.File.remaining (string_bytes text))) }
+    ensures err { IfErr result (IsUnheld path.now) }
 {
     let bytes = match file.read() {
         Ok(Some(bytes)) => bytes,
@@ -238,9 +250,7 @@ impl<'a, S: BookStore> HeldBook<'a, S> {
     /// Checks that there is an account of this name, and that it has a token. Faults: NoSuchAccount and NoToken.
     pub fn check_token(&self, name: &PlainName) -> Result<(), Fault>
         ensures ok { OnOk result (is_some (token_at self.now.book name.now) ≡ true) }
-        ensures err { IfErr result (λ fault. MatchOption (account_at self.now.book name.now)
-            (fault ≡ Fault.NoSuchAccount)
-            (λ account. (fault ≡ Fault.NoToken) × (account.token ≡ None))) }
+        ensures err { IfErr result (LacksToken (account_at self.now.book name.now)) }
     {
         match self.book.account(name) {
             None => Err(Fault::NoSuchAccount),
@@ -259,9 +269,10 @@ impl<'a, S: BookStore> HeldBook<'a, S> {
         sent: Sent<'_>,
     ) -> Result<Reply, Fault>
         ensures due { IfOk result (λ reply. IsAttemptAnswered self.old.book name.now moment (texts_of sent.entry) reply self.new.book) }
-        ensures saved { IfOk result (λ reply. reply ≢ Reply.Locked
+        ensures saved { IfOk result (λ reply. needs_save (Some reply) ≡ true
             → IsBookSaved S.IsStored (S.facts self.old.store) self.new.book (S.facts self.new.store)) }
-        ensures locked { IfOk result (λ reply. reply ≡ Reply.Locked → self.new.store ≡ self.old.store) }
+        ensures locked { IfOk result (λ reply. needs_save (Some reply) ≡ false → self.new.store ≡ self.old.store) }
+        ensures path { self.new.path.now ≡ self.old.path.now }
         ensures err { IfErr result (IsTokenFault self.old.path.now (account_at self.old.book name.now)) }
         ensures unasked { IfErr result (λ fault. fault ≡ Fault.NoMemory → self.new.store ≡ self.old.store) }
         ensures unsaved { OnErr result (IsReplyUnsaved (held_shown S.facts self.old) name.now moment (texts_of sent.entry)
@@ -295,6 +306,7 @@ impl<'a, S: BookStore> HeldBook<'a, S> {
     /// and NoMemory; where memory runs out the store is not asked.
     pub fn save(&mut self, alloc: Global) -> Result<(), Fault>
         ensures book { self.new.book ≡ self.old.book }
+        ensures path { self.new.path.now ≡ self.old.path.now }
         ensures err { IfErr result (IsUnwritten self.old.path.now) }
         ensures why { IfErr result (λ fault. fault ≢ Fault.NoMemory
             → (text : List ℕ) × IsBookText text self.old.book × CannotBeSaved text (S.facts self.new.store)) }

@@ -1,7 +1,7 @@
 //! Standard input, as lines.
-ghost use Rattle.std.specs.Prelude.{◌≡◌, ◌≤◌, ◌+◌, ◌⊎◌, Bool, [], ◌∷◌, length, IfErr, IfOk, IfSome, IfNone, MatchOption};
+ghost use Rattle.std.specs.Prelude.{◌≡◌, ◌≤◌, ◌+◌, Bool, [], ◌∷◌, length, IfErr, IfOk, IfSome, IfNone, MatchOption};
 ghost use Rattle.std.specs.Io.KnownBytes.{Consumes, IsAtEnd};
-ghost use Rattle.account_commands.specs.Input.{line_bytes, TakesLine, IsFirstLine};
+ghost use Rattle.account_commands.specs.Input.{line_bytes, TakesLine, IsFirstLine, IsUnread};
 ghost use Rattle.account_commands.specs.declared.input.TheConstants.{MOST_INPUT};
 
 use command_line::Fault;
@@ -16,7 +16,7 @@ const MOST_INPUT: usize = 16_777_216;
 fn next_byte<I: Read>(input: &mut I) -> Result<Option<u8>, Fault>
     ensures some { IfOk result (λ found. IfSome found (λ byte. Consumes (I.remaining input.old) (I.remaining input.new) (byte ∷ []))) }
     ensures none { IfOk result (λ found. IfNone found (Consumes (I.remaining input.old) (I.remaining input.new) [] × IsAtEnd (I.remaining input.new))) }
-    ensures err { IfErr result (λ fault. (fault ≡ Fault.CannotReadInput) ⊎ (fault ≡ Fault.NoMemory)) }
+    ensures err { IfErr result IsUnread }
 {
     let mut byte = [0];
     // Bounded only because every function has to return; what ends it is in its body.
@@ -37,7 +37,7 @@ fn next_byte<I: Read>(input: &mut I) -> Result<Option<u8>, Fault>
 fn read_line<I: Read>(alloc: Global, input: &mut I, most: usize) -> Result<(Vec<u8>, bool), Fault>
     ensures line { IfOk result (λ line. TakesLine (I.remaining input.old) line.0.items line.1 (I.remaining input.new)) }
     ensures most { IfOk result (λ line. length (line_bytes line.0.items line.1) ≤ most) }
-    ensures err { IfErr result (λ fault. (fault ≡ Fault.CannotReadInput) ⊎ (fault ≡ Fault.NoMemory)) }
+    ensures err { IfErr result IsUnread }
 {
     let mut line = Vec::new(alloc);
     while let Some(byte) = next_byte(input)? {
@@ -60,7 +60,7 @@ pub fn first_line<I: BufRead>(alloc: Global, input: &mut I) -> Result<Vec<u8>, F
     ensures first { IfOk result (λ line. IsFirstLine (I.remaining input.old) line.items) }
     ensures taken { IfOk result (λ line. (has_lf : Bool) × TakesLine (I.remaining input.old) line.items has_lf (I.remaining input.new)) }
     ensures most { IfOk result (λ line. length line.items ≤ MOST_INPUT) }
-    ensures err { IfErr result (λ fault. (fault ≡ Fault.CannotReadInput) ⊎ (fault ≡ Fault.NoMemory)) }
+    ensures err { IfErr result IsUnread }
 {
     let (line, _) = read_line(alloc, input, MOST_INPUT)?;
     Ok(line)
@@ -78,7 +78,7 @@ pub struct Lines<'a, I> {
 }
 
 impl<'a, I: BufRead> Lines<'a, I> {
-    /// The lines of `input`.
+    /// The lines of `input` from where it stands.
     pub fn new(input: &'a mut I) -> Lines<'a, I>
         ensures input { result.input ≡ input.entry }
         ensures left { result.left ≡ MOST_INPUT }
@@ -93,14 +93,14 @@ impl<'a, I: BufRead> Lines<'a, I> {
     /// where it has a byte. CannotReadInput where a read fails, and where the lines so far have more than
     /// 16777216 bytes with their LFs; NoMemory where memory runs out.
     pub fn next(&mut self, alloc: Global) -> Result<Option<Vec<u8>>, Fault>
-        // The line is the input's next one, and its bytes, of which there is one at least, are counted.
+        // A line has a byte at least, so each call that gives one leaves fewer bytes to read.
         ensures line { IfOk result (λ found. IfSome found (λ line. (has_lf : Bool)
             × TakesLine (I.remaining self.old.input.now) line.items has_lf (I.remaining self.new.input.now)
             × (1 ≤ length (line_bytes line.items has_lf))
             × (self.new.left + length (line_bytes line.items has_lf) ≡ self.old.left))) }
         ensures end { IfOk result (λ found. IfNone found (IsAtEnd (I.remaining self.old.input.now))) }
         ensures ended { IfOk result (λ found. IfNone found (IsAtEnd (I.remaining self.new.input.now))) }
-        ensures err { IfErr result (λ fault. (fault ≡ Fault.CannotReadInput) ⊎ (fault ≡ Fault.NoMemory)) }
+        ensures err { IfErr result IsUnread }
     {
         let (line, has_lf) = read_line(alloc, self.input, self.left)?;
         let taken = if has_lf { line.len() + 1 } else { line.len() };

@@ -13,7 +13,8 @@ pub fn optional<'a>(words: &ArgMatches<'a>, option: OptionName) -> Option<&'a st
     words.get_str(name)
 }
 
-/// The value of an option that is required or has a default.
+/// The value of an option that is required or has a default. It is empty where none was given, as of an option that the
+/// command does not have.
 pub fn given<'a>(words: &ArgMatches<'a>, option: OptionName) -> &'a str
     ensures { result.now ≡ given_value words.now option }
 {

@@ -1,20 +1,27 @@
--- What the command `verify` prints, and what is saved before.
-use Rattle.std.specs.Prelude.{ℕ, ◌≡◌, ◌⊎◌, Bool, true, false, List, [], ◌∷◌, ◌++◌}
+-- What the command `verify` prints, what is saved before, and which faults end it.
+use Rattle.std.specs.Prelude.{ℕ, ◌≡◌, ◌≢◌, ◌⊎◌, Bool, true, false, List, [], ◌∷◌, ◌++◌}
 use Rattle.std.specs.Str.{byte}
 use Rattle.std.specs.Fmt.{decimal}
 use Rattle.std.specs.Io.KnownBytes.{Appends}
 use Rattle.std.specs.declared.option.Option.{Option}
 use Rattle.std.specs.declared.option.Option.TheVariants.{Some}
 use Rattle.otp_core.specs.Attempt.{CodeTexts}
+use Rattle.otp_core.specs.Ranges.{IsMoment}
 use Rattle.otp_core.specs.declared.token.answer.Reply.{Reply}
 use Rattle.otp_core.specs.declared.token.answer.Reply.TheVariants.{Pass, Fail, Locked}
+use Rattle.scram_text.specs.Class.{IsPlainName}
+use Rattle.book_format.specs.Book.{BookFields}
+use Rattle.account_book.specs.Accounts.{account_at}
 use Rattle.account_book.specs.Store.{StoreFacts}
 use Rattle.book_file.specs.Text.{IsWritten}
 use Rattle.log_grammar.specs.Lines.{reply_text}
 use Rattle.clap.specs.declared.parser.matches.ArgMatches.{ArgMatches}
+use Rattle.command_line.specs.Fault.{IsTokenFault}
+use Rattle.command_line.specs.declared.fault.Fault.{Fault}
+use Rattle.command_line.specs.declared.fault.Fault.TheVariants.{BadValue, CannotWriteOutput, NoMemory}
 use Rattle.command_line.specs.declared.value.OptionName.TheVariants as option
-use Rattle.account_commands.specs.HeldBook.{Held, held_shown, IsReadBook, IsReplySaved, IsReplyUnsaved}
-use Rattle.account_commands.specs.Input.{LinesInTurn}
+use Rattle.account_commands.specs.HeldBook.{HeldFacts, held_shown, IsReadBook, IsReplySaved, IsReplyUnsaved, IsUnheld, LacksToken}
+use Rattle.account_commands.specs.Input.{LinesInTurn, IsUnread}
 use Rattle.commands.specs.Sent.{Says}
 use Rattle.command_words.specs.Values.{given_value}
 use Rattle.account_commands.specs.declared.held_book.HeldBook.{HeldBook}
@@ -31,7 +38,7 @@ printed_reply reply moment = reply_text moment (Some reply) ++ byte "\n" ∷ []
 
 -- the book that a run of `verify` holds, and what it has printed, where that is known
 pub record VerifyRun : Type 0 where
-  pub held : Held
+  pub held : HeldFacts
   pub printed : Option (List ℕ)
 
 -- such a run, by its held book
@@ -45,12 +52,27 @@ pub record IsLineAnswered (IsStored : List ℕ → Type 0) (name : List ℕ) (mo
   pub saved : IsReplySaved IsStored old.held name moment said reply new.held
   pub printed : Appends old.printed new.printed (printed_reply reply moment)
 
--- a fault at a line: nothing has changed or the change is not saved, and nothing is printed; or it is saved, and the
--- reply could not be printed
-abbrev pub FailsAtLine : (IsStored : List ℕ → Type 0) → (name : List ℕ) → (moment : ℕ) → (line : List ℕ) → VerifyRun → VerifyRun → Type 0
-FailsAtLine IsStored name moment line old new =
-    (said : CodeTexts) × Says line said
-    × ((IsReplyUnsaved old.held name moment said new.held × (new.printed ≡ old.printed)) ⊎ ((reply : Reply) × IsReplySaved IsStored old.held name moment said reply new.held))
+-- the fault of a reply that is not printed: the output can't be written; or memory ran out, and nothing is printed
+abbrev pub IsUnprinted : Fault → (old new : Option (List ℕ)) → Type 0
+IsUnprinted fault old new = (fault ≡ CannotWriteOutput) ⊎ ((fault ≡ NoMemory) × (new ≡ old))
+
+-- the reply to what a line says is not saved, and nothing is printed: there is no token to judge it by, the book's file, of this path,
+-- can't be written, or memory ran out
+abbrev pub IsReplyLost : (path name : List ℕ) → (moment : ℕ) → CodeTexts → (old : VerifyRun) → Fault → (new : VerifyRun) → Type 0
+IsReplyLost path name moment said old fault new =
+    IsReplyUnsaved old.held name moment said new.held × IsTokenFault path (account_at old.held.book name) fault × (new.printed ≡ old.printed)
+
+-- the reply to what a line says is saved, and is not printed
+abbrev pub IsReplyUntold : (IsStored : List ℕ → Type 0) → (name : List ℕ) → (moment : ℕ) → CodeTexts → (old : VerifyRun) → Fault → (new : VerifyRun)
+    → Type 0
+IsReplyUntold IsStored name moment said old fault new =
+    (reply : Reply) × IsReplySaved IsStored old.held name moment said reply new.held × IsUnprinted fault old.printed new.printed
+
+-- a fault at a line: the reply to what it says is not saved, or it is saved and not printed
+abbrev pub FailsAtLine : (IsStored : List ℕ → Type 0) → (path name : List ℕ) → (moment : ℕ) → (line : List ℕ) → (old : VerifyRun) → Fault
+    → (new : VerifyRun) → Type 0
+FailsAtLine IsStored path name moment line old fault new =
+    (said : CodeTexts) × Says line said × (IsReplyLost path name moment said old fault new ⊎ IsReplyUntold IsStored name moment said old fault new)
 
 -- a line is answered, and whether its code passed
 abbrev pub AnswersLine : (IsStored : List ℕ → Type 0) → (name : List ℕ) → (moment : ℕ) → (line : List ℕ) → VerifyRun → (passed : Bool) → VerifyRun → Type 0
@@ -60,12 +82,26 @@ AnswersLine IsStored name moment line old passed new = (reply : Reply) × IsLine
 abbrev pub AnswersAllLines : (IsStored : List ℕ → Type 0) → (name : List ℕ) → (moment : ℕ) → Option (List ℕ) → VerifyRun → (all_passed : Bool) → VerifyRun → Type 0
 AnswersAllLines IsStored name moment input old all_passed new = LinesInTurn (AnswersLine IsStored name moment) input [] old all_passed new
 
--- the first lines of the input are answered, and then came a fault: between two lines, or at one
-abbrev pub AnswersFirstLines : (IsStored : List ℕ → Type 0) → (name : List ℕ) → (moment : ℕ) → Option (List ℕ) → VerifyRun → VerifyRun → Type 0
-AnswersFirstLines IsStored name moment input old new =
-    ((last : List (List ℕ)) × (all_passed : Bool) × LinesInTurn (AnswersLine IsStored name moment) input last old all_passed new)
+-- the first lines of the input are answered, and then comes a fault: the next line can't be read, or the fault is at that line
+abbrev pub AnswersFirstLines : (IsStored : List ℕ → Type 0) → (path name : List ℕ) → (moment : ℕ) → Option (List ℕ) → (old : VerifyRun) → Fault
+    → (new : VerifyRun) → Type 0
+AnswersFirstLines IsStored path name moment input old fault new =
+    ((last : List (List ℕ)) × (all_passed : Bool) × LinesInTurn (AnswersLine IsStored name moment) input last old all_passed new × IsUnread fault)
     ⊎ ((line : List ℕ) × (last : List (List ℕ)) × (all_passed : Bool) × (there : VerifyRun)
-    × LinesInTurn (AnswersLine IsStored name moment) input (line ∷ last) old all_passed there × FailsAtLine IsStored name moment line there new)
+    × LinesInTurn (AnswersLine IsStored name moment) input (line ∷ last) old all_passed there
+    × FailsAtLine IsStored path name moment line there fault new)
+
+-- the name or the moment that the words give is none, and that is the fault
+abbrev pub IsBadWord : ArgMatches → Fault → Type 0
+IsBadWord words fault =
+    ((fault ≡ BadValue option.Name) × (IsPlainName (given_value words option.Name) → ⊥))
+    ⊎ ((fault ≡ BadValue option.Moment) × ((moment : ℕ) → IsMoment moment → given_value words option.Moment ≢ decimal moment))
+
+-- a run of `verify` does not begin: a word is bad, the book can't be held or read, or a book that was read has no token for the name
+abbrev pub CannotBegin : {File : Type 0} → (bytes_of : File → Option (List ℕ)) → ArgMatches → Fault → Type 0
+CannotBegin bytes_of words fault =
+    IsBadWord words fault ⊎ (IsUnheld (given_value words option.Book) fault
+    ⊎ ((text : List ℕ) × (book : BookFields) × IsReadBook bytes_of text book × LacksToken (account_at book (given_value words option.Name)) fault))
 
 -- a run of `verify` begins, at the moment that the words give: its book was read from a file, and this is printed
 pub record BeginsToVerify {File : Type 0} (bytes_of : File → Option (List ℕ)) (words : ArgMatches) (printed : Option (List ℕ)) (moment : ℕ)
@@ -85,11 +121,12 @@ pub record VerifiesAllLines {File : Type 0} (bytes_of written_to : File → Opti
   pub answers : AnswersAllLines (IsWritten written_to) (given_value words option.Name) moment input first all_passed last
   pub printed : last.printed ≡ new
 
--- a run begins, and the first lines of the input are answered so; then comes a fault
-pub record VerifiesFirstLines {File : Type 0} (bytes_of written_to : File → Option (List ℕ)) (words : ArgMatches) (input old new : Option (List ℕ)) : Type 0 where
+-- a run begins, and the first lines of the input are answered so; then comes this fault
+pub record VerifiesFirstLines {File : Type 0} (bytes_of written_to : File → Option (List ℕ)) (words : ArgMatches) (input old : Option (List ℕ))
+    (fault : Fault) (new : Option (List ℕ)) : Type 0 where
   pub moment : ℕ
   pub first : VerifyRun
   pub last : VerifyRun
   pub begins : BeginsToVerify bytes_of words old moment first
-  pub answers : AnswersFirstLines (IsWritten written_to) (given_value words option.Name) moment input first last
+  pub answers : AnswersFirstLines (IsWritten written_to) (given_value words option.Book) (given_value words option.Name) moment input first fault last
   pub printed : last.printed ≡ new

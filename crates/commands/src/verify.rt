@@ -1,7 +1,7 @@
 //! The command `verify`: judges each input line as a one-time code, or as two in a row.
-ghost use Rattle.std.specs.Prelude.{◌≡◌, ◌⊎◌, ◌&&◌, IfOk, OnOk, OnErr};
+ghost use Rattle.std.specs.Prelude.{◌≡◌, ◌⊎◌, ◌&&◌, IfOk, IfErr, OnOk};
 ghost use Rattle.std.specs.Io.KnownBytes.{Appends};
-ghost use Rattle.commands.specs.Verify.{is_passed, printed_reply, run_of, IsLineAnswered, FailsAtLine, AnswersAllLines, AnswersFirstLines, VerifiesAllLines, VerifiesFirstLines};
+ghost use Rattle.commands.specs.Verify.{is_passed, printed_reply, run_of, IsLineAnswered, IsUnprinted, CannotBegin, FailsAtLine, AnswersAllLines, AnswersFirstLines, VerifiesAllLines, VerifiesFirstLines};
 
 use crate::reply;
 use crate::sent::sent_by;
@@ -42,8 +42,9 @@ where
     E: Watched,
     ensures ok { IfOk result (λ all_passed. VerifiesAllLines R.File.remaining R.File.contents words.now (I.remaining input.old) (O.contents output.old) all_passed
         (O.contents output.new)) }
-    ensures err { OnErr result ((O.contents output.new ≡ O.contents output.old)
-        ⊎ VerifiesFirstLines R.File.remaining R.File.contents words.now (I.remaining input.old) (O.contents output.old) (O.contents output.new)) }
+    ensures err { IfErr result (λ fault. (CannotBegin R.File.remaining words.now fault × (O.contents output.new ≡ O.contents output.old))
+        ⊎ VerifiesFirstLines R.File.remaining R.File.contents words.now (I.remaining input.old) (O.contents output.old) fault
+        (O.contents output.new)) }
 {
     let alloc = rt.alloc();
     let name = value::name(given(words, OptionName::Name))?;
@@ -65,8 +66,8 @@ fn answer_lines<S: BookStore, I: BufRead, O: Write>(
 ) -> Result<bool, Fault>
     ensures ok { IfOk result (λ all_passed. AnswersAllLines S.IsStored name.now moment (I.remaining input.old)
         (run_of S.facts held.old (O.contents output.old)) all_passed (run_of S.facts held.new (O.contents output.new))) }
-    ensures err { OnErr result (AnswersFirstLines S.IsStored name.now moment (I.remaining input.old)
-        (run_of S.facts held.old (O.contents output.old)) (run_of S.facts held.new (O.contents output.new))) }
+    ensures err { IfErr result (λ fault. AnswersFirstLines S.IsStored held.old.path.now name.now moment (I.remaining input.old)
+        (run_of S.facts held.old (O.contents output.old)) fault (run_of S.facts held.new (O.contents output.new))) }
 {
     let mut lines = Lines::new(input);
     let mut all_passed = true;
@@ -88,8 +89,9 @@ fn answer_line<S: BookStore, O: Write>(
 ) -> Result<Reply, Fault>
     ensures ok { IfOk result (λ reply. IsLineAnswered S.IsStored name.now moment line.now
         (run_of S.facts held.old (O.contents output.old)) reply (run_of S.facts held.new (O.contents output.new))) }
-    ensures err { OnErr result (FailsAtLine S.IsStored name.now moment line.now
-        (run_of S.facts held.old (O.contents output.old)) (run_of S.facts held.new (O.contents output.new))) }
+    ensures err { IfErr result (λ fault. FailsAtLine S.IsStored held.old.path.now name.now moment line.now
+        (run_of S.facts held.old (O.contents output.old)) fault (run_of S.facts held.new (O.contents output.new))) }
+    ensures path { held.new.path.now ≡ held.old.path.now }
 {
     let reply = held.attempt(alloc, name, moment, sent_by(line))?;
     print_reply(alloc, moment, reply, output)?;
@@ -110,7 +112,8 @@ fn print_reply<O: Write>(
     reply: Reply,
     output: &mut O,
 ) -> Result<(), Fault>
-    ensures { OnOk result (Appends (O.contents output.old) (O.contents output.new) (printed_reply reply moment)) }
+    ensures printed { OnOk result (Appends (O.contents output.old) (O.contents output.new) (printed_reply reply moment)) }
+    ensures err { IfErr result (λ fault. IsUnprinted fault (O.contents output.old) (O.contents output.new)) }
 {
     let line = reply::text_of(alloc, moment, Some(reply))?;
     let text = format!(in alloc; "{line}\n")?;

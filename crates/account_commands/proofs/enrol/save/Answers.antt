@@ -6,7 +6,7 @@ use Rattle.account_commands.proofs.enrol.save.Goals as goal
 -- the book of the file has changed, and the account is added to the one that is there now
 pub returns-in_ok-held-in-Some-found : goal.returns-in_ok-held-in-Some-found
 returns-in_ok-held-in-Some-found g c =
-    let read = rw c.in-Some-found.is at c.in_ok-file.ensures in
+    let read = rw c.in-Some-found.is at c.in_ok-file.ensures.read in
     let saved = rw (sym c.in_ok-held-in-Some-found.ensures.saved) at read in
     on_ok_both c.enrol.result c.enrol.ensures.added c.enrol.ensures.saved
     (λ added done. record {
@@ -14,9 +14,7 @@ returns-in_ok-held-in-Some-found g c =
       is_first = inr (_, record { is_text = c.in_ok-held-in-Some-found.ensures.text; is_read = saved });
       last = c.enrol.new.self.book;
       is_enrolled = added;
-      old = _;
-      new = _;
-      is_saved = done;
+      is_saved = (done.text, done.is_text, done.stored);
     })
 
 pub returns-in_default : goal.returns-in_default
@@ -27,8 +25,6 @@ returns-in_default g c =
       is_first = inl refl;
       last = c.add.new.book;
       is_enrolled = c.in_ok-add.ensures.added;
-      old = _;
-      new = _;
-      is_saved = rw c.new-in_default.ensures.book at saved;
+      is_saved = let done = rw c.new-in_default.ensures.book at saved in (done.text, done.is_text, done.stored);
     })
     c.save.ensures.saved

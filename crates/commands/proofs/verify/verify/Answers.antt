@@ -1,5 +1,5 @@
 use Rattle.std.proofs.Common.{inr, refl, sym, ◌∙◌}
-use Rattle.std.proofs.lemmas.Result.{IfOk-weaker, on_err_weaker}
+use Rattle.std.proofs.lemmas.Result.{IfOk-weaker, IfErr-weaker}
 use Rattle.commands.proofs.verify.verify.Goals as goal
 
 pub returns-clause-ok : goal.returns-clause-ok
@@ -17,13 +17,13 @@ returns-clause-ok g c =
 
 pub returns-clause-err : goal.returns-clause-err
 returns-clause-err g c =
-    on_err_weaker c.answer_lines.result
-    (λ answers. inr (record {
+    IfErr-weaker c.answer_lines.result _ _
+    (λ fault answers. inr (record {
       moment = c.in_ok-moment.moment;
       first = _;
       last = _;
       begins = record { is_moment = sym c.given-2.ensures ∙ c.in_ok-moment.ensures.ok; is_book = c.in_ok-held.ensures.read; is_printed = refl };
-      answers = rw (c.in_ok-name.ensures.ok, c.given.ensures) at answers;
+      answers = rw (c.in_ok-name.ensures.ok, c.given.ensures, c.in_ok-held.ensures.path, c.given-3.ensures) at answers;
       printed = refl;
     }))
     c.answer_lines.ensures.err
