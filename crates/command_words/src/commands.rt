@@ -5,7 +5,10 @@ use std::alloc::{AllocError, Global};
 const STATUSES: &str =
     "Exit status: 0 done, 1 refused or faulty, 2 usage, 3 files, sockets, input, output or memory.";
 
-const KEYS_EXAMPLE: &str =
+// What stands after the options in the help of each command: notes, and an example that runs as it stands. The examples that have a
+// book run in the order in which they name one another; all their files are in a folder that nobody else can enter.
+
+const KEYS_NOTES: &str =
     "The password is the first line of standard input, 1 to 1024 bytes from space to tilde. Typed at a
 terminal, it is shown.
 
@@ -13,7 +16,7 @@ Example:
   echo pencil | scramotp keys --mechanism SCRAM-SHA-1 \\
       --salt 4125c247e43ab1e93c6dff76 --count 4096";
 
-const CODE_EXAMPLES: &str =
+const CODE_NOTES: &str =
     "With --counter the code is HOTP's, with SHA-1. Else --moment is needed, and it is TOTP's. Standard
 input is not read.
 
@@ -24,7 +27,7 @@ Examples:
   scramotp code --secret 3132333435363738393031323334353637383930 --counter 0
   scramotp code --secret 3132333435363738393031323334353637383930 --digits 8 --moment 59";
 
-const ENROL_EXAMPLE: &str =
+const ENROL_NOTES: &str =
     "The password is the first line of standard input, 1 to 1024 bytes from space to tilde. Typed at a
 terminal, it is shown. Prints `enrolled` and the name once the book is saved.
 
@@ -37,9 +40,10 @@ as decoy_count, 4096 in a new book. So with another --count, set decoy_count to 
 shows which names have accounts.
 
 Example:
-  echo pencil | scramotp enrol --book book.toml --name user";
+  mkdir -m 0700 logins
+  echo pencil | scramotp enrol --book logins/book.toml --name user";
 
-const VERIFY_EXAMPLE: &str =
+const VERIFY_NOTES: &str =
     "Each line of standard input is an attempt. Its reply is PASS, the moment and the counter that
 passed, or FAIL or LOCKED and the moment. PASS and FAIL are printed once the book is saved; LOCKED
 saves nothing. The book is locked until the input ends; other runs wait for it, up to 30 seconds.
@@ -52,6 +56,7 @@ after it.
 Nobody else may be able to write the book's folder, nor the folders above it.
 
 Example, after that of `scramotp enrol --help`: a token, and its first code
+  # while nothing else uses the book
   echo '[accounts.user.token]
     kind = \"hotp\"
     secret = \"3132333435363738393031323334353637383930\"
@@ -59,19 +64,19 @@ Example, after that of `scramotp enrol --help`: a token, and its first code
     next = 0
     look_ahead = 5
     limit = 3
-    failures = 0' >>book.toml
-  echo 755224 | scramotp verify --book book.toml --name user --moment \"$(date +%s)\"";
+    failures = 0' >>logins/book.toml
+  echo 755224 | scramotp verify --book logins/book.toml --name user --moment \"$(date +%s)\"";
 
-const UNLOCK_EXAMPLE: &str =
+const UNLOCK_NOTES: &str =
     "A token is locked once as many codes in a row have failed as its limit says. Prints `unlocked` and
 the name once the book is saved. Standard input is not read.
 
 Nobody else may be able to write the book's folder, nor the folders above it.
 
 Example, after that of `scramotp verify --help`:
-  scramotp unlock --book book.toml --name user";
+  scramotp unlock --book logins/book.toml --name user";
 
-const AUDIT_EXAMPLE: &str =
+const AUDIT_NOTES: &str =
     "The book is the one that the log began with, so keep a copy of it: a token has moved on since. It
 is read as it is, without a lock, and nothing is written. Standard input is read only where the log
 is /dev/stdin. Prints `clean` and the counts of sessions, accepted logins and codes that passed, or
@@ -79,10 +84,10 @@ the first line at fault, why, and what was due. Exit status 0 means that the log
 that a read of it failed.
 
 Example, after that of `scramotp enrol --help`: a log whose client leaves at once
-  printf '%s\\n' 'SCRAMLOG 1' 'S MECHS SCRAM-SHA-256 SCRAM-SHA-1' 'C GONE' E >log.txt
-  scramotp audit --book book.toml --log log.txt";
+  printf '%s\\n' 'SCRAMLOG 1' 'S MECHS SCRAM-SHA-256 SCRAM-SHA-1' 'C GONE' E >logins/log.txt
+  scramotp audit --book logins/book.toml --log logins/log.txt";
 
-const UPGRADE_EXAMPLE: &str =
+const UPGRADE_NOTES: &str =
     "A log of version 2 begins with `SCRAMLOG 2`, and the number of its session stands before each other
 line: one more than the number of `E` lines before. The new log is clean exactly where the old one
 is, by the same book. Its lines need not be due, only lines of a log. Else nothing is printed, and
@@ -90,10 +95,10 @@ the first line at fault is told on standard error, as `audit` tells it. The log 
 1000000 lines, before anything is printed. Standard input is read only where the log is /dev/stdin.
 
 Example, after that of `scramotp audit --help`:
-  scramotp upgrade --log log.txt >log2.txt
-  scramotp audit --book book.toml --log log2.txt";
+  scramotp upgrade --log logins/log.txt >logins/log2.txt
+  scramotp audit --book logins/book.toml --log logins/log2.txt";
 
-const LOGIN_EXAMPLE: &str =
+const LOGIN_NOTES: &str =
     "The first line of standard input is the password, and each line after it a code, sent once the
 client is logged in. A line as `SYNC 399871 520489` is two codes in a row. Typed at a terminal, all
 is shown.
@@ -112,12 +117,12 @@ Nonces are made of 18 random bytes each, unless they are given: give them only t
 login. Nobody else may be able to write the book's folder, nor the folders above it.
 
 Example, after that of `scramotp unlock --help`: a login and a code, and the audit of its log
-  cp book.toml before.toml
+  cp logins/book.toml logins/before.toml
   printf '%s\\n' pencil 287082 |
-      scramotp login --book book.toml --name user --socket login.sock >login.txt
-  scramotp audit --book before.toml --log login.txt";
+      scramotp login --book logins/book.toml --name user --socket logins/socket >logins/login.txt
+  scramotp audit --book logins/before.toml --log logins/login.txt";
 
-const HALL_EXAMPLE: &str = "Each line of standard input is an event:
+const HALL_NOTES: &str = "Each line of standard input is an event:
 
   open NONCE          a client comes; NONCE is the service's part of its nonce, fresh and random
   line N MOMENT TEXT  the client of session N sends a line: TEXT is the whole line, and MOMENT is in
@@ -136,10 +141,10 @@ seconds. Where a save fails the log ends with `S HALT`, and the run with it.
 Nobody else may be able to write the book's folder, nor the folders above it.
 
 Example, after that of `scramotp login --help`: two clients at a time, and the audit of their log
-  cp book.toml opened.toml
+  cp logins/book.toml logins/opened.toml
   printf '%s\\n' 'open 3rfcNHYJY1ZVvWVs7j' 'open hvYDpWUa2RaTCAfuxFIl' 'line 2 5 ABORT' 'gone 1 6' |
-      scramotp hall --book book.toml >hall.txt
-  scramotp audit --book opened.toml --log hall.txt";
+      scramotp hall --book logins/book.toml >logins/hall.txt
+  scramotp audit --book logins/opened.toml --log logins/hall.txt";
 
 // An option that takes one value.
 fn option<'a>(alloc: Global, name: &'a str, value: &'a str, help: &'a str) -> Arg<'a> {
@@ -171,7 +176,7 @@ fn name<'a>(alloc: Global) -> Arg<'a> {
 fn keys<'a>(alloc: Global) -> Result<Command<'a>, AllocError> {
     Command::new(alloc, "keys")
         .about("Prints the stored key and the server key of a password")
-        .after_help(KEYS_EXAMPLE)
+        .after_help(KEYS_NOTES)
         .arg(required(alloc, "mechanism", "NAME", "SCRAM-SHA-1 or SCRAM-SHA-256"))?
         .arg(required(
             alloc,
@@ -187,7 +192,7 @@ fn enrol<'a>(alloc: Global) -> Result<Command<'a>, AllocError> {
     let random = option(alloc, "random", "FILE", "Where random bytes are read");
     Command::new(alloc, "enrol")
         .about("Adds an account with a password to a book")
-        .after_help(ENROL_EXAMPLE)
+        .after_help(ENROL_NOTES)
         .arg(book(alloc))?
         .arg(name(alloc))?
         .arg(count.default_value("4096"))?
@@ -211,7 +216,7 @@ fn code<'a>(alloc: Global) -> Result<Command<'a>, AllocError> {
     let step = option(alloc, "step", "SECONDS", "The length of a step, 1 to 3600");
     Command::new(alloc, "code")
         .about("Prints a one-time code")
-        .after_help(CODE_EXAMPLES)
+        .after_help(CODE_NOTES)
         .arg(required(
             alloc,
             "secret",
@@ -239,7 +244,7 @@ fn code<'a>(alloc: Global) -> Result<Command<'a>, AllocError> {
 fn verify<'a>(alloc: Global) -> Result<Command<'a>, AllocError> {
     Command::new(alloc, "verify")
         .about("Judges one-time codes by an account's token")
-        .after_help(VERIFY_EXAMPLE)
+        .after_help(VERIFY_NOTES)
         .arg(book(alloc))?
         .arg(name(alloc))?
         .arg(required(
@@ -253,7 +258,7 @@ fn verify<'a>(alloc: Global) -> Result<Command<'a>, AllocError> {
 fn unlock<'a>(alloc: Global) -> Result<Command<'a>, AllocError> {
     Command::new(alloc, "unlock")
         .about("Lets a locked token take codes again")
-        .after_help(UNLOCK_EXAMPLE)
+        .after_help(UNLOCK_NOTES)
         .arg(book(alloc))?
         .arg(name(alloc))
 }
@@ -261,7 +266,7 @@ fn unlock<'a>(alloc: Global) -> Result<Command<'a>, AllocError> {
 fn audit<'a>(alloc: Global) -> Result<Command<'a>, AllocError> {
     Command::new(alloc, "audit")
         .about("Judges a recorded log by the book that it began with")
-        .after_help(AUDIT_EXAMPLE)
+        .after_help(AUDIT_NOTES)
         .arg(book(alloc))?
         .arg(required(alloc, "log", "FILE", "The log"))
 }
@@ -269,7 +274,7 @@ fn audit<'a>(alloc: Global) -> Result<Command<'a>, AllocError> {
 fn upgrade<'a>(alloc: Global) -> Result<Command<'a>, AllocError> {
     Command::new(alloc, "upgrade")
         .about("Prints a log of version 1 as one of version 2, whose sessions are numbered")
-        .after_help(UPGRADE_EXAMPLE)
+        .after_help(UPGRADE_NOTES)
         .arg(required(alloc, "log", "FILE", "The log"))
 }
 
@@ -279,7 +284,7 @@ fn login<'a>(alloc: Global) -> Result<Command<'a>, AllocError> {
     let moment = "The moment of the codes, in seconds since 1970 [default: the clock's]";
     Command::new(alloc, "login")
         .about("Logs a user in to a service over a book, and prints the service's log")
-        .after_help(LOGIN_EXAMPLE)
+        .after_help(LOGIN_NOTES)
         .arg(book(alloc))?
         .arg(name(alloc))?
         .arg(option(alloc, "mechanism", "NAME", mechanism))?
@@ -304,7 +309,7 @@ fn login<'a>(alloc: Global) -> Result<Command<'a>, AllocError> {
 fn hall<'a>(alloc: Global) -> Result<Command<'a>, AllocError> {
     Command::new(alloc, "hall")
         .about("Lets many users in at a time over a book, by events, and prints the log of all")
-        .after_help(HALL_EXAMPLE)
+        .after_help(HALL_NOTES)
         .arg(book(alloc))
 }
 
