@@ -1,4 +1,8 @@
 //! The program's commands, their options and their help.
+ghost use Rattle.std.specs.Prelude.{◌≡◌, false, codes, IfOk};
+ghost use Rattle.clap.specs.Words.{app_of, rule_of};
+ghost use Rattle.command_words.specs.Commands.{option, required, optional, program, HasOptions, keys_options, enrol_options, code_options, verify_options, unlock_options, login_options, hall_options, audit_options, upgrade_options};
+
 use clap::{Arg, ArgAction, Command};
 use std::alloc::{AllocError, Global};
 
@@ -147,7 +151,10 @@ Example, after that of `scramotp login --help`: two clients at a time, and the a
   scramotp audit --book logins/opened.toml --log logins/hall.txt";
 
 // An option that takes one value.
-fn option<'a>(alloc: Global, name: &'a str, value: &'a str, help: &'a str) -> Arg<'a> {
+fn option<'a>(alloc: Global, name: &'a str, value: &'a str, help: &'a str) -> Arg<'a>
+    ensures rule { rule_of result ≡ option name.now }
+    ensures local { result.global ≡ false }
+{
     Arg::new(alloc, name)
         .long(name)
         .value_name(value)
@@ -156,15 +163,38 @@ fn option<'a>(alloc: Global, name: &'a str, value: &'a str, help: &'a str) -> Ar
 }
 
 // An option that has to be given.
-fn required<'a>(alloc: Global, name: &'a str, value: &'a str, help: &'a str) -> Arg<'a> {
+fn required<'a>(alloc: Global, name: &'a str, value: &'a str, help: &'a str) -> Arg<'a>
+    ensures rule { rule_of result ≡ required name.now }
+    ensures local { result.global ≡ false }
+{
     option(alloc, name, value, help).required(true)
 }
 
-fn book<'a>(alloc: Global) -> Arg<'a> {
+// An option that has a default.
+fn with_default<'a>(
+    alloc: Global,
+    name: &'a str,
+    value: &'a str,
+    help: &'a str,
+    default: &'a str,
+) -> Arg<'a>
+    ensures rule { rule_of result ≡ optional name.now default.now }
+    ensures local { result.global ≡ false }
+{
+    option(alloc, name, value, help).default_value(default)
+}
+
+fn book<'a>(alloc: Global) -> Arg<'a>
+    ensures rule { rule_of result ≡ required (codes "book") }
+    ensures local { result.global ≡ false }
+{
     required(alloc, "book", "FILE", "The account book")
 }
 
-fn name<'a>(alloc: Global) -> Arg<'a> {
+fn name<'a>(alloc: Global) -> Arg<'a>
+    ensures rule { rule_of result ≡ required (codes "name") }
+    ensures local { result.global ≡ false }
+{
     required(
         alloc,
         "name",
@@ -173,7 +203,22 @@ fn name<'a>(alloc: Global) -> Arg<'a> {
     )
 }
 
-fn keys<'a>(alloc: Global) -> Result<Command<'a>, AllocError> {
+fn random<'a>(alloc: Global) -> Arg<'a>
+    ensures rule { rule_of result ≡ optional (codes "random") (codes "/dev/urandom") }
+    ensures local { result.global ≡ false }
+{
+    with_default(
+        alloc,
+        "random",
+        "FILE",
+        "Where random bytes are read",
+        "/dev/urandom",
+    )
+}
+
+fn keys<'a>(alloc: Global) -> Result<Command<'a>, AllocError>
+    ensures { IfOk result (HasOptions (codes "keys") keys_options) }
+{
     Command::new(alloc, "keys")
         .about("Prints the stored key and the server key of a password")
         .after_help(KEYS_NOTES)
@@ -187,33 +232,26 @@ fn keys<'a>(alloc: Global) -> Result<Command<'a>, AllocError> {
         .arg(required(alloc, "count", "N", "The iteration count, 1 to 4294967295"))
 }
 
-fn enrol<'a>(alloc: Global) -> Result<Command<'a>, AllocError> {
-    let count = option(alloc, "count", "N", "The iteration count, 1 to 4294967295");
-    let random = option(alloc, "random", "FILE", "Where random bytes are read");
+fn enrol<'a>(alloc: Global) -> Result<Command<'a>, AllocError>
+    ensures { IfOk result (HasOptions (codes "enrol") enrol_options) }
+{
+    let count = "The iteration count, 1 to 4294967295";
     Command::new(alloc, "enrol")
         .about("Adds an account with a password to a book")
         .after_help(ENROL_NOTES)
         .arg(book(alloc))?
         .arg(name(alloc))?
-        .arg(count.default_value("4096"))?
-        .arg(random.default_value("/dev/urandom"))
+        .arg(with_default(alloc, "count", "N", count, "4096"))?
+        .arg(random(alloc))
 }
 
-fn code<'a>(alloc: Global) -> Result<Command<'a>, AllocError> {
-    let digits = option(alloc, "digits", "N", "The digits of the code, 6 to 8");
-    let hash = option(
-        alloc,
-        "hash",
-        "NAME",
-        "TOTP's hash function: sha1, sha256 or sha512",
-    );
-    let t0 = option(
-        alloc,
-        "t0",
-        "SECONDS",
-        "The moment at which TOTP's step 0 begins",
-    );
-    let step = option(alloc, "step", "SECONDS", "The length of a step, 1 to 3600");
+fn code<'a>(alloc: Global) -> Result<Command<'a>, AllocError>
+    ensures { IfOk result (HasOptions (codes "code") code_options) }
+{
+    let digits = "The digits of the code, 6 to 8";
+    let hash = "TOTP's hash function: sha1, sha256 or sha512";
+    let t0 = "The moment at which TOTP's step 0 begins";
+    let step = "The length of a step, 1 to 3600";
     Command::new(alloc, "code")
         .about("Prints a one-time code")
         .after_help(CODE_NOTES)
@@ -223,7 +261,7 @@ fn code<'a>(alloc: Global) -> Result<Command<'a>, AllocError> {
             "HEX",
             "The secret, 10 to 64 bytes in hexadecimal",
         ))?
-        .arg(digits.default_value("6"))?
+        .arg(with_default(alloc, "digits", "N", digits, "6"))?
         .arg(option(
             alloc,
             "counter",
@@ -236,12 +274,14 @@ fn code<'a>(alloc: Global) -> Result<Command<'a>, AllocError> {
             "SECONDS",
             "TOTP's moment, in seconds since 1970",
         ))?
-        .arg(hash.default_value("sha1"))?
-        .arg(t0.default_value("0"))?
-        .arg(step.default_value("30"))
+        .arg(with_default(alloc, "hash", "NAME", hash, "sha1"))?
+        .arg(with_default(alloc, "t0", "SECONDS", t0, "0"))?
+        .arg(with_default(alloc, "step", "SECONDS", step, "30"))
 }
 
-fn verify<'a>(alloc: Global) -> Result<Command<'a>, AllocError> {
+fn verify<'a>(alloc: Global) -> Result<Command<'a>, AllocError>
+    ensures { IfOk result (HasOptions (codes "verify") verify_options) }
+{
     Command::new(alloc, "verify")
         .about("Judges one-time codes by an account's token")
         .after_help(VERIFY_NOTES)
@@ -255,7 +295,9 @@ fn verify<'a>(alloc: Global) -> Result<Command<'a>, AllocError> {
         ))
 }
 
-fn unlock<'a>(alloc: Global) -> Result<Command<'a>, AllocError> {
+fn unlock<'a>(alloc: Global) -> Result<Command<'a>, AllocError>
+    ensures { IfOk result (HasOptions (codes "unlock") unlock_options) }
+{
     Command::new(alloc, "unlock")
         .about("Lets a locked token take codes again")
         .after_help(UNLOCK_NOTES)
@@ -263,7 +305,9 @@ fn unlock<'a>(alloc: Global) -> Result<Command<'a>, AllocError> {
         .arg(name(alloc))
 }
 
-fn audit<'a>(alloc: Global) -> Result<Command<'a>, AllocError> {
+fn audit<'a>(alloc: Global) -> Result<Command<'a>, AllocError>
+    ensures { IfOk result (HasOptions (codes "audit") audit_options) }
+{
     Command::new(alloc, "audit")
         .about("Judges a recorded log by the book that it began with")
         .after_help(AUDIT_NOTES)
@@ -271,16 +315,19 @@ fn audit<'a>(alloc: Global) -> Result<Command<'a>, AllocError> {
         .arg(required(alloc, "log", "FILE", "The log"))
 }
 
-fn upgrade<'a>(alloc: Global) -> Result<Command<'a>, AllocError> {
+fn upgrade<'a>(alloc: Global) -> Result<Command<'a>, AllocError>
+    ensures { IfOk result (HasOptions (codes "upgrade") upgrade_options) }
+{
     Command::new(alloc, "upgrade")
         .about("Prints a log of version 1 as one of version 2, whose sessions are numbered")
         .after_help(UPGRADE_NOTES)
         .arg(required(alloc, "log", "FILE", "The log"))
 }
 
-fn login<'a>(alloc: Global) -> Result<Command<'a>, AllocError> {
+fn login<'a>(alloc: Global) -> Result<Command<'a>, AllocError>
+    ensures { IfOk result (HasOptions (codes "login") login_options) }
+{
     let mechanism = "SCRAM-SHA-1 or SCRAM-SHA-256 [default: the best that is offered]";
-    let random = option(alloc, "random", "FILE", "Where random bytes are read");
     let moment = "The moment of the codes, in seconds since 1970 [default: the clock's]";
     Command::new(alloc, "login")
         .about("Logs a user in to a service over a book, and prints the service's log")
@@ -295,7 +342,7 @@ fn login<'a>(alloc: Global) -> Result<Command<'a>, AllocError> {
             "FILE",
             "The socket to make, a path of at most 107 bytes",
         ))?
-        .arg(random.default_value("/dev/urandom"))?
+        .arg(random(alloc))?
         .arg(option(alloc, "client-nonce", "TEXT", "The client's nonce"))?
         .arg(option(
             alloc,
@@ -306,7 +353,9 @@ fn login<'a>(alloc: Global) -> Result<Command<'a>, AllocError> {
         .arg(option(alloc, "moment", "SECONDS", moment))
 }
 
-fn hall<'a>(alloc: Global) -> Result<Command<'a>, AllocError> {
+fn hall<'a>(alloc: Global) -> Result<Command<'a>, AllocError>
+    ensures { IfOk result (HasOptions (codes "hall") hall_options) }
+{
     Command::new(alloc, "hall")
         .about("Lets many users in at a time over a book, by events, and prints the log of all")
         .after_help(HALL_NOTES)
@@ -314,7 +363,9 @@ fn hall<'a>(alloc: Global) -> Result<Command<'a>, AllocError> {
 }
 
 /// The program's commands and their options.
-pub fn scramotp<'a>(alloc: Global) -> Result<Command<'a>, AllocError> {
+pub fn scramotp<'a>(alloc: Global) -> Result<Command<'a>, AllocError>
+    ensures { IfOk result (λ command. app_of command ≡ program) }
+{
     Command::new(alloc, "scramotp")
         .bin_name("scramotp")?
         .version("0.1.0")

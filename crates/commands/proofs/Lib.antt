@@ -8,5 +8,6 @@ pub mod LoginLemmas
 pub mod NonceLemmas
 pub mod OneEvent
 pub mod Printed
+pub mod Runs
 pub mod Spellings
 pub mod Told

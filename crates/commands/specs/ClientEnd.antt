@@ -96,7 +96,7 @@ pub record IsOfUser (user : User) (nonce password : List ℕ) (login : Answered)
   pub is_password : login.password ≡ password
 
 -- the service has shown that it has the account's keys: of what the client is told, which the log has, the last line accepts a
--- login of this user, and bears the signature that only these keys make over the login's messages (RFC 5802, section 3)
+-- login of this user, and bears the signature that the keys of the password make over the login's messages (RFC 5802, section 3)
 pub record IsLoggedIn (user : User) (nonce password : List ℕ) (old new : Talked) : Type 0 where
   pub login : Answered
   pub is_of : IsOfUser user nonce password login

@@ -4,6 +4,7 @@ pub mod Hall
 pub mod Login
 pub mod Nonces
 pub mod PrintedLog
+pub mod Program
 pub mod Sent
 pub mod Talked
 pub mod Verify

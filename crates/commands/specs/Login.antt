@@ -1,9 +1,10 @@
 -- What the command `login` logs, what its client sends for the lines of its input, and when these pass.
-use Rattle.std.specs.Prelude.{ℕ, ◌≡◌, ◌≤◌, length, ◌⊎◌, ◌↔◌, Bool, true, List, [], ◌∷◌, ◌++◌, codes, take, IsTrue, IfSome}
+use Rattle.std.specs.Prelude.{ℕ, ◌≡◌, ◌≤◌, length, ◌⊎◌, ◌↔◌, Bool, true, List, [], ◌∷◌, ◌++◌, codes, take, option_map, IsTrue, IfSome}
 use Rattle.std.specs.Str.{byte}
 use Rattle.std.specs.Io.KnownBytes.{Appends, Consumes, IsAtEnd}
 use Rattle.std.specs.declared.option.Option.{Option}
 use Rattle.std.specs.declared.option.Option.TheVariants.{Some}
+use Rattle.mac_core.specs.Mechanism.{name_of}
 use Rattle.otp_core.specs.Attempt.{CodeTexts}
 use Rattle.otp_core.specs.Attempt.CodeTexts.{OneText, TwoTexts}
 use Rattle.otp_core.specs.declared.token.answer.Reply.TheVariants.{Pass}
@@ -30,7 +31,7 @@ use Rattle.sasl_desk.specs.declared.fault.ServeFault.TheVariants as serve
 use Rattle.commands.specs.ClientEnd.{IsLoggedIn}
 use Rattle.account_commands.specs.HeldBook.{IsReadBook}
 use Rattle.account_commands.specs.Input.{TakesLine, AreLinesOf, LinesInTurn}
-use Rattle.command_words.specs.Values.{given_value}
+use Rattle.command_words.specs.Values.{value_of, given_value}
 use Rattle.commands.specs.PrintedLog.{IsLogFault, IsUnsavedOrUnlogged}
 use Rattle.commands.specs.Sent.{Says}
 use Rattle.commands.specs.Talked.{Talked, IsTold, LogSays}
@@ -127,11 +128,19 @@ pub record PrintsPasses (user : User) (nonce password : List ℕ) (input old new
   pub passes : TalkPasses user nonce password input left first last
   pub printed : last.logged ≡ new
 
--- such a log is printed, of the user whom the words name, by the password that is the first line of the input
+-- the user whom the words describe: the name, and, where they give one, the name to act as and the mechanism
+pub record IsUserAsked (words : ArgMatches) (user : User) : Type 0 where
+  pub is_name : user.name ≡ given_value words option.Name
+  pub acts_as : user.act_as ≡ value_of words option.As
+  pub is_mechanism : option_map name_of user.mechanism ≡ value_of words option.Mechanism
+
+-- such a log is printed, of the user whom the words describe, by the nonce that they give, where they give one, and by the
+-- password that is the first line of the input
 pub record PrintsPassesAsked (words : ArgMatches) (input old new : Option (List ℕ)) : Type 0 where
   pub user : User
-  pub is_name : user.name ≡ given_value words option.Name
+  pub is_user : IsUserAsked words user
   pub nonce : List ℕ
+  pub is_nonce : IfSome (value_of words option.ClientNonce) (λ given. nonce ≡ given)
   pub password : List ℕ
   pub has_lf : Bool
   pub rest : Option (List ℕ)

@@ -1,5 +1,5 @@
 //! The command `login`: logs a user in to a service over a book, and prints the service's log.
-ghost use Rattle.std.specs.Prelude.{◌≡◌, true, ℕ, Bool, List, [], Option, Ok, IfOk, IfErr, OnOk};
+ghost use Rattle.std.specs.Prelude.{◌≡◌, true, ℕ, Bool, List, [], Option, Ok, IfSome, IfOk, IfErr, OnOk};
 ghost use Rattle.book_format.specs.Book.{BookFields};
 ghost use Rattle.log_grammar.specs.Versions.{IsClean, IsFront};
 ghost use Rattle.sasl_desk.specs.Desks.{phase_of};
@@ -7,8 +7,8 @@ ghost use Rattle.sasl_desk.specs.declared.desk.state.Phase.TheVariants as Phase;
 ghost use Rattle.commands.specs.declared.login.client_end.Stage.{Stage};
 ghost use Rattle.account_commands.specs.HeldBook.{IsReadBook};
 ghost use Rattle.account_commands.specs.Input.{TakesLine};
-ghost use Rattle.command_words.specs.Values.{given_value};
-ghost use Rattle.commands.specs.Login.{IsDeskLog, StaysItsLog, IsLogAfterFault, TalkPasses, PrintsPasses, PrintsPassesAsked, HasSavedLog, PrintsLogin};
+ghost use Rattle.command_words.specs.Values.{value_of};
+ghost use Rattle.commands.specs.Login.{IsDeskLog, StaysItsLog, IsLogAfterFault, TalkPasses, PrintsPasses, PrintsPassesAsked, IsUserAsked, HasSavedLog, PrintsLogin};
 ghost use Rattle.commands.specs.Talked.{LogSays, talked_in};
 ghost use Rattle.commands.specs.PrintedLog.{StopsAfter};
 
@@ -91,8 +91,8 @@ where
     O: Write + Drop,
     E: Watched,
     ensures ok { OnOk result.0 (PrintsLogin R.File.remaining R.File.contents IsClean (O.contents output) (O.contents result.1)) }
-    // It answers true only where the log has a login of the user whom the words name, by the password that is the input's first line,
-    // and then nothing but passes, one for each line that is sent.
+    // It answers true only where the log has a login of the user whom the words describe, by the nonce that they give, where they
+    // give one, and by the password that is the input's first line, and then nothing but passes, one for each line that is sent.
     ensures passes { result.0 ≡ Ok true → PrintsPassesAsked words.now (I.remaining input.old) (O.contents output) (O.contents result.1) }
     ensures err { IfErr result.0 (λ fault. StopsAfter fault (O.contents output) (O.contents result.1)
         (PrintsLogin R.File.remaining R.File.contents IsFront (O.contents output) (O.contents result.1))) }
@@ -120,7 +120,8 @@ where
     R::File: Lockable,
     I: Typed,
     E: Watched,
-    ensures user { IfOk result (λ login. login.client.user.name ≡ given_value words.now OptionName.Name) }
+    ensures user { IfOk result (λ login. IsUserAsked words.now login.client.user) }
+    ensures nonce { IfOk result (λ login. IfSome (value_of words.now OptionName.ClientNonce) (λ given. login.client.nonce ≡ given)) }
     ensures password { IfOk result (λ login. (has_lf : Bool)
         × TakesLine (I.remaining input.old) login.client.password has_lf (I.remaining login.lines.input.now)) }
     ensures book { IfOk result (λ login. IsReadBook R.File.remaining (⟦<FileStore<'a, R> as BookStore>⟧.facts login.held.store).saved login.held.book) }
@@ -246,7 +247,8 @@ where
 
 // Judges the options that are not taken as they are, in their order.
 fn judge(words: &ArgMatches<'_>) -> Result<LoginOptions, Fault>
-    ensures { IfOk result (λ options. options.who.name ≡ given_value words.now OptionName.Name) }
+    ensures user { IfOk result (λ options. IsUserAsked words.now options.who) }
+    ensures nonce { IfOk result (λ options. options.client_nonce ≡ value_of words.now OptionName.ClientNonce) }
 {
     let name = value::name(given(words, OptionName::Name))?;
     let mechanism = match optional(words, OptionName::Mechanism) {
@@ -275,7 +277,10 @@ fn judge(words: &ArgMatches<'_>) -> Result<LoginOptions, Fault>
     })
 }
 
-fn optional_nonce(words: &ArgMatches<'_>, option: OptionName) -> Result<Option<NoncePart>, Fault> {
+// The nonce that an option gives, or None where it is not given. Answers BadValue where it is none.
+fn optional_nonce(words: &ArgMatches<'_>, option: OptionName) -> Result<Option<NoncePart>, Fault>
+    ensures { IfOk result (λ nonce. nonce ≡ value_of words.now option) }
+{
     match optional(words, option) {
         Some(text) => Ok(Some(value::nonce(option, text)?)),
         None => Ok(None),

@@ -109,7 +109,7 @@ where
     let mut output = Vec::new(rt.alloc());
     let mut input = Input::new(input, are.0);
     let mut faults = Faults::new(rt.alloc(), are.1);
-    let status = run(rt, words, &mut input, &mut output, &mut faults);
+    let (status, _) = run(rt, words, &mut input, &mut output, &mut faults);
     let (want_status, want_output, want_faults) = want;
     assert_eq!(rt; status, want_status, "status of {words:?}");
     assert!(rt;
@@ -162,7 +162,7 @@ fn failing_input(rt: HostRuntime) -> Result<(), Fail> {
         let mut faults = Faults::new(alloc, false);
         let front = front.as_bytes();
         let mut input = BufReader::new(alloc, Broken { front, kind })?;
-        let status = run(&rt, &KEYS, &mut input, &mut output, &mut faults);
+        let (status, _) = run(&rt, &KEYS, &mut input, &mut output, &mut faults);
         assert_eq!(rt; status, 3, "{want}");
         assert!(rt; output.is_empty(), "{want}");
         assert!(rt; faults.bytes.as_slice() == want.as_bytes(), "{want}");
@@ -179,7 +179,7 @@ fn input_after_the_first_line(rt: HostRuntime) -> Result<(), Fail> {
     let front = b"pencil\n".as_slice();
     let kind = ErrorKind::ConnectionReset;
     let mut input = BufReader::new(alloc, Broken { front, kind })?;
-    let status = run(&rt, &KEYS, &mut input, &mut output, &mut faults);
+    let (status, _) = run(&rt, &KEYS, &mut input, &mut output, &mut faults);
     assert_eq!(rt; status, 0);
     assert!(rt; faults.bytes.is_empty());
     assert!(rt; output.as_slice() == PRINTED.as_bytes());
@@ -192,7 +192,7 @@ fn failing_output(rt: HostRuntime) {
         let mut faults = Faults::new(rt.alloc(), false);
         let mut output = Full { room };
         let mut input = Input::new("pencil\n", false);
-        let status = run(&rt, &KEYS, &mut input, &mut output, &mut faults);
+        let (status, _) = run(&rt, &KEYS, &mut input, &mut output, &mut faults);
         assert_eq!(rt; status, 3, "{room}");
         assert!(rt;
             faults.bytes.as_slice() == CANNOT_WRITE.as_bytes(),
@@ -207,7 +207,7 @@ fn output_that_is_not_handed_on(rt: HostRuntime) {
     for words in [KEYS.as_slice(), help.as_slice()] {
         let mut faults = Faults::new(rt.alloc(), false);
         let mut input = Input::new("pencil\n", false);
-        let status = run(&rt, words, &mut input, &mut Stuck, &mut faults);
+        let (status, _) = run(&rt, words, &mut input, &mut Stuck, &mut faults);
         assert_eq!(rt; status, 3);
         assert!(rt; faults.bytes.as_slice() == CANNOT_WRITE.as_bytes());
     }

@@ -20,14 +20,14 @@ fn main(rt: HostRuntime) -> ExitCode {
             return ExitCode::from(USAGE);
         }
     };
-    let (Ok(mut input), Ok(mut output), Ok(mut faults)) = (
+    let (Ok(mut input), Ok(output), Ok(mut faults)) = (
         BufReader::new(alloc, rt.reader()),
         BufWriter::new(alloc, io::writer(&rt)),
         BufWriter::new(alloc, rt.stderr().lock()),
     ) else {
         return no_memory(&rt);
     };
-    let status = run(&rt, words.as_slice(), &mut input, &mut output, &mut faults);
+    let (status, _) = run(&rt, words.as_slice(), &mut input, output, &mut faults);
     ExitCode::from(status)
 }
 

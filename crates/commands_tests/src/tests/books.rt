@@ -114,7 +114,7 @@ fn verify_with_each_call_failing(rt: HostRuntime) -> Result<(), Fail> {
         let mut output = Vec::new(rt.alloc());
         let mut faults = Faults::new(rt.alloc(), false);
         let mut input = Input::new("755224", false);
-        let status = run(&faulty, &verify(book), &mut input, &mut output, &mut faults);
+        let (status, _) = run(&faulty, &verify(book), &mut input, &mut output, &mut faults);
         let is_spent = has(&rt, book, b"next = 1\n");
         if output.is_empty() {
             assert_eq!(rt; status, 3, "{failing}");
@@ -166,7 +166,7 @@ fn audit_with_each_call_failing(rt: HostRuntime) -> Result<(), Fail> {
         let mut output = Vec::new(rt.alloc());
         let mut faults = Faults::new(rt.alloc(), false);
         let mut input = Input::new("", false);
-        let status = run(&faulty, &words, &mut input, &mut output, &mut faults);
+        let (status, _) = run(&faulty, &words, &mut input, &mut output, &mut faults);
         if calls.are_over() {
             assert_eq!(rt; status, 3, "{failing}");
             let is_read_fault = output.as_slice() == b"read fault\n".as_slice()

@@ -12,8 +12,9 @@ pub returns-in-Ok-open-clause-passes : goal.returns-in-Ok-open-clause-passes
 returns-in-Ok-open-clause-passes g c = λ is.
     let (has_lf, first) = c.in-Ok.ensures.password in record {
       user = _;
-      is_name = c.in-Ok.ensures.user;
+      is_user = c.in-Ok.ensures.user;
       nonce = _;
+      is_nonce = c.in-Ok.ensures.nonce;
       password = _;
       has_lf = has_lf;
       rest = _;
