@@ -11,6 +11,7 @@ import tomllib
 from typing import NamedTuple
 
 import suite
+from checks import equal
 from outside import AUDITS, keys_of, numbered
 from suite import CODES, KEYS_OF_PENCIL, NONCES, PROGRAM, SALT, SECRET
 
@@ -201,7 +202,7 @@ def audited(folder, before, log):
     book.write_text(before)
     pathlib.Path(folder, "log").write_text(log)
     answer = run(command_of("audit"), folder)
-    assert answer == (0, f"clean sessions=1 accepted=1 codes={log.count(' PASS ')}\n", ""), (log, answer)
+    equal(answer, (0, f"clean sessions=1 accepted=1 codes={log.count(' PASS ')}\n", ""), log)
     book.write_text(after)
 
 

@@ -5,7 +5,7 @@ Usage: audits.py PROGRAM
 
 Each row of data/audits/cases.csv, as audit_cases.py reads it. sha1.log is the example of RFC 5802, section 5, sha256.log that of
 RFC 7677, section 3. Then come the log that docs/OPERATING.md names; a login whose challenge has an extension, its proof made by Python's
-hmac; the first log cut after each byte; logs of a million lines; logs that are pipes; progress shown at a terminal; files that can't be
+hmac; logs of a million lines; logs that are pipes; progress shown at a terminal; files that can't be
 read; and a book that another run holds. Exits at the first difference.
 """
 import base64
@@ -21,8 +21,9 @@ import threading
 import time
 
 from audit_cases import TABLE, cases
+from checks import equal
 from outside import AUDITS
-from suite import SALT, same, told
+from suite import SALT, told
 
 KEYS = AUDITS / "keys.toml"
 LOGIN = AUDITS / "sha1.log"
@@ -40,7 +41,7 @@ ABORTED = b"S MECHS SCRAM-SHA-256 SCRAM-SHA-1\nC ABORT\nS NO :\nE\n"
 def says(what, program, book, log, status, printed, fault=""):
     """Runs an audit, and compares its status, output and fault, which is given without its beginning."""
     done = subprocess.run([program, "audit", "--book", book, "--log", log], capture_output=True, text=True)
-    same(what, (done.returncode, done.stdout, done.stderr), (status, printed, told(fault)))
+    equal((done.returncode, done.stdout, done.stderr), (status, printed, told(fault)), what)
 
 
 def status_of(answer):
@@ -60,7 +61,7 @@ def rows_of_table(program, log):
         log.write_bytes(text)
         before = book.read_bytes()
         answers(f"{TABLE.name}: line {line}", program, book, log, answer)
-        same(f"{TABLE.name}: line {line}: the book", book.read_bytes(), before)
+        equal(book.read_bytes(), before, f"{TABLE.name}: line {line}: the book")
     return len(rows)
 
 
@@ -81,7 +82,7 @@ def other_challenges(program, log):
     first = "r=fyko+d2lbbFgONRv9qkxdawL3rfcNHYJY1ZVvWVs7j,s=QSXCR+Q6sek8bf92,i=4096"
     proof, signature = signed(first)
     text = LOGIN.read_text()
-    same("the login's own proof and signature", (text.count(f"p={proof}\n"), text.count(f"v={signature}\n")), (1, 1))
+    equal((text.count(f"p={proof}\n"), text.count(f"v={signature}\n")), (1, 1), "the login's own proof and signature")
     for what, challenge, answer in [
         ("an extension", first + ",x=1", ACCEPTED),
         ("an extension with no value", first + ",X=,y=b", "line 4: challenge"),
@@ -101,29 +102,15 @@ def other_challenges(program, log):
     answers("a proof without the extension", program, KEYS, log, "line 6: outcome, due NO :e=invalid-proof")
 
 
-def cut_after_each_byte(program, log):
-    """Each part that the first log begins with: the audit says in which line it is cut."""
-    whole = LOGIN.read_bytes()
-    for size in range(len(whole) + 1):
-        part = whole[:size]
-        log.write_bytes(part)
-        answer = f"line {part.count(10) + 1}: cut"
-        if size == len(HEADER):
-            answer = "clean sessions=0 accepted=0 codes=0"
-        if part == whole:
-            answer = ACCEPTED
-        answers(f"{size} bytes", program, KEYS, log, answer)
-
-
 def logs_from_pipes(program, folder):
     """A log is read as it comes, and not past the line at fault: a pipe that stays open keeps no audit waiting."""
     words = [program, "audit", "--book", KEYS, "--log", "/dev/stdin"]
     done = subprocess.run(words, input=LOGIN.read_bytes(), capture_output=True, timeout=20)
-    same("a pipe", (done.returncode, done.stdout, done.stderr), (0, ACCEPTED.encode() + b"\n", b""))
+    equal((done.returncode, done.stdout, done.stderr), (0, ACCEPTED.encode() + b"\n", b""), "a pipe")
     running = subprocess.Popen(words, stdin=subprocess.PIPE, stdout=subprocess.PIPE, stderr=subprocess.PIPE)
     running.stdin.write(HEADER + b"S MECHS SCRAM-SHA-1\n")
     running.stdin.flush()
-    same("a pipe that stays open", (running.wait(20), running.stdout.read()), (1, b"line 2: mechs\n"))
+    equal((running.wait(20), running.stdout.read()), (1, b"line 2: mechs\n"), "a pipe that stays open")
     running.stdin.close()
     fifo = folder / "fifo"
     os.mkfifo(fifo)
@@ -152,9 +139,9 @@ def progress_on_a_terminal(program):
         time.sleep(wait)
         running.stdin.write(GONE)
         running.stdin.close()
-        same("an audit at a terminal", (running.stdout.read(), running.wait(20)), (b"clean sessions=2 accepted=0 codes=0\n", 0))
+        equal((running.stdout.read(), running.wait(20)), (b"clean sessions=2 accepted=0 codes=0\n", 0), "an audit at a terminal")
         os.write(end, b"!")
-        same("what is shown at the terminal", shown_at(terminal), shown + b"!")
+        equal(shown_at(terminal), shown + b"!", "what is shown at the terminal")
         os.close(end)
         os.close(terminal)
 
@@ -210,8 +197,8 @@ def without_the_lock(program, folder):
     words = [program, "audit", "--book", book, "--log", log]
     done = subprocess.run(words, capture_output=True, text=True, timeout=20)
     os.close(held)
-    same("a book that is held", (done.returncode, done.stdout, done.stderr), (0, ACCEPTED + "\n", ""))
-    same("the folder", sorted(os.listdir(folder)), ["book", "log"])
+    equal((done.returncode, done.stdout, done.stderr), (0, ACCEPTED + "\n", ""), "a book that is held")
+    equal(sorted(os.listdir(folder)), ["book", "log"], "the folder")
 
 
 def main():
@@ -221,7 +208,6 @@ def main():
         rows = rows_of_table(program, folder / "log")
         one_code_twice(program)
         other_challenges(program, folder / "log")
-        cut_after_each_byte(program, folder / "log")
         logs_from_pipes(program, folder)
         progress_on_a_terminal(program)
         long_lines_and_logs(program, folder / "log")

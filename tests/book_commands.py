@@ -16,7 +16,8 @@ import subprocess
 import sys
 import tempfile
 
-from suite import AS_NOBODY, CODES, NOBODY, ROOT, USER, hotp, read, same, seen, token, told
+from checks import equal
+from suite import AS_NOBODY, CODES, NOBODY, ROOT, USER, hotp, read, seen, token, told
 
 # A copy of the program that the user nobody can run, wherever the program is.
 COPY = tempfile.TemporaryDirectory()
@@ -56,7 +57,7 @@ def well(command, book, **how):
 
 def says(what, done, status, output, fault=""):
     """Compares what a run answered. A fault is given without its beginning."""
-    same(what, (done.returncode, done.stdout, done.stderr), (status, output, told(fault)))
+    equal((done.returncode, done.stdout, done.stderr), (status, output, told(fault)), what)
 
 
 def succeeds(command, book, **how):
@@ -108,7 +109,7 @@ def order_of_a_new_book(folder):
     climb("enrol", {"random": random, "name": "user", "count": "1", "book": book}, "\n", [
         ((2, "", "bad password"), "pencil"),
         ((3, "", f"cannot read {random}"), lambda: random.write_bytes(bytes(63))),
-        ((3, "", f"cannot read {random}"), lambda: same("folder", os.listdir(folder), ["random"])),
+        ((3, "", f"cannot read {random}"), lambda: equal(os.listdir(folder), ["random"], "folder")),
         ((3, "", f"cannot read {random}"), lambda: random.write_bytes(bytes(64))),
         ((0, "enrolled user\n"), ""),
     ])
@@ -180,7 +181,7 @@ def no_file(folder):
     for command in GOOD:
         for book in [inner, pipe, link, *nowhere, *folders, ""]:
             says(f"{command} on {book}", well(command, book), 3, "", f"cannot read {book}")
-    same("folder", sorted(os.listdir(folder)), ["inner", "link", "pipe"])
+    equal(sorted(os.listdir(folder)), ["inner", "link", "pipe"], "folder")
 
 
 def unreadable(folder):
@@ -192,7 +193,7 @@ def unreadable(folder):
         for command in GOOD:
             says(f"{command}: {path}", well(command, book, **AS_NOBODY), 3, "", f"cannot read {book}")
         os.chmod(path, before)
-    same("the book", pathlib.Path(book).read_text(), BOOK)
+    equal(pathlib.Path(book).read_text(), BOOK, "the book")
 
 
 def longest(folder):
@@ -217,8 +218,8 @@ def unwritable(folder):
     for command in GOOD:
         says(command, well(command, book, **AS_NOBODY), 3, "", f"cannot write {book}")
     says("a new book", well("enrol", new, **AS_NOBODY), 3, "", f"cannot write {new}")
-    same("the book", seen(book), before)
-    same("the folder", os.listdir(folder), ["book"])
+    equal(seen(book), before, "the book")
+    equal(os.listdir(folder), ["book"], "the folder")
     os.chmod(folder, 0o755)
     for command in GOOD:
         succeeds(command, book, **AS_NOBODY)
@@ -233,8 +234,8 @@ def full_output(folder):
         options = {"book": book, **GOOD["verify"][0]}
         done = run("verify", options, "\n".join(CODES[:2]), stdout=full)
         says("verify", done, 3, None, "cannot write output")
-    same("accounts", sorted(read(book)["accounts"]), ["bare", "new", "user"])
-    same("the token", (token(book)["next"], token(book)["failures"]), (1, 0))
+    equal(sorted(read(book)["accounts"]), ["bare", "new", "user"], "accounts")
+    equal((token(book)["next"], token(book)["failures"]), (1, 0), "the token")
 
 
 def unsaved(folder):
@@ -246,7 +247,7 @@ def unsaved(folder):
     says("no input", run("verify", user), 0, "")
     says("no token", run("unlock", bare), 1, "", "no token")
     says("a name that is taken", run("enrol", bare, "pencil"), 1, "", "name is taken")
-    same("the book", seen(book), before)
+    equal(seen(book), before, "the book")
 
 
 def unlocked(folder):
@@ -255,8 +256,8 @@ def unlocked(folder):
     for _ in range(2):
         before = seen(book)
         succeeds("unlock", book)
-        same("failures", token(book)["failures"], 0)
-        same("whether the file is another", seen(book)[0] != before[0], True)
+        equal(token(book)["failures"], 0, "failures")
+        equal(seen(book)[0] != before[0], True, "whether the file is another")
 
 
 def owner(folder):
@@ -267,7 +268,7 @@ def owner(folder):
     before = access(book)
     for command in GOOD:
         succeeds(command, book)
-        same(f"access after {command}", access(book), before)
+        equal(access(book), before, f"access after {command}")
     put(book)
     os.chown(book, 0, 0)
     os.chmod(book, 0o666)
@@ -284,7 +285,7 @@ def shared_book(folder):
         os.chmod(path, mode)
     is_refused(book, {**AS_NOBODY, "extra_groups": [4321]})
     succeeds("verify", book)
-    same("access", (os.stat(book).st_uid, os.stat(book).st_gid, os.stat(book).st_mode & 0o7777), (0, 4321, 0o600))
+    equal((os.stat(book).st_uid, os.stat(book).st_gid, os.stat(book).st_mode & 0o7777), (0, 4321, 0o600), "access")
 
 
 def group_of_others(folder):
@@ -297,7 +298,7 @@ def group_of_others(folder):
         os.chmod(book, 0o640)
         succeeds(command, book, **AS_NOBODY)
         found = os.stat(book)
-        same("access", (found.st_uid, found.st_gid, found.st_mode & 0o7777), (NOBODY.pw_uid, NOBODY.pw_gid, 0o600))
+        equal((found.st_uid, found.st_gid, found.st_mode & 0o7777), (NOBODY.pw_uid, NOBODY.pw_gid, 0o600), "access")
 
 
 def is_refused(book, runner):
@@ -306,8 +307,8 @@ def is_refused(book, runner):
     for command in GOOD:
         fault = f"{book} belongs to another user: only that user and root can save it\nscramotp: cannot write {book}"
         says(command, well(command, book, **runner), 3, "", fault)
-    same("the book of another", seen(book), before)
-    same("its folder", os.listdir(os.path.dirname(book)), ["book"])
+    equal(seen(book), before, "the book of another")
+    equal(os.listdir(os.path.dirname(book)), ["book"], "its folder")
 
 
 def others_book(folder):
@@ -323,7 +324,7 @@ def others_book(folder):
         for command in GOOD:
             for user in [{}, AS_NOBODY]:
                 says(f"{command} in {mode:o}", well(command, book, **user), 3, "", f"cannot read {book}")
-    same("another's book", seen(book), before)
+    equal(seen(book), before, "another's book")
     os.chown(folder, 0, 0)
     os.chmod(folder, 0o755)
     for command in GOOD:
@@ -341,10 +342,10 @@ def others_next(folder):
     before = seen(book)
     for command in GOOD:
         says(command, well(command, book, **AS_NOBODY), 3, "", f"cannot write {next_text}")
-    same("the book", seen(book), before)
+    equal(seen(book), before, "the book")
     os.remove(book)
     says("a new book", well("enrol", book, **AS_NOBODY), 3, "", f"cannot write {next_text}")
-    same("the folder", os.listdir(folder), ["book.new"])
+    equal(os.listdir(folder), ["book.new"], "the folder")
 
 
 # Names that TOML takes bare, has to quote, has to escape, or could take for something else.
@@ -364,14 +365,14 @@ def names(folder):
         says(f"unlock of {name!r}", run("unlock", options), 1, "", "no such account")
         says(f"enrol of {name!r}", run("enrol", {**options, "count": "1"}, "pencil"), 0, f"enrolled {name}\n")
         says(f"unlock of {name!r}", run("unlock", options), 1, "", "no token")
-    same("names", list(read(book)["accounts"]), sorted(NAMES))
+    equal(list(read(book)["accounts"]), sorted(NAMES), "names")
     with open(book, "a") as text:
         text.writelines(hotp(3, 3, name=json.dumps(name)) for name in NAMES)
     for name in NAMES:
         done = run("verify", {"book": book, "name": name, "moment": "5"}, CODES[0])
         says(f"verify of {name!r}", done, 0, "PASS 5 0\n")
-    same("names", list(read(book)["accounts"]), sorted(NAMES))
-    same("counters", {token(book, name)["next"] for name in NAMES}, {1})
+    equal(list(read(book)["accounts"]), sorted(NAMES), "names")
+    equal({token(book, name)["next"] for name in NAMES}, {1}, "counters")
 
 
 def hard_links(folder):
@@ -382,8 +383,8 @@ def hard_links(folder):
     for command in GOOD:
         for path in [book, other]:
             says(f"{command} on a file of two names", well(command, path), 3, "", f"cannot read {path}")
-    same("both names", (seen(book), seen(other)), (before, before))
-    same("the folder", sorted(os.listdir(folder)), ["book", "other"])
+    equal((seen(book), seen(other)), (before, before), "both names")
+    equal(sorted(os.listdir(folder)), ["book", "other"], "the folder")
     os.remove(other)
     for command in GOOD:
         succeeds(command, book)
@@ -403,8 +404,8 @@ def end_waiting(folder, started):
     for command, path, running in started:
         fault = f"other runs held {path} for 30 seconds\nscramotp: cannot read {path}"
         says(f"{command} on a held book", running.result(), 3, "", fault)
-    same("the folder", sorted(os.listdir(folder)), ["book", "new.new"])
-    same("the book", pathlib.Path(folder, "book").read_text(), BOOK)
+    equal(sorted(os.listdir(folder)), ["book", "new.new"], "the folder")
+    equal(pathlib.Path(folder, "book").read_text(), BOOK, "the book")
 
 
 TESTS = [

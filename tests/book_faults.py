@@ -3,10 +3,10 @@
 
 Usage: book_faults.py PROGRAM
 
-Beside this file, each row of book_faults.csv is a book: a file of book_faults/, in which `old`, which is there
-once, is replaced by `new`, and then `old2` by `new2`. `\\n`, `\\\\` and `\\xNN` are written as in Python. The
-row's answer is a fault's number, as docs/FORMATS.md has it, or what `unlock` prints for the account `user` in a
-book that it reads. A book is judged before a name is looked up, and one that is refused is left as it is.
+In data/book_faults, each row of cases.csv is a book: a file beside it, in which `old`, which is there once, is
+replaced by `new`, and then `old2` by `new2`. `\\n`, `\\\\` and `\\xNN` are written as in Python. The row's answer is
+a fault's number, as docs/FORMATS.md has it, or what `unlock` prints for the account `user` in a book that it reads. A
+book is judged before a name is looked up, and one that is refused is left as it is.
 Exits at the first row that differs.
 """
 import csv
@@ -14,11 +14,11 @@ import pathlib
 import subprocess
 import tempfile
 
-from outside import edited
-from suite import PROGRAM, same
+from checks import equal
+from outside import BOOK_FAULTS, edited
+from suite import PROGRAM
 
-BOOKS = pathlib.Path(__file__).with_name("book_faults")
-TABLE = pathlib.Path(__file__).with_name("book_faults.csv")
+TABLE = BOOK_FAULTS / "cases.csv"
 NUMBERS = {str(number) for number in range(60, 68)}
 
 
@@ -32,12 +32,12 @@ def due(answer):
 
 def check(where, path, row):
     """Runs a row, and compares what the program answers, and the book that it refuses."""
-    book = edited((BOOKS / row["base"]).with_suffix(".toml").read_bytes(), row)
+    book = edited((BOOK_FAULTS / row["base"]).with_suffix(".toml").read_bytes(), row)
     path.write_bytes(book)
     done = subprocess.run([PROGRAM, "unlock", "--book", path, "--name", "user"], capture_output=True)
-    same(where, (done.returncode, done.stdout, done.stderr), due(row["answer"]))
+    equal((done.returncode, done.stdout, done.stderr), due(row["answer"]), where)
     if done.returncode != 0:
-        same(f"{where}: the book", path.read_bytes(), book)
+        equal(path.read_bytes(), book, f"{where}: the book")
 
 
 def main():
@@ -45,9 +45,9 @@ def main():
         rows = list(csv.DictReader(table))
     with tempfile.TemporaryDirectory() as folder:
         for line, row in enumerate(rows, 2):
-            check(f"{TABLE.name}: line {line}", pathlib.Path(folder, "book"), row)
-    same("the numbers that have no row", NUMBERS - {row["answer"] for row in rows}, set())
-    print(f"{TABLE.name}: {len(rows)} rows as they should be")
+            check(f"{TABLE}: line {line}", pathlib.Path(folder, "book"), row)
+    equal(NUMBERS - {row["answer"] for row in rows}, set(), "the numbers that have no row")
+    print(f"book_faults.py: {len(rows)} books as they should be")
 
 
 main()

@@ -20,6 +20,7 @@ import threading
 import time
 
 import suite
+from checks import equal, holds
 from suite import CODES, PROGRAM, USER, code, hotp, is_locked, read, seen, token
 
 BOOK = USER + hotp(look_ahead=3, limit=100)
@@ -78,7 +79,7 @@ def waiting_verify(path, text=""):
 def answered(run, text, want):
     """Gives a run the rest of its input, and compares its status, output and faults."""
     output, faults = run.communicate(text)
-    assert (run.returncode, output, faults) == want, (run.returncode, output, faults)
+    equal((run.returncode, output, faults), want)
 
 
 def twenty_at_once(folder):
@@ -90,11 +91,11 @@ def twenty_at_once(folder):
         runs = [start([book, link][n % 2], FIRST_CODE) for n in range(20)]
         printed = [run.stdout.read() for run in runs]
         statuses = sorted(run.wait() for run in runs)
-        assert sorted(printed) == ["FAIL 5\n"] * 19 + ["PASS 5 0\n"], printed
-        assert statuses == [0] + [1] * 19, statuses
-        assert (token(book)["next"], token(book)["failures"]) == (1, 19)
-        assert os.path.islink(link)
-        assert sorted(os.listdir(folder)) == ["book", "link"]
+        equal(sorted(printed), ["FAIL 5\n"] * 19 + ["PASS 5 0\n"])
+        equal(statuses, [0] + [1] * 19)
+        equal((token(book)["next"], token(book)["failures"]), (1, 19))
+        holds(os.path.islink(link), "the link is gone")
+        equal(sorted(os.listdir(folder)), ["book", "link"])
 
 
 def killed_at_any_moment(folder):
@@ -111,13 +112,13 @@ def killed_at_any_moment(folder):
         told = [int(counter) for counter in re.findall(r"^PASS 5 (\d+)$", run.stdout.read(), re.M)]
         run.wait()
         passed += told
-        assert all(counter < token(book)["next"] for counter in told)
+        holds(all(counter < token(book)["next"] for counter in told), told, token(book))
         again = verify(book, "")
-        assert (again.returncode, again.stderr) == (0, ""), again.stderr
-    assert len(passed) == len(set(passed)) > 0, passed
+        equal((again.returncode, again.stderr), (0, ""))
+    holds(len(passed) == len(set(passed)) > 0, passed)
     again = verify(book, codes[token(book)["next"]])
-    assert again.returncode == 0, again
-    assert os.listdir(folder) == ["book"]
+    equal(again.returncode, 0, again)
+    equal(os.listdir(folder), ["book"])
 
 
 def modes(folder):
@@ -125,15 +126,15 @@ def modes(folder):
     book = os.path.join(folder, "book")
     for mask in [0o000, 0o022, 0o077]:
         old = os.umask(mask)
-        assert enrol(book, "user", 1).wait() == 0
+        equal(enrol(book, "user", 1).wait(), 0)
         os.umask(old)
-        assert os.stat(book).st_mode & 0o7777 == 0o600
+        equal(os.stat(book).st_mode & 0o7777, 0o600)
         os.remove(book)
     for before, after in [(0o640, 0o600), (0o604, 0o600), (0o600, 0o600), (0o444, 0o400)]:
         write(book)
         os.chmod(book, before)
-        assert verify(book, FIRST_CODE).stdout == "PASS 5 0\n"
-        assert os.stat(book).st_mode & 0o7777 == after
+        equal(verify(book, FIRST_CODE).stdout, "PASS 5 0\n")
+        equal(os.stat(book).st_mode & 0o7777, after)
         os.remove(book)
 
 
@@ -149,12 +150,12 @@ def access_lists(folder):
         os.setxattr(book, "system.posix_acl_access", listed)
         os.setxattr(folder, "system.posix_acl_default", listed)
     except OSError as error:
-        assert error.errno == errno.EOPNOTSUPP, error
+        equal(error.errno, errno.EOPNOTSUPP, error)
         print("books.py: this file system has no access lists, so they are not tested", file=sys.stderr)
         return
-    assert os.stat(book).st_mode & 0o777 == 0o640
-    assert verify(book, FIRST_CODE).stdout == "PASS 5 0\n"
-    assert os.stat(book).st_mode & 0o777 == 0o600
+    equal(os.stat(book).st_mode & 0o777, 0o640)
+    equal(verify(book, FIRST_CODE).stdout, "PASS 5 0\n")
+    equal(os.stat(book).st_mode & 0o777, 0o600)
 
 
 def unwritable(folder):
@@ -163,11 +164,11 @@ def unwritable(folder):
     write(book)
     os.mkdir(book + ".new")
     run = verify(book, FIRST_CODE)
-    assert (run.returncode, run.stdout, run.stderr) == (3, "", f"scramotp: cannot write {book}\n"), run
+    equal((run.returncode, run.stdout, run.stderr), (3, "", f"scramotp: cannot write {book}\n"), run)
     with open(book) as file:
-        assert file.read() == BOOK
+        equal(file.read(), BOOK)
     os.rmdir(book + ".new")
-    assert verify(book, FIRST_CODE).stdout == "PASS 5 0\n"
+    equal(verify(book, FIRST_CODE).stdout, "PASS 5 0\n")
 
 
 def locked_by_another(folder):
@@ -179,14 +180,14 @@ def locked_by_another(folder):
     run = verify(book, FIRST_CODE)
     waited = time.monotonic() - begun
     faults = f"scramotp: other runs held {book} for 30 seconds\nscramotp: cannot read {book}\n"
-    assert (run.returncode, run.stdout, run.stderr) == (3, "", faults), run
-    assert 29 < waited < 33, waited
+    equal((run.returncode, run.stdout, run.stderr), (3, "", faults), run)
+    holds(29 < waited < 33, waited)
     run = start(book, FIRST_CODE)
     time.sleep(0.5)
-    assert run.poll() is None
+    equal(run.poll(), None)
     os.close(lock)
-    assert run.stdout.read() == "PASS 5 0\n"
-    assert run.wait() == 0
+    equal(run.stdout.read(), "PASS 5 0\n")
+    equal(run.wait(), 0)
 
 
 def locked_folder(folder):
@@ -196,7 +197,7 @@ def locked_folder(folder):
     write(other)
     lock = locked(folder)
     waiting = waiting_verify(other)
-    assert verify(book, FIRST_CODE).stdout == "PASS 5 0\n"
+    equal(verify(book, FIRST_CODE).stdout, "PASS 5 0\n")
     answered(waiting, FIRST_CODE, (0, "PASS 5 0\n", ""))
     os.close(lock)
 
@@ -208,8 +209,8 @@ def one_lock(folder):
     kinds = {0x20: "open", 0x80: "take its place"}
     libc = ctypes.CDLL(None)
     told = libc.inotify_init()
-    assert libc.inotify_add_watch(told, folder.encode(), sum(kinds)) >= 0
-    assert verify(book, f"{FIRST_CODE}\n{code(1)}\n").stdout == "PASS 5 0\nPASS 5 1\n"
+    holds(libc.inotify_add_watch(told, folder.encode(), sum(kinds)) >= 0, "the folder can't be watched")
+    equal(verify(book, f"{FIRST_CODE}\n{code(1)}\n").stdout, "PASS 5 0\nPASS 5 1\n")
     data, at, events = os.read(told, 65536), 0, []
     while at < len(data):
         _, mask, _, length = struct.unpack_from("iIII", data, at)
@@ -217,12 +218,12 @@ def one_lock(folder):
         at += 16 + length
     os.close(told)
     saved = [("open", "book.new"), ("take its place", "book")]
-    assert events == [("open", ""), ("open", "book"), *saved, *saved], events
+    equal(events, [("open", ""), ("open", "book"), *saved, *saved])
     run = waiting_verify(book, f"{code(2)}\n")
-    assert run.stdout.readline() == "PASS 5 2\n"
-    assert is_locked(book)
+    equal(run.stdout.readline(), "PASS 5 2\n")
+    holds(is_locked(book), "the book is not locked while the run goes on")
     answered(run, "", (0, "", ""))
-    assert not is_locked(book)
+    holds(not is_locked(book), "the book is locked after the run")
 
 
 def swapped(folder):
@@ -258,7 +259,7 @@ def swapped(folder):
         before = {name: seen(os.path.join(folder, name)) for name in os.listdir(folder)}
         answered(run, FIRST_CODE, (3, "", f"scramotp: cannot write {book}\n"))
         after = {name: seen(os.path.join(folder, name)) for name in os.listdir(folder)}
-        assert after == before, turn.__name__
+        equal(after, before, turn.__name__)
         for path in [book, away]:
             if os.path.lexists(path):
                 os.remove(path)
@@ -271,13 +272,13 @@ def keys_before_the_lock(folder):
     write(book)
     slow = [enrol(path, "slow", 3000000) for path in [book, new]]
     time.sleep(0.3)
-    assert verify(book, FIRST_CODE).stdout == "PASS 5 0\n"
-    assert enrol(new, "quick", 1).wait() == 0
-    assert [run.poll() for run in slow] == [None, None]
-    assert [run.wait() for run in slow] == [0, 0]
-    assert (sorted(read(book)["accounts"]), token(book)["next"]) == (["slow", "user"], 1)
-    assert sorted(read(new)["accounts"]) == ["quick", "slow"]
-    assert sorted(os.listdir(folder)) == ["book", "new"]
+    equal(verify(book, FIRST_CODE).stdout, "PASS 5 0\n")
+    equal(enrol(new, "quick", 1).wait(), 0)
+    equal([run.poll() for run in slow], [None, None])
+    equal([run.wait() for run in slow], [0, 0])
+    equal((sorted(read(book)["accounts"]), token(book)["next"]), (["slow", "user"], 1))
+    equal(sorted(read(new)["accounts"]), ["quick", "slow"])
+    equal(sorted(os.listdir(folder)), ["book", "new"])
 
 
 def made_at_once(folder):
@@ -289,11 +290,11 @@ def made_at_once(folder):
             time.sleep(random.uniform(0, 0.008))
             run.kill()
         statuses = [run.wait() for run in runs]
-        assert statuses[2:] == [0] * 4, statuses
-        assert verify(book, "").stderr == "scramotp: no such account\n"
-        assert os.listdir(folder) == ["book"]
+        equal(statuses[2:], [0] * 4, statuses)
+        equal(verify(book, "").stderr, "scramotp: no such account\n")
+        equal(os.listdir(folder), ["book"])
         names = set(read(book)["accounts"])
-        assert names >= {f"user{number}" for number in range(6) if statuses[number] == 0}, (statuses, names)
+        holds(names >= {f"user{number}" for number in range(6) if statuses[number] == 0}, statuses, names)
         os.remove(book)
 
 
@@ -318,7 +319,7 @@ def pipes(folder):
         for _ in range(300):
             run = subprocess.run(verify_words(book), input="", capture_output=True, text=True, timeout=20)
             refused = (3, "", f"scramotp: cannot read {book}\n")
-            assert (run.returncode, run.stdout, run.stderr) in [(0, "", ""), refused], run
+            holds((run.returncode, run.stdout, run.stderr) in [(0, "", ""), refused], run)
     finally:
         is_over.set()
         turning.join()
@@ -329,12 +330,12 @@ def left_by_a_killed_run(folder):
     book = os.path.join(folder, "book")
     write(book)
     write(book + ".new")
-    assert verify(book, "").returncode == 0
-    assert os.listdir(folder) == ["book"]
+    equal(verify(book, "").returncode, 0)
+    equal(os.listdir(folder), ["book"])
     os.remove(book)
     write(book + ".new")
-    assert enrol(book, "user", 1).wait() == 0
-    assert os.listdir(folder) == ["book"]
+    equal(enrol(book, "user", 1).wait(), 0)
+    equal(os.listdir(folder), ["book"])
 
 
 def too_long(folder):
@@ -343,12 +344,12 @@ def too_long(folder):
     with open(book, "w") as file:
         file.write(BOOK + "[accounts]\n")
         file.writelines(f"a{number} = {{}}\n" for number in range(560000))
-    assert os.stat(book).st_size < 16777216
+    holds(os.stat(book).st_size < 16777216, os.stat(book))
     before = seen(book)
     run = verify(book, FIRST_CODE)
-    assert (run.returncode, run.stdout, run.stderr) == (3, "", f"scramotp: cannot write {book}\n"), run
-    assert seen(book) == before
-    assert os.listdir(folder) == ["book"]
+    equal((run.returncode, run.stdout, run.stderr), (3, "", f"scramotp: cannot write {book}\n"), run)
+    equal(seen(book), before)
+    equal(os.listdir(folder), ["book"])
 
 
 def shown_texts(folder):
@@ -356,16 +357,18 @@ def shown_texts(folder):
     book = os.path.join(folder, "a\n\x1b[2J\x7f\u009b\u00e9")
     shown = os.path.join(folder, "a\\x0a\\x1b[2J\\x7f\\x9b\u00e9")
     run = verify(book, "")
-    assert (run.returncode, run.stderr) == (3, f"scramotp: cannot read {shown}\n"), run
+    equal((run.returncode, run.stderr), (3, f"scramotp: cannot read {shown}\n"), run)
     write(book)
     lock = locked(book)
     run = verify(book, "")
     os.close(lock)
-    assert run.stderr == f"scramotp: other runs held {shown} for 30 seconds\nscramotp: cannot read {shown}\n", run
+    equal(run.stderr, f"scramotp: other runs held {shown} for 30 seconds\nscramotp: cannot read {shown}\n", run)
     for words in [["a\n\x1b[2J"], ["verify", "--\x1b[2J\n"], ["verify", "--book", "x", "\x1b[2J\nscramotp: no token"]]:
         run = subprocess.run([PROGRAM, *words], capture_output=True, text=True)
-        assert run.returncode == 2, run
-        assert "\\x1b[2J" in run.stderr and "\x1b" not in run.stderr and "\nscramotp" not in run.stderr, run
+        equal(run.returncode, 2, run)
+        holds("\\x1b[2J" in run.stderr, run)
+        holds("\x1b" not in run.stderr, run)
+        holds("\nscramotp" not in run.stderr, run)
 
 
 def full_output(folder):
@@ -374,8 +377,8 @@ def full_output(folder):
     write(book)
     with open("/dev/full", "w") as full:
         run = subprocess.run(verify_words(book), input=FIRST_CODE, stdout=full, stderr=subprocess.PIPE, text=True)
-    assert (run.returncode, run.stderr) == (3, "scramotp: cannot write output\n"), run
-    assert token(book)["next"] == 1
+    equal((run.returncode, run.stderr), (3, "scramotp: cannot write output\n"), run)
+    equal(token(book)["next"], 1)
 
 
 def input_limit(folder):
@@ -383,9 +386,9 @@ def input_limit(folder):
     book = os.path.join(folder, "book")
     write(book)
     run = verify(book, "x\n" + "a" * 16777214)
-    assert (run.returncode, run.stdout, run.stderr) == (1, "FAIL 5\nFAIL 5\n", ""), run.stderr
+    equal((run.returncode, run.stdout, run.stderr), (1, "FAIL 5\nFAIL 5\n", ""))
     run = verify(book, "x\n" + "a" * 16777215)
-    assert (run.returncode, run.stdout, run.stderr) == (3, "FAIL 5\n", "scramotp: cannot read input\n"), run.stderr
+    equal((run.returncode, run.stdout, run.stderr), (3, "FAIL 5\n", "scramotp: cannot read input\n"))
 
 
 def each_line(folder):
@@ -401,7 +404,7 @@ def each_line(folder):
     ]:
         write(book)
         run = verify(book, text)
-        assert (run.returncode, run.stdout, run.stderr) == (status, printed, ""), (text, run)
+        equal((run.returncode, run.stdout, run.stderr), (status, printed, ""), text, run)
 
 
 def no_token(folder):
@@ -411,7 +414,7 @@ def no_token(folder):
         file.write(BOOK[: BOOK.index("[accounts.user.token]")])
     for text in ["", FIRST_CODE]:
         run = verify(book, text)
-        assert (run.returncode, run.stdout, run.stderr) == (1, "", "scramotp: no token\n"), run
+        equal((run.returncode, run.stdout, run.stderr), (1, "", "scramotp: no token\n"), run)
 
 
 def told_at_once(folder):
@@ -424,7 +427,7 @@ def told_at_once(folder):
     ready, _, _ = select.select([run.stdout], [], [], 20)
     told = os.read(run.stdout.fileno(), 100) if ready else None
     run.stdin.close()
-    assert (told, run.wait()) == (b"PASS 5 0\n", 0), told
+    equal((told, run.wait()), (b"PASS 5 0\n", 0))
     run.stdout.close()
 
 
@@ -438,8 +441,8 @@ def random_bytes(folder):
         subprocess.run(words, input="pencil\n", capture_output=True, text=True, check=True)
     made = read(book)
     salts = [[made["accounts"][name][table]["salt"] for table in ["sha1", "sha256"]] for name in ["one", "two"]]
-    assert made["decoy_key"] == bytes(range(32)).hex(), made
-    assert salts == [[bytes(range(at, at + 16)).hex() for at in pair] for pair in [(32, 48), (0, 16)]], salts
+    equal(made["decoy_key"], bytes(range(32)).hex(), made)
+    equal(salts, [[bytes(range(at, at + 16)).hex() for at in pair] for pair in [(32, 48), (0, 16)]])
 
 
 TESTS = [

@@ -10,10 +10,12 @@ import subprocess
 import tempfile
 import time
 from hmac import digest
+from pathlib import Path
 
 import suite
+from checks import equal, holds
 from outside import keys_of
-from suite import KEYS_OF_PENCIL, PROGRAM, SALT, SECRET, USER, hotp, read, same, token, told, totp
+from suite import KEYS_OF_PENCIL, PROGRAM, SALT, SECRET, USER, hotp, read, token, told, totp
 
 LONGER = "3132333435363738393031323334353637383930313233343536373839303132"
 # 64 bytes
@@ -40,14 +42,14 @@ def check(words, text, status, printed="", fault=""):
     """Runs the program, and compares status, output and fault; a fault of its own is given without its beginning."""
     data = text if isinstance(text, bytes) else text.encode()
     run = subprocess.run([PROGRAM, *words], input=data, capture_output=True)
-    same((words, text[:100]), (run.returncode, run.stdout.decode(), run.stderr.decode()), (status, printed, told(fault)))
+    equal((run.returncode, run.stdout.decode(), run.stderr.decode()), (status, printed, told(fault)), (words, text[:100]))
 
 
 def check_usage(words, begin):
     """Runs the program with faulty words, and compares its status and how its fault begins, which is `begin`."""
     run = subprocess.run([PROGRAM, *words], input="pencil\n", capture_output=True, text=True)
-    same(words, (run.returncode, run.stdout), (2, ""))
-    assert run.stderr.startswith(begin), (words, run)
+    equal((run.returncode, run.stdout), (2, ""), words)
+    holds(run.stderr.startswith(begin), words, run)
 
 
 def keys(mechanism, salt, count):
@@ -209,19 +211,20 @@ def help_and_version(folder):
         (["code", "--help"], ["Standard\ninput is not read.", "Other users of the machine can read the words"]),
     ]:
         text = help_of(words[:-1])
-        assert all(part in text for part in parts), text
+        holds(all(part in text for part in parts), text)
 
 
 def help_of(words):
     """What is printed for --help, in lines of at most 100 columns."""
     run = subprocess.run([PROGRAM, *words, "--help"], capture_output=True, text=True)
-    assert (run.returncode, run.stderr) == (0, ""), run
-    assert all(len(line) <= 100 for line in run.stdout.splitlines()), run.stdout
+    equal((run.returncode, run.stderr), (0, ""), run)
+    holds(all(len(line) <= 100 for line in run.stdout.splitlines()), run.stdout)
     return run.stdout
 
 
 def examples(folder):
-    """The example of each command runs as it stands, in a folder that is empty at first; `verify` has the moment of now."""
+    """The example of each command runs as it stands, in a folder that is empty at first; `verify` has the moment of now. Nobody else can
+    read what they leave, also with a umask that lets everyone."""
     with tempfile.TemporaryDirectory() as commands:
         os.symlink(PROGRAM, os.path.join(commands, "scramotp"))
         environment = {**os.environ, "PATH": f"{commands}:{os.environ['PATH']}"}
@@ -229,14 +232,16 @@ def examples(folder):
             [example] = re.findall(r"^Examples?\b.*:.*\n((?:  .*\n?)+)\Z", help_of([command]), re.M)
             began = int(time.time())
             run = subprocess.run(
-                ["sh", "-ec", example], cwd=folder, env=environment, stdin=subprocess.DEVNULL, capture_output=True, text=True
+                ["sh", "-ec", example], cwd=folder, env=environment, stdin=subprocess.DEVNULL, capture_output=True, text=True, umask=0
             )
             moments = range(began, int(time.time()) + 1)
-            assert (run.returncode, run.stderr) == (0, ""), (command, run)
-            assert run.stdout in [printed.format(moment) for moment in moments], (command, run)
-    assert stat.S_IMODE(os.stat(os.path.join(folder, "book.toml")).st_mode) == 0o600
+            equal((run.returncode, run.stderr), (0, ""), command, run)
+            holds(run.stdout in [printed.format(moment) for moment in moments], command, run)
+    equal(os.listdir(folder), ["logins"])
+    modes = {path.name: stat.S_IMODE(path.stat().st_mode) for path in [Path(folder, "logins"), Path(folder, "logins", "book.toml")]}
+    equal(modes, {"logins": 0o700, "book.toml": 0o600})
     listed = re.findall(r"^  ([a-z]+) +[A-Z]", help_of([]).split("Commands:\n")[1].split("\n\n")[0], re.M)
-    assert sorted(listed) == sorted(command for command, _ in EXAMPLES), listed
+    equal(sorted(listed), sorted(command for command, _ in EXAMPLES), listed)
 
 
 def input_limit(folder):
@@ -256,9 +261,10 @@ def server_signature(folder):
     words = keys("SCRAM-SHA-256", "5b6d99689d12358eeca04b141236fa81", "4096")
     run = subprocess.run([PROGRAM, *words], input="pencil\n", capture_output=True, text=True, check=True)
     stored, server = run.stdout.splitlines()
-    assert stored.startswith("stored=") and server.startswith("server="), run
+    holds(stored.startswith("stored="), run)
+    holds(server.startswith("server="), run)
     signature = digest(bytes.fromhex(server.removeprefix("server=")), auth_message, "sha256").hex()
-    assert signature == "eabae24d1062db75a9451ff0b6ea7e98c8546549ff741e672d3251b2397de46e", signature
+    equal(signature, "eabae24d1062db75a9451ff0b6ea7e98c8546549ff741e672d3251b2397de46e")
 
 
 def hotp_codes(folder):
@@ -267,7 +273,7 @@ def hotp_codes(folder):
     write(book, USER, hotp(3, 3))
     text = "755224\n755224\n338314\n359152\n162583\n755224x\n"
     verify(book, "5", text, 1, "PASS 5 0\nFAIL 5\nPASS 5 4\nFAIL 5\nPASS 5 7\nFAIL 5\n")
-    assert (token(book)["next"], token(book)["failures"]) == (8, 1), token(book)
+    equal((token(book)["next"], token(book)["failures"]), (8, 1), token(book))
     verify(book, "5", "755224", 1, "FAIL 5\n")
     verify(book, "5", "399871", 0, "PASS 5 8\n")
     verify(book, "5", "", 0, "")
@@ -289,10 +295,10 @@ def two_codes_in_a_row(folder):
     for sync_ahead, text, printed in runs:
         write(book, USER, hotp(3, 3, sync_ahead))
         verify(book, "5", text, 1, printed)
-        assert token(book)["sync_ahead"] == (sync_ahead or 0), token(book)
+        equal(token(book)["sync_ahead"], sync_ahead or 0, token(book))
     write(book, USER, hotp(3, 3, 8))
     verify(book, "5", far, 0, "PASS 5 9\n")
-    assert (token(book)["next"], token(book)["failures"]) == (10, 0), token(book)
+    equal((token(book)["next"], token(book)["failures"]), (10, 0), token(book))
     write(book, USER, hotp(3, 100, 8))
     for line in ["SYNC 755224", "SYNC 755224  287082", "SYNC  755224 287082", "SYNC 755224 287082 ", " SYNC 755224 287082",
                  "sync 755224 287082", "SYNC 755224 287082\r", "SYNC 755224 287082 359152", "SYNC\t755224 287082",
@@ -319,7 +325,7 @@ def totp_codes(folder):
     printed = "PASS {0} 37037036\nFAIL {0}\nPASS {0} 37037037\nFAIL {0}\nFAIL {0}\nFAIL {0}\n"
     verify(book, moment, text, 1, printed.format(moment))
     kept = token(book)
-    assert (kept["last"], kept["drift"], kept["failures"]) == (37037037, 1, 3), kept
+    equal((kept["last"], kept["drift"], kept["failures"]), (37037037, 1, 3), kept)
     verify(book, moment, "14050471", 1, f"LOCKED {moment}\n")
     write(book, USER, TOTP)
     verify(book, "59", "94287082", 0, "PASS 59 1\n")
@@ -348,15 +354,15 @@ def enrolling(folder):
     words = on(book, "enrol", "user", "--random", file)
     check(words, "pencil\n", 0, "enrolled user\n")
     made = read(book)
-    assert (made["decoy_key"], made["decoy_count"]) == (bytes(range(32)).hex(), 4096), made
+    equal((made["decoy_key"], made["decoy_count"]), (bytes(range(32)).hex(), 4096), made)
     for mechanism, table, at in [("SCRAM-SHA-1", "sha1", 32), ("SCRAM-SHA-256", "sha256", 48)]:
         salt, found = bytes(range(at, at + 16)), made["accounts"]["user"][table]
-        assert (found["salt"], found["count"]) == (salt.hex(), 4096), made
+        equal((found["salt"], found["count"]), (salt.hex(), 4096), made)
         lines = f"stored={found['stored']}\nserver={found['server']}\n"
-        assert lines == key_lines(mechanism, b"pencil", salt, 4096), made
+        equal(lines, key_lines(mechanism, b"pencil", salt, 4096), made)
     check(words, "pencil\n", 1, fault="name is taken")
     check(on(book, "verify", "user", "--moment", "5"), "755224\n", 1, fault="no token")
-    assert sorted(os.listdir(folder)) == ["book", "random"]
+    equal(sorted(os.listdir(folder)), ["book", "random"])
 
 
 def short_random_files(folder):
@@ -369,7 +375,7 @@ def short_random_files(folder):
             write(book, USER)
         write(file, "a" * length)
         check(words, "pencil", 3, fault=fault)
-        assert os.path.exists(book) == book_there
+        equal(os.path.exists(book), book_there)
     write(file, "a" * 32)
     check(words, "pencil", 0, "enrolled other\n")
 

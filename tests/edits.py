@@ -10,7 +10,8 @@ those that they call, in which the function of each must fail at a goal of its o
 that is not refused so is tried again alone, by a check of the whole crate. A batch that the check cannot read, or in which a function
 fails that none of them changes, is tried in halves.
 
-An edit has the form that `rt help` describes, and changes only src/. The script works in a temporary folder, over the
+An edit has the form that `rt help` describes, and changes src/ or specs/. One of a definition in specs/ belongs to no function, and is
+refused where a proof of the crate falls with it. The script works in a temporary folder, over the
 libraries that `rt ci` or `rt lib` left in crates/NAME/out/, if they are newer than their sources, or else builds them there; with
 --built it takes them as they are, as after an `rt ci`, whose libraries may be older files that are kept. Whether the crates are
 proved as they are, `rt ci` says.
@@ -42,6 +43,8 @@ ROOT = Path(__file__).resolve().parent.parent
 FOLDERS = ("must-fail", "edits")
 # What a check reads of a crate.
 PARTS = ("src", "specs", "proofs")
+# Where an edit may change it.
+EDITED = ("src/", "specs/")
 # The status of a check of a path that fits no function, or several.
 FITS_NOTHING = 2
 # More than a check of the largest crate here takes, in bytes.
@@ -127,8 +130,8 @@ def functions_of(crate: Path) -> list[Function]:
     """Finds a crate's functions by the layout of `rt fmt`, in which a body ends with a brace below its first letter."""
     found = []
     for path in sorted((crate / "src").rglob("*.rt")):
-        file, of, trait = path.relative_to(crate / "src").as_posix(), "", ""
-        module = () if file in ("lib.rt", "main.rt") else tuple(file.removesuffix(".rt").split("/"))
+        file, of, trait = path.relative_to(crate).as_posix(), "", ""
+        module = () if file in ("src/lib.rt", "src/main.rt") else tuple(file.removeprefix("src/").removesuffix(".rt").split("/"))
         lines = path.read_text(encoding="utf-8").split("\n")
         for at, line in enumerate(lines):
             if line[:1].isalpha() and line != "where":
@@ -165,11 +168,10 @@ def read_edit(path: Path, crate: Path, functions: list[Function]) -> Edit:
     places: set[tuple[str, int]] = set()
     for line in whole.split("\n"):
         if line.startswith("file: "):
-            file = line.removeprefix("file: ").strip().removeprefix("src/")
-            source = crate / "src" / file
-            if not source.is_file() or not line.startswith("file: src/"):
-                raise Unusable(f"there is no source src/{file}")
-            texts.setdefault(file, source.read_text(encoding="utf-8"))
+            file = line.removeprefix("file: ").strip()
+            if not file.startswith(EDITED) or not (crate / file).is_file():
+                raise Unusable(f"there is no source {file}")
+            texts.setdefault(file, (crate / file).read_text(encoding="utf-8"))
         elif line.startswith("old: "):
             old = line.removeprefix("old: ")
         elif line.startswith("new:"):
@@ -177,7 +179,7 @@ def read_edit(path: Path, crate: Path, functions: list[Function]) -> Edit:
                 raise Unusable("a line 'new:' has no 'file:' or no 'old:' above it")
             before, *others = texts[file].split(old)
             if len(others) != 1:
-                raise Unusable(f"an 'old:' text is in src/{file} {len(others)} times, and not once")
+                raise Unusable(f"an 'old:' text is in {file} {len(others)} times, and not once")
             places.add((file, before.count("\n") + 1))
             texts[file] = before + line.removeprefix("new:").removeprefix(" ") + others[0]
             old = ""
@@ -270,11 +272,11 @@ class Room:
         """Checks the crate with these edits, which change different lines, and no others: the functions that they change, or the file's
         where they change none, and what these call; or all of it, also where a path does not name one function."""
         lines = {place: text for edit in edits for place, text in edit.lines.items()}
-        for path in (self.source / "src").rglob("*.rt"):
-            file = path.relative_to(self.source / "src").as_posix()
+        for path in (it for part in EDITED for it in (self.source / part).rglob("*") if it.is_file()):
+            file = path.relative_to(self.source).as_posix()
             text = path.read_text(encoding="utf-8").split("\n")
             text = [lines.get((file, at), line) for at, line in enumerate(text, 1)]
-            (self.folder / "src" / file).write_text("\n".join(text), encoding="utf-8")
+            (self.folder / file).write_text("\n".join(text), encoding="utf-8")
         files = {file for edit in edits if not edit.owners for file, _ in edit.lines}
         changed = {it for edit in edits for it in edit.owners} | {it for it in self.functions if it.file in files}
         paths = sorted({it.path() for it in changed})
@@ -305,7 +307,7 @@ class Room:
     def owner(self, part: str, file: str, line: int) -> Function | None:
         """Returns the function to which a line of src/ or a file of proofs/ belongs, or None."""
         folder = tuple(file.split("/")[:-1])
-        is_own = lambda it: it.holds(file, line) if part == "src" else part == "proofs" and it.is_proved_in(folder)
+        is_own = lambda it: it.holds(f"src/{file}", line) if part == "src" else part == "proofs" and it.is_proved_in(folder)
         return max(filter(is_own, self.functions), key=lambda it: len(it.of), default=None)
 
 
@@ -397,15 +399,18 @@ def try_crate(room: Room, is_first: bool, options: argparse.Namespace) -> Count:
 
 
 def self_test(room: Room, edits: list[Edit]) -> None:
-    """Ends the run unless an edit without a change is let through, and one whose text is gone, or a line of it not read, is unusable."""
-    wrong = next(it for it in edits if it.is_inside)
+    """Ends the run unless an edit without a change is let through, and one whose text is gone, or a line of it not read, is unusable.
+    A crate whose edits are all of definitions has no function for this test."""
+    wrong = next((it for it in edits if it.is_inside), None)
+    if not wrong:
+        return
     # a method of a type has a body, and a trait's need not
     other = next(it for it in room.functions if it.of and it not in wrong.owners)
     nothing = Edit("nothing", {}, {other}, True)
     together, alone = try_together(room, [wrong, nothing]), try_alone(room, nothing)
     if [*together] != [wrong.name] or alone != Outcome(False, f"{other}: LET THROUGH"):
         sys.exit(f"edits.py: its own test fails with {wrong.name} in {room.crate}: {together}, {alone}")
-    gone = f"file: src/{other.file}\nold: a text that no file has\nnew: another\n"
+    gone = f"file: {other.file}\nold: a text that no file has\nnew: another\n"
     for what, text in (("whose text is gone", gone), ("with a line that is not read", f"{wrong.text}and one line more\n")):
         unusable = room.folder / "unusable.edit"
         unusable.write_text(text, encoding="utf-8")

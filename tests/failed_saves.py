@@ -13,6 +13,7 @@ import pathlib
 import shims
 import suite
 from all_commands import ACCEPTED, BOOK, GONE, audited, book_of, commands, left, new_book, prepare, run
+from checks import equal, holds
 from outside import numbered
 from suite import CODES, token
 
@@ -100,17 +101,18 @@ def twice(here, command, lines, number, way):
     opening, done = here.book.read_text(), number - first_save - 1
     turns = [*exchanged(0, lines)]
     log = printed(command.name, lines, [reply for reply, _, _ in turns[:done]], True)
-    assert here.fails(sent(command, lines), number, way) == here.unsaved(log), (command.name, lines, number, way)
+    equal(here.fails(sent(command, lines), number, way), here.unsaved(log), command.name, lines, number, way)
     kept = done + way[-1]
     after = turns[kept - 1][2] if kept else 0
     saved = here.book.read_text()
-    assert token(here.book)["next"] == after and left(here.folder) == set(), (command.name, number, way, saved)
+    equal(token(here.book)["next"], after, command.name, number, way, saved)
+    equal(left(here.folder), set(), command.name, number, way, saved)
     again = [*exchanged(after, lines)]
     more = printed(command.name, lines, [reply for reply, _, _ in again], False)
     status = 0 if command.name == "hall" or all(used for _, used, _ in again) else 1
-    assert run(sent(command, lines), here.folder) == (status, more, ""), (command.name, lines, number, way)
+    equal(run(sent(command, lines), here.folder), (status, more, ""), command.name, lines, number, way)
     spent = [counter for _, used, _ in [*turns[:done], *again] for counter in used]
-    assert len(spent) == len(set(spent)), spent
+    equal(len(spent), len(set(spent)), spent)
     if first_save:
         audited(here.folder, opening, log)
         audited(here.folder, saved, more)
@@ -126,7 +128,7 @@ def codes_of_two_runs(folder):
                 for number in range(first, first + 3):
                     for way in Saves.WAYS:
                         twice(here, command, lines, number, way)
-    assert here.count == 3 * 3 * 3 * 4
+    equal(here.count, 3 * 3 * 3 * 4)
     print(f"failed_saves.py: {here.count} saves of a code fail, and no counter passes twice")
 
 
@@ -137,14 +139,16 @@ def first_saves(folder):
         if len(command.books) > 1:
             for way in Saves.WAYS:
                 prepare(here.folder, command)
-                assert here.fails(command, 1, way) == here.unsaved(""), (command.name, way)
-                assert book_of(here.folder) == command.books[way[-1]] and left(here.folder) == set(), (command.name, way)
-                assert way[-1] or here.book.read_text() == BOOK
+                equal(here.fails(command, 1, way), here.unsaved(""), command.name, way)
+                equal(book_of(here.folder), command.books[way[-1]], command.name, way)
+                equal(left(here.folder), set(), command.name, way)
+                holds(way[-1] or here.book.read_text() == BOOK, way, here.book.read_text())
     command = new_book()
     for call, how, is_made in [("link", "refused", False), ("fsync", "refused", False), ("link", "late", True)]:
         prepare(here.folder, command)
-        assert here.fails(command, 1, (call, how, 1, 0, is_made)) == here.unsaved(""), call
-        assert book_of(here.folder) == command.books[is_made] and left(here.folder) == set(), call
+        equal(here.fails(command, 1, (call, how, 1, 0, is_made)), here.unsaved(""), call)
+        equal(book_of(here.folder), command.books[is_made], call)
+        equal(left(here.folder), set(), call)
     print(f"failed_saves.py: {here.count} first saves fail")
 
 

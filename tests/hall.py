@@ -15,6 +15,7 @@ import tomllib
 
 import clients
 import suite
+from checks import equal
 from clients import Account, book, dealt, gone, logged_in, of_session, opened, said, turned_away
 from halls import AUTH, MECHS, OWN, RESP, USER, Hall, clean, handed, login, read
 from outside import AUDITS, orders_of_turns
@@ -37,16 +38,16 @@ def two_sessions(folder):
         "gone 1 4",
     ]
     text, log = "\n".join(events), (AUDITS / "interleaved.log").read_text()
-    assert log.count("\n") == 14
+    equal(log.count("\n"), 14)
     for end in ["\n", ""]:
         here.put(USER)
         here.prints(text + end, 0, log)
-        assert (here.token()["next"], here.token()["failures"]) == (1, 0)
+        equal((here.token()["next"], here.token()["failures"]), (1, 0))
     here.audited(log, clean(2, 1, 1))
     here.put(USER)
     here.prints("", 0, clients.FIRST_LINE)
     here.audited(clients.FIRST_LINE, clean(0))
-    assert tomllib.loads(here.book.read_text())["accounts"]["user"]["sha1"] == tomllib.loads(USER)["accounts"]["user"]["sha1"]
+    equal(tomllib.loads(here.book.read_text())["accounts"]["user"]["sha1"], tomllib.loads(USER)["accounts"]["user"]["sha1"])
 
 
 def sixty_four(folder):
@@ -109,19 +110,19 @@ def codes_of_one_account(folder):
     text, log = dealt([which for _ in range(5) for which in range(len(visits))], visits)
     here.prints(text, 0, log)
     here.audited(log, clean(7, 7, 2))
-    assert (here.token()["next"], here.token()["failures"]) == (3, 3), here.token()
+    equal((here.token()["next"], here.token()["failures"]), (3, 3), here.token())
 
 
 def told_at_once(folder):
     """Each line stands in the log while the input is still open, and a code is spent before its reply is printed."""
     here = Hall(folder)
     running = here.start()
-    assert read(running, 1) == clients.FIRST_LINE
+    equal(read(running, 1), clients.FIRST_LINE)
     for event, lines in login() + [said("CODE 755224", "S PASS 5 0"), gone()]:
-        assert handed(running, event.replace("#", "1") + "\n", len(lines)) == "".join(f"1 {line}\n" for line in lines)
-    assert here.token()["next"] == 1
+        equal(handed(running, event.replace("#", "1") + "\n", len(lines)), "".join(f"1 {line}\n" for line in lines))
+    equal(here.token()["next"], 1)
     output, faults = running.communicate()
-    assert (running.returncode, output, faults) == (0, "", "")
+    equal((running.returncode, output, faults), (0, "", ""))
 
 
 def three_visits():
@@ -148,7 +149,7 @@ def all_orders(folder):
         here.put(text)
         events, log = dealt(begun + order + (0, 2), visits)
         here.prints(events, 0, log)
-        assert [of_session(log, number) for number in [1, 2, 3]] == [alone[which] for which in begun], (begun, order, log)
+        equal([of_session(log, number) for number in [1, 2, 3]], [alone[which] for which in begun], begun, order, log)
         here.audited(log, clean(3, 2, 2))
 
 

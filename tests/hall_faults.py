@@ -10,6 +10,7 @@ import time
 
 import clients
 import suite
+from checks import equal, holds
 from clients import Account, book, dealt, gone, logged_in, opened, said
 from halls import USER, Hall, clean, handed, login, read
 
@@ -45,7 +46,7 @@ def bad_events(folder):
         for end in [b"\nopen cc\ngone 2 5\n", b"\n"] + [b""] * (line != b""):
             here.put(USER)
             here.prints(text.encode() + line + end, 1, log, "bad event")
-            assert here.token()["next"] == 1, line
+            equal(here.token()["next"], 1, line)
     here.audited(log, f"line {log.count(chr(10)) + 1}: cut")
     here.prints(b"\n", 1, clients.FIRST_LINE, "bad event")
 
@@ -69,13 +70,13 @@ def failed_saves(folder):
     for block in [taken_name, full_device]:
         here.put(book([anne, bob]))
         running = here.start(restore_signals=False)
-        assert read(running, 1) + handed(running, text, log.count("\n") - 1) == log
+        equal(read(running, 1) + handed(running, text, log.count("\n") - 1), log)
         kept = here.book.read_bytes()
         block(running, f"{here.book}.new")
         output, faults = running.communicate(f"line 2 5 CODE {bob.code(0)}\nline 1 5 CODE {anne.code(0)}\ngone 3 5\nno event\n")
-        assert (running.returncode, output) == (3, f"2 C CODE {bob.code(0)}\n2 S HALT\n"), (running.returncode, output)
-        assert faults == f"scramotp: cannot write {here.book}\n", faults
-        assert here.book.read_bytes() == kept
+        equal((running.returncode, output), (3, f"2 C CODE {bob.code(0)}\n2 S HALT\n"))
+        equal(faults, f"scramotp: cannot write {here.book}\n")
+        equal(here.book.read_bytes(), kept)
         here.audited(log + output, clean(3, 2))
         if block == taken_name:
             os.rmdir(f"{here.book}.new")
@@ -99,7 +100,7 @@ def books_that_are_none(folder):
         here.refuses(text, 1, "bad book: 67")
         here.book.unlink()
         here.refuses(text, 3, f"cannot read {here.book}")
-        assert not here.book.exists()
+        holds(not here.book.exists(), "there is a book")
 
 
 def held_books(folder):
@@ -107,16 +108,16 @@ def held_books(folder):
     here = Hall(folder)
     text, log = let_in()
     running = here.start()
-    assert read(running, 1) + handed(running, text, log.count("\n") - 1) == log
+    equal(read(running, 1) + handed(running, text, log.count("\n") - 1), log)
     words = [here.words[0], "verify", "--book", here.book, "--name", "user", "--moment", "5"]
     waiting = subprocess.Popen(words, stdin=subprocess.PIPE, stdout=subprocess.PIPE, text=True)
     waiting.stdin.write("755224\n")
     waiting.stdin.close()
     time.sleep(0.5)
-    assert waiting.poll() is None
+    equal(waiting.poll(), None)
     output, faults = running.communicate("gone 2 5\n")
-    assert (running.returncode, output, faults) == (0, "2 C GONE\n2 E\n", ""), (running.returncode, output, faults)
-    assert (waiting.stdout.read(), waiting.wait()) == ("FAIL 5\n", 1)
+    equal((running.returncode, output, faults), (0, "2 C GONE\n2 E\n", ""))
+    equal((waiting.stdout.read(), waiting.wait()), ("FAIL 5\n", 1))
     waiting.stdout.close()
 
 
@@ -126,16 +127,16 @@ def outputs_that_fail(folder):
     text, log = let_in()
     with open("/dev/full", "wb") as full:
         done = subprocess.run(here.words, input=text.encode(), stdout=full, stderr=subprocess.PIPE)
-    assert (done.returncode, done.stderr) == (3, b"scramotp: cannot write output\n"), done
-    assert here.token()["next"] == 0
+    equal((done.returncode, done.stderr), (3, b"scramotp: cannot write output\n"), done)
+    equal(here.token()["next"], 0)
     running = here.start()
-    assert read(running, 1) == clients.FIRST_LINE
+    equal(read(running, 1), clients.FIRST_LINE)
     running.stdout.close()
     running.stdin.write(text)
     running.stdin.close()
-    assert (running.stderr.read(), running.wait()) == ("scramotp: cannot write output\n", 3)
+    equal((running.stderr.read(), running.wait()), ("scramotp: cannot write output\n", 3))
     running.stderr.close()
-    assert here.token()["next"] == 0
+    equal(here.token()["next"], 0)
 
 
 def long_inputs(folder):
@@ -144,7 +145,7 @@ def long_inputs(folder):
     text, log = let_in()
     text += "line 2 5 "
     here.prints(text + "a" * (16777217 - len(text)), 3, log, "cannot read input")
-    assert here.token()["next"] == 1
+    equal(here.token()["next"], 1)
     here.put(USER)
     here.prints(text + "a" * (16777216 - len(text)), 0, log + "2 C BAD\n2 S NO :\n2 E\n")
 
@@ -155,7 +156,7 @@ def faulty_inputs(folder):
     at = os.open(folder, os.O_RDONLY)
     done = subprocess.run(here.words, stdin=at, capture_output=True, text=True)
     os.close(at)
-    assert (done.returncode, done.stdout, done.stderr) == (3, clients.FIRST_LINE, "scramotp: cannot read input\n"), done
+    equal((done.returncode, done.stdout, done.stderr), (3, clients.FIRST_LINE, "scramotp: cannot read input\n"), done)
 
 
 TESTS = [

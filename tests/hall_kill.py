@@ -12,6 +12,7 @@ import time
 
 import clients
 import suite
+from checks import equal, holds
 from clients import Account, book, logged_in
 from halls import Hall, clean
 
@@ -71,21 +72,24 @@ def killed_at_any_moment(folder):
                 run.kill()
             status, faults = run.wait(), run.stderr.read()
             run.stderr.close()
-        assert status in (0, -9) and faults == b"", (status, faults)
+        holds(status in (0, -9), status, faults)
+        equal(faults, b"", status)
         duration = duration or time.monotonic() - began
         with open(log) as written:
             text = written.read()
         killed += status < 0
         check_cut_log(here, text)
         found = used(text)
-        assert not set(found) & set(passed) and len(found) == len(set(found)), (found, passed)
+        holds(not set(found) & set(passed), found, passed)
+        equal(len(found), len(set(found)), found, passed)
         passed += found
-        assert here.token()["next"] > max(passed, default=-1), (here.token(), passed[-5:])
-    assert killed > RUNS // 10 and len(passed) > RUNS // 10, (len(passed), killed)
+        holds(here.token()["next"] > max(passed, default=-1), here.token(), passed[-5:])
+    holds(killed > RUNS // 10, len(passed), killed)
+    holds(len(passed) > RUNS // 10, len(passed), killed)
     run = start(here, "", subprocess.DEVNULL)
-    assert (run.wait(), run.stderr.read()) == (0, b"")
+    equal((run.wait(), run.stderr.read()), (0, b""))
     run.stderr.close()
-    assert sorted(os.listdir(folder)) == ["before", "book", "log"]
+    equal(sorted(os.listdir(folder)), ["before", "book", "log"])
 
 
 suite.run_all([killed_at_any_moment])

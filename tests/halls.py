@@ -5,6 +5,7 @@ import subprocess
 import time
 
 import suite
+from checks import equal
 from clients import opened, said
 from outside import AUDITS
 from suite import PROGRAM
@@ -30,7 +31,7 @@ class Hall(suite.BookFolder):
         """As `prints` where nothing is printed; and no file is written."""
         seen = self.seen()
         self.prints(text, status, "", fault)
-        suite.same(f"the book and its folder after {text[:200]!r}", self.seen(), seen)
+        equal(self.seen(), seen, f"the book and its folder after {text[:200]!r}")
 
     def token(self, name="user"):
         return suite.token(self.book, name)

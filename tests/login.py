@@ -14,6 +14,7 @@ import time
 import tomllib
 
 import suite
+from checks import equal, holds
 from halls import clean, handed, read
 from outside import AUDITS, decoy_salt
 from suite import NONCES, PROGRAM, hotp
@@ -42,13 +43,13 @@ class Login(suite.BookFolder):
     def prints(self, words, text, status, log, fault=""):
         """Runs a login, compares its status, log and fault, and looks that the socket's file is gone."""
         super().prints(words, text, status, log, fault)
-        assert not os.path.lexists(self.socket), words
+        holds(not os.path.lexists(self.socket), "the socket is left", words)
 
     def refuses(self, words, text, status, fault):
         """As `prints` where nothing is printed; and the book is not written."""
         seen = self.seen()
         self.prints(words, text, status, "", fault)
-        suite.same(f"the book and its folder after {words}", self.seen(), seen)
+        equal(self.seen(), seen, f"the book and its folder after {words}")
 
     def account(self):
         return suite.read(self.book)["accounts"]["user"]
@@ -63,7 +64,7 @@ def published_logins(folder):
     """RFC 5802's login and RFC 7677's, each exactly as it is recorded."""
     here = Login(folder)
     here.prints(here.words(*SHA1), "pencil", 0, ACCEPTED + GONE)
-    assert tomllib.loads(here.book.read_text()) == tomllib.loads(KEYS)
+    equal(tomllib.loads(here.book.read_text()), tomllib.loads(KEYS))
     here.prints(here.words(*SHA1), "pencil\n", 0, ACCEPTED + GONE)
     here.put((AUDITS / "sha256.toml").read_text())
     for more in [[], ["--mechanism", "SCRAM-SHA-256"]]:
@@ -75,15 +76,16 @@ def refused_logins(folder):
     here = Login(folder, with_codes())
     done = here.run(here.words(*SHA1), "pencils\n755224\n")
     log = done.stdout.decode()
-    assert (done.returncode, done.stderr) == (1, b""), done
-    assert log.endswith("\nS NO :e=invalid-proof\nE\n") and log.count("\n") == 7, log
+    equal((done.returncode, done.stderr), (1, b""), done)
+    holds(log.endswith("\nS NO :e=invalid-proof\nE\n"), log)
+    equal(log.count("\n"), 7, log)
     here.audited(log, clean(1, 0, 0))
     done = here.run(here.words(), "pencil\n755224\n")
-    assert (done.returncode, done.stderr) == (1, b""), done
-    assert done.stdout.decode().splitlines()[2].startswith("C AUTH SCRAM-SHA-256 :n,,n=user,r="), done
-    assert done.stdout.endswith(b"\nS NO :e=invalid-proof\nE\n"), done
+    equal((done.returncode, done.stderr), (1, b""), done)
+    holds(done.stdout.decode().splitlines()[2].startswith("C AUTH SCRAM-SHA-256 :n,,n=user,r="), done)
+    holds(done.stdout.endswith(b"\nS NO :e=invalid-proof\nE\n"), done)
     here.audited(done.stdout.decode(), clean(1, 0, 0))
-    assert here.account()["token"]["next"] == 0
+    equal(here.account()["token"]["next"], 0)
 
 
 def decoys(folder):
@@ -93,9 +95,9 @@ def decoys(folder):
     for password in ["pencil", "other"]:
         done = here.run(here.words("--mechanism", "SCRAM-SHA-1", name="nobody"), password)
         lines = done.stdout.decode().splitlines()
-        assert (done.returncode, done.stderr, len(lines)) == (1, b"", 7), done
-        assert lines[3].endswith(f",s={base64.b64encode(salt).decode()},i=4096"), lines
-        assert lines[5:] == ["S NO :e=invalid-proof", "E"], lines
+        equal((done.returncode, done.stderr, len(lines)), (1, b"", 7), done)
+        holds(lines[3].endswith(f",s={base64.b64encode(salt).decode()},i=4096"), lines)
+        equal(lines[5:], ["S NO :e=invalid-proof", "E"], lines)
         here.audited(done.stdout.decode(), clean(1, 0, 0))
 
 
@@ -105,20 +107,21 @@ def names_to_act_as(folder):
     words = here.words(*SHA1, "--as", "root")
     done = here.run(words, "pencil\n")
     lines = done.stdout.decode().splitlines()
-    assert (done.returncode, done.stderr) == (1, b""), done
-    assert lines[2] == "C AUTH SCRAM-SHA-1 :n,a=root,n=user,r=fyko+d2lbbFgONRv9qkxdawL", lines
-    assert lines[4].startswith("C RESP :c=bixhPXJvb3Qs,r=fyko+d2lbbFgONRv9qkxdawL3rfcNHYJY1ZVvWVs7j,p="), lines
-    assert lines[5:] == ["S NO :e=other-error", "E"], lines
+    equal((done.returncode, done.stderr), (1, b""), done)
+    equal(lines[2], "C AUTH SCRAM-SHA-1 :n,a=root,n=user,r=fyko+d2lbbFgONRv9qkxdawL", lines)
+    holds(lines[4].startswith("C RESP :c=bixhPXJvb3Qs,r=fyko+d2lbbFgONRv9qkxdawL3rfcNHYJY1ZVvWVs7j,p="), lines)
+    equal(lines[5:], ["S NO :e=other-error", "E"], lines)
     here.audited(done.stdout.decode(), clean(1, 0, 0))
     here.put(KEYS.replace("act_as = []", 'act_as = ["root"]'))
     done = here.run(words, "pencil\n")
-    assert (done.returncode, done.stderr) == (0, b""), done
-    assert done.stdout.decode().splitlines()[5].startswith("S OK :v="), done
+    equal((done.returncode, done.stderr), (0, b""), done)
+    holds(done.stdout.decode().splitlines()[5].startswith("S OK :v="), done)
     here.audited(done.stdout.decode(), clean(1, 1, 0))
     here.put(KEYS)
     here.prints(here.words(*SHA1), "pencil\n", 0, ACCEPTED + GONE)
     done = here.run(here.words(*SHA1, "--as", "user"), "pencil\n")
-    assert done.returncode == 0 and b"\nC AUTH SCRAM-SHA-1 :n,a=user,n=user,r=" in done.stdout, done
+    equal(done.returncode, 0, done)
+    holds(b"\nC AUTH SCRAM-SHA-1 :n,a=user,n=user,r=" in done.stdout, done)
 
 
 def client_faults(folder):
@@ -129,13 +132,14 @@ def client_faults(folder):
         log = "".join(ACCEPTED.splitlines(True)[:4]).replace("i=4096", f"i={count}") + GONE
         here.prints(here.words(*SHA1), "pencil\n755224\n", 1, log)
         here.audited(log, clean(1, 0, 0))
-        assert here.account()["token"]["next"] == 0
+        equal(here.account()["token"]["next"], 0)
     here.put(with_codes().replace('server = "0f', 'server = "0e'))
     done = here.run(here.words(*SHA1), "pencil\n755224\n")
     log = done.stdout.decode()
-    assert (done.returncode, done.stderr, len(log.splitlines())) == (1, b"", 8), done
-    assert log.splitlines()[5].startswith("S OK :v=") and "rmF9pqV8S7suAoZWja4dJRkFsKQ=" not in log, log
-    assert log.endswith(GONE), log
+    equal((done.returncode, done.stderr, len(log.splitlines())), (1, b"", 8), done)
+    holds(log.splitlines()[5].startswith("S OK :v="), log)
+    holds("rmF9pqV8S7suAoZWja4dJRkFsKQ=" not in log, log)
+    holds(log.endswith(GONE), log)
     here.audited(log, clean(1, 1, 0))
 
 
@@ -170,7 +174,7 @@ def lines_that_are_no_code(folder):
         log = ACCEPTED + "C BAD\nS NO :\nE\n"
         here.prints(words, f"pencil\n{line}\n755224\n", 1, log)
         here.audited(log, clean(1, 1, 0))
-        assert here.account()["token"]["next"] == 0
+        equal(here.account()["token"]["next"], 0)
     here.put(with_codes())
     here.prints(words, b"pencil\n\xff\0\n755224\n", 1, ACCEPTED + "C BAD\nS NO :\nE\n")
     for text in ["CODE 755224", "ABORT"]:
@@ -182,26 +186,26 @@ def replies_at_once(folder):
     """Each line stands in the log while the input is still open, and the socket's file is there until it ends."""
     here = Login(folder, with_codes())
     running = start(here, here.words(*SHA1, "--moment", "5"), "pencil\n")
-    assert read(running, 6) == ACCEPTED
-    assert here.socket.is_socket()
+    equal(read(running, 6), ACCEPTED)
+    holds(here.socket.is_socket(), "there is no socket while the login goes on")
     for code, lines in [("755224", "C CODE 755224\nS PASS 5 0\n"), ("000000", "C CODE 000000\nS FAIL 5\n")]:
-        assert handed(running, code + "\n", 2) == lines
-    assert (here.account()["token"]["next"], here.account()["token"]["failures"]) == (1, 1)
+        equal(handed(running, code + "\n", 2), lines)
+    equal((here.account()["token"]["next"], here.account()["token"]["failures"]), (1, 1))
     output, faults = running.communicate()
-    assert (running.returncode, output, faults) == (1, GONE, ""), (running.returncode, output, faults)
-    assert not os.path.lexists(here.socket)
+    equal((running.returncode, output, faults), (1, GONE, ""))
+    holds(not os.path.lexists(here.socket), "the socket is left")
 
 
 def another_at_the_path(folder):
     """A file that takes the socket's name while the login runs stays there."""
     here = Login(folder, with_codes())
     running = start(here, here.words(*SHA1), "pencil\n")
-    assert read(running, 6) == ACCEPTED
+    equal(read(running, 6), ACCEPTED)
     here.socket.unlink()
     here.socket.write_text("another")
     output, faults = running.communicate()
-    assert (running.returncode, output, faults) == (0, GONE, ""), (running.returncode, output, faults)
-    assert here.socket.read_text() == "another"
+    equal((running.returncode, output, faults), (0, GONE, ""))
+    equal(here.socket.read_text(), "another")
 
 
 def start(here, words, text):
@@ -218,13 +222,14 @@ def failed_saves(folder):
     for line, sent in [("755224", "C CODE 755224\n"), ("000000", "C CODE 000000\n"), ("SYNC 755224 287082", "C SYNC 755224 287082\n")]:
         here.put(with_codes(sync_ahead=8))
         running = start(here, here.words(*SHA1, "--moment", "5"), "pencil\n")
-        assert read(running, 6) == ACCEPTED
+        equal(read(running, 6), ACCEPTED)
         book = here.book.read_bytes()
         os.mkdir(f"{here.book}.new")
         output, faults = running.communicate(line + "\n755224\n")
-        assert (running.returncode, output) == (3, sent + "S HALT\n"), (running.returncode, output)
-        assert faults == f"scramotp: cannot write {here.book}\n", faults
-        assert here.book.read_bytes() == book and not os.path.lexists(here.socket)
+        equal((running.returncode, output), (3, sent + "S HALT\n"))
+        equal(faults, f"scramotp: cannot write {here.book}\n")
+        equal(here.book.read_bytes(), book)
+        holds(not os.path.lexists(here.socket), "the socket is left")
         os.rmdir(f"{here.book}.new")
         here.audited(ACCEPTED + output, clean(1, 1, 0))
     here.put(with_codes())
@@ -243,19 +248,21 @@ def random_nonces(folder):
         data = os.urandom(36)
         file.write_bytes(data)
         done = here.run(here.words("--random", file, name=name), password)
-        assert (done.returncode, done.stderr) == (0, b""), done
+        equal((done.returncode, done.stderr), (0, b""), done)
         client, service = (base64.b64encode(part).decode() for part in [data[:18], data[18:]])
         lines = done.stdout.decode().splitlines()
-        assert lines[2].endswith(f",r={client}") and f":r={client}{service},s=" in lines[3], lines
+        holds(lines[2].endswith(f",r={client}"), lines)
+        holds(f":r={client}{service},s=" in lines[3], lines)
         here.audited(done.stdout.decode(), clean(1, 1, 0))
     here.put(KEYS)
     file.write_bytes(data[:18])
     given = ["--mechanism", "SCRAM-SHA-1", "--random", file]
     for more, nonce in [(["--client-nonce", "me"], f"me{client}"), (["--server-nonce", "you"], f"{client}you")]:
         done = here.run(here.words(*given, *more), "pencil")
-        assert done.returncode == 0 and f"S CONT :r={nonce},s=".encode() in done.stdout, done
+        equal(done.returncode, 0, done)
+        holds(f"S CONT :r={nonce},s=".encode() in done.stdout, done)
     fresh = {here.run(here.words("--mechanism", "SCRAM-SHA-1"), "pencil").stdout for _ in range(3)}
-    assert len(fresh) == 3, fresh
+    equal(len(fresh), 3, fresh)
 
 
 def moments(folder):
@@ -264,11 +271,11 @@ def moments(folder):
     began = int(time.time())
     done = here.run(here.words(*SHA1), "pencil\n755224\n")
     [moment] = re.findall(rb"\nS PASS (\d+) 0\n", done.stdout)
-    assert began <= int(moment) <= time.time(), (began, moment)
+    holds(began <= int(moment) <= time.time(), began, moment)
     for moment in ["0", "253402300799"]:
         here.put(with_codes())
         done = here.run(here.words(*SHA1, "--moment", moment), "pencil\n755224\n")
-        assert f"\nS PASS {moment} 0\n".encode() in done.stdout, done
+        holds(f"\nS PASS {moment} 0\n".encode() in done.stdout, done)
 
 
 def order_of_faults(folder):
@@ -302,7 +309,7 @@ def order_of_faults(folder):
     here.put(KEYS)
     here.refuses(here.words(*more, path=taken), "pencil", 3, f"cannot read {missing}")
     here.refuses(here.words(path=taken), "pencil", 3, "socket fault")
-    assert taken.read_text() == ""
+    equal(taken.read_text(), "")
     here.prints(here.words(*SHA1, *more), "pencil", 0, ACCEPTED + GONE)
 
 
@@ -325,18 +332,18 @@ def sockets_in_the_way(folder):
         with socket.socket(socket.AF_UNIX) as client:
             client.connect(str(here.folder / "used"))
     here.refuses(here.words(path=here.folder / "used"), "pencil\n", 3, "socket fault")
-    assert (here.folder / "used").is_socket()
+    holds((here.folder / "used").is_socket(), "the other run's socket is gone")
     for path in [here.folder, here.book, here.folder / "nothing" / "socket", here.book / "socket"]:
         here.refuses(here.words(path=path), "pencil\n", 3, "socket fault")
     here.refuses([*here.words()[:-1], ""], "pencil\n", 3, "socket fault")
     for size, is_short in [(107, True), (108, False), (4000, False)]:
         path = os.path.join(folder, "x" * (size - len(folder) - 1))
-        assert len(path) == size
+        equal(len(path), size)
         if is_short:
             here.prints(here.words(*SHA1, path=path), "pencil\n", 0, ACCEPTED + GONE)
         else:
             here.refuses(here.words(*SHA1, path=path), "pencil\n", 3, "socket fault")
-        assert not os.path.lexists(path)
+        holds(not os.path.lexists(path), "the socket is left", path)
 
 
 def long_inputs(folder):
@@ -358,8 +365,9 @@ def full_devices(folder):
     here = Login(folder, with_codes())
     with open("/dev/full", "wb") as full:
         done = subprocess.run(here.words(*SHA1), input=b"pencil\n755224\n", stdout=full, stderr=subprocess.PIPE)
-    assert (done.returncode, done.stderr) == (3, b"scramotp: cannot write output\n"), done
-    assert here.account()["token"]["next"] == 0 and not os.path.lexists(here.socket)
+    equal((done.returncode, done.stderr), (3, b"scramotp: cannot write output\n"), done)
+    equal(here.account()["token"]["next"], 0)
+    holds(not os.path.lexists(here.socket), "the socket is left")
 
 
 def faulty_inputs(folder):
@@ -368,7 +376,7 @@ def faulty_inputs(folder):
     at = os.open(folder, os.O_RDONLY)
     done = subprocess.run(here.words(*SHA1), stdin=at, capture_output=True)
     os.close(at)
-    assert (done.returncode, done.stdout, done.stderr) == (3, b"", b"scramotp: cannot read input\n"), done
+    equal((done.returncode, done.stdout, done.stderr), (3, b"", b"scramotp: cannot read input\n"), done)
 
 
 TESTS = [

@@ -12,6 +12,7 @@ import subprocess
 import time
 
 import suite
+from checks import equal, holds
 from outside import AUDITS
 from suite import PROGRAM, begins_clean, code, hotp, token
 
@@ -71,16 +72,20 @@ def killed_at_any_moment(folder):
         duration = duration or time.monotonic() - began
         text = log.read_text()
         killed += status < 0
-        assert begins_clean(before, text), text
+        holds(begins_clean(before, text), text)
         found = used(text)
-        assert not set(found) & set(passed) and len(found) == len(set(found)), (found, passed)
+        holds(not set(found) & set(passed), found, passed)
+        equal(len(found), len(set(found)), found, passed)
         passed += found
-        assert token(book)["next"] > max(passed, default=-1), (token(book), passed[-5:])
-    assert passed and killed > RUNS // 10, (len(passed), killed)
+        holds(token(book)["next"] > max(passed, default=-1), token(book), passed[-5:])
+    holds(passed, "no code passed", killed)
+    holds(killed > RUNS // 10, len(passed), killed)
     run = start(book, f"{folder}/last", [code(token(book)["next"])], subprocess.PIPE)
     output, faults = run.communicate()
-    assert (run.returncode, faults) == (0, "") and "\nS PASS " in output, (output, faults)
-    assert not os.path.lexists(f"{folder}/last") and not os.path.lexists(f"{book}.new")
+    equal((run.returncode, faults), (0, ""), output)
+    holds("\nS PASS " in output, output, faults)
+    holds(not os.path.lexists(f"{folder}/last"), "the socket is left")
+    holds(not os.path.lexists(f"{book}.new"), "the next text is left")
 
 
 def left_sockets(folder):
@@ -91,7 +96,7 @@ def left_sockets(folder):
     run = subprocess.Popen(words, stdin=subprocess.PIPE, stdout=subprocess.PIPE, stderr=subprocess.PIPE, text=True)
     run.stdin.write("pencil\n")
     run.stdin.flush()
-    assert run.stdout.readline() == "SCRAMLOG 1\n"
+    equal(run.stdout.readline(), "SCRAMLOG 1\n")
     run.kill()
     run.communicate()
     for removed, want in [(False, (3, "scramotp: socket fault\n")), (True, (0, ""))]:
@@ -99,8 +104,8 @@ def left_sockets(folder):
             os.remove(path)
         run = start(book, path, [], subprocess.PIPE)
         _, faults = run.communicate()
-        assert (run.returncode, faults) == want, (run.returncode, faults)
-        assert os.path.lexists(path) != removed
+        equal((run.returncode, faults), want)
+        equal(not os.path.lexists(path), bool(removed), path)
 
 
 def twenty_at_once(folder):
@@ -110,13 +115,13 @@ def twenty_at_once(folder):
         book.write_text(BOOK)
         runs = [start(book, f"{folder}/socket{number}", [code(0)], subprocess.PIPE) for number in range(20)]
         logs = [run.communicate() for run in runs]
-        assert all(faults == "" for _, faults in logs), logs
+        holds(all(faults == "" for _, faults in logs), logs)
         replies = sorted(re.findall(r"^S (PASS|FAIL) ", log, re.M) for log, _ in logs)
-        assert replies == [["FAIL"]] * 19 + [["PASS"]], replies
-        assert sorted(run.returncode for run in runs) == [0] + [1] * 19
-        assert all(re.search(r"^S OK :v=", log, re.M) and log.endswith("\nC GONE\nE\n") for log, _ in logs), logs
-        assert (token(book)["next"], token(book)["failures"]) == (1, 19), token(book)
-        assert os.listdir(folder) == ["book"]
+        equal(replies, [["FAIL"]] * 19 + [["PASS"]])
+        equal(sorted(run.returncode for run in runs), [0] + [1] * 19)
+        holds(all(re.search(r"^S OK :v=", log, re.M) and log.endswith("\nC GONE\nE\n") for log, _ in logs), logs)
+        equal((token(book)["next"], token(book)["failures"]), (1, 19), token(book))
+        equal(os.listdir(folder), ["book"])
 
 
 suite.run_all([killed_at_any_moment, left_sockets, twenty_at_once])

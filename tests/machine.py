@@ -26,8 +26,9 @@ import suite
 from all_commands import (
     BOOK, audited, book_of, command_of, commands, is_front, is_kept, left, login_log, new_book, prepare, printed_begins_clean, run,
 )
+from checks import equal, holds
 from outside import numbered
-from suite import AS_NOBODY, NOBODY, NONCES, PROGRAM, ROOT, same, totp
+from suite import AS_NOBODY, NOBODY, NONCES, PROGRAM, ROOT, totp
 
 
 class Due(NamedTuple):
@@ -174,9 +175,9 @@ def table(folder):
             cell = (what, name)
             printed = command.printed if due.printed is None else due.printed
             fault = f"scramotp: {due.fault.format(folder=here.folder)}\n" if due.fault and "2" not in what else ""
-            same(cell, answer, (due.status, printed if is_seen(what) else "", fault))
-            same((*cell, "the book, and what else is left"), (book_of(here.folder), left(here.folder)), (command.books[due.saves], set()))
-            assert due.saves != 0 or is_kept(here.folder, command, ""), cell
+            equal(answer, (due.status, printed if is_seen(what) else "", fault), cell)
+            equal((book_of(here.folder), left(here.folder)), (command.books[due.saves], set()), (*cell, "the book, and what else is left"))
+            holds(due.saves != 0 or is_kept(here.folder, command, ""), cell)
             cells += 1
     print(f"machine.py: {cells} cells of {len(TABLE)} disturbances of {len(named())} commands")
 
@@ -195,8 +196,9 @@ def socket_elsewhere(folder):
     words = [word.replace("{socket}", os.path.join(open_folder, "socket")) for word in login.words]
     prepare(here.folder, login)
     answer = here.sealed(login._replace(words=words))
-    assert answer == (3, "", f"scramotp: {UNSAVED.format(folder=here.folder)}\n"), answer
-    assert is_kept(here.folder, login, "") and os.listdir(open_folder) == []
+    equal(answer, (3, "", f"scramotp: {UNSAVED.format(folder=here.folder)}\n"))
+    holds(is_kept(here.folder, login, ""), "the book is not kept", book_of(here.folder))
+    equal(os.listdir(open_folder), [])
 
 
 def few_descriptors(folder):
@@ -207,13 +209,15 @@ def few_descriptors(folder):
             prepare(here.folder, command)
             limit = lambda: resource.setrlimit(resource.RLIMIT_NOFILE, (most, most))
             status, printed, fault = answer = run(command, here.folder, preexec_fn=limit)
-            assert is_kept(here.folder, command, printed) and left(here.folder) == set(), (name, most, answer)
+            holds(is_kept(here.folder, command, printed), name, most, answer)
+            equal(left(here.folder), set(), name, most, answer)
             if answer != (0, command.printed, ""):
-                assert status == 3 and is_front(command, printed), (name, most, answer)
-                assert re.fullmatch(r"scramotp: (cannot (read|write) .+|socket fault)\n", fault), (name, most, answer)
+                equal(status, 3, name, most, answer)
+                holds(is_front(command, printed), name, most, answer)
+                holds(re.fullmatch(r"scramotp: (cannot (read|write) .+|socket fault)\n", fault), name, most, answer)
                 refused += 1
-        assert answer == (0, command.printed, ""), (name, answer)
-    assert refused > 0
+        equal(answer, (0, command.printed, ""), name)
+    holds(refused > 0, "no run had too few descriptors")
     print(f"machine.py: {refused} runs with too few descriptors")
 
 
@@ -244,23 +248,25 @@ def signals(folder):
     for name, command in named().items():
         prepare(here.folder, command)
         began = time.monotonic()
-        assert run(command, here.folder) == (0, command.printed, ""), name
+        equal(run(command, here.folder), (0, command.printed, ""), name)
         duration = time.monotonic() - began
         for number in SIGNALS * TIMES:
             prepare(here.folder, command)
             status, printed, fault = answer = interrupted(here, command, number, random.uniform(0, duration))
             what = (name, number, answer)
-            assert (status, fault) in [(0, ""), (-number, "")] and is_front(command, printed), what
-            assert status or printed == command.printed, what
-            assert is_kept(here.folder, command, printed), (what, book_of(here.folder))
-            assert left(here.folder) <= ({"book.new", "socket"} if status else set()), (what, left(here.folder))
-            assert name not in ("login", "hall") or printed_begins_clean(here.folder, printed), what
+            holds((status, fault) in [(0, ""), (-number, "")], what)
+            holds(is_front(command, printed), what)
+            holds(status or printed == command.printed, what)
+            holds(is_kept(here.folder, command, printed), what, book_of(here.folder))
+            holds(left(here.folder) <= ({"book.new", "socket"} if status else set()), what, left(here.folder))
+            holds(name not in ("login", "hall") or printed_begins_clean(here.folder, printed), what)
             ended[status] += 1
             other = enrol._replace(words=[word.replace("new", "other") for word in enrol.words])
             pathlib.Path(here.folder, "random").write_bytes(bytes(64))
-            assert run(other, here.folder) == (0, "enrolled other\n", "") and left(here.folder) <= {"socket"}, what
+            equal(run(other, here.folder), (0, "enrolled other\n", ""), what)
+            holds(left(here.folder) <= {"socket"}, what)
     killed = sum(ended[-number] for number in SIGNALS)
-    assert all(ended[-number] > TIMES for number in SIGNALS), ended
+    holds(all(ended[-number] > TIMES for number in SIGNALS), ended)
     print(f"machine.py: {killed} runs ended by a signal, of {ended.total()}")
 
 
@@ -288,12 +294,12 @@ def twenty_at_once(folder):
             pathlib.Path(here.folder, "book").write_text(UNLIMITED)
         first = (0, command.printed, "")
         answers = collections.Counter(together(here, [command] * 20))
-        assert answers == collections.Counter([first] + [late.get(name, first)] * 19), (name, answers)
-        assert left(here.folder) == set(), (name, left(here.folder))
+        equal(answers, collections.Counter([first] + [late.get(name, first)] * 19), name)
+        equal(left(here.folder), set(), name)
         token = (book_of(here.folder)["accounts"].get("user") or {}).get("token", {})
         codes = name in ("verify", "login", "hall")
         want = (1, 19) if codes else (0, 0 if name == "unlock" else 2)
-        assert name == "new" or (token["next"], token["failures"]) == want, (name, token)
+        holds(name == "new" or (token["next"], token["failures"]) == want, name, token)
     print(f"machine.py: 20 runs at once of each of {len(one_code)} commands")
 
 
@@ -311,14 +317,16 @@ def all_at_once(folder):
         for command, (status, printed, fault) in zip(started, answers):
             what = (command.name, status, printed, fault)
             if command.name == "enrol":
-                assert what[1:] in [(0, command.printed, ""), (1, "", "scramotp: name is taken\n")], what
+                holds(what[1:] in [(0, command.printed, ""), (1, "", "scramotp: name is taken\n")], what)
             elif command.name in ("verify", "login", "hall"):
                 passed += re.findall(r"PASS 5 (\d+)", printed)
-                assert re.sub(r"PASS 5 \d+", "FAIL 5", command.printed) == re.sub(r"PASS 5 \d+", "FAIL 5", printed) and fault == "", what
+                equal(re.sub(r"PASS 5 \d+", "FAIL 5", command.printed), re.sub(r"PASS 5 \d+", "FAIL 5", printed), what)
+                equal(fault, "", what)
             else:
-                assert what[1:] == (0, command.printed, ""), what
-        assert sorted(passed) == ["0", "1"] and left(here.folder) == set(), (passed, left(here.folder))
-        assert sorted(book_of(here.folder)["accounts"]) == ["new", "user"]
+                equal(what[1:], (0, command.printed, ""), what)
+        equal(sorted(passed), ["0", "1"])
+        equal(left(here.folder), set(), passed)
+        equal(sorted(book_of(here.folder)["accounts"]), ["new", "user"])
     print("machine.py: 10 times 20 runs at once of all commands")
 
 
@@ -363,16 +371,16 @@ def clocks_that_go_back(folder):
     clock can't say a moment, it is 0."""
     here = Clocks(folder)
     (then, first, code), (now, second, next_code), (_, _, old_code) = BEFORE, AFTER, EARLY
-    assert here.login((now, next_code), (then, code), (then, next_code)) == [f"PASS {now} {second}", f"FAIL {then}", f"FAIL {then}"]
-    assert here.login((59, old_code), (59, next_code)) == ["FAIL 59", "FAIL 59"]
-    assert here.login((then, code)) == [f"FAIL {then}"]
+    equal(here.login((now, next_code), (then, code), (then, next_code)), [f"PASS {now} {second}", f"FAIL {then}", f"FAIL {then}"])
+    equal(here.login((59, old_code), (59, next_code)), ["FAIL 59", "FAIL 59"])
+    equal(here.login((then, code)), [f"FAIL {then}"])
     for clock in [-1, -10 ** 12, 253402300800, 10 ** 12]:
-        assert here.login((clock, next_code)) == ["FAIL 0"], clock
+        equal(here.login((clock, next_code)), ["FAIL 0"], clock)
     here.fresh()
     told = here.login((then, code), (59, old_code), (now, next_code))
-    assert told == [f"PASS {then} {first}", "FAIL 59", f"PASS {now} {second}"]
+    equal(told, [f"PASS {then} {first}", "FAIL 59", f"PASS {now} {second}"])
     here.fresh()
-    assert here.login((59, old_code)) == ["PASS 59 1"]
+    equal(here.login((59, old_code)), ["PASS 59 1"])
 
 
 def moments_that_fall(folder):
@@ -383,7 +391,7 @@ def moments_that_fall(folder):
     for moment, sent, reply in [(now, next_code, f"PASS {now} {second}"), (then, code, f"FAIL {then}"), (59, old_code, "FAIL 59"),
                                 (0, next_code, "FAIL 0"), (now, next_code, f"FAIL {now}")]:
         command = verify._replace(words=[*verify.words[:-1], str(moment)], text=f"{sent}\n")
-        assert run(command, here.folder)[1] == f"{reply}\n", (moment, sent)
+        equal(run(command, here.folder)[1], f"{reply}\n", moment, sent)
     here.fresh()
     before = here.book.read_text()
     hall = command_of("hall", 0)
@@ -391,7 +399,7 @@ def moments_that_fall(folder):
     events = "".join(f"line 1 {moment} CODE {sent}\n" for moment, sent, _ in turns)
     lines = "".join(f"1 C CODE {sent}\n1 S {reply}\n" for _, sent, reply in turns)
     log = hall.printed.replace("1 C GONE\n", f"{lines}1 C GONE\n")
-    assert run(hall._replace(text=hall.text.replace("gone", f"{events}gone")), here.folder) == (0, log, "")
+    equal(run(hall._replace(text=hall.text.replace("gone", f"{events}gone")), here.folder), (0, log, ""))
     audited(here.folder, before, log)
 
 

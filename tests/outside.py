@@ -1,17 +1,19 @@
 """What several scripts compare with or begin from, worked out by Python and not by the program: codes, keys, salts of decoys, the texts
-of the tables' rows, logs with numbers, and orders of turns; and where the recorded logs and their books are."""
+of the tables' rows, logs with numbers, and orders of turns; and where the recorded logs, books and vectors are."""
 import hashlib
 import hmac
 import itertools
 import pathlib
-import sys
 
-if not __debug__:
-    sys.exit("outside.py: the tests rest on assertions, which python3 -O and PYTHONOPTIMIZE leave out")
+from checks import equal
 
-
+DATA = pathlib.Path(__file__).resolve().parent / "data"
 # Recorded logs, the books that they are judged by, and the table cases.csv.
-AUDITS = pathlib.Path(__file__).resolve().parent / "data" / "audits"
+AUDITS = DATA / "audits"
+# Books, and the table cases.csv of their faults.
+BOOK_FAULTS = DATA / "book_faults"
+# keys.csv and codes.csv: keys and codes that other software made.
+VECTORS = DATA / "vectors"
 
 
 def code(secret, counter, digits=6, function="sha1"):
@@ -40,7 +42,7 @@ def decoy_salt(name):
 def orders_of_turns():
     """All orders of three turns of each of three sessions."""
     orders = sorted(set(itertools.permutations([0, 0, 0, 1, 1, 1, 2, 2, 2])))
-    assert len(orders) == 1680
+    equal(len(orders), 1680)
     return orders
 
 
@@ -53,7 +55,7 @@ def edited(text, row):
     """A text in which `old` of a table's row, which is there once, is replaced by `new`, and then `old2` by `new2`."""
     for old, new in [(row["old"], row["new"]), (row["old2"], row["new2"])]:
         if old:
-            assert text.count(spelled(old)) == 1, f"{row}: what is replaced does not stand there once"
+            equal(text.count(spelled(old)), 1, f"{row}: what is replaced does not stand there once")
             text = text.replace(spelled(old), spelled(new))
     return text
 
@@ -61,7 +63,7 @@ def edited(text, row):
 def numbered(log):
     """A log of version 1 as one of version 2."""
     first, *lines = log.splitlines(keepends=True)
-    assert first == "SCRAMLOG 1\n", log
+    equal(first, "SCRAMLOG 1\n", log)
     session, upgraded = 1, ["SCRAMLOG 2\n"]
     for line in lines:
         upgraded.append(f"{session} {line}")

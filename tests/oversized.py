@@ -21,6 +21,7 @@ import clients
 import outside
 import suite
 from all_commands import BOOK, command_of, commands, login_log, prepare
+from checks import equal, holds
 from clients import Account, Exchange, base, dealt, escaped, gone, logged_in, opened, said
 from halls import Hall, clean
 from outside import AUDITS
@@ -131,7 +132,7 @@ def lengths_of_last_messages(folder):
         events, log = dealt([0] * len(visit), [visit])
         here.prints(events, 0, log)
         here.audited(log, clean(1, log.count(" S OK :")))
-    assert len(final_message(account, rows[0][0]).final) == 2048
+    equal(len(final_message(account, rows[0][0]).final), 2048)
     told("client-final messages", len(rows))
 
 
@@ -147,11 +148,11 @@ def lengths_of_words(folder):
         option = "client" if own > 256 else "server"
         want = (0, log, "") if own == others else (2, "", f"scramotp: bad value for --{option}-nonce\n")
         done = ended([*words, "--client-nonce", "n" * own, "--server-nonce", "s" * others], b"password of user")
-        assert done == want, (own, others, done)
+        equal(done, want, own, others)
         tried += 1
     for size in [9, 10, 64, 65]:
         want = (0, f"{outside.code(bytes(size), 7)}\n", "") if 10 <= size <= 64 else (2, "", "scramotp: bad value for --secret\n")
-        assert ended([PROGRAM, "code", "--secret", "00" * size, "--counter", "7"], b"") == want, size
+        equal(ended([PROGRAM, "code", "--secret", "00" * size, "--counter", "7"], b""), want, size)
         tried += 1
     told("nonces and secrets", tried)
 
@@ -164,13 +165,13 @@ def lengths_of_files(folder):
             for size, want in [(MOST, (0, command.printed, "")), (MOST + 1, (3, "", f"scramotp: cannot read {folder}/book\n"))]:
                 prepare(folder, command)
                 pathlib.Path(folder, "book").write_text(BOOK + "#" * (size - len(BOOK)))
-                assert ended(command.in_folder(folder), command.text.encode()) == want, (command.name, size)
+                equal(ended(command.in_folder(folder), command.text.encode()), want, command.name, size)
                 tried += 1
         if command.name == "enrol":
             for size, want in [(MOST, (2, "", "scramotp: bad password\n")), (MOST + 1, (3, "", "scramotp: cannot read input\n"))]:
                 prepare(folder, command)
-                assert ended(command.in_folder(folder), b"a" * size) == want, size
-                assert pathlib.Path(folder, "book").read_text() == BOOK
+                equal(ended(command.in_folder(folder), b"a" * size), want, size)
+                equal(pathlib.Path(folder, "book").read_text(), BOOK)
                 tried += 1
     told("books and passwords", tried)
 
@@ -203,7 +204,7 @@ class Fed:
         left = array.array("i", [1])
         until = time.monotonic() + 60
         while left[0] > 0 or not self.waits():
-            assert time.monotonic() < until, "what was fed is not read"
+            holds(time.monotonic() < until, "what was fed is not read")
             time.sleep(0.005)
             fcntl.ioctl(self.run.stdin.fileno(), termios.FIONREAD, left)
         status = pathlib.Path(f"/proc/{self.run.pid}/status").read_text()
@@ -244,13 +245,13 @@ def long_logs(folder):
     for version in [1, 2]:
         for more, answer in [(b"", (0, f"clean sessions={SESSIONS} accepted=0 codes=0\n", "")), (b"S", (1, "too many lines\n", ""))]:
             run, parts = Fed(words), sessions(version)
-            assert run.feed([f"SCRAMLOG {version}\n".encode(), *itertools.islice(parts, 3)])
+            holds(run.feed([f"SCRAMLOG {version}\n".encode(), *itertools.islice(parts, 3)]), "the run has ended early", version)
             early = run.most_memory()
-            assert run.feed(parts)
+            holds(run.feed(parts), "the run has ended early", version)
             late = run.most_memory()
             run.feed([more])
-            assert run.end() == answer, (version, more)
-            assert late - early <= MORE, (version, early, late)
+            equal(run.end(), answer, version, more)
+            holds(late - early <= MORE, version, early, late)
     print(f"oversized.py: 4 logs of a million lines, and a byte; the last took {late - early} KiB more than its first ten lines")
 
 
@@ -271,10 +272,10 @@ def endless_logs(folder):
     for begin, parts, of_audit, of_upgrade in rows:
         for words, want in [(audit, (1, f"{of_audit}\n", "")), (upgrade, (1, "", f"{of_upgrade}\n"))]:
             run = Fed(words)
-            assert not run.feed(itertools.chain([begin], parts)), (words, begin)
-            assert run.end() == want, (words, begin)
+            holds(not run.feed(itertools.chain([begin], parts)), words, begin)
+            equal(run.end(), want, words, begin)
     words = [PROGRAM, "audit", "--book", "/dev/zero", "--log", AUDITS / "sha1.log"]
-    assert ended(words, b"") == (3, "", "scramotp: cannot read /dev/zero\n")
+    equal(ended(words, b""), (3, "", "scramotp: cannot read /dev/zero\n"))
     print(f"oversized.py: {2 * len(rows)} logs and a book that never end")
 
 
@@ -285,11 +286,12 @@ def endless_passwords(folder):
         if command.text.startswith("pencil"):
             prepare(folder, command)
             run = Fed(command.in_folder(folder))
-            assert not run.feed(itertools.repeat(b"a" * 4096)), command.name
-            assert run.end() == (3, "", "scramotp: cannot read input\n"), command.name
-            assert pathlib.Path(folder, "book").read_text() == BOOK and sorted(os.listdir(folder)) == ["book", "log", "random"]
+            holds(not run.feed(itertools.repeat(b"a" * 4096)), command.name)
+            equal(run.end(), (3, "", "scramotp: cannot read input\n"), command.name)
+            equal(pathlib.Path(folder, "book").read_text(), BOOK)
+            equal(sorted(os.listdir(folder)), ["book", "log", "random"])
             count += 1
-    assert count == 3
+    equal(count, 3)
     print(f"oversized.py: {count} passwords that never end")
 
 
@@ -309,15 +311,15 @@ def endless_codes(folder):
             pathlib.Path(folder, "book").write_text(BOOK.replace("failures = 2", "failures = 0"))
             data, whole = line.encode(), (MOST - len(begin)) // len(line)
             run = Fed(command.in_folder(folder))
-            assert run.feed([begin, *[data] * 1000])
+            holds(run.feed([begin, *[data] * 1000]), "the run has ended early", command.name)
             early = run.most_memory()
-            assert run.feed(itertools.repeat(data, whole - 1000))
+            holds(run.feed(itertools.repeat(data, whole - 1000)), "the run has ended early", command.name)
             late = run.most_memory()
-            assert not run.feed(itertools.repeat(data)), command.name
+            holds(not run.feed(itertools.repeat(data)), command.name)
             status, output, faults = run.end()
-            assert (status, faults) == (3, "scramotp: cannot read input\n"), (command.name, status, faults)
-            assert output == printed + failed * 3 + locked * (whole - 3), (command.name, len(output))
-            assert late - early <= MORE, (command.name, early, late)
+            equal((status, faults), (3, "scramotp: cannot read input\n"), command.name)
+            equal(output, printed + failed * 3 + locked * (whole - 3), command.name)
+            holds(late - early <= MORE, command.name, early, late)
             print(f"oversized.py: {whole} codes by {command.name}, which took {late - early} KiB more than the first 1000")
 
 

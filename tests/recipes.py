@@ -26,11 +26,11 @@ from pathlib import Path
 import clients
 import outside
 import suite
-from outside import AUDITS, keys_of
-from suite import CODES, NOBODY, PROGRAM, ROOT, USER, code, hotp, is_locked, read, same, seen
+from checks import equal, holds
+from outside import AUDITS, BOOK_FAULTS, VECTORS, keys_of
+from suite import CODES, NOBODY, PROGRAM, ROOT, USER, code, hotp, is_locked, read, seen
 
-HERE = Path(__file__).resolve().parent
-DOCUMENT = Path(sys.argv[2]) if len(sys.argv) > 2 else HERE.parent / "docs" / "OPERATING.md"
+DOCUMENT = Path(sys.argv[2]) if len(sys.argv) > 2 else Path(__file__).resolve().parent.parent / "docs" / "OPERATING.md"
 NAME = "user@example.org"
 FOB = "fob@example.org"
 
@@ -86,7 +86,7 @@ def ran(folder, block, text="", **more):
 
 def does(folder, block, text="", printed="", **more):
     """Runs a block that is to succeed and to print this."""
-    same(block, ran(folder, block, text, **more), (0, printed, ""))
+    equal(ran(folder, block, text, **more), (0, printed, ""), block)
 
 
 def book_of(folder):
@@ -114,7 +114,7 @@ def enrolled(folder):
 
 def with_fob(folder):
     """Gives the account NAME the token of the fob that the document adds."""
-    does(folder, blocks("Set a token")[-1].replace(FOB, NAME).replace("no such account", "no token"))
+    does(folder, blocks("Give a user one-time codes")[-1].replace(FOB, NAME).replace("no such account", "no token"))
 
 
 def totp(secret, moment):
@@ -144,11 +144,11 @@ def an_editor_and_a_command(folder):
     editor.chmod(0o755)
     does(folder, "tools/edit-book book.toml", EDITOR=f"{shlex.quote(str(editor))} 'a b@c'")
     does(folder, "tools/edit-book book.toml sed s/4096/4097/")
-    assert book_of(folder)["decoy_count"] == 4097
-    assert set(book_of(folder)["accounts"]) == {"user", "a b@c"}
+    equal(book_of(folder)["decoy_count"], 4097)
+    equal(set(book_of(folder)["accounts"]), {"user", "a b@c"})
     after = book.stat()
-    assert (after.st_uid, after.st_gid, after.st_mode) == (before.st_uid, before.st_gid, before.st_mode)
-    assert {path.name for path in Path(folder).iterdir()} == {"bin", "book.toml", "editor", "tools"}
+    equal((after.st_uid, after.st_gid, after.st_mode), (before.st_uid, before.st_gid, before.st_mode))
+    equal({path.name for path in Path(folder).iterdir()}, {"bin", "book.toml", "editor", "tools"})
 
 
 def an_edit_that_fails(folder):
@@ -157,15 +157,16 @@ def an_edit_that_fails(folder):
     real = os.path.realpath(book)
     status, output, faults = ran(folder, "tools/edit-book book.toml sed s/format/former/")
     found = re.fullmatch(rf"scramotp: bad book: 61\nedit-book: {real} is as it was; look into (.*)\n", faults)
-    assert (status, output) == (1, "") and found, faults
-    assert Path(found[1]).read_text() == USER.replace("format", "former")
+    equal((status, output), (1, ""), faults)
+    holds(found, faults)
+    equal(Path(found[1]).read_text(), USER.replace("format", "former"))
     os.remove(found[1])
     found = ran(folder, "tools/edit-book book.toml false")
-    assert found == (1, "", f"edit-book: {real} is as it was, since false failed\n"), found
+    equal(found, (1, "", f"edit-book: {real} is as it was, since false failed\n"))
     found = ran(folder, "tools/edit-book book.toml", EDITOR="false")
-    assert found == (1, "", f"edit-book: {real} is as it was, since the editor failed\n"), found
-    assert book.read_text() == USER
-    assert set(os.listdir(folder)) == {"bin", "book.toml", "tools"}
+    equal(found, (1, "", f"edit-book: {real} is as it was, since the editor failed\n"))
+    equal(book.read_text(), USER)
+    equal(set(os.listdir(folder)), {"bin", "book.toml", "tools"})
 
 
 def an_edit_of_anothers_book(folder):
@@ -181,16 +182,16 @@ def an_edit_of_anothers_book(folder):
     belongs = f"edit-book: {os.path.realpath(book)} belongs to another user: run edit-book as the book's owner\n"
     for edit in ["tools/edit-book book.toml sed s/4096/4097/", "EDITOR=false tools/edit-book book.toml"]:
         found = ran(folder, edit)
-        assert found == (1, "", belongs), found
-        assert seen(book) == before, edit
+        equal(found, (1, "", belongs))
+        equal(seen(book), before, edit)
     if ROOT:
         os.chown(book, 0, 0)
         os.chown(folder, 65534, 65534)
         before = seen(book)
         found = ran(folder, "tools/edit-book book.toml sed s/4096/4097/")
-        assert found == (1, "", f"edit-book: {os.path.realpath(book)} is in a folder of another user\n"), found
-        assert seen(book) == before
-    assert set(os.listdir(folder)) == {"bin", "book.toml", "tools"}
+        equal(found, (1, "", f"edit-book: {os.path.realpath(book)} is in a folder of another user\n"))
+        equal(seen(book), before)
+    equal(set(os.listdir(folder)), {"bin", "book.toml", "tools"})
 
 
 def an_edit_that_is_stopped(folder):
@@ -200,9 +201,9 @@ def an_edit_that_is_stopped(folder):
     until(lambda: any(path.read_text() for path in Path(folder).glob("book.toml.*")))
     os.killpg(edit.pid, signal.SIGTERM)
     edit.communicate(timeout=30)
-    assert edit.returncode == 1, edit.returncode
-    assert book.read_text() == USER
-    assert not list(Path(folder).glob("book.toml.*"))
+    equal(edit.returncode, 1)
+    equal(book.read_text(), USER)
+    equal(list(Path(folder).glob("book.toml.*")), [])
 
 
 def an_edit_waits(folder):
@@ -212,11 +213,12 @@ def an_edit_waits(folder):
     until(lambda: is_locked(book))
     edit = start(folder, "tools/edit-book book.toml sed s/4096/4097/")
     time.sleep(0.5)
-    assert edit.poll() is None
-    assert run.communicate(CODES[0] + "\n") == ("PASS 5 0\n", "")
-    assert edit.communicate() == ("", "") and edit.returncode == 0
+    equal(edit.poll(), None)
+    equal(run.communicate(CODES[0] + "\n"), ("PASS 5 0\n", ""))
+    equal(edit.communicate(), ("", ""))
+    equal(edit.returncode, 0)
     found = book_of(folder)
-    assert (found["decoy_count"], found["accounts"]["user"]["token"]["next"]) == (4097, 1), found
+    equal((found["decoy_count"], found["accounts"]["user"]["token"]["next"]), (4097, 1), found)
 
 
 def a_run_waits(folder):
@@ -225,9 +227,10 @@ def a_run_waits(folder):
     slow = start(folder, "tools/edit-book book.toml sh -c 'sed s/4096/4097/; sleep 1'")
     until(lambda: is_locked(book))
     does(folder, verify("user", CODES[0]), printed="PASS 5 0\n")
-    assert slow.communicate() == ("", "") and slow.returncode == 0
+    equal(slow.communicate(), ("", ""))
+    equal(slow.returncode, 0)
     found = book_of(folder)
-    assert (found["decoy_count"], found["accounts"]["user"]["token"]["next"]) == (4097, 1), found
+    equal((found["decoy_count"], found["accounts"]["user"]["token"]["next"]), (4097, 1), found)
 
 
 def many_at_once(folder):
@@ -237,10 +240,10 @@ def many_at_once(folder):
     enrols = [f"scramotp enrol --book book.toml --name b{number} --count 1" for number in range(20)]
     with ThreadPoolExecutor(40) as pool:
         found = list(pool.map(lambda block: ran(folder, block, "pencil\n"), [*edits, *enrols, verify("user", *CODES[:6])]))
-    assert [status for status, _, _ in found] == [0] * 41, found
+    equal([status for status, _, _ in found], [0] * 41, found)
     accounts = book_of(folder)["accounts"]
-    assert set(accounts) == {"user", *(f"{kind}{number}" for kind in "ab" for number in range(20))}, sorted(accounts)
-    assert accounts["user"]["token"]["next"] == 6
+    equal(set(accounts), {"user", *(f"{kind}{number}" for kind in "ab" for number in range(20))}, sorted(accounts))
+    equal(accounts["user"]["token"]["next"], 6)
 
 
 def an_edit_gives_up(folder):
@@ -249,45 +252,46 @@ def an_edit_gives_up(folder):
     with open(book, "rb") as file:
         fcntl.flock(file, fcntl.LOCK_EX)
         found = ran(folder, "tools/edit-book book.toml sed s/4096/4097/")
-    assert found == (1, "", f"edit-book: {os.path.realpath(book)} is in use\n"), found
-    assert book.read_text() == USER
+    equal(found, (1, "", f"edit-book: {os.path.realpath(book)} is in use\n"))
+    equal(book.read_text(), USER)
 
 
 def a_token(folder):
     """The token that is set takes the codes of the secret that is printed, and is taken out again. An account that has one gets no
     other, and a name without an account gets none."""
     enrolled(folder)
-    set_token, drop_token, _ = blocks("Set a token")
+    set_token, drop_token, _ = blocks("Give a user one-time codes")
     status, output, faults = ran(folder, set_token)
-    assert (status, faults) == (0, ""), faults
+    equal((status, faults), (0, ""))
     secret = base64.b32decode(output.strip())
-    assert len(secret) == 20
-    assert not Path(folder, "token.toml").exists()
+    equal(len(secret), 20)
+    holds(not Path(folder, "token.toml").exists(), "the token's text is left")
     moment = 1234567890
     does(folder, verify(NAME, totp(secret, moment), moment=moment), printed=f"PASS {moment} {moment // 30}\n")
-    assert ran(folder, verify("other", "000000"))[2] == "scramotp: no token\n"
+    equal(ran(folder, verify("other", "000000"))[2], "scramotp: no token\n")
     before = book_of(folder)
     mistyped = set_token.replace("user", "usr")
     for block, why in [(set_token, "there is one already"), (mistyped, "scramotp: no such account")]:
         _, output, faults = ran(folder, block)
-        assert (output, faults) == ("", f"no token is set: {why}\n"), (output, faults)
-        assert book_of(folder) == before, why
-        assert not Path(folder, "token.toml").exists(), why
+        equal((output, faults), ("", f"no token is set: {why}\n"))
+        equal(book_of(folder), before, why)
+        holds(not Path(folder, "token.toml").exists(), "the token's text is left", why)
     does(folder, drop_token)
     del before["accounts"][NAME]["token"]
-    assert book_of(folder) == before
-    assert ran(folder, verify(NAME, "000000"))[2] == "scramotp: no token\n"
+    equal(book_of(folder), before)
+    equal(ran(folder, verify(NAME, "000000"))[2], "scramotp: no token\n")
     status, output, faults = ran(folder, set_token)
-    assert (status, faults) == (0, "") and base64.b32decode(output.strip()) != secret, faults
+    equal((status, faults), (0, ""))
+    holds(base64.b32decode(output.strip()) != secret, faults)
 
 
 def a_hotp_token(folder):
     """The fob that the document adds has RFC 4226's secret: it takes that RFC's codes, and skips as many as it says. A name that has an
     account gets none, but by the word that the document says."""
     enrolled(folder)
-    *_, add_fob = blocks("Set a token")
+    *_, add_fob = blocks("Give a user one-time codes")
     does(folder, add_fob)
-    assert not Path(folder, "token.toml").exists()
+    holds(not Path(folder, "token.toml").exists(), "the token's text is left")
     added = book_of(folder)
     does(folder, verify(FOB, CODES[0], CODES[1]), printed="PASS 5 0\nPASS 5 1\n")
     skipped = 2 + added["accounts"][FOB]["token"]["look_ahead"]
@@ -296,23 +300,24 @@ def a_hotp_token(folder):
     of_user = add_fob.replace(FOB, NAME)
     for block, why in [(add_fob, "there is one already"), (of_user, "scramotp: no token")]:
         _, output, faults = ran(folder, block)
-        assert (output, faults) == ("", f"no token is set: {why}\n"), (output, faults)
-        assert book_of(folder) == before, why
-        assert not Path(folder, "token.toml").exists(), why
-    assert "no such account" in of_user
+        equal((output, faults), ("", f"no token is set: {why}\n"))
+        equal(book_of(folder), before, why)
+        holds(not Path(folder, "token.toml").exists(), "the token's text is left", why)
+    holds("no such account" in of_user, of_user)
     does(folder, of_user.replace("no such account", "no token"))
-    assert book_of(folder)["accounts"][NAME].pop("token") == added["accounts"][FOB]["token"]
+    equal(book_of(folder)["accounts"][NAME].pop("token"), added["accounts"][FOB]["token"])
 
 
 def a_fob_that_ran_ahead(folder):
     """Two codes in a row pass where the first alone is too far ahead, and the token goes on after them."""
     enrolled(folder)
-    does(folder, blocks("Set a token")[-1])
-    assert ran(folder, verify(FOB, code(8)))[:2] == (1, "FAIL 5\n")
-    [sync] = blocks("Find a fob that ran ahead")
+    does(folder, blocks("Give a user one-time codes")[-1])
+    equal(ran(folder, verify(FOB, code(8)))[:2], (1, "FAIL 5\n"))
+    [sync] = blocks("Resynchronise a HOTP fob")
     status, output, faults = ran(folder, sync)
-    assert (status, faults) == (0, "") and re.fullmatch(r"PASS \d+ 9\n", output), (output, faults)
-    assert ran(folder, sync)[0] == 1
+    equal((status, faults), (0, ""), output)
+    holds(re.fullmatch(r"PASS \d+ 9\n", output), output, faults)
+    equal(ran(folder, sync)[0], 1)
     does(folder, verify(FOB, code(10)), printed="PASS 5 10\n")
 
 
@@ -324,19 +329,19 @@ def an_account(folder):
     before = book_of(folder)
     for mechanism in ("sha1", "sha256"):
         keys = before["accounts"][NAME][mechanism]
-        assert (keys["stored"], keys["server"]) == keys_of(mechanism, b"pencil", bytes.fromhex(keys["salt"]), 4096)
+        equal((keys["stored"], keys["server"]), keys_of(mechanism, b"pencil", bytes.fromhex(keys["salt"]), 4096))
     _, output, faults = ran(folder, add, "another one\n")
-    assert (output, faults) == ("", "scramotp: name is taken\n"), (output, faults)
-    assert book_of(folder) == before
+    equal((output, faults), ("", "scramotp: name is taken\n"))
+    equal(book_of(folder), before)
     other = add.replace(NAME, "other")
-    assert other != add
+    holds(other != add, add)
     does(folder, other + FORGOTTEN, "pencil\n", "enrolled other\n")
     after = book_of(folder)
-    assert (after["accounts"][NAME], set(after["accounts"])) == (before["accounts"][NAME], {NAME, "other"})
+    equal((after["accounts"][NAME], set(after["accounts"])), (before["accounts"][NAME], {NAME, "other"}))
     line, acts = re.findall(r"`(act_as = \[.*\])`", DOCUMENT.read_text(encoding="utf-8"))
-    assert f"\n{line}\n" in Path(folder, "book.toml").read_text()
+    holds(f"\n{line}\n" in Path(folder, "book.toml").read_text(), line, Path(folder, "book.toml").read_text())
     does(folder, f"tools/edit-book book.toml sed '/^.accounts.other.$/,$ s/^act_as = .*/{acts}/'")
-    assert book_of(folder)["accounts"]["other"]["act_as"] == ["postmaster", "list"]
+    equal(book_of(folder)["accounts"]["other"]["act_as"], ["postmaster", "list"])
     audited = "printf 'SCRAMLOG 1\\n' | scramotp audit --book book.toml --log /dev/stdin"
     does(folder, audited, printed="clean sessions=0 accepted=0 codes=0\n")
 
@@ -351,15 +356,15 @@ def a_password(folder):
     after = book_of(folder)
     for table, mechanism in [("sha1", "sha1"), ("sha256", "sha256")]:
         old, new = before["accounts"][NAME].pop(table), after["accounts"][NAME].pop(table)
-        assert old["salt"] != new["salt"]
+        holds(old["salt"] != new["salt"], old, new)
         want = keys_of(mechanism, b"another one", bytes.fromhex(new["salt"]), new["count"])
-        assert (new["stored"], new["server"]) == want
-    assert after == before
+        equal((new["stored"], new["server"]), want)
+    equal(after, before)
     does(folder, verify(NAME, CODES[0]), printed="PASS 5 0\n")
     left = Path(folder, "left")
     left.mkdir()
     does(folder, change + FORGOTTEN, "a third\n", f"enrolled {NAME}\n", TMPDIR=str(left))
-    assert not any(left.iterdir())
+    equal(list(left.iterdir()), [])
 
 
 def a_password_of_one_mechanism(folder):
@@ -373,9 +378,9 @@ def a_password_of_one_mechanism(folder):
         after = book_of(folder)
         for mechanism in ("sha1", "sha256"):
             keys = after["accounts"][NAME].pop(mechanism)
-            assert (keys["stored"], keys["server"]) == keys_of(mechanism, b"another one", bytes.fromhex(keys["salt"]), keys["count"])
+            equal((keys["stored"], keys["server"]), keys_of(mechanism, b"another one", bytes.fromhex(keys["salt"]), keys["count"]))
         del before["accounts"][NAME][kept]
-        assert after == before
+        equal(after, before)
 
 
 def a_password_that_is_refused(folder):
@@ -385,13 +390,13 @@ def a_password_that_is_refused(folder):
     [change] = blocks("Change a password")
     for password in ["ü\n", "\n", ""]:
         _, output, faults = ran(folder, change, password)
-        assert (output, faults) == ("", "scramotp: bad password\n"), (password, output, faults)
-        assert Path(folder, "book.toml").read_bytes() == before, password
+        equal((output, faults), ("", "scramotp: bad password\n"), password)
+        equal(Path(folder, "book.toml").read_bytes(), before, password)
     for old, new in [("sed -n", "false"), ("sed -n '/\\.sha1]$/,$p'", "sed -n /none/p"), ("'[accounts.", "'[none.")]:
-        assert old in change, old
+        holds(old in change, old)
         status, output, _ = ran(folder, change.replace(old, new), "another one\n")
-        assert output == f"enrolled {NAME}\n", (old, output)
-        assert Path(folder, "book.toml").read_bytes() == before, old
+        equal(output, f"enrolled {NAME}\n", old)
+        equal(Path(folder, "book.toml").read_bytes(), before, old)
 
 
 def a_removed_account(folder):
@@ -403,23 +408,23 @@ def a_removed_account(folder):
     does(folder, verify(NAME, CODES[0]), printed="PASS 5 0\n")
     does(folder, remove)
     del before["accounts"][NAME]
-    assert book_of(folder) == before
+    equal(book_of(folder), before)
     does(folder, f"scramotp enrol --book book.toml --name {NAME}", "pencil\n", f"enrolled {NAME}\n")
     does(folder, remove)
-    assert book_of(folder) == before
+    equal(book_of(folder), before)
     keys = f'\n[accounts."{NAME}".sha1]\ncount = 1\nsalt = "00"\nserver = "{"00" * 20}"\nstored = "{"00" * 20}"\n'
     Path(folder, "keys.toml").write_text(keys)
     does(folder, "tools/edit-book book.toml cat - keys.toml")
     does(folder, remove)
-    assert book_of(folder) == before
-    assert ran(folder, remove)[0] == 1
-    assert book_of(folder) == before
+    equal(book_of(folder), before)
+    equal(ran(folder, remove)[0], 1)
+    equal(book_of(folder), before)
 
 
 def decoys(folder):
     """Accounts that are as decoys are not told, others are."""
     enrolled(folder)
-    [tell] = blocks("Keep decoys and accounts alike")
+    [tell] = blocks("Hide which names have accounts")
     does(folder, tell)
     does(folder, "scramotp enrol --book book.toml --name slow --count 5000", "pencil\n", "enrolled slow\n")
     keys = f'\n[accounts.old.sha1]\ncount = 4096\nsalt = "00"\nserver = "{"00" * 20}"\nstored = "{"00" * 20}"\n'
@@ -428,7 +433,7 @@ def decoys(folder):
     status, output, faults = ran(folder, tell)
     count = "has the count 5000, decoys have 4096"
     want = {f"slow: sha1 {count}", f"slow: sha256 {count}", "old: sha1 has a salt of 1 bytes, decoys have 16"}
-    assert (status, set(output.splitlines()), faults) == (0, want, ""), output
+    equal((status, set(output.splitlines()), faults), (0, want, ""), output)
 
 
 def texts(mechanism, count, salt, stored, server):
@@ -439,10 +444,10 @@ def texts(mechanism, count, salt, stored, server):
 
 def verifiers_of_others(folder):
     """Verifiers that Dovecot and GNU SASL made come into a book as they are."""
-    with open(HERE / "keys.csv", newline="", encoding="ascii") as table:
+    with open(VECTORS / "keys.csv", newline="", encoding="ascii") as table:
         rows = [row for row in csv.DictReader(table) if "doveadm" in row["source"]][::6]
     script, into, _ = blocks("Keys from PostgreSQL and Dovecot")
-    assert {row["mechanism"] for row in rows} == {"SCRAM-SHA-1", "SCRAM-SHA-256"}, rows
+    equal({row["mechanism"] for row in rows}, {"SCRAM-SHA-1", "SCRAM-SHA-256"}, rows)
     for number, row in enumerate(rows):
         of_row = Path(folder, str(number))
         of_row.mkdir()
@@ -452,8 +457,8 @@ def verifiers_of_others(folder):
         does(of_row, into, texts(*fields)[1] + "\n")
         table = {"SCRAM-SHA-1": "sha1", "SCRAM-SHA-256": "sha256"}[row["mechanism"]]
         keys = {"count": int(row["count"]), "salt": row["salt_hex"], "stored": row["stored_hex"], "server": row["server_hex"]}
-        assert book_of(of_row)["accounts"][NAME] == {table: keys}
-        assert not Path(of_row, "keys.toml").exists()
+        equal(book_of(of_row)["accounts"][NAME], {table: keys})
+        holds(not Path(of_row, "keys.toml").exists(), "the keys' text is left")
 
 
 def a_verifier_there_and_back(folder):
@@ -470,11 +475,11 @@ def a_verifier_there_and_back(folder):
     does(folder, f"scramotp audit --book book.toml --log {AUDITS / 'sha256.log'}", printed=clean)
     name = "q\"\\'@ x"
     does(folder, f"tools/from-verifier {shlex.quote(name)} >keys.toml && tools/edit-book book.toml cat - keys.toml", both[1] + "\n")
-    assert book_of(folder)["accounts"][name] == book_of(folder)["accounts"]["user"]
+    equal(book_of(folder)["accounts"][name], book_of(folder)["accounts"]["user"])
     before = book_of(folder)
     for text in ["", "md5c0ffee", both[0].replace("256", "512"), both[0].replace("==", "=")]:
-        assert "not a verifier" in ran(folder, into.replace(NAME, "new"), text + "\n")[2], text
-        assert book_of(folder) == before
+        holds("not a verifier" in ran(folder, into.replace(NAME, "new"), text + "\n")[2], text)
+        equal(book_of(folder), before)
 
 
 def line_of(client):
@@ -488,81 +493,88 @@ def line_of(client):
     return text[:-1].decode()
 
 
+def greeted(folder):
+    """A client of the hall that serves in this folder, which was greeted."""
+    client = socket.socket(socket.AF_UNIX)
+    client.settimeout(20)
+    client.connect(str(Path(folder, "hall.sock")))
+    equal(line_of(client), clients.MECHS[2:], "the greeting")
+    return client
+
+
+def logs_in(client, account):
+    """The rest of a login of this account, whose first message the client has sent, and a code."""
+    challenge = line_of(client).removeprefix("CONT :")
+    own = re.match(r"r=fyko([^,]{24}),", challenge)[1]
+    it = account.exchange("fyko", own)
+    equal(challenge, it.challenge, "the challenge")
+    client.sendall(f"RESP :{it.final}\n".encode())
+    equal(line_of(client), f"OK :v={it.signature}", "the login")
+    client.sendall(f"CODE {account.code(0)}\n".encode())
+    told = line_of(client)
+    holds(re.fullmatch(r"PASS \d+ 0", told), told)
+
+
 def a_hall_of_your_own(folder):
     """Four clients at a time: one logs in and sends a code, one sends a line that is too long, one asks for another mechanism, and one
     goes away. The log is clean for the book that it began with."""
     account = clients.Account("user", "SCRAM-SHA-256")
     with_tools(folder, clients.book([account]))
-    [script] = blocks("Let many users in at a time")
+    [script] = blocks("Serve many logins with `hall`")
     does(folder, script)
     serving = start(folder, "umask 077; exec tools/serve-hall book.toml hall.sock hall.log")
     until(lambda: Path(folder, "hall.sock").exists())
-    ends = []
-    for _ in range(4):
-        client = socket.socket(socket.AF_UNIX)
-        client.settimeout(20)
-        client.connect(str(Path(folder, "hall.sock")))
-        ends.append(client)
-    good, long, other, away = ends
-    for client in ends:
-        same("the greeting", line_of(client), clients.MECHS[2:])
+    good, long, other, away = [greeted(folder) for _ in range(4)]
     away.close()
     first = account.exchange("fyko", "").first
     good.sendall(f"AUTH SCRAM-SHA-256 :{first}\n".encode())
     long.sendall(b"x" * 7000 + b"\n")
-    same("a line that is too long", [line_of(long), line_of(long)], ["NO :", ""])
+    equal([line_of(long), line_of(long)], ["NO :", ""], "a line that is too long")
     other.sendall(b"AUTH PLAIN\n")
-    same("another mechanism", [line_of(other), line_of(other)], ["NO :", ""])
-    challenge = line_of(good).removeprefix("CONT :")
-    own = re.match(r"r=fyko([^,]{24}),", challenge)[1]
-    it = account.exchange("fyko", own)
-    same("the challenge", challenge, it.challenge)
-    good.sendall(f"RESP :{it.final}\n".encode())
-    same("the login", line_of(good), f"OK :v={it.signature}")
-    good.sendall(f"CODE {account.code(0)}\n".encode())
-    assert re.fullmatch(r"PASS \d+ 0", line_of(good))
+    equal([line_of(other), line_of(other)], ["NO :", ""], "another mechanism")
+    logs_in(good, account)
     serving.send_signal(signal.SIGINT)
-    same("the end", (serving.wait(timeout=20), serving.stdout.read(), serving.stderr.read()), (0, "", ""))
-    same("the client is told no more", line_of(good), "")
+    equal((serving.wait(timeout=20), serving.stdout.read(), serving.stderr.read()), (0, "", ""), "the end")
+    equal(line_of(good), "", "the client is told no more")
     audit = "scramotp audit --book hall.log.toml --log hall.log"
     does(folder, audit, printed="clean sessions=4 accepted=1 codes=1\n")
-    same("the mode of the log", [Path(folder, name).stat().st_mode & 0o777 for name in ["hall.log", "hall.log.toml"]], [0o600, 0o600])
-    same("the counter is used", book_of(folder)["accounts"]["user"]["token"]["next"], 1)
+    equal([Path(folder, name).stat().st_mode & 0o777 for name in ["hall.log", "hall.log.toml"]], [0o600, 0o600], "the mode of the log")
+    equal(book_of(folder)["accounts"]["user"]["token"]["next"], 1, "the counter is used")
 
 
 def a_code_in_a_script(folder):
     """Only a code that passes lets in. A blank line is not asked for, and counts nowhere."""
     tokens = [hotp(look_ahead=0, limit=2, name=name) for name in ["user", "-x"]]
     with_tools(folder, USER + "".join(tokens) + "\n[accounts.bare]\n")
-    [script] = blocks("Ask for a code in a script")
+    [script] = blocks("Verify a code in a script")
     does(folder, script)
 
     def lets_in(text, name="user", book="book.toml"):
         return ran(folder, f"tools/check-code {book} {name}", text)[0]
 
     for text in ["", "\n", "\r\n", " \n"]:
-        assert lets_in(text) == 1, text
+        equal(lets_in(text), 1, text)
     token = book_of(folder)["accounts"]["user"]["token"]
-    assert (token["next"], token["failures"]) == (0, 0)
+    equal((token["next"], token["failures"]), (0, 0))
     for text, status in [(CODES[0] + "\r\n", 0), (CODES[1][:3] + " " + CODES[1][3:], 0), (CODES[1], 1), (CODES[2], 0)]:
-        assert lets_in(text) == status, text
-    assert lets_in(f"000000\n{CODES[3]}\n") == 1
-    assert lets_in("PASS 1 1\n") == 1
-    assert lets_in(CODES[3]) == 1
+        equal(lets_in(text), status, text)
+    equal(lets_in(f"000000\n{CODES[3]}\n"), 1)
+    equal(lets_in("PASS 1 1\n"), 1)
+    equal(lets_in(CODES[3]), 1)
     does(folder, "scramotp unlock --book book.toml --name user", printed="unlocked user\n")
-    assert [lets_in(CODES[3]), lets_in(CODES[0], "-x"), lets_in(CODES[0], "-x")] == [0, 0, 1]
-    assert lets_in(f"SYNC {CODES[1]} {CODES[2]}", "-x") == 1
-    assert [lets_in(CODES[4], "bare"), lets_in(CODES[4], "nobody"), lets_in(CODES[4], book="none")] == [1, 1, 1]
+    equal([lets_in(CODES[3]), lets_in(CODES[0], "-x"), lets_in(CODES[0], "-x")], [0, 0, 1])
+    equal(lets_in(f"SYNC {CODES[1]} {CODES[2]}", "-x"), 1)
+    equal([lets_in(CODES[4], "bare"), lets_in(CODES[4], "nobody"), lets_in(CODES[4], book="none")], [1, 1, 1])
     silent = Path(folder, "silent", "scramotp")
     silent.parent.mkdir()
     silent.write_text("#!/bin/sh\n")
     silent.chmod(0o755)
-    assert ran(folder, 'PATH="$PWD/silent:$PATH" tools/check-code book.toml user', CODES[4])[0] == 1
+    equal(ran(folder, 'PATH="$PWD/silent:$PATH" tools/check-code book.toml user', CODES[4])[0], 1)
 
 
 def faulty(row):
-    """The book of a row of book_faults.csv."""
-    return outside.edited((HERE / "book_faults" / row["base"]).with_suffix(".toml").read_bytes(), row)
+    """The book of a row of data/book_faults/cases.csv."""
+    return outside.edited((BOOK_FAULTS / row["base"]).with_suffix(".toml").read_bytes(), row)
 
 
 def keys_at_fault(folder):
@@ -572,19 +584,19 @@ def keys_at_fault(folder):
     for header, number in [("user@example.org", 60), ("example.org", 62), ('"user@example.org"', None)]:
         Path(folder, "named.toml").write_text(USER + f"\n[accounts.{header}]\n")
         fault = f"scramotp: bad book: {number}\n" if number else "scramotp: no token\n"
-        assert ran(folder, "scramotp unlock --book named.toml --name user") == (1, "", fault), header
+        equal(ran(folder, "scramotp unlock --book named.toml --name user"), (1, "", fault), header)
     wrong = {"the document: 'x' is unknown", "the document: 'decoy_count' is of another type"}
     status, output, faults = ran(folder, script)
-    assert (status, set(output.splitlines()), faults) == (0, wrong, ""), output
-    with open(HERE / "book_faults.csv", newline="", encoding="ascii") as table:
+    equal((status, set(output.splitlines()), faults), (0, wrong, ""), output)
+    with open(BOOK_FAULTS / "cases.csv", newline="", encoding="ascii") as table:
         rows = [row for row in csv.DictReader(table) if row["answer"] == "62" or not row["answer"].isdigit()]
     for number, row in enumerate(rows):
         Path(folder, str(number)).write_bytes(faulty(row))
     with ThreadPoolExecutor(4) as pool:
         found = list(pool.map(lambda number: ran(folder, f"tools/find-key {number}"), range(len(rows))))
     for (status, output, faults), row in zip(found, rows):
-        assert (status, faults, output != "") == (0, "", row["answer"] == "62"), (row, status, output, faults)
-    assert {row["answer"] for row in rows} > {"62"}, rows
+        equal((status, faults, output != ""), (0, "", row["answer"] == "62"), row, output)
+    holds({row["answer"] for row in rows} > {"62"}, rows)
 
 
 def a_backup(folder):
@@ -593,12 +605,12 @@ def a_backup(folder):
     copy, put_back = blocks("Backups")
     does(folder, copy, TZ="SUMMER-2")
     [found] = Path(folder, "backups").iterdir()
-    assert found.read_bytes() == book.read_bytes()
-    assert (found.stat().st_mode & 0o777, found.parent.stat().st_mode & 0o777) == (0o600, 0o700)
+    equal(found.read_bytes(), book.read_bytes())
+    equal((found.stat().st_mode & 0o777, found.parent.stat().st_mode & 0o777), (0o600, 0o700))
     Path(folder, "backups", "book-20010203T040506Z.toml").write_text("older\n")
     does(folder, "tools/edit-book book.toml sed s/4096/4097/")
     does(folder, put_back)
-    assert book.read_text() == USER
+    equal(book.read_text(), USER)
     # A copy that is made later, where the clock was put back an hour
     newer = USER.replace("4096", "4098")
     book.write_text(newer)
@@ -606,21 +618,21 @@ def a_backup(folder):
     does(folder, copy, TZ="WINTER-1")
     book.write_text(USER)
     does(folder, put_back)
-    assert book.read_text() == newer
+    equal(book.read_text(), newer)
 
 
 def a_shell(folder):
     """As root, and with nobody for the user that is made: the folder is the user's alone, and the shell is the user's, in the folder."""
     shell, *_ = blocks("Set up")
     make_user, block = shell.split("\n", 1)
-    assert make_user == "useradd --system --user-group scramotp", make_user
+    equal(make_user, "useradd --system --user-group scramotp")
     if not ROOT:
         return
     os.chmod(folder, 0o711)
     place = os.path.realpath(Path(folder, "place"))
     group = grp.getgrgid(NOBODY.pw_gid).gr_name
     for old, new in [("/var/lib/scramotp", place), ("-g scramotp", f"-g {group}"), ("scramotp", NOBODY.pw_name)]:
-        assert old in block, old
+        holds(old in block, old)
         block = block.replace(old, new)
     does(folder, block, "id -un; pwd; stat -c '%a %U' .\n", f"{NOBODY.pw_name}\n{place}\n700 {NOBODY.pw_name}\n")
 
@@ -635,13 +647,15 @@ def all_in_order(folder):
     printed = []
     for title, block in found:
         status, output, faults = ran(folder, LEAVES_NOTHING.format(block), inputs.get(title, ""))
-        assert (status, faults) == (0, ""), (title, status, output, faults)
+        equal((status, faults), (0, ""), title, output)
         printed += output.splitlines()
     added, secret, ahead, changed, *verifiers = printed
-    assert (added, changed, verifiers) == (f"enrolled {NAME}", f"enrolled {NAME}", list(both)), printed
-    assert len(base64.b32decode(secret)) == 20 and re.fullmatch(r"PASS \d+ 9", ahead), printed
+    equal((added, changed, verifiers), (f"enrolled {NAME}", f"enrolled {NAME}", list(both)), printed)
+    equal(len(base64.b32decode(secret)), 20, printed)
+    holds(re.fullmatch(r"PASS \d+ 9", ahead), printed)
     accounts = book_of(folder)["accounts"]
-    assert set(accounts) == {NAME, FOB} and set(accounts[NAME]) == {"sha256"}, accounts
+    equal(set(accounts), {NAME, FOB}, accounts)
+    equal(set(accounts[NAME]), {"sha256"}, accounts)
 
 
 def units(folder):
@@ -658,18 +672,18 @@ def units(folder):
             source = AUDITS / {"before.toml": "hotp.toml", "log.txt": "sha1.log"}.get(name, "")
             if source.is_file():
                 (credentials / name).write_bytes(source.read_bytes())
-            assert (credentials / name).is_file(), name
+            holds((credentials / name).is_file(), name)
         [command] = re.findall(r"^ExecStart=(.*)$", unit, re.M)
         done = subprocess.run(shlex.split(command), env=environment(folder, **where), capture_output=True, text=True)
         answers.append((done.returncode, done.stdout, done.stderr))
-    assert answers == [(0, "enrolled user\n", ""), (0, "clean sessions=1 accepted=1 codes=0\n", "")], answers
+    equal(answers, [(0, "enrolled user\n", ""), (0, "clean sessions=1 accepted=1 codes=0\n", "")])
     keys = read(state / "book.toml")["accounts"]["user"]["sha256"]
-    assert keys["stored"] == keys_of("sha256", b"pencil", bytes.fromhex(keys["salt"]), keys["count"])[0]
+    equal(keys["stored"], keys_of("sha256", b"pencil", bytes.fromhex(keys["salt"]), keys["count"])[0])
 
 
 def every_block(folder):
     """No block of the document is left out."""
-    assert set(all_blocks()) == used, set(all_blocks()) ^ used
+    equal(set(all_blocks()), used, set(all_blocks()) ^ used)
 
 
 TESTS = [

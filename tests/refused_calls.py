@@ -14,6 +14,7 @@ import subprocess
 import shims
 import suite
 from all_commands import read_book, with_account
+from checks import equal, holds
 from outside import AUDITS
 from suite import PROGRAM, USER, hotp
 
@@ -52,14 +53,14 @@ def made(kind, folder, shim, refused):
     many requests it made."""
     environment = {"LD_PRELOAD": shim, "REFUSED": str(refused)}
     run = subprocess.run([BENCH, kind, "1", "given"], cwd=folder, capture_output=True, text=True, env=environment)
-    assert run.returncode in (0, 1), (kind, refused, run)
+    holds(run.returncode in (0, 1), kind, refused, run)
     requests = int(re.search(r"^requests (\d+)$", run.stderr, re.M).group(1))
     return None if run.returncode else run.stdout, requests
 
 
 def each_refused(kind, folder, given):
     """What is printed of these calls where no request is refused; and for each request, what is printed where that is refused."""
-    assert BENCH.exists(), f"{BENCH} is not built: rt ci builds it, and so does make bench"
+    holds(BENCH.exists(), f"{BENCH} is not built: rt ci builds it, and so does make bench")
     shim = shims.built("refuse", folder)
     (pathlib.Path(folder) / "given").write_text(given)
     whole, requests = made(kind, folder, shim, 0)
@@ -71,14 +72,15 @@ def is_told(folder, kind, logged, check):
     """A service logs this. Where a request is refused, that is told once at most, and then this holds of its log. More than half of the
     requests are those of the calls."""
     whole, answers = each_refused(kind, folder, BOOK)
-    assert whole == f"{logged}out of memory 0\n", (kind, whole)
+    equal(whole, f"{logged}out of memory 0\n", kind)
     told = 0
     for answer in answers:
         if answer not in (None, whole):
             log, times = answer.rsplit("out of memory ", 1)
-            assert times == "1\n" and check(log), (kind, answer)
+            equal(times, "1\n", kind, answer)
+            holds(check(log), kind, answer)
             told += 1
-    assert 2 * told > len(answers), (kind, told, answers)
+    holds(2 * told > len(answers), kind, told, answers)
     return told
 
 
@@ -114,14 +116,15 @@ def texts_are_written_again(folder):
     """Each text is written, whichever request is refused; and each is refused one."""
     whole, answers = each_refused("texts", folder, "".join(f"{kind} {text}\n" for kind, text, *_ in TEXTS))
     want = [f"{row[0]} {row[-1]}" for row in TEXTS]
-    assert whole.splitlines() == [f"0 {it}" for it in want], whole
+    equal(whole.splitlines(), [f"0 {it}" for it in want], whole)
     refused = set()
     for answer in filter(None, answers):
         rows = [row.split(" ", 1) for row in answer.splitlines()]
         told = [number for number, (times, _) in enumerate(rows) if times == "1"]
-        assert [text for _, text in rows] == want and len(told) <= 1, answer
+        equal([text for _, text in rows], want, answer)
+        holds(len(told) <= 1, answer)
         refused.update(told)
-    assert refused == set(range(len(TEXTS))), [TEXTS[number] for number in range(len(TEXTS)) if number not in refused]
+    equal(refused, set(range(len(TEXTS))), [TEXTS[number] for number in range(len(TEXTS)) if number not in refused])
     print(f"refused_calls.py: each of {len(TEXTS)} texts is refused memory")
 
 
@@ -131,24 +134,27 @@ def changed_again(folder, book):
     whole, answers = each_refused("changes", folder, book)
     texts, told = whole.rsplit("out of memory ", 1)
     before, after = texts.split("---\n")
-    assert told == "0 0 0\n", whole
-    assert read_book(before) == read_book(book), before
-    assert read_book(after) == with_account(read_book(book)), after
+    equal(told, "0 0 0\n", whole)
+    equal(read_book(before), read_book(book), before)
+    equal(read_book(after), with_account(read_book(book)), after)
     counts = [0, 0, 0]
     for answer in answers:
         if answer not in (None, whole):
             same, times = answer.rsplit("out of memory ", 1)
             times = [int(it) for it in times.split()]
-            assert same == texts and sum(times) == 1, answer
+            equal(same, texts, answer)
+            equal(sum(times), 1, answer)
             counts = [sum(it) for it in zip(counts, times)]
-    assert 2 * sum(counts) > len(answers), (counts, len(answers))
+    holds(2 * sum(counts) > len(answers), counts, len(answers))
     return counts
 
 
 def books_are_changed_again(folder):
     """A book with a token, and one without accounts: the first account of a book takes memory, and the second has room."""
     reading, writing, adding = map(sum, zip(*[changed_again(folder, book) for book in (BOOK, NOBODY)]))
-    assert reading and writing and adding, (reading, writing, adding)
+    holds(reading, reading, writing, adding)
+    holds(writing, reading, writing, adding)
+    holds(adding, reading, writing, adding)
     print(f"refused_calls.py: {reading} requests of reading a book, {writing} of writing it, {adding} of enrol are refused")
 
 

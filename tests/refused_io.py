@@ -14,6 +14,7 @@ import re
 import shims
 import suite
 from all_commands import book_of, commands, is_done, is_front, is_kept, left, new_book, prepare, printed_begins_clean, run
+from checks import equal, holds
 
 # The calls that move bytes, and the others that are refused.
 MOVES = "read,write,recv,send"
@@ -38,7 +39,7 @@ class Turns:
         more = {"LD_PRELOAD": self.shim, "CALLS": calls, "REFUSED": str(number), "HOW": how, "COUNTED": str(self.counted)}
         answer = run(command, self.folder, env={**os.environ, **more})
         count, name = self.counted.read_text().split()
-        assert (name == "none") == (int(count) < number), (command.name, number, count, name)
+        equal(name == "none", int(count) < number, command.name, number, count, name)
         return answer, None if name == "none" else name
 
     def turns(self, command, calls, how):
@@ -49,7 +50,8 @@ class Turns:
             if name is not None:
                 yield (command.name, number, name, answer), answer
             number += 1
-        assert answer == (0, command.printed, "") and is_done(self.folder, command), (command.name, number, answer)
+        equal(answer, (0, command.printed, ""), command.name, number)
+        holds(is_done(self.folder, command), command.name, number, answer)
 
 
 def all_harmless(folder, how):
@@ -57,9 +59,10 @@ def all_harmless(folder, how):
     here, count = Turns(folder), 0
     for command in [*commands(), new_book()]:
         for what, answer in here.turns(command, MOVES, how):
-            assert answer == (0, command.printed, "") and is_done(here.folder, command), what
+            equal(answer, (0, command.printed, ""), what)
+            holds(is_done(here.folder, command), what)
             count += 1
-    assert count > 0, how
+    holds(count > 0, how)
     print(f"refused_io.py: {count} reads and writes {how}")
 
 
@@ -93,12 +96,12 @@ def all_told(folder, how, calls):
     here, count, told = Turns(folder), 0, 0
     for command in [*commands(), new_book()]:
         for what, answer in here.turns(command, calls, how):
-            assert answer == (0, command.printed, "") or is_told(command, answer), what
-            assert is_kept(here.folder, command, answer[1]), (what, book_of(here.folder))
-            assert left(here.folder) <= may_be_left(how, what[2]), (what, left(here.folder))
-            assert command.name not in ("login", "hall") or printed_begins_clean(here.folder, answer[1]), what
+            holds(answer == (0, command.printed, "") or is_told(command, answer), what)
+            holds(is_kept(here.folder, command, answer[1]), what, book_of(here.folder))
+            holds(left(here.folder) <= may_be_left(how, what[2]), what, left(here.folder))
+            holds(command.name not in ("login", "hall") or printed_begins_clean(here.folder, answer[1]), what)
             count, told = count + 1, told + (answer[0] == 3)
-    assert 2 * told > count, (told, count)
+    holds(2 * told > count, told, count)
     print(f"refused_io.py: {count} calls {how}, of which {told} are told")
 
 

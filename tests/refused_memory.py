@@ -13,6 +13,7 @@ import subprocess
 import shims
 import suite
 from all_commands import book_of, commands, is_done, is_front, is_kept, left, new_book, prepare, printed_begins_clean, run
+from checks import equal, holds
 from outside import AUDITS
 from suite import PROGRAM
 
@@ -30,14 +31,14 @@ def each_is_told(folder, words, printed):
     """A command prints this, and nothing but its fault where a request is refused that it needs. Returns how many it needs."""
     shim = shims.built("refuse", folder)
     *whole, requests = run_refused(folder, words, shim, 0)
-    assert whole == [0, printed, ""], (words, whole)
+    equal(whole, [0, printed, ""], words)
     needed = 0
     for number in range(1, requests + 1):
         *told, _ = run_refused(folder, words, shim, number)
         if told != whole:
-            assert told == [3, "", "scramotp: no memory\n"], (words, number, told)
+            equal(told, [3, "", "scramotp: no memory\n"], words, number)
             needed += 1
-    assert 2 * needed > requests, (words, needed, requests)
+    holds(2 * needed > requests, words, needed, requests)
     return needed
 
 
@@ -48,9 +49,9 @@ def audits_are_refused(folder):
         pathlib.Path(folder, "log").write_text(text)
         words = ["audit", "--book", AUDITS / "hotp.toml", "--log", "log"]
         needed.append(each_is_told(folder, words, "clean sessions=0 accepted=0 codes=0\n"))
-    assert needed[1] == needed[0] + 1, needed
+    equal(needed[1], needed[0] + 1, needed)
     words = ["audit", "--book", AUDITS / "hotp.toml", "--log", AUDITS / "interleaved.log"]
-    assert each_is_told(folder, words, "clean sessions=2 accepted=1 codes=1\n") == needed[1], needed
+    equal(each_is_told(folder, words, "clean sessions=2 accepted=1 codes=1\n"), needed[1], needed)
 
 
 def upgrades_are_refused(folder):
@@ -75,17 +76,21 @@ def commands_are_refused(folder):
     os.mkdir(here)
     for command in [*commands(), new_book()]:
         whole, requests = refused(command, here, shim, 0)
-        assert whole == (0, command.printed, "") and is_done(here, command), (command.name, whole)
+        equal(whole, (0, command.printed, ""), command.name)
+        holds(is_done(here, command), command.name, whole)
         for number in range(1, requests + 1):
             answer, _ = refused(command, here, shim, number)
             what = (command.name, number, answer)
-            assert is_kept(here, command, answer[1]) and left(here) == set(), (what, book_of(here), left(here))
-            assert command.name not in ("login", "hall") or printed_begins_clean(here, answer[1]), what
+            holds(is_kept(here, command, answer[1]), what, book_of(here), left(here))
+            equal(left(here), set(), what, book_of(here))
+            holds(command.name not in ("login", "hall") or printed_begins_clean(here, answer[1]), what)
             if answer != whole:
-                assert answer[0] == 3 and re.fullmatch(FAULT, answer[2]) and is_front(command, answer[1]), what
+                equal(answer[0], 3, what)
+                holds(re.fullmatch(FAULT, answer[2]), what)
+                holds(is_front(command, answer[1]), what)
                 told += 1
         count += requests
-    assert 2 * told > count, (told, count)
+    holds(2 * told > count, told, count)
     print(f"refused_memory.py: {count} requests of all commands are refused, of which {told} are told")
 
 

@@ -41,6 +41,7 @@ TESTS = [
     "process.sh",
     "terminal.py",
     "story.py",
+    "documents.py",
 ]
 
 

@@ -15,8 +15,9 @@ import subprocess
 import sys
 import tempfile
 
+from checks import equal
 from outside import AUDITS, orders_of_turns
-from suite import code, same
+from suite import code
 
 BOOK = AUDITS / "hotp.toml"
 FIRST_LINE = "SCRAMLOG 2"
@@ -40,7 +41,7 @@ def says(what, program, log, text, status, answer, book=BOOK):
     """Compares the answer to a log of this text, and its status."""
     log.write_text(text)
     done = subprocess.run([program, "audit", "--book", book, "--log", log], capture_output=True, text=True, timeout=60)
-    same(what, (done.returncode, done.stdout, done.stderr), (status, answer + "\n", ""))
+    equal((done.returncode, done.stdout, done.stderr), (status, answer + "\n", ""), what)
 
 
 def answers(what, program, log, lines, status, answer, book=BOOK):

@@ -5,7 +5,8 @@ Usage: story.py PROGRAM [README]
 
 The story is what the shell blocks of the section "A story" have. In them a line with `#>` is one that the command above it
 prints, or `#> status N` where that command does not end with status 0. The story runs in a fresh folder, with the program
-on the PATH and a password on standard input. Exits at the first difference.
+on the PATH and a password on standard input. A block of the kind `console` shows some of its commands, after `$ `, and what they
+print: each has to be in the story, with the same output. Exits at the first difference.
 """
 import os
 import re
@@ -14,7 +15,8 @@ import sys
 import tempfile
 from pathlib import Path
 
-from suite import PROGRAM, same
+from checks import equal
+from suite import PROGRAM
 
 ROOT = Path(__file__).resolve().parent.parent
 TITLE = "A story"
@@ -50,6 +52,22 @@ def steps(block):
     return [*found, (command, printed, status)]
 
 
+def excerpts(text):
+    """Each command that a console block of the document shows, without its comment, and the lines that it prints."""
+    found = []
+    for block in re.findall(r"^```console\n(.*?)^```$", text, re.M | re.S):
+        for line in block.splitlines():
+            if line.startswith("$ "):
+                found.append((without_comment(line.removeprefix("$ ")), []))
+            else:
+                found[-1][1].append(line)
+    return found
+
+
+def without_comment(command):
+    return re.sub(r"\s+# .*", "", command).strip()
+
+
 def is_whole(command):
     """Whether bash can run this as it is: no quote and no document is left open."""
     read = subprocess.run(["bash", "-n"], input=command, capture_output=True, text=True)
@@ -69,7 +87,7 @@ def ran(story):
             ["bash", "-c", script], cwd=folder, env={**os.environ, "PATH": path}, input=PASSWORD,
             capture_output=True, text=True, timeout=120,
         )
-    same("the faults of the story", done.stderr, "")
+    equal(done.stderr, "", "the faults of the story")
     parts = re.split(rf"{mark}(\d+)\n", done.stdout)
     return list(zip(parts[0::2], map(int, parts[1::2])))
 
@@ -77,11 +95,13 @@ def ran(story):
 def main():
     text = Path(sys.argv[2] if len(sys.argv) > 2 else ROOT / "README.md").read_text(encoding="utf-8")
     story = [step for block in blocks(text, TITLE) for step in steps(block)]
-    same("what the story lacks", [word for word in NEEDED if not any(word in command for command, _, _ in story)], [])
+    equal([word for word in NEEDED if not any(word in command for command, _, _ in story)], [], "what the story lacks")
+    shown = [(without_comment(command), printed) for command, printed, _ in story]
+    equal([part for part in excerpts(text) if part not in shown], [], "what is shown and not in the story")
     answers = ran(story)
     for (command, printed, status), (output, ended) in zip(story, answers):
-        same(command, (output.splitlines(), ended), (printed, status))
-    same("the number of commands that ran", len(answers), len(story))
+        equal((output.splitlines(), ended), (printed, status), command)
+    equal(len(answers), len(story), "the number of commands that ran")
     print(f"story.py: {len(story)} commands do as README says")
 
 

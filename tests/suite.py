@@ -12,9 +12,7 @@ import tempfile
 import tomllib
 
 import outside
-
-if not __debug__:
-    sys.exit("suite.py: the tests rest on assertions, which python3 -O and PYTHONOPTIMIZE leave out")
+from checks import equal
 
 PROGRAM = os.path.abspath(sys.argv[1])
 
@@ -124,12 +122,6 @@ def begins_clean(book, log):
     return done.stderr == "" and (done.stdout.startswith("clean ") or done.stdout == cut)
 
 
-def same(what, got, want):
-    """Fails where these differ: a test of `run_all`, or else the script, which ends with status 1."""
-    if got != want:
-        raise AssertionError(f"{what}: {got!r}, not {want!r}")
-
-
 class BookFolder:
     """A folder with a book, which runs of the program serve, and a copy of it as it was before them."""
 
@@ -147,7 +139,7 @@ class BookFolder:
         """Runs the program on this input, and compares its status, log and fault."""
         data = text if isinstance(text, bytes) else text.encode()
         done = subprocess.run(words, input=data, capture_output=True, timeout=60)
-        same((words, text[:200]), (done.returncode, done.stdout.decode(), done.stderr.decode()), (status, log, told(fault)))
+        equal((done.returncode, done.stdout.decode(), done.stderr.decode()), (status, log, told(fault)), (words, text[:200]))
 
     def seen(self):
         """What differs once the book was written or replaced, or another file was left beside it."""
@@ -157,7 +149,7 @@ class BookFolder:
         """Compares what the audit says of a log under the book that it began with."""
         words = [PROGRAM, "audit", "--book", self.before, "--log", "/dev/stdin"]
         done = subprocess.run(words, input=log, capture_output=True, text=True)
-        same(log, (done.stdout, done.stderr), (answer + "\n", ""))
+        equal((done.stdout, done.stderr), (answer + "\n", ""), log)
 
 
 def run_all(tests):

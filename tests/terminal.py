@@ -13,8 +13,9 @@ import time
 from pathlib import Path
 
 import suite
+from checks import equal
 from outside import AUDITS
-from suite import KEYS_OF_PENCIL, NONCES, PROGRAM, SALT, USER, hotp, same
+from suite import KEYS_OF_PENCIL, NONCES, PROGRAM, SALT, USER, hotp
 
 PASSWORD = "Type the password and press Enter; it is shown as you type.\r\n"
 BOTH = "Type the password and press Enter, then one code a line; all is shown as you type. Ctrl-D ends.\r\n"
@@ -100,10 +101,10 @@ def both_are_terminals(folder):
             until = time.monotonic() + 20
             while terminal.shown != said and time.monotonic() < until:
                 terminal.see(0.05)
-            same(words, terminal.shown, said)
+            equal(terminal.shown, said, words)
             terminal.type(typed + END)
             got = (run.communicate(timeout=20)[0], run.returncode, terminal.all_shown())
-            same(words, got, (printed, 0, said + typed.replace("\n", "\r\n")))
+            equal(got, (printed, 0, said + typed.replace("\n", "\r\n")), words)
 
 
 def input_is_a_terminal(folder):
@@ -114,7 +115,7 @@ def input_is_a_terminal(folder):
             run = start(words, terminal.end, subprocess.PIPE)
             terminal.type(typed + END)
             got = (*run.communicate(timeout=20), run.returncode, terminal.all_shown())
-            same(words, got, (printed, "", 0, typed.replace("\n", "\r\n")))
+            equal(got, (printed, "", 0, typed.replace("\n", "\r\n")), words)
 
 
 def faults_are_a_terminal(folder):
@@ -124,7 +125,7 @@ def faults_are_a_terminal(folder):
         with Terminal() as terminal:
             run = start(words, subprocess.PIPE, terminal.end)
             got = (run.communicate(typed, timeout=20)[0], run.returncode, terminal.all_shown())
-            same(words, got, (printed, 0, ""))
+            equal(got, (printed, 0, ""), words)
 
 
 def nothing_to_wait_for(folder):
@@ -144,7 +145,7 @@ def nothing_to_wait_for(folder):
         with Terminal() as terminal:
             run = start(words, terminal.end, terminal.end)
             got = (run.communicate(timeout=20)[0], run.returncode, terminal.all_shown())
-            same(words, got, (printed, status, said))
+            equal(got, (printed, status, said), words)
 
 
 suite.run_all([both_are_terminals, input_is_a_terminal, faults_are_a_terminal, nothing_to_wait_for])

@@ -17,8 +17,9 @@ import tempfile
 import time
 
 from audit_cases import cases
+from checks import equal, holds
 from outside import AUDITS, numbered
-from suite import same
+
 
 LOGIN = (AUDITS / "sha1.log").read_bytes()
 MECHS = b"S MECHS SCRAM-SHA-256 SCRAM-SHA-1\n"
@@ -43,19 +44,20 @@ def same_answers(program):
     for book, log, answer in cases():
         status, text, fault = run(program, ["upgrade"], log)
         if can_be_upgraded(log, answer):
-            same(log, (status, text, fault), (0, numbered(log.decode()).encode(), b""))
+            equal((status, text, fault), (0, numbered(log.decode()).encode(), b""), log)
             if b"\nSCRAMLOG" not in log:
-                same(log, run(program, ["audit", "--book", book], text)[1].decode(), answer + "\n")
+                equal(run(program, ["audit", "--book", book], text)[1].decode(), answer + "\n", log)
                 upgraded += 1
             continue
-        same(log, (status, text), (1, b""))
+        equal((status, text), (1, b""), log)
         line = int(re.fullmatch(rb"line (\d+): (cut|not a line)\n", fault)[1])
         first = re.match(r"line (\d+): ", answer)
         if log.startswith(b"SCRAMLOG 1"):
-            assert first and int(first[1]) <= line, (log, fault, answer)
+            holds(first, log, fault, answer)
+            holds(int(first[1]) <= line, log, fault, answer)
         else:
-            same(log, line, 1)
-    same("the logs of the table that have the same answer", upgraded, 41)
+            equal(line, 1, log)
+    equal(upgraded, 41, "the logs of the table that have the same answer")
     return upgraded
 
 
@@ -71,22 +73,22 @@ def faults(program, folder):
         ("6203 bytes", b"SCRAMLOG 1\n" + b"E" * 6203, 1, "line 2: not a line"),
         ("1000000 lines and a byte", b"SCRAMLOG 1\n" + b"E\n" * 999999 + b"S", 1, "too many lines"),
     ]:
-        same(what, run(program, ["upgrade"], log), (status, b"", fault.encode() + b"\n"))
+        equal(run(program, ["upgrade"], log), (status, b"", fault.encode() + b"\n"), what)
     words = [program, "upgrade", "--log", folder]
     done = subprocess.run(words, capture_output=True, text=True, timeout=60)
-    same("a folder", (done.returncode, done.stdout, done.stderr), (3, "", "read fault\n"))
+    equal((done.returncode, done.stdout, done.stderr), (3, "", "read fault\n"), "a folder")
     missing = folder / "missing"
     done = subprocess.run([*words[:3], missing], capture_output=True, text=True, timeout=60)
-    same("no log", (done.returncode, done.stdout, done.stderr), (3, "", f"scramotp: cannot read {missing}\n"))
+    equal((done.returncode, done.stdout, done.stderr), (3, "", f"scramotp: cannot read {missing}\n"), "no log")
     with open("/dev/full", "wb") as full:
         done = subprocess.run([*words[:3], AUDITS / "sha1.log"], stdout=full, stderr=subprocess.PIPE, text=True, timeout=60)
-    same("a full device", (done.returncode, done.stderr), (3, "scramotp: cannot write output\n"))
+    equal((done.returncode, done.stderr), (3, "scramotp: cannot write output\n"), "a full device")
 
 
 def long_logs(program, folder):
     """1000000 lines are upgraded, and 990000 in at most 2 seconds, the best of three runs."""
     log = b"SCRAMLOG 1\n" + GONE * 333333
-    same("1000000 lines", run(program, ["upgrade"], log), (0, numbered(log.decode()).encode(), b""))
+    equal(run(program, ["upgrade"], log), (0, numbered(log.decode()).encode(), b""), "1000000 lines")
     path = folder / "log"
     path.write_bytes(b"SCRAMLOG 1\n" + GONE * 330000)
     times = []
@@ -94,7 +96,7 @@ def long_logs(program, folder):
         began = time.monotonic()
         subprocess.run([program, "upgrade", "--log", path], stdout=subprocess.DEVNULL, check=True)
         times.append(time.monotonic() - began)
-    assert min(times) <= 2, times
+    holds(min(times) <= 2, times)
     return min(times)
 
 

@@ -3,15 +3,16 @@
 
 Usage: vectors.py PROGRAM
 
-Beside this file, keys.csv has the keys of passwords as GNU SASL and Dovecot made them, and codes.csv
+In data/vectors, keys.csv has the keys of passwords as GNU SASL and Dovecot made them, and codes.csv
 one-time codes as oathtool made them; the last column of a row says which. Exits at the first row that
 differs, and where a table has none.
 """
 import csv
-import pathlib
 import subprocess
 
-from suite import PROGRAM, same
+from checks import equal, holds
+from outside import VECTORS
+from suite import PROGRAM
 
 
 def keys(row):
@@ -32,13 +33,13 @@ def codes(row):
 
 def main():
     for name, case in [("keys.csv", keys), ("codes.csv", codes)]:
-        with open(pathlib.Path(__file__).with_name(name), newline="", encoding="utf-8") as table:
+        with open(VECTORS / name, newline="", encoding="utf-8") as table:
             rows = list(csv.DictReader(table))
-        assert rows, f"{name} has no rows"
+        holds(rows, f"{name} has no rows")
         for row in rows:
             words, line, want = case(row)
             done = subprocess.run([PROGRAM, *words], input=line.encode(), capture_output=True)
-            same(words, (done.returncode, done.stdout, done.stderr), (0, want.encode(), b""))
+            equal((done.returncode, done.stdout, done.stderr), (0, want.encode(), b""), words)
         print(f"{name}: {len(rows)} rows as made elsewhere")
 
 
