@@ -20,10 +20,9 @@ import sys
 import tempfile
 import tomllib
 
-from outside import AUDITS, code, keys_of, numbered
+from outside import AUDITS, BOOK_FAULTS, code, keys_of, numbered
 
-HERE = pathlib.Path(__file__).resolve().parent
-BOOKS = sorted((HERE / "book_faults").glob("*.toml"))
+BOOKS = sorted(BOOK_FAULTS.glob("*.toml"))
 # What a run may take of the processor, whatever else the machine does.
 SECONDS = 2
 
