@@ -2,6 +2,8 @@ pub mod ToldAlone
 pub mod Records
 pub mod Restarts
 pub mod Bytes
+pub mod Calls
+pub mod OneAnswer
 pub mod Served
 pub mod Spent
 pub mod Stands

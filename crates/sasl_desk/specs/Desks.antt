@@ -95,7 +95,8 @@ all_spent [] = []
 all_spent (t ∷ before) = spent_by t ++ all_spent before
 
 -- a desk that began with a book has answered these calls, the latest of which comes first
-pub record Stands {S : Type 0} (facts : S → StoreFacts) (IsStored : List ℕ → Type 0) (start : BookFields) (calls : List Call) (desk : Desk S) : Type 0 where
+pub record Stands {S : Type 0} (facts : S → StoreFacts) (IsStored : List ℕ → Type 0) (start : BookFields) (calls : List Call)
+    (desk : Desk S) : Type 0 where
   -- where the log stands, and the replies that were told
   pub place : Place
   pub told : List Told
@@ -103,7 +104,7 @@ pub record Stands {S : Type 0} (facts : S → StoreFacts) (IsStored : List ℕ �
   pub is_run : IsRun (accounts_in start) calls place
   -- a clean log may begin with the log's lines, and they can be written
   pub begins : Begins (demands (accounts_in start)) (run_lines calls) place told
-  pub written : CanBeWritten (run_lines calls)
+  pub writable : CanBeWritten (run_lines calls)
   -- the session waits for what is due there, or the desk has halted
   pub is_state : IsStateAt (accounts_in start) (own_part calls) place desk.state
   -- the book has each attempt in it, and the store holds its text, except after a save in which the store failed
@@ -135,11 +136,13 @@ is_saving (said halt) = true
 is_saving line = false
 
 -- what a call did: it added lines, and the desk that had answered some calls has answered this one, too
-pub record Answers {S : Type 0} (facts : S → StoreFacts) (IsStored : List ℕ → Type 0) (old : Desk S) (asked : Asked) (wire wire' log log' : List ℕ) (new : Desk S) : Type 0 where
+pub record Answers {S : Type 0} (facts : S → StoreFacts) (IsStored : List ℕ → Type 0) (old : Desk S) (asked : Asked) (wire wire' log log' : List ℕ)
+    (new : Desk S) : Type 0 where
   pub lines : List LogLine
   pub logged : log' ≡ log ++ log_bytes lines
   pub sent : wire' ≡ wire ++ wire_bytes lines
-  pub stands : (start : BookFields) (calls : List Call) → Stands facts IsStored start calls old → Stands facts IsStored start (call_of asked lines ∷ calls) new
+  pub stands : (start : BookFields) (calls : List Call) → Stands facts IsStored start calls old
+      → Stands facts IsStored start (call_of asked lines ∷ calls) new
   pub saves : (start : BookFields) (calls : List Call) → Stands facts IsStored start calls old
       → (facts new.keeper.store).saves ≡ (facts old.keeper.store).saves + length (filter is_saving lines)
   -- what the store was given to save is the text of the book with the attempt of this call

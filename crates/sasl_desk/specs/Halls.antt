@@ -80,10 +80,12 @@ IsSeated accounts calls places guest =
 -- what the store holds after these calls: where the latest was answered by `S HALT`, its save has failed; else the book
 abbrev pub IsStoredAfter : (IsStored : List ℕ → Type 0) → Accounts → List (Numbered Call) → (ℕ → Place) → BookFields → StoreFacts → Type 0
 IsStoredAfter IsStored accounts [] places book store = HoldsBook IsStored book store
-IsStoredAfter IsStored accounts (c ∷ before) places book store = IsStoredAt IsStored accounts (of_number c.number (c ∷ before)) (places c.number) book store
+IsStoredAfter IsStored accounts (c ∷ before) places book store =
+    IsStoredAt IsStored accounts (of_number c.number (c ∷ before)) (places c.number) book store
 
 -- a hall that began with a book has answered these calls, the latest of which comes first, each of the session of its number
-pub record StandsHall {S : Type 0} (facts : S → StoreFacts) (IsStored : List ℕ → Type 0) (start : BookFields) (calls : List (Numbered Call)) (hall : HallFields S) : Type 0 where
+pub record StandsHall {S : Type 0} (facts : S → StoreFacts) (IsStored : List ℕ → Type 0) (start : BookFields) (calls : List (Numbered Call))
+    (hall : HallFields S) : Type 0 where
   -- where the session of each number stands, and the replies that were told, in the order of the whole log
   pub places : ℕ → Place
   pub told : List Told
@@ -92,7 +94,7 @@ pub record StandsHall {S : Type 0} (facts : S → StoreFacts) (IsStored : List �
   pub fresh : (n : ℕ) → begun (hall_lines calls) < n → of_number n calls ≡ []
   -- the lines are those of a log of version 2, at most 64 of whose sessions are open at once, and they can be written
   pub spelled : SpellsNumbered most_open (demands (accounts_in start)) (hall_lines calls) places told
-  pub written : AllByRecursion IsNumberedWritable (hall_lines calls)
+  pub writable : AllByRecursion IsNumberedWritable (hall_lines calls)
   -- the numbers that were given are 1, 2, and so on
   pub given : hall.given ≡ begun (hall_lines calls)
   pub last_number : hall.given ≤ last_session_number
@@ -137,8 +139,8 @@ pub record IsSameHall {S : Type 0} (old new : HallFields S) : Type 0 where
   pub halted : new.is_halted ≡ old.is_halted
 
 -- what a call of a session did: it added lines, and the hall that had answered some calls has answered this one, too
-pub record AnswersIn {S : Type 0} (facts : S → StoreFacts) (IsStored : List ℕ → Type 0) (old : HallFields S) (n : ℕ) (asked : Asked) (answered : Phase) (wire wire' log log' : List ℕ)
-    (new : HallFields S) : Type 0 where
+pub record AnswersIn {S : Type 0} (facts : S → StoreFacts) (IsStored : List ℕ → Type 0) (old : HallFields S) (n : ℕ) (asked : Asked)
+    (answered : Phase) (wire wire' log log' : List ℕ) (new : HallFields S) : Type 0 where
   pub lines : List LogLine
   pub logged : log' ≡ log ++ numbered_bytes (map (numbered n) lines)
   pub sent : wire' ≡ wire ++ wire_bytes lines

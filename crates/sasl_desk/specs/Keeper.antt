@@ -13,8 +13,8 @@ use Rattle.log_grammar.specs.Lines.{IsReplyInRange}
 use Rattle.log_grammar.specs.Told.{Told, told_of}
 use Rattle.sasl_desk.specs.declared.fault.DeskFault.{DeskFault}
 use Rattle.sasl_desk.specs.declared.fault.DeskFault.TheVariants.{Halted, Unwritable, NoNumber, NoMemory}
-use Rattle.sasl_desk.specs.declared.keeper.Judged.{Judged}
-use Rattle.sasl_desk.specs.declared.keeper.Judged.TheVariants.{Replied, Lost}
+use Rattle.sasl_desk.specs.declared.keeper.CodeJudged.{CodeJudged}
+use Rattle.sasl_desk.specs.declared.keeper.CodeJudged.TheVariants.{Replied, Lost}
 
 -- an attempt was judged: the reply is the one that is due, and the book is the old one in which the account's token has moved
 -- by it, and nothing else
@@ -41,17 +41,20 @@ IsKept IsStored true old was new now = SavesBook IsStored was new now
 IsKept IsStored false old was new now = (new ≡ old) × (now ≡ was)
 
 -- what came of a code: a reply that is due and kept; or the store failed in saving the book with the reply that was due
-abbrev pub IsJudged : (IsStored : List ℕ → Type 0) → BookFields → StoreFacts → List ℕ → ℕ → CodeTexts → Judged → BookFields → StoreFacts → Type 0
-IsJudged IsStored old was name moment sent (Replied reply) new now = IsAttemptJudged old (told_of name moment sent reply) new × IsKept IsStored (needs_save reply) old was new now
+abbrev pub IsJudged : (IsStored : List ℕ → Type 0) → BookFields → StoreFacts → List ℕ → ℕ → CodeTexts → CodeJudged → BookFields → StoreFacts → Type 0
+IsJudged IsStored old was name moment sent (Replied reply) new now =
+    IsAttemptJudged old (told_of name moment sent reply) new × IsKept IsStored (needs_save reply) old was new now
 IsJudged IsStored old was name moment sent Lost new now =
     (new ≡ old)
-    × ((reply : Option Reply) × (next : BookFields) × (needs_save reply ≡ true) × IsAttemptJudged old (told_of name moment sent reply) next × LosesText was next now)
+    × ((reply : Option Reply) × (next : BookFields) × (needs_save reply ≡ true) × IsAttemptJudged old (told_of name moment sent reply) next
+    × LosesText was next now)
 
 -- the reply that is due needs a save
 abbrev pub IsToBeSaved : BookFields → List ℕ → ℕ → CodeTexts → Type 0
-IsToBeSaved old name moment sent = (reply : Option Reply) × (next : BookFields) × (needs_save reply ≡ true) × IsAttemptJudged old (told_of name moment sent reply) next
+IsToBeSaved old name moment sent =
+    (reply : Option Reply) × (next : BookFields) × (needs_save reply ≡ true) × IsAttemptJudged old (told_of name moment sent reply) next
 
 -- the counter of a reply is one that can pass
-abbrev pub IsJudgedInRange : Judged → Type 0
+abbrev pub IsJudgedInRange : CodeJudged → Type 0
 IsJudgedInRange (Replied reply) = IsReplyInRange reply
 IsJudgedInRange Lost = Unit {0}

@@ -53,36 +53,37 @@ pub record IsHallRunOf {S : Type 0} (facts : S → StoreFacts) (IsStored : List 
   pub spelled : SpellsNumbered most_open (demands (accounts_in r.start)) (hall_lines r.calls) r.places r.told
   pub leaves : (r.left ≡ hall.keeper.book) ⊎ ((t : Told) × IsAttemptJudged hall.keeper.book t r.left)
 
--- what happens to a book: a desk or a hall runs with it, from the text that the store held when the run began to the one that it holds when
--- the run has stopped; its token judges an attempt of an account, without a desk; the token of an account is unlocked; an
--- account is added
+-- what happens to a book: a desk or a hall runs with it, from the text that the store held when the run began to the one that
+-- it holds when the run has stopped; its token judges an attempt of an account, without a desk; the token of an account is
+-- unlocked; an account is added
 pub data Change : Type 0 where
-  ran : (r : Run) → Change
-  hosts : (r : HallRun) → Change
+  desk_ran : (r : Run) → Change
+  hall_ran : (r : HallRun) → Change
   judged : (t : Told) → Change
-  unlocks : (name : List ℕ) → Change
-  adds : (name : List ℕ) (account : AccountFields) → Change
+  unlocked : (name : List ℕ) → Change
+  added : (name : List ℕ) (account : AccountFields) → Change
 
 -- the change makes the one book the other
 abbrev pub IsChange : {S : Type 0} → (S → StoreFacts) → (IsStored : List ℕ → Type 0) → Change → (old new : BookFields) → Type 0
-IsChange facts IsStored (ran r) old new = IsDeskRunOf facts IsStored r × (r.start ≡ old) × (r.left ≡ new)
-IsChange facts IsStored (hosts r) old new = IsHallRunOf facts IsStored r × (r.start ≡ old) × (r.left ≡ new)
+IsChange facts IsStored (desk_ran r) old new = IsDeskRunOf facts IsStored r × (r.start ≡ old) × (r.left ≡ new)
+IsChange facts IsStored (hall_ran r) old new = IsHallRunOf facts IsStored r × (r.start ≡ old) × (r.left ≡ new)
 IsChange facts IsStored (judged t) old new = IsAttemptJudged old t new
-IsChange facts IsStored (unlocks name) old new = IsUnlocked old name new
-IsChange facts IsStored (adds name account) old new = (account_at old name ≡ None) × IsAdded old name account new
+IsChange facts IsStored (unlocked name) old new = IsUnlocked old name new
+IsChange facts IsStored (added name account) old new = (account_at old name ≡ None) × IsAdded old name account new
 
 -- changes, the latest first, each of the book that the one before left, from the first book to the last
 abbrev pub AreChanges : {S : Type 0} → (S → StoreFacts) → (IsStored : List ℕ → Type 0) → BookFields → List Change → BookFields → Type 0
 AreChanges facts IsStored first [] last = last ≡ first
-AreChanges facts IsStored first (c ∷ before) last = (middle : BookFields) × AreChanges facts IsStored first before middle × IsChange facts IsStored c middle last
+AreChanges facts IsStored first (c ∷ before) last =
+    (middle : BookFields) × AreChanges facts IsStored first before middle × IsChange facts IsStored c middle last
 
 -- the counters that the replies of a change use, with their accounts
 abbrev pub spent_by_change : Change → List (List ℕ × ℕ)
-spent_by_change (ran r) = all_spent (reverse r.told)
-spent_by_change (hosts r) = all_spent (reverse r.told)
+spent_by_change (desk_ran r) = all_spent (reverse r.told)
+spent_by_change (hall_ran r) = all_spent (reverse r.told)
 spent_by_change (judged t) = spent_by t
-spent_by_change (unlocks name) = []
-spent_by_change (adds name account) = []
+spent_by_change (unlocked name) = []
+spent_by_change (added name account) = []
 
 -- the counters that the replies of all changes use, with their accounts
 abbrev pub spent_in : List Change → List (List ℕ × ℕ)

@@ -27,7 +27,8 @@ call_lines [] = []
 call_lines (c ∷ before) = call_lines before ++ c.lines
 
 -- a desk that had answered some calls has answered these, too
-pub record AnswersAll {S : Type 0} (facts : S → StoreFacts) (IsStored : List ℕ → Type 0) (old : Desk S) (calls : List Call) (new : Desk S) : Type 0 where
+pub record AnswersAll {S : Type 0} (facts : S → StoreFacts) (IsStored : List ℕ → Type 0) (old : Desk S) (calls : List Call)
+    (new : Desk S) : Type 0 where
   pub stands : (start : BookFields) (before : List Call) → Stands facts IsStored start before old → Stands facts IsStored start (calls ++ before) new
   pub saves : (start : BookFields) (before : List Call) → Stands facts IsStored start before old
       → (facts new.keeper.store).saves ≡ (facts old.keeper.store).saves + length (filter is_saving (call_lines calls))
@@ -37,14 +38,16 @@ abbrev pub HaltsByStore : {S : Type 0} → (S → StoreFacts) → Desk S → Typ
 HaltsByStore facts desk = phase_of desk.state ≡ phase.Halted → (facts desk.keeper.store).failed ≡ true
 
 -- the desk answered what it was asked, and its lines were written
-pub record IsDone {S : Type 0} (facts : S → StoreFacts) (IsStored : List ℕ → Type 0) (asked : Asked) (old new : Desk S) (wire wire' log log' : SinkFacts) : Type 0 where
+pub record IsDone {S : Type 0} (facts : S → StoreFacts) (IsStored : List ℕ → Type 0) (asked : Asked) (old new : Desk S)
+    (wire wire' log log' : SinkFacts) : Type 0 where
   pub lines : List LogLine
   pub answers : AnswersAll facts IsStored old (call_of asked lines ∷ []) new
   pub written : AreWritten lines wire wire' log log'
   pub halts : HaltsByStore facts new
 
 -- the desk answered what it was asked, and its lines were logged, but the wire to the client has failed
-pub record IsUnsent {S : Type 0} (facts : S → StoreFacts) (IsStored : List ℕ → Type 0) (asked : Asked) (old new : Desk S) (wire' log log' : SinkFacts) : Type 0 where
+pub record IsUnsent {S : Type 0} (facts : S → StoreFacts) (IsStored : List ℕ → Type 0) (asked : Asked) (old new : Desk S)
+    (wire' log log' : SinkFacts) : Type 0 where
   pub lines : List LogLine
   pub answers : AnswersAll facts IsStored old (call_of asked lines ∷ []) new
   pub logged : Appends log.given log'.given (log_bytes lines)
@@ -52,7 +55,8 @@ pub record IsUnsent {S : Type 0} (facts : S → StoreFacts) (IsStored : List ℕ
   pub halts : HaltsByStore facts new
 
 -- the desk answered what it was asked, but the log has failed: the desk has halted then, and nothing was sent
-pub record IsUnlogged {S : Type 0} (facts : S → StoreFacts) (IsStored : List ℕ → Type 0) (asked : Asked) (old new : Desk S) (wire wire' log' : SinkFacts) : Type 0 where
+pub record IsUnlogged {S : Type 0} (facts : S → StoreFacts) (IsStored : List ℕ → Type 0) (asked : Asked) (old new : Desk S)
+    (wire wire' log' : SinkFacts) : Type 0 where
   pub lines : List LogLine
   pub answers : AnswersAll facts IsStored old (call_of asked lines ∷ []) new
   pub failed : log'.failed ≡ true
@@ -61,7 +65,8 @@ pub record IsUnlogged {S : Type 0} (facts : S → StoreFacts) (IsStored : List �
 
 -- why what a desk was asked is not done, and what stands then. Where the desk had halted, and where memory ran out, the desk
 -- has answered nothing, and nothing was written.
-abbrev pub IsUndone : {S : Type 0} → (S → StoreFacts) → (IsStored : List ℕ → Type 0) → Asked → (old new : Desk S) → (wire wire' log log' : SinkFacts) → ServeFault → Type 0
+abbrev pub IsUndone : {S : Type 0} → (S → StoreFacts) → (IsStored : List ℕ → Type 0) → Asked → (old new : Desk S) → (wire wire' log log' : SinkFacts)
+    → ServeFault → Type 0
 IsUndone facts IsStored asked old new wire wire' log log' Halted = IsSame old new × (wire' ≡ wire) × (log' ≡ log)
 IsUndone facts IsStored asked old new wire wire' log log' NoMemory = IsSame old new × (wire' ≡ wire) × (log' ≡ log)
 IsUndone facts IsStored asked old new wire wire' log log' Unwritable = ⊥
@@ -115,7 +120,8 @@ session_calls own greeting (e ∷ before) = call_in e ∷ session_calls own gree
 
 -- a session as far as these turns: its client was greeted, what it sent was read and answered, turn by turn, at a moment of the
 -- clock, and all lines were written
-pub record IsServedUpTo {S : Type 0} (facts : S → StoreFacts) (IsStored : List ℕ → Type 0) (IsNow : ℕ → Type 0) (own : List ℕ) (turns : List ServedTurn) (old new : Service S) : Type 0 where
+pub record IsServedUpTo {S : Type 0} (facts : S → StoreFacts) (IsStored : List ℕ → Type 0) (IsNow : ℕ → Type 0) (own : List ℕ)
+    (turns : List ServedTurn) (old new : Service S) : Type 0 where
   pub greeting : List LogLine
   pub reads : ReadsLines old.input (reads_in turns) new.input
   pub moments : AllByRecursion (λ e. IsNow e.moment) turns
@@ -124,21 +130,24 @@ pub record IsServedUpTo {S : Type 0} (facts : S → StoreFacts) (IsStored : List
   pub halts : HaltsByStore facts new.desk
 
 -- a session that its turns, of which there are no more than the most, have ended
-pub record IsServedToEnd {S : Type 0} (facts : S → StoreFacts) (IsStored : List ℕ → Type 0) (IsNow : ℕ → Type 0) (own : List ℕ) (old new : Service S) : Type 0 where
+pub record IsServedToEnd {S : Type 0} (facts : S → StoreFacts) (IsStored : List ℕ → Type 0) (IsNow : ℕ → Type 0) (own : List ℕ)
+    (old new : Service S) : Type 0 where
   pub turns : List ServedTurn
   pub few : length turns ≤ most_turns
   pub served : IsServedUpTo facts IsStored IsNow own turns old new
   pub ended : (phase_of new.desk.state ≡ phase.Closed) ⊎ (phase_of new.desk.state ≡ phase.Halted)
 
 -- a session whose turns are used up. Nothing more was read of its client.
-pub record HasUsedAllTurns {S : Type 0} (facts : S → StoreFacts) (IsStored : List ℕ → Type 0) (IsNow : ℕ → Type 0) (own : List ℕ) (old middle new : Service S) : Type 0 where
+pub record HasUsedAllTurns {S : Type 0} (facts : S → StoreFacts) (IsStored : List ℕ → Type 0) (IsNow : ℕ → Type 0) (own : List ℕ)
+    (old middle new : Service S) : Type 0 where
   pub turns : List ServedTurn
   pub all : length turns ≡ most_turns
   pub served : IsServedUpTo facts IsStored IsNow own turns old middle
   pub unread : new.input ≡ middle.input
 
 -- a session whose turns are used up, and whose client was then taken for gone
-pub record IsCutOff {S : Type 0} (facts : S → StoreFacts) (IsStored : List ℕ → Type 0) (IsNow : ℕ → Type 0) (own : List ℕ) (old new : Service S) : Type 0 where
+pub record IsCutOff {S : Type 0} (facts : S → StoreFacts) (IsStored : List ℕ → Type 0) (IsNow : ℕ → Type 0) (own : List ℕ)
+    (old new : Service S) : Type 0 where
   pub middle : Service S
   pub used_up : HasUsedAllTurns facts IsStored IsNow own old middle new
   pub moment : ℕ
@@ -146,16 +155,19 @@ pub record IsCutOff {S : Type 0} (facts : S → StoreFacts) (IsStored : List ℕ
   pub done : IsDone facts IsStored (hears goes_away moment) middle.desk new.desk middle.wire new.wire middle.log new.log
 
 -- a session that was served
-abbrev pub IsServed : {S : Type 0} → (S → StoreFacts) → (IsStored : List ℕ → Type 0) → (IsNow : ℕ → Type 0) → (own : List ℕ) → (old new : Service S) → Type 0
+abbrev pub IsServed : {S : Type 0} → (S → StoreFacts) → (IsStored : List ℕ → Type 0) → (IsNow : ℕ → Type 0) → (own : List ℕ) → (old new : Service S)
+    → Type 0
 IsServed facts IsStored IsNow own old new = IsServedToEnd facts IsStored IsNow own old new ⊎ IsCutOff facts IsStored IsNow own old new
 
 -- the client was not greeted, for this reason
-pub record FailsInGreeting {S : Type 0} (facts : S → StoreFacts) (IsStored : List ℕ → Type 0) (own : List ℕ) (old new : Service S) (fault : ServeFault) : Type 0 where
+pub record FailsInGreeting {S : Type 0} (facts : S → StoreFacts) (IsStored : List ℕ → Type 0) (own : List ℕ) (old new : Service S)
+    (fault : ServeFault) : Type 0 where
   pub unread : new.input ≡ old.input
   pub undone : IsUndone facts IsStored (greets own) old.desk new.desk old.wire new.wire old.log new.log fault
 
 -- a turn was not served, for this reason. All turns before it were.
-pub record FailsInTurn {S : Type 0} (facts : S → StoreFacts) (IsStored : List ℕ → Type 0) (IsNow : ℕ → Type 0) (own : List ℕ) (old new : Service S) (fault : ServeFault) : Type 0 where
+pub record FailsInTurn {S : Type 0} (facts : S → StoreFacts) (IsStored : List ℕ → Type 0) (IsNow : ℕ → Type 0) (own : List ℕ) (old new : Service S)
+    (fault : ServeFault) : Type 0 where
   pub middle : Service S
   pub turns : List ServedTurn
   pub few : length turns < most_turns
@@ -165,7 +177,8 @@ pub record FailsInTurn {S : Type 0} (facts : S → StoreFacts) (IsStored : List 
   pub undone : IsTurnFault facts IsStored moment middle new fault
 
 -- the turns were used up, and the client could not be taken for gone, for this reason
-pub record FailsAtEnd {S : Type 0} (facts : S → StoreFacts) (IsStored : List ℕ → Type 0) (IsNow : ℕ → Type 0) (own : List ℕ) (old new : Service S) (fault : ServeFault) : Type 0 where
+pub record FailsAtEnd {S : Type 0} (facts : S → StoreFacts) (IsStored : List ℕ → Type 0) (IsNow : ℕ → Type 0) (own : List ℕ) (old new : Service S)
+    (fault : ServeFault) : Type 0 where
   pub middle : Service S
   pub used_up : HasUsedAllTurns facts IsStored IsNow own old middle new
   pub moment : ℕ
@@ -173,9 +186,11 @@ pub record FailsAtEnd {S : Type 0} (facts : S → StoreFacts) (IsStored : List �
   pub undone : IsUndone facts IsStored (hears goes_away moment) middle.desk new.desk middle.wire new.wire middle.log new.log fault
 
 -- why a session was not served to its end
-abbrev pub IsServeFault : {S : Type 0} → (S → StoreFacts) → (IsStored : List ℕ → Type 0) → (IsNow : ℕ → Type 0) → (own : List ℕ) → (old new : Service S) → ServeFault → Type 0
+abbrev pub IsServeFault : {S : Type 0} → (S → StoreFacts) → (IsStored : List ℕ → Type 0) → (IsNow : ℕ → Type 0) → (own : List ℕ)
+    → (old new : Service S) → ServeFault → Type 0
 IsServeFault facts IsStored IsNow own old new fault =
-    FailsInGreeting facts IsStored own old new fault ⊎ FailsInTurn facts IsStored IsNow own old new fault ⊎ FailsAtEnd facts IsStored IsNow own old new fault
+    FailsInGreeting facts IsStored own old new fault ⊎ FailsInTurn facts IsStored IsNow own old new fault
+    ⊎ FailsAtEnd facts IsStored IsNow own old new fault
 
 -- a text with more bytes than a client's line may have is recorded as `C BAD`, wherever it is sent
 abbrev pub LongTextsAreBad : Type 0

@@ -1,4 +1,4 @@
--- Counters of accounts that are used up: no code passes at one of them again, whatever is attempted later.
+-- Counters of accounts that are spent: no code passes at one of them again, whatever is attempted later.
 use Rattle.std.specs.Prelude.{ℕ, ◌≡◌, ◌≢◌, ◌<◌, ◌⊎◌, List, [], ◌∷◌, ◌++◌, Option}
 use Rattle.std.specs.List.{AllByRecursion}
 use Rattle.std.specs.declared.option.Option.TheVariants.{None, Some}
@@ -17,7 +17,7 @@ use Rattle.sasl_log.specs.Tokens.{IsBookAfter}
 
 -- the account has a token, and this counter is below each that can pass with it, alone or as the first of a pair, at
 -- every moment and after every legal history
-pub record IsUsedUp (book : BookFields) (name : List ℕ) (counter : ℕ) : Type 0 where
+pub record IsSpent (book : BookFields) (name : List ℕ) (counter : ℕ) : Type 0 where
   pub token : Fields
   pub has : token_at book name ≡ Some token
   pub below : (history : List Attempt) (moment c : ℕ) → IsMoment moment → IsLegal token history
@@ -28,24 +28,24 @@ abbrev pub AreDifferent : List (List ℕ × ℕ) → Type 0
 AreDifferent [] = Unit {0}
 AreDifferent (p ∷ ps) = AllByRecursion (λ q. p ≢ q) ps × AreDifferent ps
 
--- counters, each with its account, that are different and all used up
+-- counters, each with its account, that are different and all spent
 pub record AreSpent (ps : List (List ℕ × ℕ)) (book : BookFields) : Type 0 where
   pub different : AreDifferent ps
-  pub used : AllByRecursion (λ p. IsUsedUp book p.0 p.1) ps
+  pub spent : AllByRecursion (λ p. IsSpent book p.0 p.1) ps
 
--- the counters that a reply uses: of two codes in a row both
-abbrev pub counters_by : CodeTexts → Option Reply → List ℕ
-counters_by sent None = []
-counters_by sent (Some reply) = used_by sent reply
+-- the counters that an answer to a code uses: of two codes in a row both, and none where there is no reply
+abbrev pub used_by_answer : CodeTexts → Option Reply → List ℕ
+used_by_answer sent None = []
+used_by_answer sent (Some reply) = used_by sent reply
 
--- each with the account
-abbrev pub with_name : List ℕ → List ℕ → List (List ℕ × ℕ)
-with_name name [] = []
-with_name name (c ∷ counters) = (name, c) ∷ with_name name counters
+-- counters, each with this account
+abbrev pub of_account : List ℕ → List ℕ → List (List ℕ × ℕ)
+of_account name [] = []
+of_account name (c ∷ counters) = (name, c) ∷ of_account name counters
 
 -- the counters that what was told uses, with the account
 abbrev pub spent_by : Told → List (List ℕ × ℕ)
-spent_by t = with_name t.account (counters_by t.sent t.reply)
+spent_by t = of_account t.account (used_by_answer t.sent t.reply)
 
 -- what was spent stays spent, and the counters that a reply uses are others and are spent then, too: so over any number
 -- of replies, of any number of runs that go on from one another's books, no counter of an account passes twice

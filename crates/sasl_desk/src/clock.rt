@@ -1,5 +1,5 @@
 //! Where moments come from.
-ghost use Rattle.std.specs.Prelude.{◌≡◌, ℕ, ⊤};
+ghost use Rattle.std.specs.Prelude.{◌≡◌, ℕ};
 
 use otp_core::Moment;
 
@@ -11,7 +11,7 @@ pub trait Clock {
     ghost last: { Self → ℕ };
 
     // What holds of each moment that a clock of this type gives.
-    ghost IsNow: { ℕ → Type 0 } = { λ _. ⊤ };
+    ghost IsNow: { ℕ → Type 0 } = { λ _. Unit {0} };
 
     /// The moment now. It may be before one that was given earlier.
     fn now(&mut self) -> Moment

@@ -21,7 +21,7 @@ pub struct Keeper<S> {
 
 /// What came of a code, or of two in a row.
 #[derive(Clone, Copy, Debug, PartialEq, Eq)]
-pub enum Judged {
+pub enum CodeJudged {
     /// The reply, or None where the account has no token. What it changed is saved.
     Replied(Option<Reply>),
 
@@ -73,7 +73,7 @@ impl<S: BookStore> Keeper<S> {
         name: &PlainName,
         moment: Moment,
         sent: Sent<'_>,
-    ) -> Result<Judged, AllocError>
+    ) -> Result<CodeJudged, AllocError>
         ensures ok { IfOk result (λ judged. IsJudged S.IsStored self.old.book (S.facts self.old.store) name.now moment (texts_of sent.entry)
             judged self.new.book (S.facts self.new.store)) }
         ensures counter { IfOk result IsJudgedInRange }
@@ -83,12 +83,12 @@ impl<S: BookStore> Keeper<S> {
     {
         moment_is_in_range(moment);
         let Some(mut token) = self.book.token(name) else {
-            return Ok(Judged::Replied(None));
+            return Ok(CodeJudged::Replied(None));
         };
         let before = token.copy();
         let reply = token.judge(moment, sent);
         if is_locked(reply) {
-            return Ok(Judged::Replied(Some(reply)));
+            return Ok(CodeJudged::Replied(Some(reply)));
         }
         self.book.put_token(name, token);
         let saved = match self.book.write(alloc) {
@@ -99,10 +99,10 @@ impl<S: BookStore> Keeper<S> {
             }
         };
         match saved {
-            Ok(()) => Ok(Judged::Replied(Some(reply))),
+            Ok(()) => Ok(CodeJudged::Replied(Some(reply))),
             Err(_) => {
                 self.book.put_token(name, before);
-                Ok(Judged::Lost)
+                Ok(CodeJudged::Lost)
             }
         }
     }

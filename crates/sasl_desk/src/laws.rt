@@ -94,8 +94,8 @@ pub fn stops_leave_runs<S: BookStore>()
         → IsAttemptJudged desk.keeper.book t next → (r : Run) × IsDeskRunOf S.facts S.IsStored r × (r.start ≡ start) × (r.calls ≡ calls) × (r.left ≡ next) }
 {}
 
-/// At every moment of a run the store holds a book in which each counter that a client was told has passed is used, and each that
-/// was used before the run: after a call, and where the run stops within one, as the store puts the text with the attempt that is
+/// At every moment of a run the store holds a book in which each counter that a client was told has passed is spent, and each that
+/// was spent before the run: after a call, and where the run stops within one, as the store puts the text with the attempt that is
 /// judged in the place of the old one.
 pub fn told_counters_are_saved<S: BookStore>()
     ensures ended { (start : BookFields) (calls : List Call) (desk : Desk S) (s : Stands S.facts S.IsStored start calls desk) (ps : List (List ℕ × ℕ)) → AreSpent ps start
@@ -109,7 +109,7 @@ pub fn told_counters_are_saved<S: BookStore>()
 
 /// No counter of an account passes twice over all that happens to a book: runs of desks and halls, wherever each of them stopped,
 /// and between them attempts that the book's tokens judge without a desk, unlocked tokens and added accounts. The counters that
-/// the replies use are different from each other and from those that were used before, and all are used in the book that is left.
+/// the replies use are different from each other and from those that were spent before, and all are spent in the book that is left.
 pub fn no_counter_passes_twice<S: BookStore>()
     ensures { (first : BookFields) (changes : List Change) (last : BookFields) (ps : List (List ℕ × ℕ)) → AreChanges S.facts S.IsStored first changes last
         → AreSpent ps first → AreSpent (spent_in changes ++ ps) last }

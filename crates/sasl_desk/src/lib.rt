@@ -22,7 +22,7 @@ pub use clock::Clock;
 pub use desk::{Desk, Phase};
 pub use fault::{DeskFault, ServeFault};
 pub use hall::Hall;
-pub use keeper::{Judged, Keeper};
+pub use keeper::{CodeJudged, Keeper};
 pub use otp_core::{Moment, Reply, Sent};
 pub use serving::{serve, serve_turn};
 pub use session::{Answer, Event, Heard, Recorded, Saying, Session, Turn, Waiting};

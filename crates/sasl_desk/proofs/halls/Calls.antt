@@ -40,8 +40,8 @@ use Rattle.sasl_desk.specs.Spent.{AreSpent, SpentStaysSpent}
 use Rattle.sasl_desk.specs.Turns.{IsPath}
 use Rattle.sasl_desk.specs.declared.hall.guest.Guest.{Guest}
 use Rattle.sasl_desk.specs.declared.keeper.Keeper.{Keeper}
-use Rattle.sasl_desk.specs.declared.keeper.Judged.{Judged}
-use Rattle.sasl_desk.specs.declared.keeper.Judged.TheVariants.{Replied, Lost}
+use Rattle.sasl_desk.specs.declared.keeper.CodeJudged.{CodeJudged}
+use Rattle.sasl_desk.specs.declared.keeper.CodeJudged.TheVariants.{Replied, Lost}
 use Rattle.sasl_desk.specs.declared.session.Session.{Session}
 use Rattle.sasl_desk.specs.declared.session.Session.TheVariants.{Offered, WaitsFirst, WaitsFinal, WaitsCode}
 use Rattle.sasl_desk.specs.declared.desk.state.Phase.{Phase}
@@ -53,7 +53,8 @@ use Rattle.sasl_desk.proofs.halls.Turns.{turn_is_open, any_follows, holds_book, 
 use Rattle.sasl_desk.proofs.turns.Keepers.{told_due}
 use Rattle.sasl_desk.proofs.turns.Paths.{client_turn, turn_path, turn_no_reply}
 use Rattle.sasl_desk.proofs.runs.Bytes.{left_rests}
-use Rattle.sasl_desk.proofs.runs.Stands.{book_after_told, held_at_turn, left_going, kept_held, spent_after, halt_written, taken_by_turn, taken_by_reply, taken_by_halt, stored_by_halt, turn_saves, saves_by_code, asked_by_code, quiet_by_code, failed_by, open_goes_on}
+use Rattle.sasl_desk.proofs.runs.Stands.{book_after_told, held_at_turn, left_going, kept_held, spent_after, halt_written, taken_by_turn, taken_by_reply, taken_by_halt, stored_by_halt}
+use Rattle.sasl_desk.proofs.runs.Calls.{turn_saves, saves_by_code, asked_by_code, quiet_by_code, failed_by, open_goes_on}
 
 -- numbered lines, as a turn writes them
 prefixed_texts : (n : ℕ) (lines : List LogLine) → map (λ line. prefix (Some n) ++ log_text line) lines ≡ map numbered_text (map (numbered n) lines)
@@ -95,7 +96,7 @@ step_by_answer itself facts IsStored start calls keeper n going part others give
       spelled = path_on most_open (demands accounts) (hall_lines calls) s.places s.told n (turn_lines t.turn t.message) next s.spelled (turn_of_turns t.turn t.message)
           (turn_no_reply accounts part event (s.places n) t.turn t.message turn) (λ line to goes. any_follows facts IsStored start calls hall s refl n line) path;
       turns = turn_of_turns t.turn t.message;
-      written = rw t.lines_are at t.written;
+      writable = rw t.lines_are at t.writable;
       leaves = leaves_left accounts next _ t.turn.answer.session turn.is_answer.left (turn_closed n t.turn t.message);
       is_book = s.is_book;
       stored = held_at_turn IsStored accounts (call_of (hears event moment) (turn_lines t.turn t.message) ∷ of_number n calls) next keeper.book (facts keeper.store)
@@ -128,7 +129,7 @@ step_by_reply itself stays facts IsStored start calls old new n going part other
       spelled = reply_on most_open (demands accounts) (hall_lines calls) s.places s.told n name sent moment reply s.spelled (any_follows facts IsStored start calls hall s refl n)
           asks.place (told_due old.book new.book t one accounts s.told after);
       turns = (tt, (tt, tt));
-      written = (asked.written, (reply_line moment reply is range, tt));
+      writable = (asked.writable, (reply_line moment reply is range, tt));
       leaves = (refl, refl);
       is_book = subst (λ (l : List Told). IsBookWith start l new.book) (sym (reverse-append s.told (t ∷ []))) (old.book, s.is_book, one);
       stored = kept_held IsStored (needs_save reply) old.book new.book (facts old.store) (facts new.store) kept (holds_book facts IsStored start calls hall s refl);
@@ -161,7 +162,7 @@ step_by_halt itself facts IsStored start calls old new n going part others given
           (λ line to goes. any_follows facts IsStored start calls hall s refl n line)
           (subst (λ (p : Place). IsPath (demands accounts) p lines halted) (sym asks.place) path);
       turns = (tt, (tt, tt));
-      written = (asked.written, (halt_written, tt));
+      writable = (asked.writable, (halt_written, tt));
       leaves = (refl, refl);
       is_book = subst (λ (b : BookFields). IsBookWith start (reverse s.told) b) (sym judged.0) s.is_book;
       stored = stored_by_halt IsStored accounts (of_number n calls) old.book new.book (facts old.store) (facts new.store) name event moment sent run
@@ -171,7 +172,7 @@ step_by_halt itself facts IsStored start calls old new n going part others given
 
 step_by_code : BeginsWithItself → SpentStaysSpent → {S : Type 0} (facts : S → StoreFacts) (IsStored : List ℕ → Type 0) (start : BookFields) (calls : List (Numbered Call)) (old new : Keeper S)
     (n : ℕ) (going : Session) (part : List ℕ) (others : List Guest) (given : ℕ) (event : ClientEvent) (moment : ℕ) (name : List ℕ) (sent : CodeTexts)
-    (judged : Judged) (s : StandsHall facts IsStored start calls (hall_of old (guest_of n going part ∷ others) given false))
+    (judged : CodeJudged) (s : StandsHall facts IsStored start calls (hall_of old (guest_of n going part ∷ others) given false))
     → AsksJudgement old going event name sent → IsJudged IsStored old.book (facts old.store) name moment sent judged new.book (facts new.store)
     → IsMoment moment → IsJudgedInRange judged
     → HallStep facts IsStored start calls s.places n event moment (judged_lines moment sent judged) (judged_left name judged) new
@@ -226,7 +227,7 @@ quiet_by_turn facts IsStored old new going part event moment lines left (inl t) 
 quiet_by_turn facts IsStored old new going part event moment lines left (inr (name, sent, asked, t)) none =
     quiet_by_code IsStored moment sent name t.judged old.book new.book (facts old.store) (facts new.store) t.is_judged (rw t.lines_are at none)
 
-halts_judged : (IsStored : List ℕ → Type 0) (moment : ℕ) (sent : CodeTexts) (name : List ℕ) (judged : Judged) (old new : BookFields) (was now : StoreFacts)
+halts_judged : (IsStored : List ℕ → Type 0) (moment : ℕ) (sent : CodeTexts) (name : List ℕ) (judged : CodeJudged) (old new : BookFields) (was now : StoreFacts)
     → IsJudged IsStored old was name moment sent judged new now → halted_after (judged_left name judged) ≡ true → (now.failed ≡ true) × (new ≡ old)
 halts_judged IsStored moment sent name (Replied reply) old new was now judged is = absurd (cc is)
 halts_judged IsStored moment sent name Lost old new was now (same, (reply, next, needs, one, loses)) is = (failed_by was now loses.text loses.lost, same)

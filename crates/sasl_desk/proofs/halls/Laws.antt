@@ -56,16 +56,16 @@ pub hall_is_front : {S : Type 0} (facts : S → StoreFacts) (IsStored : List ℕ
     → StandsHall facts IsStored start calls hall → IsFront (accounts_in start) (hall_bytes calls)
 hall_is_front facts IsStored start calls hall s = (
   log_text second_header ∷ map numbered_text (hall_lines calls),
-  hall_cut calls s.written,
-  inr (refl, hall_lines calls, s.places, s.told, are_written (hall_lines calls) s.written, s.spelled),
+  hall_cut calls s.writable,
+  inr (refl, hall_lines calls, s.places, s.told, are_written (hall_lines calls) s.writable, s.spelled),
 )
 
 hall_ends : {S : Type 0} (facts : S → StoreFacts) (IsStored : List ℕ → Type 0) (start : BookFields) (calls : List (Numbered Call)) (hall : HallFields S)
     (s : StandsHall facts IsStored start calls hall) → MayEndNumbered s.places → IsClean (accounts_in start) (hall_bytes calls)
 hall_ends facts IsStored start calls hall s ends = (
   log_text second_header ∷ map numbered_text (hall_lines calls),
-  hall_cut calls s.written,
-  inr (refl, hall_lines calls, s.places, s.told, are_written (hall_lines calls) s.written, s.spelled, ends),
+  hall_cut calls s.writable,
+  inr (refl, hall_lines calls, s.places, s.told, are_written (hall_lines calls) s.writable, s.spelled, ends),
 )
 
 -- nothing is left to be said at a session's place

@@ -138,7 +138,7 @@ stands_reordered facts IsStored start calls keeper guests others given is_halted
   stays = s.stays;
   fresh = s.fresh;
   spelled = s.spelled;
-  written = s.written;
+  writable = s.writable;
   given = s.given;
   last_number = s.last_number;
   guests = λ n. count_permuted (is_of n) guests others same ∙ s.guests n;
@@ -231,7 +231,7 @@ pub record HallStep {S : Type 0} (facts : S → StoreFacts) (IsStored : List ℕ
   pub taken : IsTurnTaken (accounts_in start) (own_part (of_number n calls)) event moment (places n) lines next
   pub spelled : SpellsNumbered most_open (demands (accounts_in start)) (hall_lines calls ++ map (numbered n) lines) (put n next places) told
   pub turns : AllByRecursion IsTurnLine lines
-  pub written : CanBeWritten lines
+  pub writable : CanBeWritten lines
   pub leaves : LeavesAt (accounts_in start) next (closed_in (map (numbered n) lines)) left
   pub is_book : IsBookWith start (reverse told) keeper.book
   pub stored : IsStoredAt IsStored (accounts_in start) (call_of (hears event moment) lines ∷ of_number n calls) next keeper.book (facts keeper.store)
@@ -282,7 +282,7 @@ stands_by_step facts IsStored start calls old new n going part others given even
         fresh = λ m more. of_number_skip n m call calls (λ same. omega (arith, same, more, range.1, none, all_begun))
             ∙ s.fresh m (omega (arith, more, none, all_begun));
         spelled = step.spelled;
-        written = all_append IsNumberedWritable (hall_lines calls) (map (numbered n) lines) s.written (turn_written n number lines step.turns step.written);
+        writable = all_append IsNumberedWritable (hall_lines calls) (map (numbered n) lines) s.writable (turn_written n number lines step.turns step.writable);
         given = omega (arith, s.given, none, all_begun);
         last_number = s.last_number;
         guests = at_each (λ (m : ℕ). count_by (is_of m) (guests_after n part left others) ≡ open_at (places m)) n

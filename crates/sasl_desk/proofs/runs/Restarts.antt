@@ -22,11 +22,11 @@ use Rattle.sasl_desk.specs.Keeper.{IsAttemptJudged}
 use Rattle.sasl_desk.specs.Sessions.{CanBeWritten}
 use Rattle.sasl_desk.specs.Runs.{Call, run_lines}
 use Rattle.sasl_desk.specs.Saved.{IsLogSaved}
-use Rattle.sasl_desk.specs.Spent.{AreDifferent, IsUsedUp, AreSpent, spent_by, SpentStaysSpent}
+use Rattle.sasl_desk.specs.Spent.{AreDifferent, IsSpent, AreSpent, spent_by, SpentStaysSpent}
 use Rattle.sasl_desk.specs.Desks.{HoldsBook, IsLostAfter, IsStoredAt, IsStateAt, all_spent, Stands, phase_of, session_phase}
 use Rattle.log_grammar.specs.laws.NumberedLaws.{HasOneNumberedReading}
 use Rattle.sasl_desk.specs.Halls.{hall_lines}
-use Rattle.sasl_desk.specs.Restarts.{Run, IsDeskRunOf, HallRun, IsHallRunOf, Change, ran, hosts, judged, unlocks, adds, IsChange, AreChanges, spent_by_change, spent_in}
+use Rattle.sasl_desk.specs.Restarts.{Run, IsDeskRunOf, HallRun, IsHallRunOf, Change, desk_ran, hall_ran, judged, unlocked, added, IsChange, AreChanges, spent_by_change, spent_in}
 use Rattle.sasl_desk.specs.declared.desk.Desk.{Desk}
 use Rattle.sasl_desk.specs.declared.desk.state.State.{State}
 use Rattle.sasl_desk.specs.declared.desk.state.State.TheVariants.{Closed, Open, Halted}
@@ -45,10 +45,11 @@ bytes_are_lines lines written = (
   are_lines lines written,
 )
 
+-- a desk's log is a front
 pub log_is_front : {S : Type 0} (facts : S → StoreFacts) (IsStored : List ℕ → Type 0) (start : BookFields) (calls : List Call) (desk : Desk S) → Stands facts IsStored start calls desk
     → IsFront (accounts_in start) (log_bytes (run_lines calls))
 log_is_front facts IsStored start calls desk s =
-    lines_front (accounts_in start) (log_bytes (run_lines calls)) (run_lines calls) s.place s.told (bytes_are_lines (run_lines calls) s.written) s.begins
+    lines_front (accounts_in start) (log_bytes (run_lines calls)) (run_lines calls) s.place s.told (bytes_are_lines (run_lines calls) s.writable) s.begins
 
 -- where no session is open, or the store has failed, a log may end
 closed_open : (going : Session) → session_phase going ≡ phase.Closed → ⊥
@@ -73,10 +74,11 @@ halt_leads : (d : Demands) (place next : Place) → Goes d place (said halt) nex
 halt_leads d (got_code account sent) next goes = rw goes tt
 halt_leads d place next goes = absurd goes
 
+-- it is clean where no session is open, and where the store has failed
 pub log_is_clean : {S : Type 0} (facts : S → StoreFacts) (IsStored : List ℕ → Type 0) (start : BookFields) (calls : List Call) (desk : Desk S) → Stands facts IsStored start calls desk
     → (phase_of desk.state ≡ phase.Closed) ⊎ ((facts desk.keeper.store).failed ≡ true) → IsClean (accounts_in start) (log_bytes (run_lines calls))
 log_is_clean facts IsStored start calls desk s ends =
-    lines_clean (accounts_in start) (log_bytes (run_lines calls)) (run_lines calls) s.place s.told (bytes_are_lines (run_lines calls) s.written) s.begins
+    lines_clean (accounts_in start) (log_bytes (run_lines calls)) (run_lines calls) s.place s.told (bytes_are_lines (run_lines calls) s.writable) s.begins
     (elim ends [
       | inl closed ↦ closed_ends start _ s.place desk.state s.is_state closed
       | inr failed ↦ lost_ends IsStored (accounts_in start) calls s.place desk.keeper.book (facts desk.keeper.store) s.is_stored failed
@@ -87,7 +89,7 @@ pub halted_is_clean : GoesOnByNoOther → {S : Type 0} (facts : S → StoreFacts
     → (lines : List LogLine) → run_lines calls ≡ lines ++ said halt ∷ [] → IsClean (accounts_in start) (log_bytes (run_lines calls))
 halted_is_clean law facts IsStored start calls desk s lines last =
     let before = law (accounts_in start) lines (said halt) s.place s.told (subst (λ (l : List LogLine). Begins (demands (accounts_in start)) l s.place s.told) last s.begins) in
-    lines_clean (accounts_in start) (log_bytes (run_lines calls)) (run_lines calls) s.place s.told (bytes_are_lines (run_lines calls) s.written) s.begins
+    lines_clean (accounts_in start) (log_bytes (run_lines calls)) (run_lines calls) s.place s.told (bytes_are_lines (run_lines calls) s.writable) s.begins
     (halt_leads (demands (accounts_in start)) before.place s.place before.goes)
 
 -- what is spent is so without some of it
@@ -95,12 +97,12 @@ fewer_different : (ps qs : List (List ℕ × ℕ)) → AreDifferent (ps ++ qs) �
 fewer_different [] qs all = all
 fewer_different (p ∷ ps) qs all = fewer_different ps qs all.1
 
-fewer_used : (book : BookFields) (ps qs : List (List ℕ × ℕ)) → AllByRecursion (λ p. IsUsedUp book p.0 p.1) (ps ++ qs) → AllByRecursion (λ p. IsUsedUp book p.0 p.1) qs
-fewer_used book [] qs all = all
-fewer_used book (p ∷ ps) qs all = fewer_used book ps qs all.1
+fewer_all : (book : BookFields) (ps qs : List (List ℕ × ℕ)) → AllByRecursion (λ p. IsSpent book p.0 p.1) (ps ++ qs) → AllByRecursion (λ p. IsSpent book p.0 p.1) qs
+fewer_all book [] qs all = all
+fewer_all book (p ∷ ps) qs all = fewer_all book ps qs all.1
 
 fewer_spent : (book : BookFields) (ps qs : List (List ℕ × ℕ)) → AreSpent (ps ++ qs) book → AreSpent qs book
-fewer_spent book ps qs spent = record { different = fewer_different ps qs spent.different; used = fewer_used book ps qs spent.used }
+fewer_spent book ps qs spent = record { different = fewer_different ps qs spent.different; spent = fewer_all book ps qs spent.spent }
 
 -- what was spent after an attempt that the book's token judged
 spent_after_told : BeginsWithItself → SpentStaysSpent → (old new : BookFields) (t : Told) (ps : List (List ℕ × ℕ)) → IsAttemptJudged old t new
@@ -140,26 +142,28 @@ spent_after_hall itself stays once facts IsStored r ps run spent =
 -- what was spent after a change
 spent_after : BeginsWithItself → SpentStaysSpent → HasOneReading → HasOneNumberedReading → TokensAreApart → CandidatesAreNew → AddedIsApart → {S : Type 0} (facts : S → StoreFacts) (IsStored : List ℕ → Type 0)
     (c : Change) (old new : BookFields) (ps : List (List ℕ × ℕ)) → IsChange facts IsStored c old new → AreSpent ps old → AreSpent (spent_by_change c ++ ps) new
-spent_after itself stays once numbered_once apart fresh added facts IsStored (ran r) old new ps (run, start, left) spent =
+spent_after itself stays once numbered_once apart fresh added_apart facts IsStored (desk_ran r) old new ps (run, start, left) spent =
     subst (λ (b : BookFields). AreSpent (all_spent (reverse r.told) ++ ps) b) left
     (spent_after_run itself stays once facts IsStored r ps run (subst (λ (b : BookFields). AreSpent ps b) (sym start) spent))
-spent_after itself stays once numbered_once apart fresh added facts IsStored (hosts r) old new ps (run, start, left) spent =
+spent_after itself stays once numbered_once apart fresh added_apart facts IsStored (hall_ran r) old new ps (run, start, left) spent =
     subst (λ (b : BookFields). AreSpent (all_spent (reverse r.told) ++ ps) b) left
     (spent_after_hall itself stays numbered_once facts IsStored r ps run (subst (λ (b : BookFields). AreSpent ps b) (sym start) spent))
-spent_after itself stays once numbered_once apart fresh added facts IsStored (judged t) old new ps one spent = spent_after_told itself stays old new t ps one spent
-spent_after itself stays once numbered_once apart fresh added facts IsStored (unlocks name) old new ps changed spent = unlocks_keep apart fresh old new name ps changed spent
-spent_after itself stays once numbered_once apart fresh added facts IsStored (adds name account) old new ps (free, is) spent =
-    added_keeps added old new name account ps free is spent
+spent_after itself stays once numbered_once apart fresh added_apart facts IsStored (judged t) old new ps one spent = spent_after_told itself stays old new t ps one spent
+spent_after itself stays once numbered_once apart fresh added_apart facts IsStored (unlocked name) old new ps changed spent = unlocks_keep apart fresh old new name ps changed spent
+spent_after itself stays once numbered_once apart fresh added_apart facts IsStored (added name account) old new ps (free, is) spent =
+    added_keeps added_apart old new name account ps free is spent
 
+-- what was spent after any number of changes
 pub spent_over_changes : BeginsWithItself → SpentStaysSpent → HasOneReading → HasOneNumberedReading → TokensAreApart → CandidatesAreNew → AddedIsApart → {S : Type 0}
     (facts : S → StoreFacts) (IsStored : List ℕ → Type 0) (first : BookFields) (changes : List Change) (last : BookFields) (ps : List (List ℕ × ℕ)) → AreChanges facts IsStored first changes last
     → AreSpent ps first → AreSpent (spent_in changes ++ ps) last
-spent_over_changes itself stays once numbered_once apart fresh added facts IsStored first [] last ps same spent = subst (λ (b : BookFields). AreSpent ps b) (sym same) spent
-spent_over_changes itself stays once numbered_once apart fresh added facts IsStored first (c ∷ before) last ps (middle, earlier, change) spent =
-    let until = spent_over_changes itself stays once numbered_once apart fresh added facts IsStored first before middle ps earlier spent in
+spent_over_changes itself stays once numbered_once apart fresh added_apart facts IsStored first [] last ps same spent = subst (λ (b : BookFields). AreSpent ps b) (sym same) spent
+spent_over_changes itself stays once numbered_once apart fresh added_apart facts IsStored first (c ∷ before) last ps (middle, earlier, change) spent =
+    let until = spent_over_changes itself stays once numbered_once apart fresh added_apart facts IsStored first before middle ps earlier spent in
     subst (λ (l : List (List ℕ × ℕ)). AreSpent l last) (sym (append_assoc (spent_by_change c) (spent_in before) ps))
-    (spent_after itself stays once numbered_once apart fresh added facts IsStored c middle last (spent_in before ++ ps) change until)
+    (spent_after itself stays once numbered_once apart fresh added_apart facts IsStored c middle last (spent_in before ++ ps) change until)
 
+-- the store holds the book, or it failed in its last save
 pub held_or_lost : (IsStored : List ℕ → Type 0) (accounts : Accounts) (calls : List Call) (place : Place) (book : BookFields) (store : StoreFacts) → IsStoredAt IsStored accounts calls place book store
     → HoldsBook IsStored book store ⊎ IsLostAfter IsStored accounts calls book store
 held_or_lost IsStored accounts calls halted book store lost = inr lost
@@ -216,7 +220,7 @@ stopped_run facts IsStored start calls desk t next s one = (
 pub told_spent : BeginsWithItself → SpentStaysSpent → (old new : BookFields) (t : Told) (ps : List (List ℕ × ℕ)) → IsAttemptJudged old t new → AreSpent ps old → AreSpent ps new
 told_spent itself stays old new t ps one spent = fewer_spent new (spent_by t) ps (spent_after_told itself stays old new t ps one spent)
 
--- each counter that was told is used in the book whose text the store holds
+-- each counter that was told is spent in the book whose text the store holds
 pub saved_spent : BeginsWithItself → SpentStaysSpent → {S : Type 0} (facts : S → StoreFacts) (IsStored : List ℕ → Type 0) (start : BookFields) (calls : List Call) (desk : Desk S)
     (s : Stands facts IsStored start calls desk) (ps : List (List ℕ × ℕ)) → AreSpent ps start
     → (saved : BookFields) × IsBookText (facts desk.keeper.store).saved saved × AreSpent (all_spent (reverse s.told) ++ ps) saved

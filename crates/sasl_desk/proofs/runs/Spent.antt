@@ -18,7 +18,7 @@ use Rattle.log_grammar.specs.Books.{accounts_in}
 use Rattle.log_grammar.specs.Told.{Told, told_of}
 use Rattle.log_grammar.specs.Demands.{attempts_of, IsReplyBy}
 use Rattle.sasl_log.specs.Tokens.{LeadsTo, IsBookAfter}
-use Rattle.sasl_desk.specs.Spent.{IsUsedUp, AreSpent, counters_by, with_name, SpentStaysSpent}
+use Rattle.sasl_desk.specs.Spent.{IsSpent, AreSpent, used_by_answer, of_account, SpentStaysSpent}
 
 -- a counter is below each that can pass with a token
 abbrev pub IsBelow : Fields → ℕ → Type 0
@@ -50,6 +50,7 @@ above_rest : (xs ys : List ℕ) (c : ℕ) → IsAbove (xs ++ ys) c → IsAbove y
 above_rest [] ys c above = above
 above_rest (x ∷ xs) ys c above = above_rest xs ys c above.1
 
+-- what is above some counters is above the first of them
 pub above_first : (xs ys : List ℕ) (c : ℕ) → IsAbove (xs ++ ys) c → IsAbove xs c
 above_first [] ys c above = tt
 above_first (x ∷ xs) ys c above = (above.0, above_first xs ys c above.1)
@@ -71,27 +72,29 @@ now_above join fresh start a token after history moment c is legal can =
 own_attempt : (t : Told) (r : Reply) → t.reply ≡ Some r → attempts_of t.account (t ∷ []) ≡ attempt_of t.moment t.sent r ∷ []
 own_attempt t r is = rw ((bytes_eq-Decides t.account t.account).1 refl, is) refl
 
-stays_used : LegalHistoriesJoin → (old new : BookFields) (t : Told) → IsBookAfter (accounts_in old) (t ∷ []) new
-    → (name : List ℕ) (counter : ℕ) → IsUsedUp old name counter → IsUsedUp new name counter
-stays_used join old new t after name counter used =
+stays_spent : LegalHistoriesJoin → (old new : BookFields) (t : Told) → IsBookAfter (accounts_in old) (t ∷ []) new
+    → (name : List ℕ) (counter : ℕ) → IsSpent old name counter → IsSpent new name counter
+stays_spent join old new t after name counter used =
     let leads = subst (λ (o : Option Fields). LeadsTo o (attempts_of name (t ∷ [])) (token_at new name)) used.has (after.tokens name) in
     let later = token_later used.token (attempts_of name (t ∷ [])) (token_at new name) leads in
     record { token = later.0; has = later.1; below = still_below join used.token _ later.0 counter later.2 used.below }
 
+-- what holds of each in a list stays so
 pub all_stay : {X : Type 0} (P Q : X → Type 0) → ((x : X) → P x → Q x) → (xs : List X) → AllByRecursion P xs → AllByRecursion Q xs
 all_stay P Q on [] all = tt
 all_stay P Q on (x ∷ xs) all = (on x all.0, all_stay P Q on xs all.1)
 
+-- one token is there
 pub some_inside : (one other : Fields) → Some one ≡ Some other → one ≡ other
 some_inside one other same = cc
 
 reply_inside : (one other : Reply) → Some one ≡ Some other → one ≡ other
 reply_inside one other same = cc
 
--- a counter that could pass is none of those that were used up
+-- a counter that could pass is none of those that are spent
 is_other : (old : BookFields) (name : List ℕ) (start : Fields) (counter c moment : ℕ) → token_at old name ≡ Some start → IsMoment moment
     → (IsCandidate start [] moment c ⊎ IsPairCandidate start [] c) → c ≤ counter
-    → (q : List ℕ × ℕ) → IsUsedUp old q.0 q.1 → (name, counter) ≢ q
+    → (q : List ℕ × ℕ) → IsSpent old q.0 q.1 → (name, counter) ≢ q
 is_other old name start counter c moment has is can at (other, used) up same =
     let names : name ≡ other = ap (λ (p : List ℕ × ℕ). p.0) same in
     let counters : counter ≡ used = ap (λ (p : List ℕ × ℕ). p.1) same in
@@ -104,7 +107,7 @@ spent_stays : LegalHistoriesJoin → (old new : BookFields) (t : Told) (ps : Lis
     → AreSpent ps old → AreSpent ps new
 spent_stays join old new t ps after spent = record {
   different = spent.different;
-  used = all_stay (λ p. IsUsedUp old p.0 p.1) (λ p. IsUsedUp new p.0 p.1) (λ p used. stays_used join old new t after p.0 p.1 used) ps spent.used;
+  spent = all_stay (λ p. IsSpent old p.0 p.1) (λ p. IsSpent new p.0 p.1) (λ p used. stays_spent join old new t after p.0 p.1 used) ps spent.spent;
 }
 
 -- the token after a pass, and what can pass with it
@@ -127,10 +130,10 @@ spent_by_one : LegalHistoriesJoin → CandidatesAreNew → (old new : BookFields
 spent_by_one join fresh old new name moment text c start ps has is fits after spent =
     let token = after_pass_of join fresh old new name moment (OneText text) c start has after in
     let stays = spent_stays join old new (told_of name moment (OneText text) (Some (Pass c))) ps after spent in
-    let others = all_stay (λ p. IsUsedUp old p.0 p.1) (λ q. (name, c) ≢ q) (is_other old name start c c moment has is (inl fits.0) (omega arith)) ps spent.used in
+    let others = all_stay (λ p. IsSpent old p.0 p.1) (λ q. (name, c) ≢ q) (is_other old name start c c moment has is (inl fits.0) (omega arith)) ps spent.spent in
     record {
       different = (others, spent.different);
-      used = (record { token = token.0; has = token.1; below = λ history later k at legal can. (token.2 history later k at legal can).0 }, stays.used);
+      spent = (record { token = token.0; has = token.1; below = λ history later k at legal can. (token.2 history later k at legal can).0 }, stays.spent);
     }
 
 spent_by_two : LegalHistoriesJoin → CandidatesAreNew → (old new : BookFields) (name : List ℕ) (moment : ℕ) (first second : List ℕ) (c : ℕ)
@@ -140,14 +143,14 @@ spent_by_two : LegalHistoriesJoin → CandidatesAreNew → (old new : BookFields
 spent_by_two join fresh old new name moment first second c start ps has is (w, next, can, one, two) after spent =
     let token = after_pass_of join fresh old new name moment (TwoTexts first second) c start has after in
     let stays = spent_stays join old new (told_of name moment (TwoTexts first second) (Some (Pass c))) ps after spent in
-    let greater = all_stay (λ p. IsUsedUp old p.0 p.1) (λ q. (name, c) ≢ q) (is_other old name start c w moment has is (inr can) (omega (arith, next))) ps spent.used in
-    let lesser = all_stay (λ p. IsUsedUp old p.0 p.1) (λ q. (name, c - 1) ≢ q) (is_other old name start (c - 1) w moment has is (inr can) (omega (arith, next))) ps spent.used in
+    let greater = all_stay (λ p. IsSpent old p.0 p.1) (λ q. (name, c) ≢ q) (is_other old name start c w moment has is (inr can) (omega (arith, next))) ps spent.spent in
+    let lesser = all_stay (λ p. IsSpent old p.0 p.1) (λ q. (name, c - 1) ≢ q) (is_other old name start (c - 1) w moment has is (inr can) (omega (arith, next))) ps spent.spent in
     let apart : (name, c) ≢ (name, c - 1) = λ same. let counters : c ≡ c - 1 = ap (λ (p : List ℕ × ℕ). p.1) same in omega (arith, counters, next) in
     record {
       different = ((apart, greater), (lesser, spent.different));
-      used = (
+      spent = (
         record { token = token.0; has = token.1; below = λ history later k at legal can. (token.2 history later k at legal can).0 },
-        (record { token = token.0; has = token.1; below = λ history later k at legal can. (token.2 history later k at legal can).1.0 }, stays.used),
+        (record { token = token.0; has = token.1; below = λ history later k at legal can. (token.2 history later k at legal can).1.0 }, stays.spent),
       );
     }
 
@@ -160,7 +163,7 @@ none_due moment sent r same = cc
 
 spent_next : LegalHistoriesJoin → CandidatesAreNew → (old new : BookFields) (name : List ℕ) (moment : ℕ) (sent : CodeTexts) (reply : Option Reply)
     (ps : List (List ℕ × ℕ)) (o : Option Fields) → token_at old name ≡ o → IsReplyBy o [] moment sent reply → IsMoment moment
-    → IsBookAfter (accounts_in old) (told_of name moment sent reply ∷ []) new → AreSpent ps old → AreSpent (with_name name (counters_by sent reply) ++ ps) new
+    → IsBookAfter (accounts_in old) (told_of name moment sent reply ∷ []) new → AreSpent ps old → AreSpent (of_account name (used_by_answer sent reply) ++ ps) new
 spent_next join fresh old new name moment sent None ps o has due is after spent = spent_stays join old new _ ps after spent
 spent_next join fresh old new name moment sent (Some Fail) ps o has due is after spent = spent_stays join old new _ ps after spent
 spent_next join fresh old new name moment sent (Some Locked) ps o has due is after spent = spent_stays join old new _ ps after spent
@@ -170,6 +173,7 @@ spent_next join fresh old new name moment (OneText text) (Some (Pass c)) ps (Som
 spent_next join fresh old new name moment (TwoTexts first second) (Some (Pass c)) ps (Some start) has due is after spent =
     spent_by_two join fresh old new name moment first second c start ps has is (due_is start moment (TwoTexts first second) (Pass c) due).1 after spent
 
+-- what was spent stays spent, over each reply that is due
 pub spent_stays_spent : LegalHistoriesJoin → CandidatesAreNew → SpentStaysSpent
 spent_stays_spent join fresh old new t ps is due after spent =
     spent_next join fresh old new t.account t.moment t.sent t.reply ps (token_at old t.account) refl due is after spent

@@ -1,5 +1,5 @@
 -- What a desk stands for after each of its calls.
-use Rattle.std.proofs.Common.{◌≡◌, inl, inr, ◌⊎◌, ◌+◌, Bool, true, false, ℕ, List, [], ◌∷◌, ◌++◌, reverse, length, filter, refl, sym, ◌∙◌, ap, subst, append_assoc, append-nil, arith}
+use Rattle.std.proofs.Common.{◌≡◌, inl, inr, ◌⊎◌, ◌+◌, Bool, true, false, ℕ, List, [], ◌∷◌, ◌++◌, reverse, refl, sym, ◌∙◌, subst, append_assoc, append-nil, arith}
 use Rattle.std.specs.declared.option.Option.{Option}
 use Rattle.std.specs.declared.option.Option.TheVariants.{None, Some}
 use Rattle.std.proofs.lemmas.Grind.{reverse_onto}
@@ -8,14 +8,13 @@ use Rattle.otp_core.specs.Attempt.{CodeTexts}
 use Rattle.otp_core.specs.Laws.{BeginsWithItself}
 use Rattle.otp_core.specs.Ranges.{IsMoment}
 use Rattle.otp_core.specs.declared.token.answer.Reply.{Reply}
-use Rattle.otp_core.specs.declared.token.answer.Reply.TheVariants.{Pass, Fail, Locked}
 use Rattle.book_format.specs.Book.{BookFields}
 use Rattle.book_format.specs.Trees.{IsBookText}
 use Rattle.account_book.specs.Saves.{needs_save, SavesBook, WasSaved}
 use Rattle.account_book.specs.Store.{StoreFacts, IsLost}
 use Rattle.log_grammar.specs.Books.{accounts_in}
 use Rattle.log_grammar.specs.laws.LogLaws.{GoesOnByALine}
-use Rattle.log_grammar.specs.Lines.{LogLine, header, said, heard, mechs, replies, halt, asking, log_bytes, IsWritable}
+use Rattle.log_grammar.specs.Lines.{LogLine, header, said, heard, mechs, replies, halt, asking, IsWritable}
 use Rattle.log_grammar.specs.Words.{offered_names}
 use Rattle.log_grammar.specs.Told.{Told, told_of}
 use Rattle.log_grammar.specs.Places.{Place, before_all, between, offered, waits_code, got_code, halted}
@@ -30,32 +29,25 @@ use Rattle.sasl_log.specs.Tokens.{IsBookAfter}
 use Rattle.sasl_desk.specs.Events.{ClientEvent}
 use Rattle.sasl_desk.specs.Turns.{is_client_turn, IsPath}
 use Rattle.sasl_desk.specs.Keeper.{IsAttemptJudged, IsKept, IsJudged, IsJudgedInRange}
-use Rattle.sasl_desk.specs.Sessions.{StandsAt, IsLeftAt, IsRecord, IsTurnOnEvent, recorded_shown, said_lines, end_lines, lines_of_answer, turn_lines, CanBeWritten, IsOwnChallenge}
-use Rattle.sasl_desk.specs.Runs.{greets, hears, IsAtRest, IsTurnTaken, Call, call_of, run_lines, own_part, wire_bytes, IsRun}
+use Rattle.sasl_desk.specs.Sessions.{StandsAt, IsLeftAt, IsRecord, IsTurnOnEvent, recorded_shown, lines_of_answer, turn_lines, CanBeWritten, IsOwnChallenge}
+use Rattle.sasl_desk.specs.Runs.{greets, hears, IsAtRest, IsTurnTaken, Call, call_of, run_lines, own_part, IsRun}
 use Rattle.sasl_desk.specs.Spent.{AreSpent, spent_by, SpentStaysSpent}
-use Rattle.sasl_desk.specs.Left.{left_of, judged_lines, judged_left, SessionAnswers, IsCodeJudged, AsksJudgement, AreSent, IsTurnWritten}
-use Rattle.sasl_desk.specs.Desks.{IsStateAt, HoldsBook, IsAttemptOf, IsStoredAt, IsBookWith, all_spent, Stands, Answers, phase_of, session_phase, desk_of, state_after, is_saving}
-use Rattle.sasl_desk.specs.declared.turn.Left.{Left}
+use Rattle.sasl_desk.specs.Left.{left_of, judged_lines, judged_left}
+use Rattle.sasl_desk.specs.Desks.{IsStateAt, HoldsBook, IsStoredAt, IsBookWith, all_spent, Stands, desk_of, state_after}
 use Rattle.sasl_desk.specs.declared.keeper.Keeper.{Keeper}
-use Rattle.sasl_desk.specs.declared.keeper.Judged.{Judged}
-use Rattle.sasl_desk.specs.declared.keeper.Judged.TheVariants.{Replied, Lost}
+use Rattle.sasl_desk.specs.declared.keeper.CodeJudged.{CodeJudged}
+use Rattle.sasl_desk.specs.declared.keeper.CodeJudged.TheVariants.{Replied, Lost}
 use Rattle.sasl_desk.specs.declared.desk.Desk.{Desk}
-use Rattle.sasl_desk.specs.declared.desk.state.State.{State}
 use Rattle.sasl_desk.specs.declared.desk.state.State.TheVariants.{Closed, Open, Halted}
 use Rattle.sasl_desk.specs.declared.session.Session.{Session}
-use Rattle.sasl_desk.specs.declared.desk.state.Phase.TheVariants as phase
-use Rattle.sasl_desk.specs.declared.session.Session.TheVariants.{Offered, WaitsFirst, WaitsFinal, WaitsCode}
-use Rattle.sasl_desk.specs.declared.session.turn.Recorded.{Recorded}
-use Rattle.sasl_desk.specs.declared.session.turn.Recorded.TheVariants as recorded
-use Rattle.sasl_desk.specs.declared.session.turn.Saying.{Saying}
-use Rattle.sasl_desk.specs.declared.session.turn.Saying.TheVariants.{Nothing, Continues, Accepts, Refuses}
+use Rattle.sasl_desk.specs.declared.session.Session.TheVariants.{Offered, WaitsCode}
 use Rattle.sasl_desk.specs.declared.session.turn.Turn.{Turn}
 use Rattle.sasl_desk.proofs.turns.Keepers.{told_due, told_after}
 use Rattle.sasl_desk.proofs.turns.Paths.{client_turn, turn_path, turn_no_reply, goes_on_by_path}
 use Rattle.sasl_desk.proofs.runs.Bytes.{left_rests, answer_bears, answer_answers}
 use Rattle.sasl_log.proofs.audits.LineByLine.{book_first}
 
--- a book with what was told is the one after it
+-- a book with what was told, the latest of which comes first, is the one after it
 with_after : BeginsWithItself → (start : BookFields) (before : List Told) (book : BookFields) → IsBookWith start before book
     → IsBookAfter (accounts_in start) (reverse before) book
 with_after itself start [] book is = subst (λ (b : BookFields). IsBookAfter (accounts_in start) [] b) (sym is) (book_first itself start)
@@ -63,19 +55,21 @@ with_after itself start (t ∷ before) book (old, with_old, one) =
     subst (λ (l : List Told). IsBookAfter (accounts_in start) l book) (sym (reverse_onto before t []))
     (told_after old book t one (accounts_in start) (reverse before) (with_after itself start before old with_old))
 
+-- the book of a desk is the one after what was told
 pub book_after_told : BeginsWithItself → (start : BookFields) (told : List Told) (book : BookFields) → IsBookWith start (reverse told) book
     → IsBookAfter (accounts_in start) told book
 book_after_told itself start told book is =
     subst (λ (l : List Told). IsBookAfter (accounts_in start) l book) (reverse-reverse told) (with_after itself start (reverse told) book is)
 
 -- where it is the client's turn, the store has not failed
-pub held_in_turn : (IsStored : List ℕ → Type 0) (accounts : Accounts) (calls : List Call) (at : Place) (book : BookFields) (store : StoreFacts) → is_client_turn at ≡ true
-    → IsStoredAt IsStored accounts calls at book store → HoldsBook IsStored book store
+pub held_in_turn : (IsStored : List ℕ → Type 0) (accounts : Accounts) (calls : List Call) (at : Place) (book : BookFields) (store : StoreFacts)
+    → is_client_turn at ≡ true → IsStoredAt IsStored accounts calls at book store → HoldsBook IsStored book store
 held_in_turn IsStored accounts calls halted book store turn stored = absurd (cc turn)
 held_in_turn IsStored accounts calls at book store turn stored = stored
 
-pub held_at_turn : (IsStored : List ℕ → Type 0) (accounts : Accounts) (calls : List Call) (at : Place) (book : BookFields) (store : StoreFacts) → IsAtRest at → (at ≡ halted → ⊥) → HoldsBook IsStored book store
-    → IsStoredAt IsStored accounts calls at book store
+-- where a call leaves the log, and no halt stands there, a store that holds the book is as it is to be
+pub held_at_turn : (IsStored : List ℕ → Type 0) (accounts : Accounts) (calls : List Call) (at : Place) (book : BookFields) (store : StoreFacts)
+    → IsAtRest at → (at ≡ halted → ⊥) → HoldsBook IsStored book store → IsStoredAt IsStored accounts calls at book store
 held_at_turn IsStored accounts calls halted book store rests going held = absurd (going refl)
 held_at_turn IsStored accounts calls at book store rests going held = held
 
@@ -86,45 +80,52 @@ left_going accounts at (Some going) is same =
     let turn : is_client_turn halted ≡ true = subst (λ (p : Place). is_client_turn p ≡ true) same (client_turn accounts at going is) in
     cc turn
 
+-- where a turn leaves a session, its desk is in the state that is due there
 left_state : (accounts : Accounts) (own part : List ℕ) (at : Place) (going : Option Session) → part ≡ own → IsLeftAt accounts at going
     → IsStateAt accounts own at (state_after (left_of going) part)
 left_state accounts own part at (Some going) same is = (is, same)
 left_state accounts own part at None same is = is
 
 -- after a save the store holds the text of the book
-pub saved_held : (IsStored : List ℕ → Type 0) (book : BookFields) (was now : StoreFacts) → SavesBook IsStored was book now → HoldsBook IsStored book now
+pub saved_held : (IsStored : List ℕ → Type 0) (book : BookFields) (was now : StoreFacts) → SavesBook IsStored was book now
+    → HoldsBook IsStored book now
 saved_held IsStored book was now saves = record {
   working = saves.saved.working;
   saved = subst (λ (t : List ℕ). IsBookText t book) (sym saves.saved.saved) saves.is_text;
   stored = subst IsStored (sym saves.saved.saved) saves.stored;
 }
 
--- a desk that begins
+-- the first line of a log can be written
 pub header_written : IsWritable header
 header_written = record { spelled = refl; ranges = tt; short = omega arith }
 
-stands_at_first : BeginsWithItself → GoesOnByALine → {S : Type 0} (facts : S → StoreFacts) (IsStored : List ℕ → Type 0) (keeper : Keeper S) (was : StoreFacts)
+-- a desk that begins stands for its keeper's book and no call
+stands_at_first : BeginsWithItself → GoesOnByALine
+    → {S : Type 0} (facts : S → StoreFacts) (IsStored : List ℕ → Type 0) (keeper : Keeper S) (was : StoreFacts)
     → SavesBook IsStored was keeper.book (facts keeper.store) → Stands facts IsStored keeper.book [] (desk_of keeper Closed)
 stands_at_first itself law facts IsStored keeper was holds = record {
   place = between;
   told = [];
   is_run = refl;
   begins = law (accounts_in keeper.book) [] before_all [] header between (inl (refl, refl, refl)) refl tt;
-  written = (header_written, tt);
+  writable = (header_written, tt);
   is_state = refl;
   is_book = refl;
   is_stored = saved_held IsStored keeper.book was (facts keeper.store) holds;
   spent = λ ps spent. spent;
 }
 
-pub stands_from : BeginsWithItself → GoesOnByALine → {S : Type 0} (facts : S → StoreFacts) (IsStored : List ℕ → Type 0) (book : BookFields) (keeper : Keeper S) (was : StoreFacts)
+-- so it does for a book that is its keeper's
+pub stands_from : BeginsWithItself → GoesOnByALine
+    → {S : Type 0} (facts : S → StoreFacts) (IsStored : List ℕ → Type 0) (book : BookFields) (keeper : Keeper S) (was : StoreFacts)
     → keeper.book ≡ book → SavesBook IsStored was book (facts keeper.store) → Stands facts IsStored book [] (desk_of keeper Closed)
 stands_from itself law facts IsStored book keeper was same holds =
     subst (λ (b : BookFields). Stands facts IsStored b [] (desk_of keeper Closed)) same
     (stands_at_first itself law facts IsStored keeper was (subst (λ (b : BookFields). SavesBook IsStored was b (facts keeper.store)) (sym same) holds))
 
 -- a desk that greets
-pub stands_by_greeting : GoesOnByALine → {S : Type 0} (facts : S → StoreFacts) (IsStored : List ℕ → Type 0) (start : BookFields) (calls : List Call) (keeper : Keeper S) (own : List ℕ)
+pub stands_by_greeting : GoesOnByALine
+    → {S : Type 0} (facts : S → StoreFacts) (IsStored : List ℕ → Type 0) (start : BookFields) (calls : List Call) (keeper : Keeper S) (own : List ℕ)
     → Stands facts IsStored start calls (desk_of keeper Closed)
     → Stands facts IsStored start (call_of (greets own) (said (mechs offered_names) ∷ []) ∷ calls) (desk_of keeper (Open Offered own))
 stands_by_greeting law facts IsStored start calls keeper own s =
@@ -138,7 +139,7 @@ stands_by_greeting law facts IsStored start calls keeper own s =
       told = s.told;
       is_run = (s.place, s.is_run, record { from = s.is_state; says = refl; waits = refl });
       begins = subst (λ (t : List Told). Begins (demands accounts) (run_lines calls ++ line ∷ []) offered t) (append-nil s.told) on;
-      written = all_append IsWritable (run_lines calls) (line ∷ []) s.written (two_names, tt);
+      writable = all_append IsWritable (run_lines calls) (line ∷ []) s.writable (two_names, tt);
       is_state = (refl, refl);
       is_book = s.is_book;
       is_stored = stored;
@@ -146,8 +147,8 @@ stands_by_greeting law facts IsStored start calls keeper own s =
     }
 
 -- the turn that a session took, in the words of a run
-pub taken_by_turn : (accounts : Accounts) (own part : List ℕ) (event : ClientEvent) (moment : ℕ) (at : Place) (going : Session) (turn : Turn) (message : List ℕ)
-    → part ≡ own → StandsAt accounts at going → (t : IsTurnOnEvent accounts part event at turn message)
+pub taken_by_turn : (accounts : Accounts) (own part : List ℕ) (event : ClientEvent) (moment : ℕ) (at : Place) (going : Session) (turn : Turn)
+    (message : List ℕ) → part ≡ own → StandsAt accounts at going → (t : IsTurnOnEvent accounts part event at turn message)
     → IsTurnTaken accounts own event moment at (turn_lines turn message) t.is_answer.next
 taken_by_turn accounts own part event moment at going turn message same is t = record {
   recorded = recorded_shown turn.recorded;
@@ -181,7 +182,8 @@ taken_by_reply accounts own event moment name sent reply is_record = record {
 
 -- and that of one whose save failed
 pub taken_by_halt : (accounts : Accounts) (own : List ℕ) (event : ClientEvent) (moment : ℕ) (name : List ℕ) (sent : CodeTexts)
-    → IsRecord event (waits_code name) (heard (asking sent)) → IsTurnTaken accounts own event moment (waits_code name) (judged_lines moment sent Lost) halted
+    → IsRecord event (waits_code name) (heard (asking sent))
+    → IsTurnTaken accounts own event moment (waits_code name) (judged_lines moment sent Lost) halted
 taken_by_halt accounts own event moment name sent is_record = record {
   recorded = heard (asking sent);
   answered = said halt ∷ [];
@@ -196,11 +198,14 @@ taken_by_halt accounts own event moment name sent is_record = record {
 }
 
 -- a desk whose session answers a turn
-stands_by_turn : BeginsWithItself → GoesOnByALine → {S : Type 0} (facts : S → StoreFacts) (IsStored : List ℕ → Type 0) (start : BookFields) (calls : List Call) (keeper : Keeper S) (going : Session)
-    (own : List ℕ) (event : ClientEvent) (moment : ℕ) (turn : Turn) (message : List ℕ) → Stands facts IsStored start calls (desk_of keeper (Open going own))
+pub stands_by_turn : BeginsWithItself → GoesOnByALine
+    → {S : Type 0} (facts : S → StoreFacts) (IsStored : List ℕ → Type 0) (start : BookFields) (calls : List Call) (keeper : Keeper S)
+    (going : Session) (own : List ℕ) (event : ClientEvent) (moment : ℕ) (turn : Turn) (message : List ℕ)
+    → Stands facts IsStored start calls (desk_of keeper (Open going own))
     → ((accounts : Accounts) (at : Place) → KeepsEntries accounts keeper.book → StandsAt accounts at going → IsTurnOnEvent accounts own event at turn message)
     → CanBeWritten (turn_lines turn message)
-    → Stands facts IsStored start (call_of (hears event moment) (turn_lines turn message) ∷ calls) (desk_of keeper (state_after (left_of turn.answer.session) own))
+    → Stands facts IsStored start (call_of (hears event moment) (turn_lines turn message) ∷ calls)
+    (desk_of keeper (state_after (left_of turn.answer.session) own))
 stands_by_turn itself law facts IsStored start calls keeper going own event moment turn message s hears_it written =
     let accounts = accounts_in start in
     let is = s.is_state.0 in
@@ -219,38 +224,19 @@ stands_by_turn itself law facts IsStored start calls keeper going own event mome
       );
       begins = goes_on_by_path law accounts (run_lines calls) s.place s.told lines t.is_answer.next s.begins path
           (turn_no_reply accounts own event s.place turn message t);
-      written = all_append IsWritable (run_lines calls) lines s.written written;
+      writable = all_append IsWritable (run_lines calls) lines s.writable written;
       is_state = left_state accounts (own_part calls) own t.is_answer.next turn.answer.session same t.is_answer.left;
       is_book = s.is_book;
-      is_stored = held_at_turn IsStored accounts (call_of (hears event moment) lines ∷ calls) t.is_answer.next keeper.book (facts keeper.store) (left_rests accounts t.is_answer.next turn.answer.session t.is_answer.left)
+      is_stored = held_at_turn IsStored accounts (call_of (hears event moment) lines ∷ calls) t.is_answer.next keeper.book (facts keeper.store)
+          (left_rests accounts t.is_answer.next turn.answer.session t.is_answer.left)
           (left_going accounts t.is_answer.next turn.answer.session t.is_answer.left)
           (held_in_turn IsStored accounts calls s.place keeper.book (facts keeper.store) (client_turn accounts s.place going is) s.is_stored);
       spent = s.spent;
     }
 
--- no line of such a turn stands for a save
-recorded_saves : (kept : Recorded) (lines : List LogLine) → filter is_saving (recorded_shown kept ∷ lines) ≡ filter is_saving lines
-recorded_saves (recorded.Line line) lines = refl
-recorded_saves recorded.Bad lines = refl
-recorded_saves recorded.Gone lines = refl
-
-ends_save : (going : Option Session) → filter is_saving (end_lines going) ≡ []
-ends_save (Some going) = refl
-ends_save None = refl
-
-answer_saves : (says : Saying) (going : Option Session) (message : List ℕ) → filter is_saving (said_lines says message ++ end_lines going) ≡ []
-answer_saves Nothing going message = ends_save going
-answer_saves Continues going message = ends_save going
-answer_saves Accepts going message = ends_save going
-answer_saves Refuses going message = ends_save going
-
-pub turn_saves : (turn : Turn) (message : List ℕ) → filter is_saving (turn_lines turn message) ≡ []
-turn_saves turn message =
-    recorded_saves turn.recorded (lines_of_answer turn.answer message) ∙ answer_saves turn.answer.says turn.answer.session message
-
 -- after a reply the store holds the text of the book, if it held that of the book before it
-pub kept_held : (IsStored : List ℕ → Type 0) (has_changed : Bool) (old new : BookFields) (was now : StoreFacts) → IsKept IsStored has_changed old was new now
-    → HoldsBook IsStored old was → HoldsBook IsStored new now
+pub kept_held : (IsStored : List ℕ → Type 0) (has_changed : Bool) (old new : BookFields) (was now : StoreFacts)
+    → IsKept IsStored has_changed old was new now → HoldsBook IsStored old was → HoldsBook IsStored new now
 kept_held IsStored true old new was now kept held = saved_held IsStored new was now kept
 kept_held IsStored false old new was now (same, unasked) held =
     subst (λ (b : BookFields). HoldsBook IsStored b now) (sym same) (subst (λ (f : StoreFacts). HoldsBook IsStored old f) (sym unasked) held)
@@ -262,15 +248,17 @@ pub spent_after : BeginsWithItself → SpentStaysSpent → (start old new : Book
 spent_after itself stays start old new told t one before ps spent =
     let own = book_first itself old in
     let on =
-    stays old new t (all_spent (reverse told) ++ ps) one.is_moment (told_due old new t one (accounts_in old) [] own) (told_after old new t one (accounts_in old) [] own)
-    (before ps spent) in
+    stays old new t (all_spent (reverse told) ++ ps) one.is_moment (told_due old new t one (accounts_in old) [] own)
+    (told_after old new t one (accounts_in old) [] own) (before ps spent) in
     subst (λ (l : List Told). AreSpent (all_spent l ++ ps) new) (sym (reverse-append told (t ∷ [])))
     (subst (λ (l : List (List ℕ × ℕ)). AreSpent l new) (sym (append_assoc (spent_by t) (all_spent (reverse told)) ps)) on)
 
 -- a log goes on by a code, or two in a row, and its reply
-begins_by_reply : GoesOnByALine → (accounts : Accounts) (log : List LogLine) (name : List ℕ) (told : List Told) (moment : ℕ) (sent : CodeTexts) (reply : Option Reply)
+begins_by_reply : GoesOnByALine
+    → (accounts : Accounts) (log : List LogLine) (name : List ℕ) (told : List Told) (moment : ℕ) (sent : CodeTexts) (reply : Option Reply)
     → Begins (demands accounts) log (waits_code name) told → IsReplyDue accounts (reverse told) (told_of name moment sent reply)
-    → Begins (demands accounts) (log ++ heard (asking sent) ∷ said (replies moment reply) ∷ []) (waits_code name) (told ++ told_of name moment sent reply ∷ [])
+    → Begins (demands accounts) (log ++ heard (asking sent) ∷ said (replies moment reply) ∷ []) (waits_code name)
+    (told ++ told_of name moment sent reply ∷ [])
 begins_by_reply law accounts log name told moment sent reply begins due =
     let line = heard (asking sent) in
     let first = law accounts log (waits_code name) told line (got_code name sent) begins (code_goes name sent) tt in
@@ -280,12 +268,14 @@ begins_by_reply law accounts log name told moment sent reply begins due =
     (append_assoc log (line ∷ []) (said (replies moment reply) ∷ [])) second
 
 -- a desk whose keeper judged a code, or two in a row
-pub stands_by_reply : BeginsWithItself → SpentStaysSpent → GoesOnByALine → {S : Type 0} (facts : S → StoreFacts) (IsStored : List ℕ → Type 0) (start : BookFields) (calls : List Call)
+pub stands_by_reply : BeginsWithItself → SpentStaysSpent → GoesOnByALine
+    → {S : Type 0} (facts : S → StoreFacts) (IsStored : List ℕ → Type 0) (start : BookFields) (calls : List Call)
     (old new : Keeper S) (name own : List ℕ) (event : ClientEvent) (moment : ℕ) (sent : CodeTexts) (reply : Option Reply)
     → Stands facts IsStored start calls (desk_of old (Open (WaitsCode name) own)) → IsRecord event (waits_code name) (heard (asking sent))
-    → IsWritable (heard (asking sent)) → IsMoment moment → IsJudged IsStored old.book (facts old.store) name moment sent (Replied reply) new.book (facts new.store)
-    → IsJudgedInRange (Replied reply)
-    → Stands facts IsStored start (call_of (hears event moment) (judged_lines moment sent (Replied reply)) ∷ calls) (desk_of new (state_after (judged_left name (Replied reply)) own))
+    → IsWritable (heard (asking sent)) → IsMoment moment
+    → IsJudged IsStored old.book (facts old.store) name moment sent (Replied reply) new.book (facts new.store) → IsJudgedInRange (Replied reply)
+    → Stands facts IsStored start (call_of (hears event moment) (judged_lines moment sent (Replied reply)) ∷ calls)
+    (desk_of new (state_after (judged_left name (Replied reply)) own))
 stands_by_reply itself stays law facts IsStored start calls old new name own event moment sent reply s is_record written is (one, kept) range =
     let accounts = accounts_in start in
     let at = s.is_state.0 in
@@ -303,23 +293,27 @@ stands_by_reply itself stays law facts IsStored start calls old new name own eve
         taken_by_reply accounts (own_part calls) event moment name sent reply is_record,
       );
       begins = begins_by_reply law accounts (run_lines calls) name s.told moment sent reply begins (told_due old.book new.book t one accounts s.told after);
-      written = all_append IsWritable (run_lines calls) (judged_lines moment sent (Replied reply)) s.written (written, (reply_line moment reply is range, tt));
+      writable = all_append IsWritable (run_lines calls) (judged_lines moment sent (Replied reply)) s.writable
+          (written, (reply_line moment reply is range, tt));
       is_state = (refl, s.is_state.1);
       is_book = subst (λ (l : List Told). IsBookWith start l new.book) (sym (reverse-append s.told (t ∷ []))) (old.book, s.is_book, one);
       is_stored = kept_held IsStored (needs_save reply) old.book new.book (facts old.store) (facts new.store) kept held;
       spent = spent_after itself stays start old.book new.book s.told t one s.spent;
     }
 
+-- `S HALT` can be written
 pub halt_written : IsWritable (said halt)
 halt_written = record { spelled = refl; ranges = tt; short = omega arith }
 
 -- the store failed in a save, and not before it
-pub lost_now : (was now : StoreFacts) (text : List ℕ) → was.failed ≡ false → ((was.failed ≡ true) × (now ≡ was)) ⊎ IsLost was text now → IsLost was text now
+pub lost_now : (was now : StoreFacts) (text : List ℕ) → was.failed ≡ false → ((was.failed ≡ true) × (now ≡ was)) ⊎ IsLost was text now
+    → IsLost was text now
 lost_now was now text working (inl (failed, same)) = let never : false ≡ true = sym working ∙ failed in absurd (cc never)
 lost_now was now text working (inr lost) = lost
 
 -- what the store holds after a save in which it failed
-pub stored_by_halt : (IsStored : List ℕ → Type 0) (accounts : Accounts) (calls : List Call) (old new : BookFields) (was now : StoreFacts) (name : List ℕ) (event : ClientEvent) (moment : ℕ)
+pub stored_by_halt : (IsStored : List ℕ → Type 0) (accounts : Accounts) (calls : List Call) (old new : BookFields) (was now : StoreFacts)
+    (name : List ℕ) (event : ClientEvent) (moment : ℕ)
     (sent : CodeTexts) → IsRun accounts calls (waits_code name) → HoldsBook IsStored old was → IsJudged IsStored old was name moment sent Lost new now
     → IsStoredAt IsStored accounts (call_of (hears event moment) (judged_lines moment sent Lost) ∷ calls) halted new now
 stored_by_halt IsStored accounts calls old new was now name event moment sent run held (same, (reply, next, needs, one, loses)) =
@@ -346,8 +340,10 @@ stored_by_halt IsStored accounts calls old new was now name event moment sent ru
 pub stands_by_halt : GoesOnByALine → {S : Type 0} (facts : S → StoreFacts) (IsStored : List ℕ → Type 0) (start : BookFields) (calls : List Call)
     (old new : Keeper S) (name own : List ℕ) (event : ClientEvent) (moment : ℕ) (sent : CodeTexts)
     → Stands facts IsStored start calls (desk_of old (Open (WaitsCode name) own)) → IsRecord event (waits_code name) (heard (asking sent))
-    → IsWritable (heard (asking sent)) → IsMoment moment → IsJudged IsStored old.book (facts old.store) name moment sent Lost new.book (facts new.store)
-    → Stands facts IsStored start (call_of (hears event moment) (judged_lines moment sent Lost) ∷ calls) (desk_of new (state_after (judged_left name Lost) own))
+    → IsWritable (heard (asking sent)) → IsMoment moment
+    → IsJudged IsStored old.book (facts old.store) name moment sent Lost new.book (facts new.store)
+    → Stands facts IsStored start (call_of (hears event moment) (judged_lines moment sent Lost) ∷ calls)
+    (desk_of new (state_after (judged_left name Lost) own))
 stands_by_halt law facts IsStored start calls old new name own event moment sent s is_record written is (same, (reply, next, needs, one, loses)) =
     let accounts = accounts_in start in
     let at = s.is_state.0 in
@@ -365,182 +361,37 @@ stands_by_halt law facts IsStored start calls old new name own event moment sent
         taken_by_halt accounts (own_part calls) event moment name sent is_record,
       );
       begins = goes_on_by_path law accounts (run_lines calls) (waits_code name) s.told lines halted begins path (tt, (tt, tt));
-      written = all_append IsWritable (run_lines calls) lines s.written (written, (halt_written, tt));
+      writable = all_append IsWritable (run_lines calls) lines s.writable (written, (halt_written, tt));
       is_state = tt;
       is_book = subst (λ (b : BookFields). IsBookWith start (reverse s.told) b) (sym same) s.is_book;
-      is_stored = stored_by_halt IsStored accounts calls old.book new.book (facts old.store) (facts new.store) name event moment sent run held (same, (reply, next, needs, one, loses));
+      is_stored = stored_by_halt IsStored accounts calls old.book new.book (facts old.store) (facts new.store)
+          name event moment sent run held (same, (reply, next, needs, one, loses));
       spent = λ ps spent. subst (λ (b : BookFields). AreSpent (all_spent (reverse s.told) ++ ps) b) (sym same) (s.spent ps spent);
     }
 
 -- a desk whose keeper judged a code, or lost the save of one
-stands_by_code : BeginsWithItself → SpentStaysSpent → GoesOnByALine → {S : Type 0} (facts : S → StoreFacts) (IsStored : List ℕ → Type 0) (start : BookFields) (calls : List Call)
-    (old new : Keeper S) (name own : List ℕ) (event : ClientEvent) (moment : ℕ) (sent : CodeTexts) (judged : Judged)
+pub stands_by_code : BeginsWithItself → SpentStaysSpent → GoesOnByALine
+    → {S : Type 0} (facts : S → StoreFacts) (IsStored : List ℕ → Type 0) (start : BookFields) (calls : List Call)
+    (old new : Keeper S) (name own : List ℕ) (event : ClientEvent) (moment : ℕ) (sent : CodeTexts) (judged : CodeJudged)
     → Stands facts IsStored start calls (desk_of old (Open (WaitsCode name) own)) → IsRecord event (waits_code name) (heard (asking sent))
-    → IsWritable (heard (asking sent)) → IsMoment moment → IsJudged IsStored old.book (facts old.store) name moment sent judged new.book (facts new.store)
-    → IsJudgedInRange judged
-    → Stands facts IsStored start (call_of (hears event moment) (judged_lines moment sent judged) ∷ calls) (desk_of new (state_after (judged_left name judged) own))
+    → IsWritable (heard (asking sent)) → IsMoment moment
+    → IsJudged IsStored old.book (facts old.store) name moment sent judged new.book (facts new.store) → IsJudgedInRange judged
+    → Stands facts IsStored start (call_of (hears event moment) (judged_lines moment sent judged) ∷ calls)
+    (desk_of new (state_after (judged_left name judged) own))
 stands_by_code itself stays law facts IsStored start calls old new name own event moment sent (Replied reply) s is_record written is judged range =
     stands_by_reply itself stays law facts IsStored start calls old new name own event moment sent reply s is_record written is judged range
 stands_by_code itself stays law facts IsStored start calls old new name own event moment sent Lost s is_record written is judged range =
     stands_by_halt law facts IsStored start calls old new name own event moment sent s is_record written is judged
 
--- one save for PASS, FAIL and HALT, and none for another reply
-pub saves_by_code : (IsStored : List ℕ → Type 0) (moment : ℕ) (sent : CodeTexts) (name : List ℕ) (judged : Judged) (old new : BookFields) (was now : StoreFacts) → HoldsBook IsStored old was
-    → IsJudged IsStored old was name moment sent judged new now → now.saves ≡ was.saves + length (filter is_saving (judged_lines moment sent judged))
-saves_by_code IsStored moment sent name (Replied (Some (Pass c))) old new was now held (one, kept) = kept.saved.taken_up.counted
-saves_by_code IsStored moment sent name (Replied (Some Fail)) old new was now held (one, kept) = kept.saved.taken_up.counted
-saves_by_code IsStored moment sent name (Replied (Some Locked)) old new was now held (one, kept) = let same = ap (λ (f : StoreFacts). f.saves) kept.1 in omega (arith, same)
-saves_by_code IsStored moment sent name (Replied None) old new was now held (one, kept) = let same = ap (λ (f : StoreFacts). f.saves) kept.1 in omega (arith, same)
-saves_by_code IsStored moment sent name Lost old new was now held (same, (reply, next, needs, one, loses)) =
-    (lost_now was now loses.text held.working loses.lost).taken_up.counted
-
--- what the store was given for it
-pub asked_by_code : (IsStored : List ℕ → Type 0) (event : ClientEvent) (moment : ℕ) (sent : CodeTexts) (name : List ℕ) (at : Place) (judged : Judged) (old new : BookFields) (was now : StoreFacts)
-    → at ≡ waits_code name → HoldsBook IsStored old was → IsJudged IsStored old was name moment sent judged new now → (filter is_saving (judged_lines moment sent judged) ≡ [] → ⊥)
-    → (t : Told) × (next : BookFields) × IsAttemptOf (hears event moment) at (judged_lines moment sent judged) t × IsAttemptJudged old t next × IsBookText now.asked next
-asked_by_code IsStored event moment sent name at (Replied (Some (Pass c))) old new was now here held (one, kept) some = (
-  told_of name moment sent (Some (Pass c)),
-  new,
-  record { event = event; answer = said (replies moment (Some (Pass c))); is_asked = refl; place = here; lines_are = refl; is_saved = refl },
-  one,
-  subst (λ (t : List ℕ). IsBookText t new) (sym kept.saved.taken_up.asked) kept.is_text,
-)
-asked_by_code IsStored event moment sent name at (Replied (Some Fail)) old new was now here held (one, kept) some = (
-  told_of name moment sent (Some Fail),
-  new,
-  record { event = event; answer = said (replies moment (Some Fail)); is_asked = refl; place = here; lines_are = refl; is_saved = refl },
-  one,
-  subst (λ (t : List ℕ). IsBookText t new) (sym kept.saved.taken_up.asked) kept.is_text,
-)
-asked_by_code IsStored event moment sent name at (Replied (Some Locked)) old new was now here held judged some = absurd (some refl)
-asked_by_code IsStored event moment sent name at (Replied None) old new was now here held judged some = absurd (some refl)
-asked_by_code IsStored event moment sent name at Lost old new was now here held (same, (reply, next, needs, one, loses)) some = (
-  told_of name moment sent reply,
-  next,
-  record { event = event; answer = said halt; is_asked = refl; place = here; lines_are = refl; is_saved = needs },
-  one,
-  subst (λ (t : List ℕ). IsBookText t next) (sym (lost_now was now loses.text held.working loses.lost).taken_up.asked) loses.is_text,
-)
-
--- where nothing is saved, nothing changes
-pub quiet_by_code : (IsStored : List ℕ → Type 0) (moment : ℕ) (sent : CodeTexts) (name : List ℕ) (judged : Judged) (old new : BookFields) (was now : StoreFacts)
-    → IsJudged IsStored old was name moment sent judged new now → filter is_saving (judged_lines moment sent judged) ≡ [] → (new ≡ old) × (now ≡ was)
-quiet_by_code IsStored moment sent name (Replied (Some (Pass c))) old new was now judged none = absurd (cc none)
-quiet_by_code IsStored moment sent name (Replied (Some Fail)) old new was now judged none = absurd (cc none)
-quiet_by_code IsStored moment sent name (Replied (Some Locked)) old new was now (one, kept) none = kept
-quiet_by_code IsStored moment sent name (Replied None) old new was now (one, kept) none = kept
-quiet_by_code IsStored moment sent name Lost old new was now judged none = absurd (cc none)
-
--- the desk has halted only where the save was lost
-pub failed_by : (was now : StoreFacts) (text : List ℕ) → ((was.failed ≡ true) × (now ≡ was)) ⊎ IsLost was text now → now.failed ≡ true
-failed_by was now text (inl (failed, same)) = rw same failed
-failed_by was now text (inr lost) = lost.failed
-
-halts_by_code : (IsStored : List ℕ → Type 0) (moment : ℕ) (sent : CodeTexts) (name own : List ℕ) (judged : Judged) (old new : BookFields) (was now : StoreFacts)
-    → IsJudged IsStored old was name moment sent judged new now → phase_of (state_after (judged_left name judged) own) ≡ phase.Halted → (now.failed ≡ true) × (new ≡ old)
-halts_by_code IsStored moment sent name own (Replied reply) old new was now judged is = absurd (cc is)
-halts_by_code IsStored moment sent name own Lost old new was now (same, (reply, next, needs, one, loses)) is = (failed_by was now loses.text loses.lost, same)
-
--- an open session, or none, is no halt
-pub open_goes_on : (going : Session) → session_phase going ≡ phase.Halted → ⊥
-open_goes_on Offered is = cc is
-open_goes_on (WaitsFirst mechanism) is = cc is
-open_goes_on (WaitsFinal waiting) is = cc is
-open_goes_on (WaitsCode name) is = cc is
-
-left_goes_on : (going : Option Session) (own : List ℕ) → phase_of (state_after (left_of going) own) ≡ phase.Halted → ⊥
-left_goes_on None own is = cc is
-left_goes_on (Some going) own is = open_goes_on going is
-
--- the session that waits for a code of this account was asked to hear one
-answers_by_code : BeginsWithItself → SpentStaysSpent → GoesOnByALine → {S : Type 0} (facts : S → StoreFacts) (IsStored : List ℕ → Type 0) (old : Keeper S) (going : Session)
-    (own : List ℕ) (event : ClientEvent) (moment : ℕ) (lines : List LogLine) (left : Left) (wire wire' log log' : List ℕ) (new : Desk S) (name : List ℕ)
-    (sent : CodeTexts) → AsksJudgement old going event name sent → IsCodeJudged facts IsStored old name moment sent lines left new.keeper
-    → AreSent None lines wire wire' log log' → new.state ≡ state_after left own
-    → Answers facts IsStored (desk_of old (Open going own)) (hears event moment) wire wire' log log' new
-answers_by_code itself stays law {S} facts IsStored old going own event moment lines left wire wire' log log' new name sent asked t written is_state =
-    let held = λ (start : BookFields) (calls : List Call) (s : Stands facts IsStored start calls (desk_of old (Open going own))).
-    held_in_turn IsStored (accounts_in start) calls s.place old.book (facts old.store) (client_turn (accounts_in start) s.place going s.is_state.0) s.is_stored in
-    record {
-      lines = lines;
-      logged = written.logged;
-      sent = written.sent;
-      stands = λ start calls s.
-          let here = subst (λ (g : Session). Stands facts IsStored start calls (desk_of old (Open g own))) asked.waits s in
-          let after = book_after_told itself start s.told old.book s.is_book in
-          let asks = asked.asks (accounts_in start) s.place after.entries s.is_state.0 in
-          let is_record = subst (λ (p : Place). IsRecord event p (heard (asking sent))) asks.place asks.is_record in
-          rw (is_state, t.is_left, t.lines_are)
-          (stands_by_code itself stays law facts IsStored start calls old new.keeper name own event moment sent t.judged here is_record asked.written t.is_moment t.is_judged t.in_range);
-      saves = λ start calls s.
-          rw t.lines_are (saves_by_code IsStored moment sent name t.judged old.book new.keeper.book (facts old.store) (facts new.keeper.store) (held start calls s) t.is_judged);
-      asks = λ start calls s some.
-          let here = subst (λ (g : Session). StandsAt (accounts_in start) s.place g) asked.waits s.is_state.0 in
-          rw t.lines_are (asked_by_code IsStored event moment sent name s.place t.judged old.book new.keeper.book (facts old.store) (facts new.keeper.store) here
-          (held start calls s) t.is_judged (rw t.lines_are at some));
-      quiet = λ none. quiet_by_code IsStored moment sent name t.judged old.book new.keeper.book (facts old.store) (facts new.keeper.store) t.is_judged (rw t.lines_are at none);
-      halts = λ is.
-          halts_by_code IsStored moment sent name own t.judged old.book new.keeper.book (facts old.store) (facts new.keeper.store) t.is_judged (rw (is_state, t.is_left) at is);
-    }
-
--- the session answered a turn
-answers_by_turn : BeginsWithItself → GoesOnByALine → {S : Type 0} (facts : S → StoreFacts) (IsStored : List ℕ → Type 0) (keeper : Keeper S) (going : Session) (own : List ℕ) (event : ClientEvent)
-    (moment : ℕ) (lines : List LogLine) (left : Left) (wire wire' log log' : List ℕ) (new : Desk S) → SessionAnswers keeper going own event lines left new.keeper
-    → AreSent None lines wire wire' log log' → new.state ≡ state_after left own
-    → Answers facts IsStored (desk_of keeper (Open going own)) (hears event moment) wire wire' log log' new
-answers_by_turn itself law facts IsStored keeper going own event moment lines left wire wire' log log' new t written is_state =
-    let none_saved : filter is_saving lines ≡ [] = rw t.lines_are (turn_saves t.turn t.message) in
-    record {
-      lines = lines;
-      logged = written.logged;
-      sent = written.sent;
-      stands = λ start calls s.
-          rw (t.same, is_state, t.is_left, t.lines_are)
-          (stands_by_turn itself law facts IsStored start calls keeper going own event moment t.turn t.message s t.hears (rw t.lines_are at t.written));
-      saves = λ start calls s.
-          let none = ap (λ (l : List LogLine). length l) none_saved in
-          let unasked = ap (λ (k : Keeper _). (facts k.store).saves) t.same in
-          omega (arith, none, unasked);
-      asks = λ start calls s some. absurd (some none_saved);
-      quiet = λ none. (ap (λ (k : Keeper _). k.book) t.same, ap (λ (k : Keeper _). facts k.store) t.same);
-      halts = λ is. absurd (left_goes_on t.turn.answer.session own (rw (is_state, t.is_left) at is));
-    }
-
--- the open session took a turn
-pub answers_by_taken : BeginsWithItself → SpentStaysSpent → GoesOnByALine → {S : Type 0} (facts : S → StoreFacts) (IsStored : List ℕ → Type 0) (old : Keeper S) (going : Session) (own : List ℕ)
-    (event : ClientEvent) (moment : ℕ) (left : Left) (wire wire' log log' : List ℕ) (new : Desk S)
-    → IsTurnWritten facts IsStored old going own event moment None wire wire' log log' left new.keeper → new.state ≡ state_after left own
-    → Answers facts IsStored (desk_of old (Open going own)) (hears event moment) wire wire' log log' new
-answers_by_taken itself stays law facts IsStored old going own event moment left wire wire' log log' new (lines, inl t, written) is_state =
-    answers_by_turn itself law facts IsStored old going own event moment lines left wire wire' log log' new t written is_state
-answers_by_taken itself stays law facts IsStored old going own event moment left wire wire' log log' new (lines, inr (name, sent, asked, t), written) is_state =
-    answers_by_code itself stays law facts IsStored old going own event moment lines left wire wire' log log' new name sent asked t written is_state
-
--- the desk greeted a client
-pub answers_by_greeting : GoesOnByALine → {S : Type 0} (facts : S → StoreFacts) (IsStored : List ℕ → Type 0) (keeper : Keeper S) (state : State) (own wire wire' log log' : List ℕ)
-    → state ≡ Closed → log' ≡ log ++ log_bytes (said (mechs offered_names) ∷ []) → wire' ≡ wire ++ wire_bytes (said (mechs offered_names) ∷ [])
-    → Answers facts IsStored (desk_of keeper state) (greets own) wire wire' log log' (desk_of keeper (Open Offered own))
-answers_by_greeting law facts IsStored keeper state own wire wire' log log' closed logged sent = record {
-  lines = said (mechs offered_names) ∷ [];
-  logged = logged;
-  sent = sent;
-  stands = λ start calls s.
-      stands_by_greeting law facts IsStored start calls keeper own (subst (λ (st : State). Stands facts IsStored start calls (desk_of keeper st)) closed s);
-  saves = λ start calls s. omega arith;
-  asks = λ start calls s some. absurd (some refl);
-  quiet = λ none. (refl, refl);
-  halts = λ is. absurd (cc is);
-}
-
 -- a desk that halts stands for what it stood for
-pub stands_halted : {S : Type 0} (facts : S → StoreFacts) (IsStored : List ℕ → Type 0) (start : BookFields) (calls : List Call) (desk : Desk S) → Stands facts IsStored start calls desk
-    → Stands facts IsStored start calls (desk_of desk.keeper Halted)
+pub stands_halted : {S : Type 0} (facts : S → StoreFacts) (IsStored : List ℕ → Type 0) (start : BookFields) (calls : List Call) (desk : Desk S)
+    → Stands facts IsStored start calls desk → Stands facts IsStored start calls (desk_of desk.keeper Halted)
 stands_halted facts IsStored start calls desk s = record {
   place = s.place;
   told = s.told;
   is_run = s.is_run;
   begins = s.begins;
-  written = s.written;
+  writable = s.writable;
   is_state = tt;
   is_book = s.is_book;
   is_stored = s.is_stored;

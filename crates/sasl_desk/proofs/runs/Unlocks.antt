@@ -1,4 +1,4 @@
--- What is used stays used where a token is unlocked, and where an account is added.
+-- What is spent stays spent where a token is unlocked, and where an account is added.
 use Rattle.std.proofs.Common.{◌≡◌, ◌<◌, ◌⊎◌, ℕ, List, [], ◌∷◌, Option, inl, inr, refl, sym, ap, subst, arith, ◌∙◌}
 use Rattle.std.specs.Prelude.{option_and_then}
 use Rattle.std.specs.Str.{bytes_eq}
@@ -21,7 +21,7 @@ use Rattle.book_format.specs.Book.{BookFields}
 use Rattle.account_book.specs.Accounts.{account_at, with_account, with_changed, IsAdded}
 use Rattle.account_book.specs.Laws.{TokensAreApart, AddedIsApart}
 use Rattle.account_book.specs.Tokens.{token_at, with_token, IsUnlocked}
-use Rattle.sasl_desk.specs.Spent.{IsUsedUp, AreSpent}
+use Rattle.sasl_desk.specs.Spent.{IsSpent, AreSpent}
 use Rattle.sasl_desk.proofs.runs.Spent.{IsBelow, all_stay, some_inside}
 
 -- a counter can pass after a history, alone or as the first of a pair
@@ -73,10 +73,10 @@ unlocked_below : CandidatesAreNew → (token : Fields) (counter : ℕ) → IsBel
 unlocked_below fresh token counter below history moment c is legal can =
     below_ever fresh (unlocked token) counter (λ m k at now. below [] m k at tt (unlocked_can token m k now)) history legal moment c is can
 
--- where the token of one account is unlocked, a counter that is used stays so
-used_unlocked : TokensAreApart → CandidatesAreNew → (old : BookFields) (name : List ℕ) (token : Fields) → token_at old name ≡ Some token
-    → (other : List ℕ) (counter : ℕ) → IsUsedUp old other counter → IsUsedUp (with_changed old name (with_token (unlocked token))) other counter
-used_unlocked apart fresh old name token has other counter used =
+-- where the token of one account is unlocked, a counter that is spent stays so
+spent_unlocked : TokensAreApart → CandidatesAreNew → (old : BookFields) (name : List ℕ) (token : Fields) → token_at old name ≡ Some token
+    → (other : List ℕ) (counter : ℕ) → IsSpent old other counter → IsSpent (with_changed old name (with_token (unlocked token))) other counter
+spent_unlocked apart fresh old name token has other counter used =
     let now = apart old name token (unlocked token) has other in
     elim (cases_Bool (bytes_eq name other)) [
       | inl is ↦
@@ -93,19 +93,20 @@ used_unlocked apart fresh old name token has other counter used =
     ]
 
 unlocked_as : TokensAreApart → CandidatesAreNew → (old new : BookFields) (name : List ℕ) (o : Option Fields) → token_at old name ≡ o → IsUnlocked old name new
-    → (other : List ℕ) (counter : ℕ) → IsUsedUp old other counter → IsUsedUp new other counter
+    → (other : List ℕ) (counter : ℕ) → IsSpent old other counter → IsSpent new other counter
 unlocked_as apart fresh old new name None has changed other counter used =
-    let same : new ≡ old = rw has at changed in subst (λ (b : BookFields). IsUsedUp b other counter) (sym same) used
+    let same : new ≡ old = rw has at changed in subst (λ (b : BookFields). IsSpent b other counter) (sym same) used
 unlocked_as apart fresh old new name (Some token) has changed other counter used =
     let is = rw has at changed in
-    subst (λ (b : BookFields). IsUsedUp b other counter) (sym is.book) (used_unlocked apart fresh old name token has other counter used)
+    subst (λ (b : BookFields). IsSpent b other counter) (sym is.book) (spent_unlocked apart fresh old name token has other counter used)
 
+-- what was spent stays spent where a token is unlocked
 pub unlocks_keep : TokensAreApart → CandidatesAreNew → (old new : BookFields) (name : List ℕ) (ps : List (List ℕ × ℕ)) → IsUnlocked old name new
     → AreSpent ps old → AreSpent ps new
 unlocks_keep apart fresh old new name ps changed spent = record {
   different = spent.different;
-  used = all_stay (λ p. IsUsedUp old p.0 p.1) (λ p. IsUsedUp new p.0 p.1)
-      (λ p used. unlocked_as apart fresh old new name (token_at old name) refl changed p.0 p.1 used) ps spent.used;
+  spent = all_stay (λ p. IsSpent old p.0 p.1) (λ p. IsSpent new p.0 p.1)
+      (λ p used. unlocked_as apart fresh old new name (token_at old name) refl changed p.0 p.1 used) ps spent.spent;
 }
 
 -- an account that has a token is not free
@@ -113,10 +114,10 @@ token_free : (o : Option AccountFields) (token : Fields) → o ≡ None → opti
 token_free None token free has = cc has
 token_free (Some account) token free has = cc free
 
--- where an account is added, a counter that is used stays so
-used_with : AddedIsApart → (old : BookFields) (name : List ℕ) (account : AccountFields) → account_at old name ≡ None
-    → (other : List ℕ) (counter : ℕ) → IsUsedUp old other counter → IsUsedUp (with_account old name account) other counter
-used_with apart old name account free other counter used =
+-- where an account is added, a counter that is spent stays so
+spent_with : AddedIsApart → (old : BookFields) (name : List ℕ) (account : AccountFields) → account_at old name ≡ None
+    → (other : List ℕ) (counter : ℕ) → IsSpent old other counter → IsSpent (with_account old name account) other counter
+spent_with apart old name account free other counter used =
     let now = apart old name account other in
     elim (cases_Bool (bytes_eq name other)) [
       | inl is ↦
@@ -127,10 +128,11 @@ used_with apart old name account free other counter used =
           record { token = used.token; has = ap (option_and_then (λ a. a.token)) same ∙ used.has; below = used.below }
     ]
 
+-- and where an account is added
 pub added_keeps : AddedIsApart → (old new : BookFields) (name : List ℕ) (account : AccountFields) (ps : List (List ℕ × ℕ)) → account_at old name ≡ None
     → IsAdded old name account new → AreSpent ps old → AreSpent ps new
 added_keeps apart old new name account ps free added spent = record {
   different = spent.different;
-  used = all_stay (λ p. IsUsedUp old p.0 p.1) (λ p. IsUsedUp new p.0 p.1)
-      (λ p used. subst (λ (b : BookFields). IsUsedUp b p.0 p.1) (sym added.book) (used_with apart old name account free p.0 p.1 used)) ps spent.used;
+  spent = all_stay (λ p. IsSpent old p.0 p.1) (λ p. IsSpent new p.0 p.1)
+      (λ p used. subst (λ (b : BookFields). IsSpent b p.0 p.1) (sym added.book) (spent_with apart old name account free p.0 p.1 used)) ps spent.spent;
 }

@@ -1,4 +1,4 @@
-//! The places of a hall for the sessions that are open.
+//! The seats of a hall, one for each session that is open.
 ghost use Rattle.std.specs.Prelude.{◌≡◌, ◌<◌, ◌≤◌, ◌+◌, [], ◌∷◌, ◌++◌, List, length, vec_capacity, vec_len, IfOk, IfSome, IfNone, None, Some};
 ghost use Rattle.log_grammar.specs.Versions.{most_open};
 ghost use Rattle.sasl_desk.specs.declared.hall.guest.Guest.{Guest};
@@ -10,7 +10,7 @@ use scram_text::NoncePart;
 use std::alloc::Global;
 use std::marker::Model;
 
-/// Places for 64 sessions, reserved once, so that none of them takes memory.
+/// Seats for 64 sessions, reserved once, so that none of them takes memory.
 #[derive(Drop)]
 pub(crate) struct Seats {
     guests: Vec<Guest>,
@@ -29,7 +29,7 @@ impl Seats {
     ghost use Rattle.std.specs.List.Sorted.{IsPermutation};
     ghost use Rattle.sasl_desk.specs.Guests.{is_of, guest_of};
 
-    /// 64 places, all of which are free. Answers 99 NoMemory where memory ran out.
+    /// 64 seats, all of which are free. Answers 99 NoMemory where memory ran out.
     pub(crate) fn new(alloc: Global) -> Result<Seats, NoMemory>
         ensures { IfOk result (λ seats. seats ≡ []) }
     {
@@ -40,7 +40,7 @@ impl Seats {
         }
     }
 
-    /// How many places are taken.
+    /// How many seats are taken.
     pub(crate) fn taken(&self) -> usize
         ensures value { result ≡ length self.now }
         ensures few { result ≤ most_open }
@@ -48,8 +48,8 @@ impl Seats {
         self.guests.len()
     }
 
-    // The place of the guest of this number.
-    fn place_of(&self, number: u64) -> Option<usize>
+    // The index of the seat of this number's guest.
+    fn index_of(&self, number: u64) -> Option<usize>
         ensures { result ≡ position (is_of number) self.now }
     {
         self.guests.iter().position(|guest| guest.number == number)
@@ -60,24 +60,24 @@ impl Seats {
         ensures some { IfSome result (λ session. (guest : Guest) × (find (is_of number) self.now ≡ Some guest) × (session.now ≡ guest.session)) }
         ensures none { IfNone result (find (is_of number) self.now ≡ None) }
     {
-        match self.place_of(number) {
-            Some(place) => Some(&self.guests[place].session),
+        match self.index_of(number) {
+            Some(index) => Some(&self.guests[index].session),
             None => None,
         }
     }
 
-    /// Lets the guest of this number leave its place, or answers None where there is none.
+    /// Lets the guest of this number leave its seat, or answers None where there is none.
     pub(crate) fn leave(&mut self, number: u64) -> Option<Guest>
         ensures some { IfSome result (λ guest. IsPermutation self.old (guest ∷ self.new) × (guest.number ≡ number) × (length self.new < most_open)) }
         ensures none { IfNone result ((find (is_of number) self.old ≡ None) × (self.new ≡ self.old)) }
     {
-        match self.place_of(number) {
-            Some(place) => Some(self.guests.swap_remove(place)),
+        match self.index_of(number) {
+            Some(index) => Some(self.guests.swap_remove(index)),
             None => None,
         }
     }
 
-    /// Gives a session a place, of which one is free.
+    /// Gives a session a seat. One must be free.
     pub(crate) fn seat(&mut self, number: u64, session: Session, own: NoncePart)
         requires { length self.old < most_open }
         ensures { self.new ≡ self.old ++ guest_of number session own ∷ [] }

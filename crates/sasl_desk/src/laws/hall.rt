@@ -1,5 +1,5 @@
 //! Laws of halls, each the promise of a function that does nothing.
-ghost use Rattle.std.specs.Prelude.{◌≡◌, ◌≢◌, ◌⊎◌, true, None, ℕ, List, [], ◌∷◌, ◌++◌, map, reverse};
+ghost use Rattle.std.specs.Prelude.{◌≡◌, ◌≢◌, true, None, ℕ, List, [], ◌∷◌, ◌++◌, map, reverse};
 ghost use Rattle.book_format.specs.Book.{BookFields};
 ghost use Rattle.book_format.specs.Trees.{IsBookText};
 ghost use Rattle.log_grammar.specs.Books.{accounts_in};
@@ -86,8 +86,8 @@ pub fn stops_leave_runs<S: BookStore>()
         → IsAttemptJudged hall.keeper.book t next → (r : HallRun) × IsHallRunOf S.facts S.IsStored r × (r.start ≡ start) × (r.calls ≡ calls) × (r.left ≡ next) }
 {}
 
-/// At every moment of a run the store holds a book in which each counter that a client was told has passed is used, and each that
-/// was used before the run: after a call, and where the run stops within one.
+/// At every moment of a run the store holds a book in which each counter that a client was told has passed is spent, and each that
+/// was spent before the run: after a call, and where the run stops within one.
 pub fn told_counters_are_saved<S: BookStore>()
     ensures ended { (start : BookFields) (calls : List (Numbered Call)) (hall : HallFields S) (s : StandsHall S.facts S.IsStored start calls hall)
         (ps : List (List ℕ × ℕ)) → AreSpent ps start

@@ -1,7 +1,7 @@
 //! Codes of RFC 4226, appendix D, and what the store holds after them.
 use account_book::Book;
 use desk_in_memory::{BOOK, Memory};
-use sasl_desk::{DeskFault, Judged, Keeper, Moment, Reply, Sent};
+use sasl_desk::{CodeJudged, DeskFault, Keeper, Moment, Reply, Sent};
 use scram_text::PlainName;
 use std::alloc::Global;
 use std::process::Abort;
@@ -40,7 +40,7 @@ fn judge(
     keeper: &mut Keeper<Memory>,
     name: &[u8],
     sent: Sent<'_>,
-) -> Result<Judged, Fail> {
+) -> Result<CodeJudged, Fail> {
     let name = PlainName::new(name).ok_or("a name")?;
     let moment = Moment::new(5).ok_or("a moment")?;
     Ok(keeper.judge(alloc, &name, moment, sent)?)
@@ -88,7 +88,7 @@ fn each_code_passes_once(rt: HostRuntime) -> Result<(), Fail> {
         ("520489", Reply::Fail),
     ] {
         let judged = judge(alloc, &mut keeper, b"user", Sent::One(code.as_bytes()))?;
-        assert_eq!(rt; judged, Judged::Replied(Some(reply)), "{code}");
+        assert_eq!(rt; judged, CodeJudged::Replied(Some(reply)), "{code}");
     }
     check_kept(&rt, keeper, 12, book_at(alloc, 1, 10)?.as_str())
 }
@@ -108,7 +108,7 @@ fn two_codes_are_both_used(rt: HostRuntime) -> Result<(), Fail> {
         (Sent::Two(b"399871", b"520489"), Reply::Pass(9)),
     ] {
         let judged = judge(alloc, &mut keeper, b"user", sent)?;
-        assert_eq!(rt; judged, Judged::Replied(Some(reply)));
+        assert_eq!(rt; judged, CodeJudged::Replied(Some(reply)));
     }
     check_kept(&rt, keeper, 7, book_at(alloc, 0, 10)?.as_str())
 }
@@ -127,7 +127,7 @@ fn failures_lock(rt: HostRuntime) -> Result<(), Fail> {
         (Sent::Two(b"755224", b"287082"), Reply::Locked),
     ] {
         let judged = judge(alloc, &mut keeper, b"user", sent)?;
-        assert_eq!(rt; judged, Judged::Replied(Some(reply)));
+        assert_eq!(rt; judged, CodeJudged::Replied(Some(reply)));
     }
     check_kept(&rt, keeper, 4, book_at(alloc, 3, 0)?.as_str())
 }
@@ -139,7 +139,7 @@ fn no_account_and_no_token(rt: HostRuntime) -> Result<(), Fail> {
     for name in [b"user".as_slice(), b"nobody"] {
         for sent in [Sent::One(b"755224"), Sent::Two(b"755224", b"287082")] {
             let judged = judge(alloc, &mut keeper, name, sent)?;
-            assert_eq!(rt; judged, Judged::Replied(None));
+            assert_eq!(rt; judged, CodeJudged::Replied(None));
         }
     }
     check_kept(&rt, keeper, 1, BOOK)
@@ -153,7 +153,7 @@ fn check_lost(rt: &(impl Abort + AllocGlobal), is_late: bool, held: u64) -> Resu
     let mut keeper = begun(alloc, before.as_str(), Memory::new(alloc, 2, is_late))?;
     for code in ["755224", "755224", "000000"] {
         let judged = judge(alloc, &mut keeper, b"user", Sent::One(code.as_bytes()))?;
-        assert_eq!(rt; judged, Judged::Lost, "{code}");
+        assert_eq!(rt; judged, CodeJudged::Lost, "{code}");
         let text = keeper.book().write(alloc)?;
         assert_eq!(rt; text.as_str(), before.as_str(), "{code}");
     }

@@ -8,14 +8,14 @@ use Rattle.sasl_desk.proofs.hall.seats.Seats.session.Goals as goal
 
 pub returns-in-Some-clause-some : goal.returns-in-Some-clause-some
 returns-in-Some-clause-some c =
-    let here = sym c.place_of.ensures ∙ c.in-Some.is in
-    let inside = position-Some (is_of c.args.number) c.args.self.now c.in-Some.place c.index.result.now here in (
+    let here = sym c.index_of.ensures ∙ c.in-Some.is in
+    let inside = position-Some (is_of c.args.number) c.args.self.now c.in-Some.index c.index.result.now here in (
       c.index.result.now,
-      found_at (is_of c.args.number) c.args.self.now c.in-Some.place here
-          ∙ rw (← c.self.view_is) (slice_get-get_or c.self.inside.guests.items c.in-Some.place c.index.result.now (rw (← c.self.view_is) at inside.0)
+      found_at (is_of c.args.number) c.args.self.now c.in-Some.index here
+          ∙ rw (← c.self.view_is) (slice_get-get_or c.self.inside.guests.items c.in-Some.index c.index.result.now (rw (← c.self.view_is) at inside.0)
           ∙ ap Some (sym c.index.ensures)),
       refl,
     )
 
 pub returns-in-None-clause-none : goal.returns-in-None-clause-none
-returns-in-None-clause-none c = found_nowhere (is_of c.args.number) c.args.self.now (sym c.place_of.ensures ∙ c.in-None.is)
+returns-in-None-clause-none c = found_nowhere (is_of c.args.number) c.args.self.now (sym c.index_of.ensures ∙ c.in-None.is)
