@@ -1,12 +1,14 @@
 -- What becomes of a held book and of its store.
-use Rattle.std.specs.Prelude.{ℕ, ⊤, ◌≡◌, ◌≤◌, ◌<◌, ◌⊎◌, true, false, List, [], ◌∷◌, ◌++◌, length, codes, string_bytes, Option, is_some, None, Some, IfSome, MatchOption}
+use Rattle.std.specs.Prelude.{ℕ, ◌≡◌, ◌≤◌, ◌<◌, ◌⊎◌, true, false, List, [], ◌∷◌, ◌++◌, length, codes, string_bytes, Option, is_some, None, Some, IfSome, MatchOption}
 use Rattle.std.specs.Str.{byte}
 use Rattle.std.specs.Io.KnownBytes.{Appends}
 use Rattle.otp_core.specs.Attempt.{CodeTexts}
 use Rattle.otp_core.specs.declared.token.answer.Reply.{Reply}
 use Rattle.book_format.specs.Account.{AccountFields}
 use Rattle.book_format.specs.Book.{BookFields}
+use Rattle.book_format.specs.Reading.{IsFirstFault}
 use Rattle.book_format.specs.Trees.{IsBookText}
+use Rattle.book_format.specs.declared.fault.BookFault.{BookFault}
 use Rattle.account_book.specs.Accounts.{account_at, IsAdded}
 use Rattle.account_book.specs.Enrolled.{enrolled}
 use Rattle.account_book.specs.Saves.{needs_save, SavesBook, WasSaved}
@@ -15,8 +17,9 @@ use Rattle.account_book.specs.Tokens.{IsAttempt, IsUnlocked, token_at}
 use Rattle.book_file.specs.Text.{IsRead, IsWritten}
 use Rattle.book_file.specs.declared.file.TheConstants.{MOST_BOOK}
 use Rattle.clap.specs.declared.parser.matches.ArgMatches.{ArgMatches}
+use Rattle.command_line.specs.Fault.{of_book}
 use Rattle.command_line.specs.declared.fault.Fault.{Fault}
-use Rattle.command_line.specs.declared.fault.Fault.TheVariants.{NoSuchAccount, NoToken, BadBook, CannotRead, CannotWrite, NoMemory}
+use Rattle.command_line.specs.declared.fault.Fault.TheVariants.{NoSuchAccount, NoToken, CannotRead, CannotWrite, NoMemory}
 use Rattle.command_line.specs.declared.value.OptionName.TheVariants as option
 use Rattle.command_words.specs.Values.{given_value}
 use Rattle.account_commands.specs.declared.held_book.HeldBook.{HeldBook}
@@ -50,13 +53,21 @@ IsChangeUnsaved old Changes new = (new ≡ old) ⊎ (Changes old.book new.book �
 abbrev pub CannotBeSaved : (text : List ℕ) → StoreFacts → Type 0
 CannotBeSaved text store = (MOST_BOOK < length text) ⊎ (store.failed ≡ true)
 
--- the fault of a book that can't be held or read: the file of this path can't be read; that file or the one of its next text
--- can't be written; its text is no book; or memory ran out
-abbrev pub IsUnheld : (path : List ℕ) → Fault → Type 0
-IsUnheld path (CannotRead file) = string_bytes file ≡ path
-IsUnheld path (CannotWrite file) = ⊤
-IsUnheld path (BadBook number) = ⊤
-IsUnheld path fault = fault ≡ NoMemory
+-- a text was read from a file and is no book: the fault is that of its first fault
+abbrev pub IsFaultOfText : {File : Type 0} → (bytes_of : File → Option (List ℕ)) → Fault → Type 0
+IsFaultOfText bytes_of fault =
+    (text : List ℕ) × (found : BookFault) × IsRead bytes_of text × IsFirstFault text found × (fault ≡ of_book found)
+
+-- the fault of a book whose file gives no bytes: the file of this path can't be read; a file can't be written, and which one is
+-- not said; or memory ran out
+abbrev pub CannotHold : (path : List ℕ) → Fault → Type 0
+CannotHold path (CannotRead file) = string_bytes file ≡ path
+CannotHold path (CannotWrite file) = Unit {0}
+CannotHold path fault = fault ≡ NoMemory
+
+-- the fault of a book that can't be held or read: its file gives no bytes, or those that were read are no book
+abbrev pub IsUnheld : {File : Type 0} → (bytes_of : File → Option (List ℕ)) → (path : List ℕ) → Fault → Type 0
+IsUnheld bytes_of path fault = CannotHold path fault ⊎ IsFaultOfText bytes_of fault
 
 -- the account that was looked up is not there, or has no token: the fault says which
 abbrev pub LacksToken : Option AccountFields → Fault → Type 0

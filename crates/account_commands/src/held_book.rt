@@ -9,7 +9,7 @@ ghost use Rattle.account_book.specs.Tokens.{token_at};
 ghost use Rattle.book_file.specs.Text.{IsRead};
 ghost use Rattle.otp_core.specs.Sent.{texts_of};
 ghost use Rattle.command_line.specs.Fault.{IsTokenFault, IsUnwritten, of_book};
-ghost use Rattle.account_commands.specs.HeldBook.{held_shown, CannotBeSaved, IsBookSaved, IsBookUnsaved, IsChangeUnsaved, IsEnrolled, IsAttemptAnswered, IsReadBook, IsReplyUnsaved, IsTokenUnlocked, IsUnheld, IsUnlockSaved, LacksToken};
+ghost use Rattle.account_commands.specs.HeldBook.{held_shown, CannotBeSaved, CannotHold, IsBookSaved, IsBookUnsaved, IsChangeUnsaved, IsEnrolled, IsAttemptAnswered, IsReadBook, IsReplyUnsaved, IsTokenUnlocked, IsUnheld, IsUnlockSaved, LacksToken};
 
 use crate::new_account::{NewAccount, Salts};
 use account_book::{Book, BookStore, BookWhy, EnrolFault, Reply};
@@ -52,7 +52,7 @@ where
     R::File: Lockable,
     E: Write,
     ensures read { IfOk result (λ found. IfSome found (λ seen. IsReadBook R.File.remaining (string_bytes seen.text) seen.book)) }
-    ensures err { IfErr result (IsUnheld path.now) }
+    ensures err { IfErr result (IsUnheld R.File.remaining path.now) }
 {
     let mut file = match BookFile::hold(rt, path) {
         Ok(file) => file,
@@ -80,7 +80,7 @@ where
     E: Write,
     ensures read { IfOk result (λ held. IsReadBook R.File.remaining (⟦<FileStore<'r, R> as BookStore>⟧.facts held.store).saved held.book) }
     ensures path { IfOk result (λ held. held.path.now ≡ path.now) }
-    ensures err { IfErr result (IsUnheld path.now) }
+    ensures err { IfErr result (IsUnheld R.File.remaining path.now) }
 {
     let (file, text) = text_held(rt, path, BookFile::hold(rt, path), faults)?;
     match text {
@@ -103,7 +103,7 @@ where
     R::File: Lockable,
     E: Write,
     ensures read { IfOk result (λ found. IfSome found.1 (λ text. IsRead R.File.remaining (string_bytes text))) }
-    ensures err { IfErr result (IsUnheld path.now) }
+    ensures err { IfErr result (IsUnheld R.File.remaining path.now) }
 {
     let mut file = match held {
         Ok(file) => file,
@@ -123,7 +123,7 @@ fn unheld<E: Write>(
     fault: HoldFault,
     faults: &mut E,
 ) -> Result<Fault, AllocError>
-    ensures { IfOk result (IsUnheld path.now) }
+    ensures { IfOk result (CannotHold path.now) }
 {
     let file = String::from_str(alloc, path)?;
     Ok(match fault {
@@ -159,7 +159,7 @@ where
     R: Files + Clock + AllocGlobal,
     R::File: Lockable,
     ensures read { IfOk result (λ found. IfSome found (λ text. IsRead R.File.remaining (string_bytes text))) }
-    ensures err { IfErr result (IsUnheld path.now) }
+    ensures err { IfErr result (IsUnheld R.File.remaining path.now) }
 {
     let bytes = match file.read() {
         Ok(Some(bytes)) => bytes,

@@ -100,7 +100,7 @@ IsBadWord words fault =
 -- a run of `verify` does not begin: a word is bad, the book can't be held or read, or a book that was read has no token for the name
 abbrev pub CannotBegin : {File : Type 0} → (bytes_of : File → Option (List ℕ)) → ArgMatches → Fault → Type 0
 CannotBegin bytes_of words fault =
-    IsBadWord words fault ⊎ (IsUnheld (given_value words option.Book) fault
+    IsBadWord words fault ⊎ (IsUnheld bytes_of (given_value words option.Book) fault
     ⊎ ((text : List ℕ) × (book : BookFields) × IsReadBook bytes_of text book × LacksToken (account_at book (given_value words option.Name)) fault))
 
 -- a run of `verify` begins, at the moment that the words give: its book was read from a file, and this is printed
