@@ -400,12 +400,12 @@ def try_crate(room: Room, is_first: bool, options: argparse.Namespace) -> Count:
 
 def self_test(room: Room, edits: list[Edit]) -> None:
     """Ends the run unless an edit without a change is let through, and one whose text is gone, or a line of it not read, is unusable.
-    A crate whose edits are all of definitions has no function for this test."""
+    A crate without a method, or whose edits are all of definitions, has nothing for this test."""
     wrong = next((it for it in edits if it.is_inside), None)
-    if not wrong:
-        return
     # a method of a type has a body, and a trait's need not
-    other = next(it for it in room.functions if it.of and it not in wrong.owners)
+    other = next((it for it in room.functions if wrong and it.of and it not in wrong.owners), None)
+    if not (wrong and other):
+        return
     nothing = Edit("nothing", {}, {other}, True)
     together, alone = try_together(room, [wrong, nothing]), try_alone(room, nothing)
     if [*together] != [wrong.name] or alone != Outcome(False, f"{other}: LET THROUGH"):
