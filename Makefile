@@ -15,14 +15,14 @@ EXAMPLE = keys --mechanism SCRAM-SHA-1 --salt 4125c247e43ab1e93c6dff76 --count 4
 # The processors that the program was last built for; rt ci builds it for the default ones.
 BUILT_FOR := $(shell cat crates/scramotp/out/built_for 2>/dev/null || echo x86-64-v2)
 
-.PHONY: help run build libraries install test fuzz bench clean kit FORCE
+.PHONY: help run build libraries install test fuzz bench clean kit tools FORCE
 
 help:
 	@echo 'make run      prints the keys of the example in RFC 5802, also before anything is built'
 	@echo 'make build    proves the program and leaves it at $(PROGRAM);'
 	@echo '              CPU=x86-64-v3 builds it for newer processors'
 	@echo 'make install  copies the built program to $$(DESTDIR)$$(PREFIX)/bin'
-	@echo 'make test     the gate: every proof, test and run from nothing, wrong bodies, and tests of the built program'
+	@echo 'make test     the gate: every proof, test and run, wrong bodies, and tests of the built program'
 	@echo 'make fuzz     gives the built program random input, for some minutes'
 	@echo 'make bench    compares speeds with OpenSSL, with Python, and with oathtool'
 	@echo 'make clean    removes what was built'
@@ -70,9 +70,9 @@ FORCE:
 
 install:
 	@$(IS_FRESH) || { echo 'The program is not built, or is older than its sources: run make build first.' >&2; exit 1; }
-	install -D -m 755 $(PROGRAM) $(DESTDIR)$(PREFIX)/bin/scramotp
+	install -D -m 755 $(PROGRAM) "$(DESTDIR)$(PREFIX)/bin/scramotp"
 
-test: kit
+test: kit tools
 	rt ci
 	python3 tests/edits.py --built
 	$(MAKE) build
@@ -96,7 +96,14 @@ bench: build
 	python3 bench/audit.py $(PROGRAM)
 
 clean:
-	rm -rf crates/*/out tests/__pycache__
+	rm -rf crates/*/out tests/__pycache__ bench/__pycache__
 
 kit:
 	@command -v rt >/dev/null || { echo 'rt, the command of the Rattle kit, is not on your PATH' >&2; exit 1; }
+
+# What else the tests need; they would miss it only after the proofs.
+tools:
+	@missing=; \
+	for it in cc bash xxd flock; do command -v $$it >/dev/null || missing="$$missing $$it"; done; \
+	python3 -c 'import sys; sys.exit(sys.version_info < (3, 11))' 2>/dev/null || missing="$$missing python3 (3.11 or newer)"; \
+	test -z "$$missing" || { echo "make test also needs these on your PATH:$$missing" >&2; exit 1; }

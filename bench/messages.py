@@ -2,9 +2,9 @@
 """Times the readers of the four messages beside the same by Python's re and base64, and codes beside oathtool; and the
 search for two codes in a row.
 
-Usage: messages.py PROGRAM
+Usage: messages.py BENCH
 
-PROGRAM is the built crate bench. Each line has the best of several turns, without the time of a start.
+BENCH is the built crate bench. Each line has the best of several turns, without the time of a start.
 oathtool (Debian's package) is left out where it is not installed.
 """
 import base64
@@ -32,7 +32,8 @@ MESSAGES = {
 EXTENSIONS = r"((?:,[A-Za-z]=[^,\0]+)*)"
 NONCE_CLASS = r"[\x21-\x2b\x2d-\x7e]"
 PATTERNS = {
-    "client-first": rf"(n|y|p=[A-Za-z0-9.-]+),(?:a=((?:=2C|=3D|[^,=\0])+))?,(?:m=([^,\0]+),)?n=((?:=2C|=3D|[^,=\0])+),r=({NONCE_CLASS}{{1,256}})" + EXTENSIONS,
+    "client-first": r"(n|y|p=[A-Za-z0-9.-]+),(?:a=((?:=2C|=3D|[^,=\0])+))?,(?:m=([^,\0]+),)?"
+    rf"n=((?:=2C|=3D|[^,=\0])+),r=({NONCE_CLASS}{{1,256}})" + EXTENSIONS,
     "server-first": rf"(?:m=([^,\0]+),)?r=({NONCE_CLASS}{{1,512}}),s=([^,]+),i=([1-9][0-9]*)" + EXTENSIONS,
     "client-final": rf"c=([^,]+),r=({NONCE_CLASS}{{1,512}})" + EXTENSIONS + r",p=([^,]+)",
     "server-final": r"(?:v=([^,]+)|e=([^,\0]+))" + EXTENSIONS,
@@ -57,19 +58,19 @@ def seconds(words):
 
 
 def main():
-    program = sys.argv[1]
-    start = min(seconds([program, "client-first", "1", "x"]) for _ in range(TURNS))
+    bench = sys.argv[1]
+    start = min(seconds([bench, "client-first", "1", "x"]) for _ in range(TURNS))
     for kind, text in MESSAGES.items():
-        ours = min(seconds([program, kind, str(COUNT), text]) for _ in range(TURNS)) - start
+        ours = min(seconds([bench, kind, str(COUNT), text]) for _ in range(TURNS)) - start
         python = max(by_python(kind, text.encode()) for _ in range(TURNS))
         print(f"read {kind}: {COUNT / ours:,.0f} a second, Python's re and base64 {python:,.0f}")
-    codes = min(seconds([program, "hotp", str(CODES), SECRET]) for _ in range(TURNS)) - start
+    codes = min(seconds([bench, "hotp", str(CODES), SECRET]) for _ in range(TURNS)) - start
     line = f"HOTP codes: {CODES / codes:,.0f} a second"
     if shutil.which("oathtool"):
         words = ["oathtool", "--hotp", "--window", str(CODES - 1), SECRET.encode().hex()]
         line += f", oathtool {CODES / min(seconds(words) for _ in range(TURNS)):,.0f}"
     print(line)
-    search = (min(seconds([program, "sync", str(SEARCHES), SECRET]) for _ in range(TURNS)) - start) / SEARCHES
+    search = (min(seconds([bench, "sync", str(SEARCHES), SECRET]) for _ in range(TURNS)) - start) / SEARCHES
     print(f"two codes in a row among 1000: {CODES_OF_SEARCH / search:,.0f} codes a second, {search * 1000:.2f} ms")
 
 

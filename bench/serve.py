@@ -60,7 +60,8 @@ def best(words, check):
     """The best seconds of several turns; each has to print what `check` is true of."""
     turns = [run(words) for _ in range(TURNS)]
     for _, printed in turns:
-        assert check(printed), (words, printed)
+        if not check(printed):
+            sys.exit(f"{words}: {printed!r} is not what it has to print")
     return min(taken for taken, _ in turns)
 
 
@@ -81,7 +82,8 @@ def over_file(program, folder, text, codes):
     for _ in range(TURNS):
         pathlib.Path(folder, "book").write_text(text)
         taken, printed = run(words, "".join(f"{it}\n" for it in ["pencil", *codes]))
-        assert printed.count("\nS PASS 5 ") == len(codes), printed
+        if printed.count("\nS PASS 5 ") != len(codes):
+            sys.exit(f"{words}: not all of {len(codes)} codes pass: {printed!r}")
         turns.append(taken)
     return min(turns)
 
@@ -104,9 +106,9 @@ def synced(folder, size):
 
 def main():
     program, bench = sys.argv[1:]
-    codes = run([program, "code", "--secret", SECRET.hex(), "--counter", "0"])[1].split()
-    assert codes == ["755224"], codes
     codes = [run([program, "code", "--secret", SECRET.hex(), "--counter", str(at)])[1].strip() for at in range(SAVED)]
+    if codes[0] != "755224":
+        sys.exit(f"{program} code: {codes[0]!r}, not '755224'")
     for accounts in (1, 1000):
         text = book(accounts)
         with tempfile.TemporaryDirectory() as folder:
@@ -115,7 +117,8 @@ def main():
             logins, in_memory = over_memory(bench, path)
             none, all_codes = over_file(program, folder, text, []), over_file(program, folder, text, codes)
             each, sync = (all_codes - none) / SAVED, synced(folder, len(text))
-        print(f"book of {accounts} accounts, {len(text)} bytes: over memory {logins:,.0f} logins a second, {in_memory:,.0f} codes a second;")
+        rates = f"{logins:,.0f} logins a second, {in_memory:,.0f} codes a second"
+        print(f"book of {accounts} accounts, {len(text)} bytes: over memory {rates};")
         print(f"over a file {each * 1000:.2f} ms a code, of which such a file written and synced alone {sync * 1000:.2f} ms")
 
 

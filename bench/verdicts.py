@@ -1,9 +1,9 @@
 #!/usr/bin/env python3
 """Times verdicts on the login of RFC 7677's example beside their MACs alone by Python's hmac.
 
-Usage: verdicts.py PROGRAM
+Usage: verdicts.py BENCH
 
-PROGRAM is the built crate bench. A verdict reads the three messages of a log, opens the login and judges
+BENCH is the built crate bench. A verdict reads the three messages of a log, opens the login and judges
 it: two HMACs and a hash, over keys that are given. The other software makes two HMACs and a hash over the
 same texts, and then four and a hash, and reads no message. Best of several turns, without the time of a
 start.
@@ -44,9 +44,9 @@ def seconds(words, want):
 
 
 def main():
-    program = sys.argv[1]
-    start = min(seconds([program, "verdict", "1", FINAL], "accepted 1\n") for _ in range(TURNS))
-    many = [program, "verdict", str(COUNT), FINAL]
+    bench = sys.argv[1]
+    start = min(seconds([bench, "verdict", "1", FINAL], "accepted 1\n") for _ in range(TURNS))
+    many = [bench, "verdict", str(COUNT), FINAL]
     ours = min(seconds(many, f"accepted {COUNT}\n") for _ in range(TURNS)) - start
     two, four = (max(by_python(macs) for _ in range(TURNS)) for macs in (2, 4))
     print(f"verdicts: {COUNT / ours:,.0f} a second; by Python's hmac two HMACs and a hash {two:,.0f}, four {four:,.0f}")

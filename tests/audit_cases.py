@@ -7,7 +7,7 @@ import csv
 import pathlib
 from typing import NamedTuple
 
-from outside import AUDITS, edited
+from expected import AUDITS, edited
 
 TABLE = AUDITS / "cases.csv"
 

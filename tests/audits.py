@@ -6,7 +6,7 @@ Usage: audits.py PROGRAM
 Each row of data/audits/cases.csv, as audit_cases.py reads it. sha1.log is the example of RFC 5802, section 5, sha256.log that of
 RFC 7677, section 3. Then come the log that docs/OPERATING.md names; a login whose challenge has an extension, its proof made by Python's
 hmac; logs of a million lines; logs that are pipes; progress shown at a terminal; files that can't be
-read; and a book that another run holds. Exits at the first difference.
+read; and a book that another run holds.
 """
 import base64
 import fcntl
@@ -14,23 +14,23 @@ import hashlib
 import hmac
 import os
 import pathlib
+import re
 import subprocess
-import sys
-import tempfile
 import threading
 import time
 
+import suite
 from audit_cases import TABLE, cases
 from checks import equal
-from outside import AUDITS
-from suite import SALT, told
+from expected import AUDITS, proved
+from suite import PROGRAM, SALT, audit_says, fault_text
 
 KEYS = AUDITS / "keys.toml"
 LOGIN = AUDITS / "sha1.log"
 ACCEPTED = "clean sessions=1 accepted=1 codes=0"
 
-# How an answer begins that goes with another status than 1.
-STATUSES = {"clean ": 0, "read fault": 3}
+# Why a line can be at fault, as docs/FORMATS.md has it.
+REASONS = {"cut", "not a line", "order", "mechs", "challenge", "outcome", "reply"}
 
 # Sessions of three lines and of four, in which the client leaves at once.
 HEADER = b"SCRAMLOG 1\n"
@@ -38,31 +38,21 @@ GONE = b"S MECHS SCRAM-SHA-256 SCRAM-SHA-1\nC GONE\nE\n"
 ABORTED = b"S MECHS SCRAM-SHA-256 SCRAM-SHA-1\nC ABORT\nS NO :\nE\n"
 
 
-def says(what, program, book, log, status, printed, fault=""):
-    """Runs an audit, and compares its status, output and fault, which is given without its beginning."""
-    done = subprocess.run([program, "audit", "--book", book, "--log", log], capture_output=True, text=True)
-    equal((done.returncode, done.stdout, done.stderr), (status, printed, told(fault)), what)
+def reason(answer):
+    """The reason for which an answer calls a line at fault, or nothing."""
+    found = re.fullmatch(r"line \d+: ([a-z ]+)(?:, due .*)?", answer)
+    return found and found[1]
 
 
-def status_of(answer):
-    """The status that goes with an answer."""
-    return next((STATUSES[begin] for begin in STATUSES if answer.startswith(begin)), 1)
-
-
-def answers(what, program, book, log, answer):
-    """Runs an audit, and compares its answer, its status and that there is no fault."""
-    says(what, program, book, log, status_of(answer), answer + "\n")
-
-
-def rows_of_table(program, log):
-    """Each row, which leaves the book as it is."""
-    rows = cases()
+def rows_of_table(folder):
+    """Each row, which leaves the book as it is. Each reason has one."""
+    rows, log = cases(), pathlib.Path(folder, "log")
+    equal({reason(answer) for *_, answer in rows} - {None}, REASONS, "the reasons that have a row")
     for line, (book, text, answer) in enumerate(rows, 2):
         log.write_bytes(text)
         before = book.read_bytes()
-        answers(f"{TABLE.name}: line {line}", program, book, log, answer)
+        audit_says(book, log, answer, f"{TABLE.name}: line {line}")
         equal(book.read_bytes(), before, f"{TABLE.name}: line {line}: the book")
-    return len(rows)
 
 
 def signed(challenge):
@@ -72,13 +62,12 @@ def signed(challenge):
     server = hmac.digest(salted, b"Server Key", "sha1")
     nonce = challenge.split(",")[0]
     joined = f"n=user,r=fyko+d2lbbFgONRv9qkxdawL,{challenge},c=biws,{nonce}".encode()
-    mask = hmac.digest(hashlib.sha1(client).digest(), joined, "sha1")
-    proof = bytes(a ^ b for a, b in zip(client, mask))
-    return [base64.b64encode(data).decode() for data in (proof, hmac.digest(server, joined, "sha1"))]
+    return [base64.b64encode(data).decode() for data in proved("sha1", client, server, joined)]
 
 
-def other_challenges(program, log):
+def other_challenges(folder):
     """A recorded challenge may have extensions and a long own part; the proof is over the challenge as it was recorded."""
+    log = pathlib.Path(folder, "log")
     first = "r=fyko+d2lbbFgONRv9qkxdawL3rfcNHYJY1ZVvWVs7j,s=QSXCR+Q6sek8bf92,i=4096"
     proof, signature = signed(first)
     text = LOGIN.read_text()
@@ -97,14 +86,14 @@ def other_challenges(program, log):
         edited = edited.replace("c=biws,r=fyko+d2lbbFgONRv9qkxdawL3rfcNHYJY1ZVvWVs7j", f"c=biws,{nonce}")
         edited = edited.replace(f"p={proof}\n", f"p={other_proof}\n").replace(f"v={signature}\n", f"v={other_signature}\n")
         log.write_text(edited)
-        answers(what, program, KEYS, log, answer)
+        audit_says(KEYS, log, answer, what)
     log.write_text(text.replace(f"S CONT :{first}", f"S CONT :{first},x=1"))
-    answers("a proof without the extension", program, KEYS, log, "line 6: outcome, due NO :e=invalid-proof")
+    audit_says(KEYS, log, "line 6: outcome, due NO :e=invalid-proof", "a proof without the extension")
 
 
-def logs_from_pipes(program, folder):
+def logs_from_pipes(folder):
     """A log is read as it comes, and not past the line at fault: a pipe that stays open keeps no audit waiting."""
-    words = [program, "audit", "--book", KEYS, "--log", "/dev/stdin"]
+    words = [PROGRAM, "audit", "--book", KEYS, "--log", "/dev/stdin"]
     done = subprocess.run(words, input=LOGIN.read_bytes(), capture_output=True, timeout=20)
     equal((done.returncode, done.stdout, done.stderr), (0, ACCEPTED.encode() + b"\n", b""), "a pipe")
     running = subprocess.Popen(words, stdin=subprocess.PIPE, stdout=subprocess.PIPE, stderr=subprocess.PIPE)
@@ -112,11 +101,11 @@ def logs_from_pipes(program, folder):
     running.stdin.flush()
     equal((running.wait(20), running.stdout.read()), (1, b"line 2: mechs\n"), "a pipe that stays open")
     running.stdin.close()
-    fifo = folder / "fifo"
+    fifo = pathlib.Path(folder, "fifo")
     os.mkfifo(fifo)
     writer = threading.Thread(target=fifo.write_bytes, args=(LOGIN.read_bytes(),))
     writer.start()
-    answers("a FIFO", program, KEYS, fifo, ACCEPTED)
+    audit_says(KEYS, fifo, ACCEPTED, "a FIFO")
     writer.join()
 
 
@@ -128,11 +117,11 @@ def shown_at(terminal):
     return shown
 
 
-def progress_on_a_terminal(program):
+def progress_on_a_terminal(folder):
     """Where standard error is a terminal, a run of two seconds shows its progress there, and clears it at the end."""
     for wait, shown in [(2.2, f"\r7 lines, {len(HEADER + GONE * 2)} bytes\r\x1b[K".encode()), (0, b"")]:
         terminal, end = os.openpty()
-        words = [program, "audit", "--book", KEYS, "--log", "/dev/stdin"]
+        words = [PROGRAM, "audit", "--book", KEYS, "--log", "/dev/stdin"]
         running = subprocess.Popen(words, stdin=subprocess.PIPE, stdout=subprocess.PIPE, stderr=end)
         running.stdin.write(HEADER + GONE)
         running.stdin.flush()
@@ -146,8 +135,9 @@ def progress_on_a_terminal(program):
         os.close(terminal)
 
 
-def long_lines_and_logs(program, log):
+def long_lines_and_logs(folder):
     """A line may have 6202 bytes, and a log 1000000 lines; the limit of lines is the audit's own."""
+    log = pathlib.Path(folder, "log")
     sessions = HEADER + GONE * 333333
     unfinished = HEADER + ABORTED + GONE * 333332
     for name, text, answer in [
@@ -161,60 +151,61 @@ def long_lines_and_logs(program, log):
         ("an empty line", HEADER + b"\n", "line 2: not a line"),
     ]:
         log.write_bytes(text)
-        answers(name, program, KEYS, log, answer)
+        audit_says(KEYS, log, answer, name)
 
 
-def one_code_twice(program):
+def one_code_twice(folder):
     """The log that docs/OPERATING.md shows, whose server took one code twice."""
-    answers("one code twice", program, AUDITS / "hotp.toml", AUDITS.parent / "twice.log", "line 10: reply, due FAIL 6")
+    audit_says(AUDITS / "hotp.toml", AUDITS.parent / "twice.log", "line 10: reply, due FAIL 6", "one code twice")
 
 
-def unreadable_files(program, folder):
+def refuses(what, book, log, status, fault):
+    """Runs an audit that prints nothing, and compares its status and its fault, which is given without its beginning."""
+    done = subprocess.run([PROGRAM, "audit", "--book", book, "--log", log], capture_output=True, text=True)
+    equal((done.returncode, done.stdout, done.stderr), (status, "", fault_text(fault)), what)
+
+
+def unreadable_files(folder):
     """The faults of files that can't be read, in the order in which they are read: first the book."""
-    nothing, book = folder / "nothing", folder / "book"
-    says("no book, no log", program, nothing, nothing, 3, "", f"cannot read {nothing}")
-    says("a folder as book", program, folder, LOGIN, 3, "", f"cannot read {folder}")
+    nothing, book = pathlib.Path(folder, "nothing"), pathlib.Path(folder, "book")
+    refuses("no book, no log", nothing, nothing, 3, f"cannot read {nothing}")
+    refuses("a folder as book", folder, LOGIN, 3, f"cannot read {folder}")
     book.write_text("")
-    says("a bad book, no log", program, book, nothing, 1, "", "bad book: 61")
+    refuses("a bad book, no log", book, nothing, 1, "bad book: 61")
     book.write_bytes(b"\xff")
-    says("a book that is no text", program, book, LOGIN, 1, "", "bad book: 60")
+    refuses("a book that is no text", book, LOGIN, 1, "bad book: 60")
     book.write_bytes(b"#" * 16777217)
-    says("a long book", program, book, LOGIN, 3, "", f"cannot read {book}")
-    says("no log", program, KEYS, nothing, 3, "", f"cannot read {nothing}")
-    answers("a folder as log", program, KEYS, folder, "read fault")
+    refuses("a long book", book, LOGIN, 3, f"cannot read {book}")
+    refuses("no log", KEYS, nothing, 3, f"cannot read {nothing}")
+    audit_says(KEYS, folder, "read fault", "a folder as log")
     book.write_bytes(KEYS.read_bytes())
-    os.link(book, folder / "second")
-    answers("a book with two names", program, book, LOGIN, ACCEPTED)
+    os.link(book, book.with_name("second"))
+    audit_says(book, LOGIN, ACCEPTED, "a book with two names")
 
 
-def without_the_lock(program, folder):
+def without_the_lock(folder):
     """A book that another run holds keeps no audit waiting, and nothing is left in its folder."""
-    book, log = folder / "book", folder / "log"
+    book, log = pathlib.Path(folder, "book"), pathlib.Path(folder, "log")
     book.write_bytes(KEYS.read_bytes())
     log.write_bytes(LOGIN.read_bytes())
     held = os.open(book, os.O_RDONLY)
     fcntl.flock(held, fcntl.LOCK_EX)
-    words = [program, "audit", "--book", book, "--log", log]
+    words = [PROGRAM, "audit", "--book", book, "--log", log]
     done = subprocess.run(words, capture_output=True, text=True, timeout=20)
     os.close(held)
     equal((done.returncode, done.stdout, done.stderr), (0, ACCEPTED + "\n", ""), "a book that is held")
     equal(sorted(os.listdir(folder)), ["book", "log"], "the folder")
 
 
-def main():
-    program = os.path.abspath(sys.argv[1])
-    with tempfile.TemporaryDirectory() as name:
-        folder = pathlib.Path(name)
-        rows = rows_of_table(program, folder / "log")
-        one_code_twice(program)
-        other_challenges(program, folder / "log")
-        logs_from_pipes(program, folder)
-        progress_on_a_terminal(program)
-        long_lines_and_logs(program, folder / "log")
-        unreadable_files(program, folder)
-    with tempfile.TemporaryDirectory() as name:
-        without_the_lock(program, pathlib.Path(name))
-    print(f"{TABLE.name}: {rows} rows as they should be")
+TESTS = [
+    rows_of_table,
+    one_code_twice,
+    other_challenges,
+    logs_from_pipes,
+    progress_on_a_terminal,
+    long_lines_and_logs,
+    unreadable_files,
+    without_the_lock,
+]
 
-
-main()
+suite.run_all(TESTS)

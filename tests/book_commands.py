@@ -4,9 +4,8 @@
 Usage: book_commands.py PROGRAM
 
 As root, runs the program as the user nobody where permissions matter. Takes the 30 seconds for which runs
-wait for a lock. Exits at the first difference.
+wait for a lock.
 """
-import concurrent.futures
 import fcntl
 import json
 import os
@@ -15,9 +14,11 @@ import shutil
 import subprocess
 import sys
 import tempfile
+from concurrent.futures import ThreadPoolExecutor
 
+import suite
 from checks import equal
-from suite import AS_NOBODY, CODES, NOBODY, ROOT, USER, hotp, read, seen, token, told
+from suite import AS_NOBODY, BOOK_OF_USER, CODES, NOBODY, ROOT, fault_text, hotp, is_root, read_book, seen, token
 
 # A copy of the program that the user nobody can run, wherever the program is.
 COPY = tempfile.TemporaryDirectory()
@@ -25,10 +26,10 @@ os.chmod(COPY.name, 0o755)
 PROGRAM = shutil.copy(sys.argv[1], COPY.name)
 
 # A book without accounts; an account without a token; and books with it and with `user`, whose token takes codes, or is locked.
-TOP = USER.removesuffix("\n[accounts.user]\n")
+EMPTY = BOOK_OF_USER.removesuffix("\n[accounts.user]\n")
 BARE = "\n[accounts.bare]\n"
-BOOK = TOP + hotp(3, 3) + BARE
-LOCKED = TOP + hotp(3, 3, failures=3) + BARE
+BOOK = EMPTY + hotp(3, 3) + BARE
+LOCKED = EMPTY + hotp(3, 3, failures=3) + BARE
 
 # Each command's options beside the book, its input and its answer, where all is as it should be.
 GOOD = {
@@ -57,7 +58,7 @@ def well(command, book, **how):
 
 def says(what, done, status, output, fault=""):
     """Compares what a run answered. A fault is given without its beginning."""
-    equal((done.returncode, done.stdout, done.stderr), (status, output, told(fault)), what)
+    equal((done.returncode, done.stdout, done.stderr), (status, output, fault_text(fault)), what)
 
 
 def succeeds(command, book, **how):
@@ -186,6 +187,7 @@ def no_file(folder):
 
 def unreadable(folder):
     """A book that may not be read, and one in a folder that may not."""
+    os.chmod(folder, 0o755)
     book = put(os.path.join(folder, "book"))
     for path, mode in [(book, 0o000), (folder, 0o311)]:
         before = os.stat(path).st_mode
@@ -234,7 +236,7 @@ def full_output(folder):
         options = {"book": book, **GOOD["verify"][0]}
         done = run("verify", options, "\n".join(CODES[:2]), stdout=full)
         says("verify", done, 3, None, "cannot write output")
-    equal(sorted(read(book)["accounts"]), ["bare", "new", "user"], "accounts")
+    equal(sorted(read_book(book)["accounts"]), ["bare", "new", "user"], "accounts")
     equal((token(book)["next"], token(book)["failures"]), (1, 0), "the token")
 
 
@@ -359,19 +361,19 @@ NAMES = [
 
 def names(folder):
     """Each name is in the book as it was given, and is found there, even where a person quoted it in another way."""
-    book = put(os.path.join(folder, "book"), TOP)
+    book = put(os.path.join(folder, "book"), EMPTY)
     for name in NAMES:
         options = {"book": book, "name": name}
         says(f"unlock of {name!r}", run("unlock", options), 1, "", "no such account")
         says(f"enrol of {name!r}", run("enrol", {**options, "count": "1"}, "pencil"), 0, f"enrolled {name}\n")
         says(f"unlock of {name!r}", run("unlock", options), 1, "", "no token")
-    equal(list(read(book)["accounts"]), sorted(NAMES), "names")
+    equal(list(read_book(book)["accounts"]), sorted(NAMES), "names")
     with open(book, "a") as text:
         text.writelines(hotp(3, 3, name=json.dumps(name)) for name in NAMES)
     for name in NAMES:
         done = run("verify", {"book": book, "name": name, "moment": "5"}, CODES[0])
         says(f"verify of {name!r}", done, 0, "PASS 5 0\n")
-    equal(list(read(book)["accounts"]), sorted(NAMES), "names")
+    equal(list(read_book(book)["accounts"]), sorted(NAMES), "names")
     equal({token(book, name)["next"] for name in NAMES}, {1}, "counters")
 
 
@@ -390,22 +392,19 @@ def hard_links(folder):
         succeeds(command, book)
 
 
-def start_waiting(folder, beside):
-    """Holds a book, and the place of a new one, and starts each command, which then waits."""
+def held_by_another(folder):
+    """The commands that wait for a lock all the time leave the book as it was, and no other file."""
     book, new = put(os.path.join(folder, "book")), os.path.join(folder, "new")
-    for path in [book, put(new + ".new", "")]:
-        fcntl.flock(os.open(path, os.O_RDONLY), fcntl.LOCK_EX)
     runs = [*[(command, book) for command in GOOD], ("enrol", new)]
-    return [(command, path, beside.submit(well, command, path)) for command, path in runs]
-
-
-def end_waiting(folder, started):
-    """The commands that waited for a lock all the time leave the book as it was, and no other file."""
-    for command, path, running in started:
+    with open(book) as old, open(put(new + ".new", "")) as next_text, ThreadPoolExecutor(len(runs)) as pool:
+        for held in [old, next_text]:
+            fcntl.flock(held, fcntl.LOCK_EX)
+        waiting = [pool.submit(well, *run) for run in runs]
+    for (command, path), run in zip(runs, waiting):
         fault = f"other runs held {path} for 30 seconds\nscramotp: cannot read {path}"
-        says(f"{command} on a held book", running.result(), 3, "", fault)
+        says(f"{command} on a held book", run.result(), 3, "", fault)
     equal(sorted(os.listdir(folder)), ["book", "new.new"], "the folder")
-    equal(pathlib.Path(folder, "book").read_text(), BOOK, "the book")
+    equal(pathlib.Path(book).read_text(), BOOK, "the book")
 
 
 TESTS = [
@@ -424,22 +423,9 @@ TESTS = [
     unlocked,
     names,
     hard_links,
+    held_by_another,
 ]
-if ROOT:
+if is_root():
     TESTS += [owner, shared_book, group_of_others, others_book, others_next]
-else:
-    print("book_commands.py: not root, so owners and groups are not tested")
 
-
-def main():
-    with tempfile.TemporaryDirectory() as held, concurrent.futures.ThreadPoolExecutor() as beside:
-        started = start_waiting(held, beside)
-        for test in TESTS:
-            with tempfile.TemporaryDirectory() as folder:
-                os.chmod(folder, 0o755)
-                test(folder)
-        end_waiting(held, started)
-    print(f"book_commands.py: {len(TESTS) + 1} passed")
-
-
-main()
+suite.run_all(TESTS)

@@ -15,7 +15,7 @@ import subprocess
 import tempfile
 
 from checks import equal
-from outside import BOOK_FAULTS, edited
+from expected import BOOK_FAULTS, edited
 from suite import PROGRAM
 
 TABLE = BOOK_FAULTS / "cases.csv"

@@ -10,7 +10,6 @@ import errno
 import fcntl
 import os
 import random
-import re
 import select
 import shutil
 import struct
@@ -21,9 +20,10 @@ import time
 
 import suite
 from checks import equal, holds
-from suite import CODES, PROGRAM, USER, code, hotp, is_locked, read, seen, token
+from kills import kill_at_any_moment, start
+from suite import BOOK_OF_USER, CODES, PROGRAM, BookFolder, code, hotp, is_locked, read_book, seen, sleeps, token, until
 
-BOOK = USER + hotp(look_ahead=3, limit=100)
+BOOK = BOOK_OF_USER + hotp(look_ahead=3, limit=100)
 FIRST_CODE = CODES[0]
 # The user in those entries of an access list that name no user.
 NONE = 0xFFFFFFFF
@@ -42,11 +42,8 @@ def verify(path, text):
     return subprocess.run(verify_words(path), input=text, capture_output=True, text=True)
 
 
-def start(path, text):
-    run = subprocess.Popen(verify_words(path), stdin=subprocess.PIPE, stdout=subprocess.PIPE, stderr=subprocess.PIPE, text=True)
-    run.stdin.write(text)
-    run.stdin.close()
-    return run
+def start_verify(path, text):
+    return start(verify_words(path), text)
 
 
 def enrol(path, name, count):
@@ -69,11 +66,8 @@ def waiting_verify(path, text=""):
     run = subprocess.Popen(verify_words(path), stdin=subprocess.PIPE, stdout=subprocess.PIPE, stderr=subprocess.PIPE, text=True)
     run.stdin.write(text)
     run.stdin.flush()
-    for _ in range(1000):
-        if is_locked(path):
-            return run
-        time.sleep(0.01)
-    raise AssertionError("no run holds the book")
+    until(lambda: is_locked(path) and sleeps(run.pid))
+    return run
 
 
 def answered(run, text, want):
@@ -88,7 +82,7 @@ def twenty_at_once(folder):
     os.symlink("book", link)
     for _ in range(5):
         write(book)
-        runs = [start([book, link][n % 2], FIRST_CODE) for n in range(20)]
+        runs = [start_verify([book, link][n % 2], FIRST_CODE) for n in range(20)]
         printed = [run.stdout.read() for run in runs]
         statuses = sorted(run.wait() for run in runs)
         equal(sorted(printed), ["FAIL 5\n"] * 19 + ["PASS 5 0\n"])
@@ -99,26 +93,17 @@ def twenty_at_once(folder):
 
 
 def killed_at_any_moment(folder):
-    """The book can always be read, what was reported as passed is spent, and no counter passes twice."""
-    book = os.path.join(folder, "book")
-    write(book)
-    codes = [code(counter) for counter in range(2500)]
-    passed = []
-    for _ in range(200):
-        at = token(book)["next"]
-        run = start(book, "\n".join(codes[max(at - 2, 0) : at + 10]) + "\n")
-        time.sleep(random.uniform(0, 0.06))
-        run.kill()
-        told = [int(counter) for counter in re.findall(r"^PASS 5 (\d+)$", run.stdout.read(), re.M)]
-        run.wait()
-        passed += told
-        holds(all(counter < token(book)["next"] for counter in told), told, token(book))
-        again = verify(book, "")
-        equal((again.returncode, again.stderr), (0, ""))
-    holds(len(passed) == len(set(passed)) > 0, passed)
-    again = verify(book, codes[token(book)["next"]])
-    equal(again.returncode, 0, again)
-    equal(os.listdir(folder), ["book"])
+    """Runs that are killed; the next one goes on from the book that they leave."""
+    here = BookFolder(folder, BOOK)
+
+    def started(at, output):
+        codes = [code(counter) for counter in range(max(at - 2, 0), at + 10)]
+        return start(verify_words(here.book), "".join(f"{it}\n" for it in codes), output)
+
+    kill_at_any_moment(here, started, 200, [0, 1], is_log=False)
+    counter = token(here.book)["next"]
+    here.prints(verify_words(here.book), code(counter), 0, f"PASS 5 {counter}\n")
+    equal(sorted(os.listdir(folder)), ["before", "book"])
 
 
 def modes(folder):
@@ -182,7 +167,7 @@ def locked_by_another(folder):
     faults = f"scramotp: other runs held {book} for 30 seconds\nscramotp: cannot read {book}\n"
     equal((run.returncode, run.stdout, run.stderr), (3, "", faults), run)
     holds(29 < waited < 33, waited)
-    run = start(book, FIRST_CODE)
+    run = start_verify(book, FIRST_CODE)
     time.sleep(0.5)
     equal(run.poll(), None)
     os.close(lock)
@@ -228,7 +213,9 @@ def one_lock(folder):
 
 def swapped(folder):
     """A file that takes the book's path while a run waits for input is not written, and the run ends."""
-    book, other, away = (os.path.join(folder, name) for name in ["book", "other", "away"])
+    held = os.path.join(folder, "held")
+    book, other, away = (os.path.join(held, name) for name in ["book", "other", "away"])
+    os.mkdir(held)
 
     def move():
         os.rename(book, away)
@@ -246,9 +233,9 @@ def swapped(folder):
             file.write("#ormat")
 
     def rename_folder():
-        os.rename(folder, folder + ".old")
-        os.mkdir(folder)
-        shutil.copy(os.path.join(folder + ".old", "book"), book)
+        os.rename(held, held + ".old")
+        os.mkdir(held)
+        shutil.copy(os.path.join(held + ".old", "book"), book)
 
     for turn in [move, link, copy, edit, rename_folder]:
         write(book)
@@ -256,14 +243,13 @@ def swapped(folder):
         os.chmod(other, 0o644)
         run = waiting_verify(book)
         turn()
-        before = {name: seen(os.path.join(folder, name)) for name in os.listdir(folder)}
+        before = {name: seen(os.path.join(held, name)) for name in os.listdir(held)}
         answered(run, FIRST_CODE, (3, "", f"scramotp: cannot write {book}\n"))
-        after = {name: seen(os.path.join(folder, name)) for name in os.listdir(folder)}
+        after = {name: seen(os.path.join(held, name)) for name in os.listdir(held)}
         equal(after, before, turn.__name__)
         for path in [book, away]:
             if os.path.lexists(path):
                 os.remove(path)
-    shutil.rmtree(folder + ".old")
 
 
 def keys_before_the_lock(folder):
@@ -276,8 +262,8 @@ def keys_before_the_lock(folder):
     equal(enrol(new, "quick", 1).wait(), 0)
     equal([run.poll() for run in slow], [None, None])
     equal([run.wait() for run in slow], [0, 0])
-    equal((sorted(read(book)["accounts"]), token(book)["next"]), (["slow", "user"], 1))
-    equal(sorted(read(new)["accounts"]), ["quick", "slow"])
+    equal((sorted(read_book(book)["accounts"]), token(book)["next"]), (["slow", "user"], 1))
+    equal(sorted(read_book(new)["accounts"]), ["quick", "slow"])
     equal(sorted(os.listdir(folder)), ["book", "new"])
 
 
@@ -293,7 +279,7 @@ def made_at_once(folder):
         equal(statuses[2:], [0] * 4, statuses)
         equal(verify(book, "").stderr, "scramotp: no such account\n")
         equal(os.listdir(folder), ["book"])
-        names = set(read(book)["accounts"])
+        names = set(read_book(book)["accounts"])
         holds(names >= {f"user{number}" for number in range(6) if statuses[number] == 0}, statuses, names)
         os.remove(book)
 
@@ -439,7 +425,7 @@ def random_bytes(folder):
     for name in ["one", "two"]:
         words = [PROGRAM, "enrol", "--book", book, "--name", name, "--count", "1", "--random", file]
         subprocess.run(words, input="pencil\n", capture_output=True, text=True, check=True)
-    made = read(book)
+    made = read_book(book)
     salts = [[made["accounts"][name][table]["salt"] for table in ["sha1", "sha256"]] for name in ["one", "two"]]
     equal(made["decoy_key"], bytes(range(32)).hex(), made)
     equal(salts, [[bytes(range(at, at + 16)).hex() for at in pair] for pair in [(32, 48), (0, 16)]])

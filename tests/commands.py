@@ -14,14 +14,17 @@ from pathlib import Path
 
 import suite
 from checks import equal, holds
-from outside import keys_of
-from suite import KEYS_OF_PENCIL, PROGRAM, SALT, SECRET, USER, hotp, read, token, told, totp
+from expected import DATA, keys_of
+from suite import BOOK_OF_USER, KEYS_OF_PENCIL, PROGRAM, SALT, SECRET, fault_text, hotp, read_book, token, totp
 
 LONGER = "3132333435363738393031323334353637383930313233343536373839303132"
 # 64 bytes
 LONGEST = "00112233445566778899aabbccddeeff00112233445566778899AABBCCDDEEFF" * 2
 
 TOTP = totp(limit=3)
+
+# The pages of help
+HELP = DATA / "help"
 
 # What the example of each command prints, in an order in which they can be run: RFC 5802, section 5; RFC 4226, appendix D, and
 # RFC 6238, appendix B; the first code of RFC 4226 once more; a log in which no login was accepted; one of a login and a code.
@@ -42,7 +45,7 @@ def check(words, text, status, printed="", fault=""):
     """Runs the program, and compares status, output and fault; a fault of its own is given without its beginning."""
     data = text if isinstance(text, bytes) else text.encode()
     run = subprocess.run([PROGRAM, *words], input=data, capture_output=True)
-    equal((run.returncode, run.stdout.decode(), run.stderr.decode()), (status, printed, told(fault)), (words, text[:100]))
+    equal((run.returncode, run.stdout.decode(), run.stderr.decode()), (status, printed, fault_text(fault)), (words, text[:100]))
 
 
 def check_usage(words, begin):
@@ -133,24 +136,22 @@ def codes(folder):
 
 def bad_codes(folder):
     """Options are judged in the order secret, digits, counter, moment, hash, t0, step, and only then used."""
-    for secret, words, status, fault in [
-        (SECRET, "", 2, "needs --counter or --moment"),
-        (SECRET, "--moment 5 --t0 10", 1, "before the first step"),
-        ("313233343536373839", "--digits 9", 2, "bad value for --secret"),
-        (SECRET, "--digits 9 --counter 0", 2, "bad value for --digits"),
-        (SECRET, "--digits 9 --counter x", 2, "bad value for --digits"),
-        (SECRET, "--digits 5", 2, "bad value for --digits"),
-        (SECRET, "--digits 06", 2, "bad value for --digits"),
-        (SECRET, "--counter 9223372036854775807 --moment x", 2, "bad value for --counter"),
-        (SECRET, "--counter=-1", 2, "bad value for --counter"),
-        (SECRET, "--moment 253402300800 --hash md5", 2, "bad value for --moment"),
-        (SECRET, "--hash SHA1 --t0 x", 2, "bad value for --hash"),
-        (SECRET, "--t0 253402300800 --step 0", 2, "bad value for --t0"),
-        (SECRET, "--step 0", 2, "bad value for --step"),
-        (SECRET, "--step 3601", 2, "bad value for --step"),
-        (SECRET, "--counter 1 --step 0", 2, "bad value for --step"),
-    ]:
+    def refused(words, status, fault, secret=SECRET):
         check(["code", "--secret", secret, *words.split()], "", status, fault=fault)
+
+    refused("", 2, "needs --counter or --moment")
+    refused("--moment 5 --t0 10", 1, "before the first step")
+    refused("--digits 9", 2, "bad value for --secret", secret=SECRET[:18])
+    for option, texts in {
+        "digits": ["--digits 9 --counter 0", "--digits 9 --counter x", "--digits 5", "--digits 06"],
+        "counter": ["--counter 9223372036854775807 --moment x", "--counter=-1"],
+        "moment": ["--moment 253402300800 --hash md5"],
+        "hash": ["--hash SHA1 --t0 x"],
+        "t0": ["--t0 253402300800 --step 0"],
+        "step": ["--step 0", "--step 3601", "--counter 1 --step 0"],
+    }.items():
+        for words in texts:
+            refused(words, 2, f"bad value for --{option}")
 
 
 def usage(folder):
@@ -178,42 +179,6 @@ def usage(folder):
         check_usage(words.split(), begin)
 
 
-def help_and_version(folder):
-    check(["--version"], "", 0, "scramotp 0.1.0\n")
-    for words, parts in [
-        (
-            ["--help"],
-            [
-                "Usage: scramotp <COMMAND>",
-                "  keys     Prints ",
-                "  enrol    Adds ",
-                "  code     Prints ",
-                "  verify   Judges ",
-                "  unlock   Lets ",
-                "  login    Logs ",
-                "  hall     Lets ",
-                "  audit    Judges ",
-                "  upgrade  Prints ",
-                "Exit status:",
-            ],
-        ),
-        (
-            ["keys", "--help"],
-            ["--mechanism <NAME>  SCRAM-SHA-1", "--salt <HEX> ", "--count <N> ", "Example:\n  echo pencil |"],
-        ),
-        (["enrol", "--help"], ["Put it into a folder\nthat nobody else can write", "a salt of 16 bytes", "4096 in a new book"]),
-        (["verify", "--help"], ["The book is locked until the input ends", "else may be able to write the book's folder"]),
-        (["unlock", "--help"], ["else may be able to write the book's folder", "Standard input is not read."]),
-        (["audit", "--help"], ["nothing is written", "Standard input is read only where the log\nis /dev/stdin."]),
-        (["upgrade", "--help"], ["is, by the same book.", "Standard input is read only where the log is /dev/stdin."]),
-        (["login", "--help"], ["a socket fault", "Codes are saved before they are\ntold", "--as <NAME> ", "every code passed"]),
-        (["hall", "--help"], ["is a bad event and ends\nthe run", "Codes are saved before they are told", "to the end of the input"]),
-        (["code", "--help"], ["Standard\ninput is not read.", "Other users of the machine can read the words"]),
-    ]:
-        text = help_of(words[:-1])
-        holds(all(part in text for part in parts), text)
-
-
 def help_of(words):
     """What is printed for --help, in lines of at most 100 columns."""
     run = subprocess.run([PROGRAM, *words, "--help"], capture_output=True, text=True)
@@ -222,26 +187,54 @@ def help_of(words):
     return run.stdout
 
 
-def examples(folder):
-    """The example of each command runs as it stands, in a folder that is empty at first; `verify` has the moment of now. Nobody else can
-    read what they leave, also with a umask that lets everyone."""
+def help_and_version(folder):
+    """Each page of help is that of data/help, and each page there is of a command, or of the program."""
+    check(["--version"], "", 0, "scramotp 0.1.0\n")
+    pages = {"scramotp": [], **{command: [command] for command, _ in EXAMPLES}}
+    equal({path.stem for path in HELP.iterdir()}, set(pages))
+    for name, words in pages.items():
+        equal(help_of(words), (HELP / f"{name}.txt").read_text(), f"{name}.txt")
+    listed = re.findall(r"^  ([a-z]+) +[A-Z]", help_of([]).split("Commands:\n")[1].split("\n\n")[0], re.M)
+    equal(sorted(listed), sorted(command for command, _ in EXAMPLES), listed)
+
+
+def example_of(command):
+    """The commands whose examples come before that of this command, as its help names them, and its example."""
+    form = r"^Examples?(?:, after (?:that|those) of ([a-z]+(?: and [a-z]+)*))?:.*\n((?:  .*\n?)+)\Z"
+    [(before, example)] = re.findall(form, help_of([command]), re.M)
+    return before.split(" and ") if before else [], example
+
+
+def runs_example(folder, command):
+    """The example of a command runs as it stands, with the program on the PATH; `verify` has the moment of now."""
     with tempfile.TemporaryDirectory() as commands:
         os.symlink(PROGRAM, os.path.join(commands, "scramotp"))
         environment = {**os.environ, "PATH": f"{commands}:{os.environ['PATH']}"}
-        for command, printed in EXAMPLES:
-            [example] = re.findall(r"^Examples?\b.*:.*\n((?:  .*\n?)+)\Z", help_of([command]), re.M)
-            began = int(time.time())
-            run = subprocess.run(
-                ["sh", "-ec", example], cwd=folder, env=environment, stdin=subprocess.DEVNULL, capture_output=True, text=True, umask=0
-            )
-            moments = range(began, int(time.time()) + 1)
-            equal((run.returncode, run.stderr), (0, ""), command, run)
-            holds(run.stdout in [printed.format(moment) for moment in moments], command, run)
+        words = ["sh", "-ec", example_of(command)[1]]
+        began = int(time.time())
+        run = subprocess.run(words, cwd=folder, env=environment, stdin=subprocess.DEVNULL, capture_output=True, text=True, umask=0)
+        moments = range(began, int(time.time()) + 1)
+    equal((run.returncode, run.stderr), (0, ""), command, run)
+    holds(run.stdout in [dict(EXAMPLES)[command].format(moment) for moment in moments], command, run)
+
+
+def examples(folder):
+    """All examples run in a folder that is empty at first. Nobody else can read what they leave, also with a umask that lets everyone."""
+    for command, _ in EXAMPLES:
+        runs_example(folder, command)
     equal(os.listdir(folder), ["logins"])
     modes = {path.name: stat.S_IMODE(path.stat().st_mode) for path in [Path(folder, "logins"), Path(folder, "logins", "book.toml")]}
     equal(modes, {"logins": 0o700, "book.toml": 0o600})
-    listed = re.findall(r"^  ([a-z]+) +[A-Z]", help_of([]).split("Commands:\n")[1].split("\n\n")[0], re.M)
-    equal(sorted(listed), sorted(command for command, _ in EXAMPLES), listed)
+
+
+def examples_alone(folder):
+    """Each example needs those alone that it names."""
+    for command, _ in EXAMPLES:
+        before, _ = example_of(command)
+        place = Path(folder, command)
+        place.mkdir()
+        for each in [*before, command]:
+            runs_example(place, each)
 
 
 def input_limit(folder):
@@ -270,7 +263,7 @@ def server_signature(folder):
 def hotp_codes(folder):
     """Codes of RFC 4226, appendix D: each passes once, in order, at most three counters ahead."""
     book = os.path.join(folder, "book")
-    write(book, USER, hotp(3, 3))
+    write(book, BOOK_OF_USER, hotp(3, 3))
     text = "755224\n755224\n338314\n359152\n162583\n755224x\n"
     verify(book, "5", text, 1, "PASS 5 0\nFAIL 5\nPASS 5 4\nFAIL 5\nPASS 5 7\nFAIL 5\n")
     equal((token(book)["next"], token(book)["failures"]), (8, 1), token(book))
@@ -293,13 +286,13 @@ def two_codes_in_a_row(folder):
         (None, "SYNC 287082 359152\nSYNC 755224 287082\n", "FAIL 5\nPASS 5 1\n"),
     ]
     for sync_ahead, text, printed in runs:
-        write(book, USER, hotp(3, 3, sync_ahead))
+        write(book, BOOK_OF_USER, hotp(3, 3, sync_ahead))
         verify(book, "5", text, 1, printed)
         equal(token(book)["sync_ahead"], sync_ahead or 0, token(book))
-    write(book, USER, hotp(3, 3, 8))
+    write(book, BOOK_OF_USER, hotp(3, 3, 8))
     verify(book, "5", far, 0, "PASS 5 9\n")
     equal((token(book)["next"], token(book)["failures"]), (10, 0), token(book))
-    write(book, USER, hotp(3, 100, 8))
+    write(book, BOOK_OF_USER, hotp(3, 100, 8))
     for line in ["SYNC 755224", "SYNC 755224  287082", "SYNC  755224 287082", "SYNC 755224 287082 ", " SYNC 755224 287082",
                  "sync 755224 287082", "SYNC 755224 287082\r", "SYNC 755224 287082 359152", "SYNC\t755224 287082",
                  "C SYNC 755224 287082", "CODE 755224"]:
@@ -310,7 +303,7 @@ def two_codes_in_a_row(folder):
 def two_steps_in_a_row(folder):
     """A TOTP token passes by no two codes: a line `SYNC text text` fails, and counts."""
     book = os.path.join(folder, "book")
-    write(book, USER, TOTP)
+    write(book, BOOK_OF_USER, TOTP)
     verify(book, "59", "SYNC 94287082 37359152\n94287082\n", 1, "FAIL 59\nPASS 59 1\n")
     verify(book, "59", "SYNC 37359152 37359152\n" * 4, 1, "FAIL 59\n" * 3 + "LOCKED 59\n")
 
@@ -318,16 +311,16 @@ def two_steps_in_a_row(folder):
 def totp_codes(folder):
     """Codes of RFC 6238, appendix B: that of the next step passes too, and none passes again or after a later one."""
     book, moment = os.path.join(folder, "book"), "1111111109"
-    write(book, USER, TOTP)
+    write(book, BOOK_OF_USER, TOTP)
     verify(book, moment, "14050471\n07081804\n", 1, f"PASS {moment} 37037037\nFAIL {moment}\n")
-    write(book, USER, TOTP)
+    write(book, BOOK_OF_USER, TOTP)
     text = "07081804\n07081804\n14050471\n07081804\n14050471\n14050471x\n"
     printed = "PASS {0} 37037036\nFAIL {0}\nPASS {0} 37037037\nFAIL {0}\nFAIL {0}\nFAIL {0}\n"
     verify(book, moment, text, 1, printed.format(moment))
     kept = token(book)
     equal((kept["last"], kept["drift"], kept["failures"]), (37037037, 1, 3), kept)
     verify(book, moment, "14050471", 1, f"LOCKED {moment}\n")
-    write(book, USER, TOTP)
+    write(book, BOOK_OF_USER, TOTP)
     verify(book, "59", "94287082", 0, "PASS 59 1\n")
     verify(book, "59", "94287082", 1, "FAIL 59\n")
 
@@ -335,11 +328,11 @@ def totp_codes(folder):
 def locked_tokens(folder):
     """A locked token takes no code until it is unlocked, and never again a code that has passed."""
     book = os.path.join(folder, "book")
-    write(book, USER, hotp(0, 2))
+    write(book, BOOK_OF_USER, hotp(0, 2))
     verify(book, "3", "000000\n111111\n755224\n", 1, "FAIL 3\nFAIL 3\nLOCKED 3\n")
     check(on(book, "unlock"), "", 0, "unlocked user\n")
     verify(book, "3", "755224", 0, "PASS 3 0\n")
-    write(book, USER, hotp(3, 3))
+    write(book, BOOK_OF_USER, hotp(3, 3))
     verify(book, "5", "755224\n000000\n000000\n000000\n", 1, "PASS 5 0\nFAIL 5\nFAIL 5\nFAIL 5\n")
     verify(book, "5", "287082", 1, "LOCKED 5\n")
     check(on(book, "unlock"), "", 0, "unlocked user\n")
@@ -353,7 +346,7 @@ def enrolling(folder):
         out.write(bytes(range(64)))
     words = on(book, "enrol", "user", "--random", file)
     check(words, "pencil\n", 0, "enrolled user\n")
-    made = read(book)
+    made = read_book(book)
     equal((made["decoy_key"], made["decoy_count"]), (bytes(range(32)).hex(), 4096), made)
     for mechanism, table, at in [("SCRAM-SHA-1", "sha1", 32), ("SCRAM-SHA-256", "sha256", 48)]:
         salt, found = bytes(range(at, at + 16)), made["accounts"]["user"][table]
@@ -372,7 +365,7 @@ def short_random_files(folder):
     check(words, "pencil", 3, fault=fault)
     for length, book_there in [(0, False), (63, False), (31, True)]:
         if book_there:
-            write(book, USER)
+            write(book, BOOK_OF_USER)
         write(file, "a" * length)
         check(words, "pencil", 3, fault=fault)
         equal(os.path.exists(book), book_there)
@@ -386,19 +379,32 @@ def faulty_books(folder):
     check(on(book, "unlock"), "", 3, fault=f"cannot read {book}")
     for text, fault in [
         ("", "bad book: 61"),
-        (USER + "]", "bad book: 60"),
-        (USER + "name = 1", "bad book: 62"),
-        (USER, "no token"),
+        (BOOK_OF_USER + "]", "bad book: 60"),
+        (BOOK_OF_USER + "name = 1", "bad book: 62"),
+        (BOOK_OF_USER, "no token"),
     ]:
         write(book, text)
         check(on(book, "unlock"), "", 1, fault=fault)
     with open(book, "wb") as out:
         out.write(b"\xff")
     check(on(book, "unlock"), "", 1, fault="bad book: 60")
-    write(book, USER, hotp(3, 3))
+    write(book, BOOK_OF_USER, hotp(3, 3))
     check(on(book, "unlock", "nobody"), "", 1, fault="no such account")
     check(on(book, "unlock", ""), "", 2, fault="bad value for --name")
     check(on(book, "enrol"), "", 2, fault="bad password")
+
+
+def words_that_are_no_text(folder):
+    """A word that is not UTF-8 is refused before any is looked at."""
+    run = subprocess.run([PROGRAM, "keys", "--salt", b"\xff"], stdin=subprocess.DEVNULL, capture_output=True, text=True)
+    equal((run.returncode, run.stdout, run.stderr), (2, "", "error: the arguments are not UTF-8 text\n"))
+
+
+def unprinted_help(folder):
+    """Help that can't be printed is a fault of the output."""
+    with open("/dev/full", "wb") as full:
+        run = subprocess.run([PROGRAM, "--help"], stdout=full, stderr=subprocess.PIPE, text=True)
+    equal((run.returncode, run.stderr), (3, fault_text("cannot write output")))
 
 
 TESTS = [
@@ -410,6 +416,7 @@ TESTS = [
     usage,
     help_and_version,
     examples,
+    examples_alone,
     input_limit,
     server_signature,
     hotp_codes,
@@ -420,6 +427,8 @@ TESTS = [
     enrolling,
     short_random_files,
     faulty_books,
+    words_that_are_no_text,
+    unprinted_help,
 ]
 
 suite.run_all(TESTS)

@@ -1,22 +1,31 @@
 #!/usr/bin/env python3
-"""Checks that what the documents name is there: links and their sections, paths, and the names that the promises cite.
+"""Checks that what the documents name is there: links and their sections, paths, and the names of the sources that they cite; that no
+test is left out; and that sizes are not stale.
 
 Usage: documents.py [PROGRAM]
 
 Each link between pages leads to a page and a section of it. Each path between backquotes is one of the repository, and each file of
-sources that is named is one of a crate. So is each name that a page of promises has between backquotes. The program is not run.
+sources that is named is one of a crate. Each name that a page of promises has between backquotes is one of the sources. So is each of
+a page for maintainers, or one of a script, where it has no space. run.py runs each script of this folder that takes a program, and
+docs/TESTING.md names each script. The sizes of docs/PROMISES.md are about those of the sources. The program is not run.
 """
 import re
 from pathlib import Path
 
+import run
 from checks import equal
 
 TOP = Path(__file__).resolve().parent.parent
 PAGES = [TOP / "README.md", TOP / "CONTRIBUTING.md", TOP / "CHANGELOG.md", *sorted(TOP.glob("docs/*.md")), TOP / "bench" / "README.md"]
 PROMISES = ["PROMISES.md", "LOG_PROMISES.md", "CONTRACTS.md"]
+MAINTAINERS = ["ARCHITECTURE.md", "DECISIONS.md", "MUTATIONS.md", "PROVING.md", "TIMES.md"]
 
 # What pages of promises have between backquotes that no source has: an example of a name, and the kit's own identity.
 NOT_OF_THE_SOURCES = {"IsX", "rattle-kit-13f", "logic", "dac8208d650f15bf"}
+# What pages for maintainers have that no source and no script has: calls that are not made, types and options, and the beginning of
+# some names.
+NOT_OF_THE_REPOSITORY = {"shrink_to_fit", "wrapping_abs", "getxattr", "O_NOFOLLOW", "O_NONBLOCK", "read_", "read_until", "as_mut_slice"}
+NOT_OF_THE_REPOSITORY |= {"i32", "self-test"}
 
 
 def prose(page):
@@ -78,17 +87,54 @@ def unknown_files(page, paths):
             yield where
 
 
-def unknown_names(page, paths, known):
-    """The names of a page that no source has: files of sources apart, paths, and all others by each word."""
+def unknown_names(page, paths, known, skipped=r"\.(rt|antt)$"):
+    """The names of a page that nothing has, but for those that are skipped, as files of sources: paths, and all others by each word."""
     for where, name in quoted(page):
-        if name.endswith((".rt", ".antt")):
+        if re.search(skipped, name):
             continue
         if "/" in name:
-            is_there = (TOP / name).exists() or any(f"/{name}" in f"/{path}" for path in paths)
+            is_of_a_crate = any(f"/{name}" in f"/{path}" for path in paths) or any(TOP.glob(f"crates/*/{name}"))
+            is_there = (TOP / name).exists() or is_of_a_crate
         else:
             is_there = set(re.findall(r"[A-Za-z_][\w-]*", name)) <= known
         if not is_there:
             yield where
+
+
+def words_of_scripts():
+    """The words of the tests, the benchmarks, the Makefile and the list of crates."""
+    files = [TOP / "Makefile", TOP / "crates.txt", *TOP.glob("tests/*.*"), *TOP.glob("bench/*.py")]
+    return {word for file in files for word in re.findall(r"[\w-]+", file.read_text(encoding="utf-8"))}
+
+
+def untold_tests():
+    """The scripts of this folder that docs/TESTING.md does not name, or that take a program and run.py does not run."""
+    told = (TOP / "docs" / "TESTING.md").read_text(encoding="utf-8")
+    for path in sorted(TOP.glob("tests/*.py")):
+        takes_program = f"Usage: {path.name} PROGRAM" in path.read_text(encoding="utf-8")
+        if f"`{path.name}`" not in told or takes_program and path.name not in run.TESTS:
+            yield path.name
+
+
+def lines_of(*patterns):
+    """How many lines these files have, whose paths begin at the repository's top."""
+    return sum(file.read_bytes().count(b"\n") for pattern in patterns for file in TOP.glob(pattern))
+
+
+def stale_sizes():
+    """The sizes that docs/PROMISES.md tells and that differ from those of the sources by more than one in fifty."""
+    told = (TOP / "docs" / "PROMISES.md").read_text(encoding="utf-8")
+    libraries = re.search(r"^LIBRARIES = (.+)$", (TOP / "Makefile").read_text(encoding="utf-8"), re.MULTILINE).group(1).split()
+    edits = len([*TOP.glob("crates/*/edits/*.edit"), *TOP.glob("crates/*/must-fail/*.edit")])
+    for form, size in [
+        (r"some\s+(\d+) of definitions", lines_of("crates/*/specs/**/*.antt")),
+        (r"some\s+(\d+) of code", lines_of(*(f"crates/{name}/src/**/*.rt" for name in [*libraries, "scramotp"]))),
+        (r"The\s+(\d+) lines of proofs", lines_of("crates/*/proofs/**/*.antt")),
+        (r"some\s+(\d+) wrong bodies", edits),
+    ]:
+        number = int(re.search(form, told).group(1))
+        if 50 * abs(number - size) > size:
+            yield f"{number}, and not {size}: {form}"
 
 
 def main():
@@ -99,6 +145,12 @@ def main():
     equal([fault for page in PAGES for fault in unknown_files(page, paths)], [], "files that no crate has")
     promises = [TOP / "docs" / name for name in PROMISES]
     equal([fault for page in promises for fault in unknown_names(page, paths, known)], [], "names that no source has")
+    known |= words_of_scripts() | NOT_OF_THE_REPOSITORY
+    maintainers = [TOP / "docs" / name for name in MAINTAINERS]
+    skipped = r"\.(rt|antt)$| |NAME"
+    equal([fault for page in maintainers for fault in unknown_names(page, paths, known, skipped)], [], "names that nothing has")
+    equal(list(stale_sizes()), [], "sizes that docs/PROMISES.md has")
+    equal(list(untold_tests()), ["run.py"], "scripts that run.py does not run, or docs/TESTING.md does not name")
     print(f"documents.py: {len(PAGES)} pages name what is there")
 
 

@@ -39,7 +39,7 @@ from pathlib import Path
 # The libraries that each crate uses, as crates.txt lists them.
 Uses = dict[str, list[str]]
 
-ROOT = Path(__file__).resolve().parent.parent
+TOP = Path(__file__).resolve().parent.parent
 FOLDERS = ("must-fail", "edits")
 # What a check reads of a crate.
 PARTS = ("src", "specs", "proofs")
@@ -220,11 +220,11 @@ class Refusals:
         cache_home = os.environ.get("XDG_CACHE_HOME") or Path.home() / ".cache"
         self.folder = Path(cache_home) / "scramotp" / "refusals"
         self.sum = hashlib.sha256(kit_version().encode())
-        files = [Path(__file__), ROOT / "crates.txt", ROOT / "HANDLES"]
-        crates = [ROOT / "crates" / it for it in [*below(crate, uses), crate]]
+        files = [Path(__file__), TOP / "crates.txt", TOP / "HANDLES"]
+        crates = [TOP / "crates" / it for it in [*below(crate, uses), crate]]
         files += [it for at in crates for part in PARTS for it in sorted((at / part).rglob("*")) if it.is_file()]
         for it in files:
-            self.sum.update(repr((str(it.relative_to(ROOT)), it.read_bytes())).encode())
+            self.sum.update(repr((str(it.relative_to(TOP)), it.read_bytes())).encode())
 
     def place(self, edit: Edit) -> Path:
         """Returns where the refusal of this edit is kept."""
@@ -254,7 +254,7 @@ class Room:
     """A copy of one crate that is edited and checked, on top of what its earlier checks proved."""
 
     def __init__(self, crate: str, uses: Uses, base: Path, at: Path) -> None:
-        self.crate, self.source, self.folder = crate, ROOT / "crates" / crate, at
+        self.crate, self.source, self.folder = crate, TOP / "crates" / crate, at
         self.refusals = Refusals(crate, uses)
         self.functions = functions_of(self.source)
         for part in PARTS:
@@ -428,7 +428,7 @@ def edits_of(crate: Path) -> list[Path]:
 
 def read_uses() -> Uses:
     """Reads crates.txt: the libraries that each crate uses."""
-    rows = [it.partition("#")[0].partition(":") for it in (ROOT / "crates.txt").read_text(encoding="utf-8").split("\n")]
+    rows = [it.partition("#")[0].partition(":") for it in (TOP / "crates.txt").read_text(encoding="utf-8").split("\n")]
     return {left.split()[0]: right.split() for left, colon, right in rows if colon}
 
 
@@ -445,16 +445,16 @@ def rlib_of(root: Path, name: str) -> Path:
 
 def build(base: Path, names: list[str], uses: Uses, are_built: bool) -> None:
     """Copies the sources of all crates, and these libraries where they are built or newer than their sources, or else builds them."""
-    for path in [ROOT / "crates.txt", ROOT / "HANDLES", *ROOT.glob("crates/*/*")]:
-        to = base / path.relative_to(ROOT)
+    for path in [TOP / "crates.txt", TOP / "HANDLES", *TOP.glob("crates/*/*")]:
+        to = base / path.relative_to(TOP)
         to.parent.mkdir(parents=True, exist_ok=True)
         if path.name in PARTS:
             shutil.copytree(path, to)
-        elif path.parent == ROOT:
+        elif path.parent == TOP:
             shutil.copyfile(path, to)
     for name in names:
-        made = rlib_of(ROOT, name) / "format"
-        crates = [ROOT / "crates" / it for it in [*below(name, uses), name]]
+        made = rlib_of(TOP, name) / "format"
+        crates = [TOP / "crates" / it for it in [*below(name, uses), name]]
         sources = (it for crate in crates for part in PARTS for it in (crate / part).rglob("*") if it.is_file())
         if made.is_file() and (are_built or made.stat().st_mtime > max(it.stat().st_mtime for it in sources)):
             shutil.copytree(made.parent, rlib_of(base, name), copy_function=linked)
@@ -477,13 +477,13 @@ def linked(source: str, to: str) -> None:
 @cache
 def kit() -> Path:
     """Returns the folder of the Rattle kit."""
-    return Path(run(["rt", "doc"], ROOT).stdout.strip()).parent
+    return Path(run(["rt", "doc"], TOP).stdout.strip()).parent
 
 
 @cache
 def kit_version() -> str:
     """Returns the line by which the kit tells itself from others."""
-    return run(["rt", "version"], ROOT).stdout
+    return run(["rt", "version"], TOP).stdout
 
 
 def run(words: list[str], folder: Path) -> subprocess.CompletedProcess[str]:
@@ -509,9 +509,9 @@ def main() -> int:
     parser.add_argument("crates", nargs="*", metavar="CRATE", help="the edits of these crates (those of each that has a folder edits/)")
     options = parser.parse_args()
     uses = read_uses()
-    listed = options.crates or [it for it in uses if (ROOT / "crates" / it / "edits").is_dir()]
-    edits = {it: len(edits_of(ROOT / "crates" / it)) for it in listed}
-    functions = {it: len(functions_of(ROOT / "crates" / it)) for it in edits if edits[it]}
+    listed = options.crates or [it for it in uses if (TOP / "crates" / it / "edits").is_dir()]
+    edits = {it: len(edits_of(TOP / "crates" / it)) for it in listed}
+    functions = {it: len(functions_of(TOP / "crates" / it)) for it in edits if edits[it]}
     first = min(functions, key=lambda it: (len(below(it, uses)), functions[it]))
     # the longest work begins first: a check of a crate that stands on many others takes the longest
     names = [first] if options.self_test else sorted(functions, key=lambda it: (-len(below(it, uses)), -functions[it] * edits[it]))

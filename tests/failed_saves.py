@@ -12,9 +12,9 @@ import pathlib
 
 import shims
 import suite
-from all_commands import ACCEPTED, BOOK, GONE, audited, book_of, commands, left, new_book, prepare, run
 from checks import equal, holds
-from outside import numbered
+from command_table import ACCEPTED, BOOK, GONE, audited, book_of, commands, left, new_book, prepare, run
+from expected import numbered
 from suite import CODES, token
 
 # The token of BOOK (RFC 4226, appendix D): it lets a code lie three counters ahead, and of two in a row the first none.

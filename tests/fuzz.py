@@ -6,12 +6,13 @@ Usage: fuzz.py PROGRAM [SEED [COUNT]]
 Every run has to end within 2 seconds of the processor's time, by no signal, with a stated status and a stated fault. Where a
 command accepts its input, Python says what follows: the code (RFC 4226, RFC 6238) and the keys (RFC 5802); the text of the book, by
 tomllib, which a second save leaves as it is; of a log, that its lines before the one at fault begin a clean log, and that what is
-upgraded has the same answer; of the events of a hall, that the log which it prints is clean. An input for which something else is seen
-is kept, as a file fuzz-KIND-SEED-NUMBER in the folder in which the script is started, and ends it.
+upgraded has the same answer; of the events of a hall, that the log which it prints is clean. An input for which something else is seen,
+or that the program accepts and Python does not, is kept, as a file fuzz-KIND-SEED-NUMBER in the folder in which the script is started,
+and ends it. So that none of this is asked of refusals alone, some inputs of each kind have to be accepted.
 
 COUNT, 300 by default, is how many inputs of each kind are tried; each is made from SEED, 1 by default, and its own number.
 """
-import os
+import collections
 import pathlib
 import random
 import re
@@ -20,11 +21,16 @@ import sys
 import tempfile
 import tomllib
 
-from outside import AUDITS, BOOK_FAULTS, code, keys_of, numbered
+from checks import equal
+from expected import AUDITS, BOOK_FAULTS, code, keys_of, numbered
+from suite import PROGRAM, processor_time
 
 BOOKS = sorted(BOOK_FAULTS.glob("*.toml"))
 # What a run may take of the processor, whatever else the machine does.
 SECONDS = 2
+
+# What an audit or an upgrade says of a log.
+OF_A_LOG = rb"line \d+: [ -~]+\n|too many lines\n|read fault\n"
 
 # What a command may say on standard error, by its status.
 FAULTS = {
@@ -49,30 +55,30 @@ class Unexpected(Exception):
     """What was seen instead of what has to be."""
 
 
-def expect(holds, *seen):
-    if not holds:
+def expect(is_so, *seen):
+    if not is_so:
         raise Unexpected(*seen)
 
 
-def run(program, words, data=b""):
+def run(words, data=b""):
     """Status and output of a run, whose faults have to be stated ones."""
-    before = os.times()
+    before = processor_time()
     try:
-        done = subprocess.run([program, *words], input=data, capture_output=True, timeout=60)
+        done = subprocess.run([PROGRAM, *words], input=data, capture_output=True, timeout=60)
     except subprocess.TimeoutExpired:
         raise Unexpected(words, "it does not end") from None
-    after = os.times()
-    expect(after.children_user + after.children_system - before.children_user - before.children_system <= SECONDS, words, "too long")
-    fault = FAULTS.get(done.returncode)
+    expect(processor_time() - before <= SECONDS, words, "too long")
     # A log's line at fault is an answer, and goes to standard output; `upgrade` has none, and tells it as a fault.
-    of_log = words[0] in ("audit", "upgrade") and done.returncode in (1, 3)
-    line = rb"line \d+: [ -~]+\n|too many lines\n|read fault\n"
-    told = re.fullmatch(line, done.stdout + done.stderr) if of_log else None
-    expect(fault is not None and (told or re.fullmatch(fault, done.stderr)), words, done)
-    return done.returncode, done.stdout + (done.stderr if told else b"")
+    told, other = (done.stdout, done.stderr) if words[0] == "audit" else (done.stderr, done.stdout)
+    is_of_log = words[0] in ("audit", "upgrade") and done.returncode in (1, 3) and re.fullmatch(OF_A_LOG, told)
+    if is_of_log:
+        expect(other == b"", words, done)
+        return done.returncode, told
+    expect(done.returncode in FAULTS and re.fullmatch(FAULTS[done.returncode], done.stderr), words, done)
+    return done.returncode, done.stdout
 
 
-def edited(chosen, text, others):
+def altered(chosen, text, others):
     """The text after one to three edits: a part of it goes, comes twice, or is replaced."""
     for _ in range(chosen.randint(1, 3)):
         start = chosen.randrange(len(text) + 1)
@@ -98,15 +104,15 @@ def edited(chosen, text, others):
     return text
 
 
-def a_book(program, folder, chosen):
+def a_book(folder, chosen):
     """A book: what is read is what tomllib reads, and a save changes what its command says, and nothing when made again."""
     texts = [book.read_bytes() for book in BOOKS]
-    text = edited(chosen, chosen.choice(texts), texts)
+    text = altered(chosen, chosen.choice(texts), texts)
     yield text
     book = folder / "book"
     book.write_bytes(text)
     words = ["unlock", "--book", book, "--name", "user"]
-    status, _ = run(program, words)
+    status, _ = run(words)
     if status != 0:
         expect(book.read_bytes() == text, "a refused book has changed")
         return
@@ -114,11 +120,12 @@ def a_book(program, folder, chosen):
     wanted["accounts"]["user"]["token"]["failures"] = 0
     first = book.read_bytes()
     expect(plain(tomllib.loads(first.decode())) == plain(wanted), first)
-    expect(run(program, words)[0] == 0 and book.read_bytes() == first, "a second save differs", first)
+    expect(run(words)[0] == 0 and book.read_bytes() == first, "a second save differs", first)
     log = folder / "log"
     log.write_bytes(b"SCRAMLOG 2\n")
-    answer = run(program, ["audit", "--book", book, "--log", log])
+    answer = run(["audit", "--book", book, "--log", log])
     expect(answer == (0, b"clean sessions=0 accepted=0 codes=0\n"), answer)
+    yield "a book that is read"
 
 
 def plain(book):
@@ -146,37 +153,40 @@ def logs():
             yield numbered(text.decode()).encode()
 
 
-def a_log(program, folder, chosen):
+def a_log(folder, chosen):
     """A log: what comes before the line at fault begins a clean log, and an upgrade keeps the answer."""
     texts = [*logs()]
-    text = edited(chosen, chosen.choice(texts), texts)
+    text = altered(chosen, chosen.choice(texts), texts)
     yield text
     log = folder / "log"
     words = ["audit", "--book", AUDITS / chosen.choice(["keys.toml", "hotp.toml", "sha256.toml", "sync.toml"]), "--log", log]
     log.write_bytes(text)
-    status, answer = run(program, words)
-    upgraded, other = run(program, ["upgrade", "--log", log])
+    status, answer = run(words)
+    upgraded, other = run(["upgrade", "--log", log])
     if upgraded == 0 and b"\nSCRAMLOG" not in text:
         log.write_bytes(other)
-        expect(run(program, words) == (status, answer), "the upgraded log", answer)
+        expect(run(words) == (status, answer), "the upgraded log", answer)
+        yield "an upgraded log"
     if status == 0:
         expect(re.fullmatch(rb"clean sessions=\d+ accepted=\d+ codes=\d+\n", answer), answer)
+        yield "a clean log"
         return
     line = int(re.match(rb"line (\d+): ", answer)[1])
-    before = b"".join(cut(text)[: line - 1])
+    before = b"".join(lines_of(text)[: line - 1])
     expect(line <= text.count(b"\n") + 1, answer)
     log.write_bytes(before)
-    front = run(program, words)
+    front = run(words)
     cut_there = (1, b"line %d: cut\n" % line)
     expect(front == cut_there or front[0] == 0 and line > 1, "the lines before", answer, front)
+    yield "the lines before a fault"
 
 
-def cut(text):
+def lines_of(text):
     """The lines of a text, each with its LF."""
     return [line + b"\n" for line in text.split(b"\n")[:-1]]
 
 
-def words_of_code(program, _, chosen):
+def words_of_code(_, chosen):
     """The words of `code`: where it prints a code, it is the one by Python's hmac."""
     odd = [it.decode() for it in NUMBERS]
     some = {
@@ -191,7 +201,7 @@ def words_of_code(program, _, chosen):
     given = {name: value for name, value in some.items() if chosen.random() < (0.95 if name == "--secret" else 0.5)}
     words = ["code", *[f"{name}={value}" for name, value in given.items()]]
     yield repr(words).encode()
-    status, printed = run(program, words)
+    status, printed = run(words)
     if status != 0:
         expect(printed == b"", printed)
         return
@@ -202,9 +212,10 @@ def words_of_code(program, _, chosen):
         since = int(given["--moment"]) - int(given.get("--t0", 0))
         wanted = code(secret, since // int(given.get("--step", 30)), digits, given.get("--hash", "sha1"))
     expect(printed == f"{wanted}\n".encode(), printed, wanted)
+    yield "a code of a counter" if "--counter" in given else "a code of a moment"
 
 
-def words_of_keys(program, _, chosen):
+def words_of_keys(_, chosen):
     """The words and the password of `keys`: the keys are those by Python's hashlib."""
     salt = bytes(chosen.randrange(256) for _ in range(chosen.choice([0, 1, 12, 16, 64, 65])))
     name, function = chosen.choice([("SCRAM-SHA-1", "sha1"), ("SCRAM-SHA-256", "sha256")])
@@ -213,13 +224,16 @@ def words_of_keys(program, _, chosen):
     password = bytes(it for it in chosen.choices(letters, k=chosen.choice([0, 1, 8, 70, 1024, 1025])) if it != 10)
     yield repr((name, salt, count, password)).encode()
     words = ["keys", "--mechanism", name, "--salt", salt.hex(), "--count", count]
-    status, printed = run(program, words, password + chosen.choice([b"", b"\n", b"\nmore"]))
+    status, printed = run(words, password + chosen.choice([b"", b"\n", b"\nmore"]))
     is_password = 1 <= len(password) <= 1024 and all(32 <= byte <= 126 for byte in password)
     right = count in ("1", "2", "4096") and 1 <= len(salt) <= 64 and is_password
     expect(status == (0 if right else 2), status, printed)
-    if right:
-        stored, server = keys_of(function, password, salt, int(count))
-        expect(printed.decode() == f"stored={stored}\nserver={server}\n", printed)
+    if not right:
+        expect(printed == b"", printed)
+        return
+    stored, server = keys_of(function, password, salt, int(count))
+    expect(printed.decode() == f"stored={stored}\nserver={server}\n", printed)
+    yield "the keys of a password"
 
 
 def some_events(chosen):
@@ -238,10 +252,10 @@ def some_events(chosen):
         else:
             del said[number]
             event = chosen.choice([b"gone %d %d" % (number, moment), b"line %d %d %s" % (number, moment, chosen.choice(odd))])
-        yield (edited(chosen, event, odd) if chosen.random() < 0.02 else event).replace(b"\n", b"")
+        yield (altered(chosen, event, odd) if chosen.random() < 0.02 else event).replace(b"\n", b"")
 
 
-def a_hall(program, folder, chosen):
+def a_hall(folder, chosen):
     """Events of a hall: the log that it prints begins a clean one, and is one where the sessions that are open then end."""
     opening = (AUDITS / "hotp.toml").read_bytes()
     events = [*some_events(chosen)]
@@ -251,9 +265,9 @@ def a_hall(program, folder, chosen):
 
     def heard(lines):
         book.write_bytes(opening)
-        status, printed = run(program, ["hall", "--book", book], b"".join(line + b"\n" for line in lines))
+        status, printed = run(["hall", "--book", book], b"".join(line + b"\n" for line in lines))
         log.write_bytes(printed)
-        return status, printed, run(program, ["audit", "--book", before, "--log", log])
+        return status, printed, run(["audit", "--book", before, "--log", log])
 
     status, printed, answer = heard(events)
     lines = printed.splitlines()
@@ -265,26 +279,45 @@ def a_hall(program, folder, chosen):
     expect((status, taken) == (0, len(events)) or status == 1 and taken < len(events), status, taken)
     status, more, answer = heard(events[:taken] + [b"gone %s 9" % number for number in begun if number not in ended])
     expect(status == 0 and more.startswith(printed) and answer[0] == 0, status, answer)
+    if b" S OK " in more:
+        yield "a login in a hall"
+    if b" S PASS " in more:
+        yield "a code in a hall"
 
 
 KINDS = [a_book, a_log, words_of_code, words_of_keys, a_hall]
+# What inputs of a kind have to lead to, one in so many at least: about half as often as seed 1 does.
+ONE_IN = {
+    "a book that is read": 30,
+    "an upgraded log": 25,
+    "a clean log": 100,
+    "the lines before a fault": 2,
+    "a code of a counter": 25,
+    "a code of a moment": 40,
+    "the keys of a password": 10,
+    "a login in a hall": 2,
+    "a code in a hall": 4,
+}
+
+
+def tried(kind, seed, number):
+    """What was seen of an input. One of which something unexpected is seen, or that Python can't judge, is kept, and ends the script."""
+    chosen = random.Random(f"{kind.__name__} {seed} {number}")
+    with tempfile.TemporaryDirectory() as folder:
+        steps = kind(pathlib.Path(folder), chosen)
+        text = next(steps)
+        try:
+            return list(steps)
+        except Exception as seen:
+            kept = pathlib.Path(f"fuzz-{kind.__name__}-{seed}-{number}")
+            kept.write_bytes(text)
+            sys.exit(f"fuzz.py: {kept}: {type(seen).__name__}: {seen}")
 
 
 def main():
-    program = os.path.abspath(sys.argv[1])
     seed, count = (int(given or usual) for given, usual in zip([*sys.argv[2:], "", ""], ["1", "300"]))
-    for kind in KINDS:
-        for number in range(count):
-            chosen = random.Random(f"{kind.__name__} {seed} {number}")
-            with tempfile.TemporaryDirectory() as folder:
-                steps = kind(program, pathlib.Path(folder), chosen)
-                tried = next(steps)
-                try:
-                    next(steps, None)
-                except Unexpected as seen:
-                    kept = pathlib.Path(f"fuzz-{kind.__name__}-{seed}-{number}")
-                    kept.write_bytes(tried)
-                    sys.exit(f"fuzz.py: {kept}: {seen}")
+    seen = collections.Counter(what for kind in KINDS for number in range(count) for what in tried(kind, seed, number))
+    equal([what for what, number in ONE_IN.items() if seen[what] < count // number], [], "what too few inputs led to", dict(seen))
     print(f"fuzz.py: {count} inputs of each of {len(KINDS)} kinds, from seed {seed}")
 
 

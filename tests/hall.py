@@ -17,8 +17,8 @@ import clients
 import suite
 from checks import equal
 from clients import Account, book, dealt, gone, logged_in, of_session, opened, said, turned_away
-from halls import AUTH, MECHS, OWN, RESP, USER, Hall, clean, handed, login, read
-from outside import AUDITS, orders_of_turns
+from expected import AUDITS, orders_of_turns
+from halls import AUTH, HOTP_BOOK, MECHS, OWN, RESP, Hall, clean, handed, login, next_lines
 
 SHUFFLES = 1000
 # A folder of files in memory, where a system has one.
@@ -40,14 +40,14 @@ def two_sessions(folder):
     text, log = "\n".join(events), (AUDITS / "interleaved.log").read_text()
     equal(log.count("\n"), 14)
     for end in ["\n", ""]:
-        here.put(USER)
+        here.put(HOTP_BOOK)
         here.prints(text + end, 0, log)
         equal((here.token()["next"], here.token()["failures"]), (1, 0))
     here.audited(log, clean(2, 1, 1))
-    here.put(USER)
+    here.put(HOTP_BOOK)
     here.prints("", 0, clients.FIRST_LINE)
     here.audited(clients.FIRST_LINE, clean(0))
-    equal(tomllib.loads(here.book.read_text())["accounts"]["user"]["sha1"], tomllib.loads(USER)["accounts"]["user"]["sha1"])
+    equal(tomllib.loads(here.book.read_text())["accounts"]["user"]["sha1"], tomllib.loads(HOTP_BOOK)["accounts"]["user"]["sha1"])
 
 
 def sixty_four(folder):
@@ -73,7 +73,7 @@ def bounds(folder):
         text, log = dealt([0, 0], [[opened(own), said("AUTH SCRAM-SHA-1", "S CONT :")]])
         here.prints(text, 0, log)
     for moment in [0, 253402300799]:
-        here.put(USER)
+        here.put(HOTP_BOOK)
         visit = login() + [said("CODE 000000", f"S FAIL {moment}", moment=moment), gone(moment)]
         text, log = dealt([0] * len(visit), [visit])
         here.prints(text, 0, log)
@@ -117,7 +117,7 @@ def told_at_once(folder):
     """Each line stands in the log while the input is still open, and a code is spent before its reply is printed."""
     here = Hall(folder)
     running = here.start()
-    equal(read(running, 1), clients.FIRST_LINE)
+    equal(next_lines(running, 1), clients.FIRST_LINE)
     for event, lines in login() + [said("CODE 755224", "S PASS 5 0"), gone()]:
         equal(handed(running, event.replace("#", "1") + "\n", len(lines)), "".join(f"1 {line}\n" for line in lines))
     equal(here.token()["next"], 1)
@@ -160,24 +160,24 @@ def shuffled(_):
     # a book is saved 64 times in each order, and a file in memory is saved at once
     with tempfile.TemporaryDirectory(dir=MEMORY if os.path.isdir(MEMORY) else None) as folder:
         here, text = Hall(folder, book(accounts)), book(accounts)
-        for seed in range(SHUFFLES):
-            order, visits = shuffle_of(accounts, random.Random(seed))
+        for _ in range(SHUFFLES):
+            order, visits = shuffle_of(accounts)
             here.put(text)
             events, log = dealt(order, visits)
             here.prints(events, 0, log)
             here.audited(log, clean(64, 64, log.count(" S PASS ")))
 
 
-def shuffle_of(accounts, chosen):
-    """A login of each account, with a code that passes or fails, and an order of their turns."""
+def shuffle_of(accounts):
+    """A login of each account, with a code that passes or fails, and an order of their turns, all at random."""
     visits = []
     for account in accounts:
-        counter = chosen.randrange(5)
+        counter = random.randrange(5)
         reply = f"S PASS 5 {counter}" if counter <= 3 else "S FAIL 5"
-        nonces = [f"{chosen.getrandbits(64):x}" for _ in range(2)]
+        nonces = [f"{random.getrandbits(64):x}" for _ in range(2)]
         visits.append(logged_in(account, *nonces) + [said(f"CODE {account.code(counter)}", reply), gone()])
     order = [which for which in range(64) for _ in range(5)]
-    chosen.shuffle(order)
+    random.shuffle(order)
     return order, visits
 
 

@@ -12,7 +12,7 @@ import clients
 import suite
 from checks import equal, holds
 from clients import Account, book, dealt, gone, logged_in, opened, said
-from halls import USER, Hall, clean, handed, login, read
+from halls import HOTP_BOOK, Hall, clean, handed, login, next_lines
 
 # Input lines that say no event, where sessions 2 and 3 are open, session 1 has ended and no other has begun.
 NO_EVENTS = [
@@ -44,7 +44,7 @@ def bad_events(folder):
     lines += [line for moment in NO_MOMENTS for line in [b"line 2 " + moment + b" ABORT", b"gone 2 " + moment]]
     for line in lines:
         for end in [b"\nopen cc\ngone 2 5\n", b"\n"] + [b""] * (line != b""):
-            here.put(USER)
+            here.put(HOTP_BOOK)
             here.prints(text.encode() + line + end, 1, log, "bad event")
             equal(here.token()["next"], 1, line)
     here.audited(log, f"line {log.count(chr(10)) + 1}: cut")
@@ -70,7 +70,7 @@ def failed_saves(folder):
     for block in [taken_name, full_device]:
         here.put(book([anne, bob]))
         running = here.start(restore_signals=False)
-        equal(read(running, 1) + handed(running, text, log.count("\n") - 1), log)
+        equal(next_lines(running, 1) + handed(running, text, log.count("\n") - 1), log)
         kept = here.book.read_bytes()
         block(running, f"{here.book}.new")
         output, faults = running.communicate(f"line 2 5 CODE {bob.code(0)}\nline 1 5 CODE {anne.code(0)}\ngone 3 5\nno event\n")
@@ -96,7 +96,7 @@ def books_that_are_none(folder):
     for text in ["", "no event\n", let_in()[0]]:
         here.put("format = 2\n")
         here.refuses(text, 1, "bad book: 61")
-        here.put(USER.replace("digits = 6", "digits = 9"))
+        here.put(HOTP_BOOK.replace("digits = 6", "digits = 9"))
         here.refuses(text, 1, "bad book: 67")
         here.book.unlink()
         here.refuses(text, 3, f"cannot read {here.book}")
@@ -108,7 +108,7 @@ def held_books(folder):
     here = Hall(folder)
     text, log = let_in()
     running = here.start()
-    equal(read(running, 1) + handed(running, text, log.count("\n") - 1), log)
+    equal(next_lines(running, 1) + handed(running, text, log.count("\n") - 1), log)
     words = [here.words[0], "verify", "--book", here.book, "--name", "user", "--moment", "5"]
     waiting = subprocess.Popen(words, stdin=subprocess.PIPE, stdout=subprocess.PIPE, text=True)
     waiting.stdin.write("755224\n")
@@ -130,7 +130,7 @@ def outputs_that_fail(folder):
     equal((done.returncode, done.stderr), (3, b"scramotp: cannot write output\n"), done)
     equal(here.token()["next"], 0)
     running = here.start()
-    equal(read(running, 1), clients.FIRST_LINE)
+    equal(next_lines(running, 1), clients.FIRST_LINE)
     running.stdout.close()
     running.stdin.write(text)
     running.stdin.close()
@@ -146,7 +146,7 @@ def long_inputs(folder):
     text += "line 2 5 "
     here.prints(text + "a" * (16777217 - len(text)), 3, log, "cannot read input")
     equal(here.token()["next"], 1)
-    here.put(USER)
+    here.put(HOTP_BOOK)
     here.prints(text + "a" * (16777216 - len(text)), 0, log + "2 C BAD\n2 S NO :\n2 E\n")
 
 

@@ -6,15 +6,13 @@ Usage: hall_kill.py PROGRAM
 """
 import os
 import random
-import re
-import subprocess
-import time
 
 import clients
 import suite
-from checks import equal, holds
+from checks import equal
 from clients import Account, book, logged_in
-from halls import Hall, clean
+from halls import Hall
+from kills import kill_at_any_moment, start
 
 RUNS = 2000
 # Sessions that log in before the first code, and the different codes that are then sent.
@@ -34,62 +32,14 @@ def codes_from(account, at):
     return "".join(f"line {sender} 5 CODE {text}\n" for sender, text in zip(senders, sent))
 
 
-def start(here, text, output):
-    """A hall that is given all of its input."""
-    run = subprocess.Popen(here.words, stdin=subprocess.PIPE, stdout=output, stderr=subprocess.PIPE)
-    run.stdin.write(text.encode())
-    run.stdin.close()
-    run.stdin = None
-    return run
-
-
-def used(log):
-    """The counters of the codes that passed."""
-    return [int(counter) for counter in re.findall(r"^\d+ S PASS \d+ (\d+)$", log, re.M)]
-
-
-def check_cut_log(here, log):
-    """A log that was cut is at fault in no line that it has, whole or not, under the book that its hall began with."""
-    for text in [log, log[: log.rfind("\n") + 1]]:
-        here.audited(text, clean(0) if text == clients.FIRST_LINE else f"line {text.count(chr(10)) + 1}: cut")
-
-
 def killed_at_any_moment(folder):
-    """Halls that are killed leave a book that can be read, with each counter spent that was told to have passed. The first is not
-    killed: it shows how long one takes, and how much of that before the first code."""
+    """Halls that are killed; the next one goes on from the book that they leave."""
     account = Account("user", "SCRAM-SHA-1")
-    here, log = Hall(folder, book([account])), os.path.join(folder, "log")
+    here = Hall(folder, book([account]))
     events = clients.dealt([which for _ in range(3) for which in range(OPEN)], visits(account))[0]
-    passed, killed, duration = [], 0, 0.0
-    for number in range(RUNS):
-        here.before.write_bytes(here.book.read_bytes())
-        at = here.token()["next"]
-        with open(log, "w") as output:
-            began = time.monotonic()
-            run = start(here, events + codes_from(account, at), output)
-            if number > 0:
-                time.sleep(random.uniform(0, duration))
-                run.kill()
-            status, faults = run.wait(), run.stderr.read()
-            run.stderr.close()
-        holds(status in (0, -9), status, faults)
-        equal(faults, b"", status)
-        duration = duration or time.monotonic() - began
-        with open(log) as written:
-            text = written.read()
-        killed += status < 0
-        check_cut_log(here, text)
-        found = used(text)
-        holds(not set(found) & set(passed), found, passed)
-        equal(len(found), len(set(found)), found, passed)
-        passed += found
-        holds(here.token()["next"] > max(passed, default=-1), here.token(), passed[-5:])
-    holds(killed > RUNS // 10, len(passed), killed)
-    holds(len(passed) > RUNS // 10, len(passed), killed)
-    run = start(here, "", subprocess.DEVNULL)
-    equal((run.wait(), run.stderr.read()), (0, b""))
-    run.stderr.close()
-    equal(sorted(os.listdir(folder)), ["before", "book", "log"])
+    kill_at_any_moment(here, lambda at, output: start(here.words, events + codes_from(account, at), output), RUNS, [0])
+    here.prints("", 0, clients.FIRST_LINE)
+    equal(sorted(os.listdir(folder)), ["before", "book"])
 
 
 suite.run_all([killed_at_any_moment])

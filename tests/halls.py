@@ -7,19 +7,19 @@ import time
 import suite
 from checks import equal
 from clients import opened, said
-from outside import AUDITS
+from expected import AUDITS
 from suite import PROGRAM
 
 MECHS, AUTH, CONT, RESP, OK = (AUDITS / "sha1.log").read_text().splitlines()[1:6]
 OWN = "3rfcNHYJY1ZVvWVs7j"
 # RFC 5802's user with RFC 4226's token
-USER = (AUDITS / "hotp.toml").read_text()
+HOTP_BOOK = (AUDITS / "hotp.toml").read_text()
 
 
 class Hall(suite.BookFolder):
     """A folder with a book, and halls over it."""
 
-    def __init__(self, folder, text=USER):
+    def __init__(self, folder, text=HOTP_BOOK):
         super().__init__(folder, text)
         self.words = [PROGRAM, "hall", "--book", self.book]
 
@@ -46,12 +46,15 @@ def clean(sessions, accepted=0, codes=0):
     return f"clean sessions={sessions} accepted={accepted} codes={codes}"
 
 
-def read(running, count):
-    """The next lines that a run prints, while its input is open."""
+def next_lines(running, count):
+    """The next lines that a run prints while its input is open, or fewer where it ends."""
     text, deadline = "", time.monotonic() + 20
     while text.count("\n") < count and time.monotonic() < deadline:
         if select.select([running.stdout], [], [], 1)[0]:
-            text += os.read(running.stdout.fileno(), 65536).decode()
+            read = os.read(running.stdout.fileno(), 65536)
+            if not read:
+                break
+            text += read.decode()
     return text
 
 
@@ -59,7 +62,7 @@ def handed(running, text, count):
     """Hands a run more input, and returns the lines that it prints then."""
     running.stdin.write(text)
     running.stdin.flush()
-    return read(running, count)
+    return next_lines(running, count)
 
 
 def login():

@@ -15,8 +15,8 @@ import tomllib
 
 import suite
 from checks import equal, holds
-from halls import clean, handed, read
-from outside import AUDITS, decoy_salt
+from expected import AUDITS, decoy_salt
+from halls import clean, handed, next_lines
 from suite import NONCES, PROGRAM, hotp
 
 # RFC 5802's and RFC 7677's own logins
@@ -52,7 +52,7 @@ class Login(suite.BookFolder):
         equal(self.seen(), seen, f"the book and its folder after {words}")
 
     def account(self):
-        return suite.read(self.book)["accounts"]["user"]
+        return suite.read_book(self.book)["accounts"]["user"]
 
 
 def with_codes(look_ahead=3, limit=3, sync_ahead=None):
@@ -186,7 +186,7 @@ def replies_at_once(folder):
     """Each line stands in the log while the input is still open, and the socket's file is there until it ends."""
     here = Login(folder, with_codes())
     running = start(here, here.words(*SHA1, "--moment", "5"), "pencil\n")
-    equal(read(running, 6), ACCEPTED)
+    equal(next_lines(running, 6), ACCEPTED)
     holds(here.socket.is_socket(), "there is no socket while the login goes on")
     for code, lines in [("755224", "C CODE 755224\nS PASS 5 0\n"), ("000000", "C CODE 000000\nS FAIL 5\n")]:
         equal(handed(running, code + "\n", 2), lines)
@@ -200,7 +200,7 @@ def another_at_the_path(folder):
     """A file that takes the socket's name while the login runs stays there."""
     here = Login(folder, with_codes())
     running = start(here, here.words(*SHA1), "pencil\n")
-    equal(read(running, 6), ACCEPTED)
+    equal(next_lines(running, 6), ACCEPTED)
     here.socket.unlink()
     here.socket.write_text("another")
     output, faults = running.communicate()
@@ -222,7 +222,7 @@ def failed_saves(folder):
     for line, sent in [("755224", "C CODE 755224\n"), ("000000", "C CODE 000000\n"), ("SYNC 755224 287082", "C SYNC 755224 287082\n")]:
         here.put(with_codes(sync_ahead=8))
         running = start(here, here.words(*SHA1, "--moment", "5"), "pencil\n")
-        equal(read(running, 6), ACCEPTED)
+        equal(next_lines(running, 6), ACCEPTED)
         book = here.book.read_bytes()
         os.mkdir(f"{here.book}.new")
         output, faults = running.communicate(line + "\n755224\n")

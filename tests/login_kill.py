@@ -6,44 +6,28 @@ Usage: login_kill.py PROGRAM
 """
 import os
 import pathlib
-import random
 import re
 import subprocess
-import time
 
 import suite
 from checks import equal, holds
-from outside import AUDITS
-from suite import PROGRAM, begins_clean, code, hotp, token
+from expected import AUDITS
+from kills import kill_at_any_moment, start
+from suite import PROGRAM, BookFolder, code, hotp, token
 
 KEYS = (AUDITS / "keys.toml").read_text()
 BOOK = KEYS + hotp(look_ahead=3, limit=100, sync_ahead=10)
 RUNS = 2000
 
 
-def start(book, path, lines, output):
-    """A login that sends these lines, over a socket at this path."""
-    words = [PROGRAM, "login", "--book", book, "--name", "user", "--mechanism", "SCRAM-SHA-1", "--socket", path]
-    run = subprocess.Popen(words, stdin=subprocess.PIPE, stdout=output, stderr=subprocess.PIPE, text=True)
-    run.stdin.write("\n".join(["pencil", *lines, ""]))
-    run.stdin.close()
-    run.stdin = None
-    return run
+def words_of(book, path):
+    """A login over a socket at this path."""
+    return [PROGRAM, "login", "--book", book, "--name", "user", "--mechanism", "SCRAM-SHA-1", "--socket", path]
 
 
-def whole_lines(log):
-    """The lines that end with an LF."""
-    return log.split("\n")[:-1]
-
-
-def used(log):
-    """The counters that the replies of a log use: both of a pair."""
-    lines, found = whole_lines(log), []
-    for sent, reply in zip(lines, lines[1:]):
-        if passed := re.fullmatch(r"S PASS \d+ (\d+)", reply):
-            counter = int(passed.group(1))
-            found += [counter - 1, counter] if sent.startswith("C SYNC ") else [counter]
-    return found
+def start_login(book, path, lines, output=subprocess.PIPE):
+    """A login that sends these lines."""
+    return start(words_of(book, path), "\n".join(["pencil", *lines, ""]), output)
 
 
 def lines_from(at):
@@ -54,46 +38,29 @@ def lines_from(at):
 
 
 def killed_at_any_moment(folder):
-    """Runs that are killed leave a book that can be read, with each counter spent that was told to have passed. The first
-    run is not killed: it shows how long one takes."""
-    book, before, log = (pathlib.Path(folder, name) for name in ["book", "before", "log"])
-    book.write_text(BOOK)
-    passed, killed, duration = [], 0, 0.0
-    for number in range(RUNS):
-        before.write_bytes(book.read_bytes())
-        at = token(book)["next"]
-        with open(log, "w") as output:
-            began = time.monotonic()
-            run = start(book, f"{folder}/socket{number}", lines_from(at), output)
-            if number > 0:
-                time.sleep(random.uniform(0, duration))
-                run.kill()
-            status = run.wait()
-        duration = duration or time.monotonic() - began
-        text = log.read_text()
-        killed += status < 0
-        holds(begins_clean(before, text), text)
-        found = used(text)
-        holds(not set(found) & set(passed), found, passed)
-        equal(len(found), len(set(found)), found, passed)
-        passed += found
-        holds(token(book)["next"] > max(passed, default=-1), token(book), passed[-5:])
-    holds(passed, "no code passed", killed)
-    holds(killed > RUNS // 10, len(passed), killed)
-    run = start(book, f"{folder}/last", [code(token(book)["next"])], subprocess.PIPE)
+    """Logins that are killed; the next one goes on from the book that they leave."""
+    here = BookFolder(folder, BOOK)
+    path = here.folder / "socket"
+
+    def started(at, output):
+        path.unlink(missing_ok=True)
+        return start_login(here.book, path, lines_from(at), output)
+
+    # A code of a pair has passed before, so a whole run ends with status 1.
+    kill_at_any_moment(here, started, RUNS, [1])
+    path.unlink(missing_ok=True)
+    run = start_login(here.book, path, [code(token(here.book)["next"])])
     output, faults = run.communicate()
     equal((run.returncode, faults), (0, ""), output)
     holds("\nS PASS " in output, output, faults)
-    holds(not os.path.lexists(f"{folder}/last"), "the socket is left")
-    holds(not os.path.lexists(f"{book}.new"), "the next text is left")
+    equal(sorted(os.listdir(folder)), ["before", "book"])
 
 
 def left_sockets(folder):
     """A run that is killed may leave its socket; the next run has a fault until the file is removed."""
     book, path = pathlib.Path(folder, "book"), f"{folder}/socket"
     book.write_text(BOOK)
-    words = [PROGRAM, "login", "--book", book, "--name", "user", "--mechanism", "SCRAM-SHA-1", "--socket", path]
-    run = subprocess.Popen(words, stdin=subprocess.PIPE, stdout=subprocess.PIPE, stderr=subprocess.PIPE, text=True)
+    run = subprocess.Popen(words_of(book, path), stdin=subprocess.PIPE, stdout=subprocess.PIPE, stderr=subprocess.PIPE, text=True)
     run.stdin.write("pencil\n")
     run.stdin.flush()
     equal(run.stdout.readline(), "SCRAMLOG 1\n")
@@ -102,10 +69,10 @@ def left_sockets(folder):
     for removed, want in [(False, (3, "scramotp: socket fault\n")), (True, (0, ""))]:
         if removed:
             os.remove(path)
-        run = start(book, path, [], subprocess.PIPE)
+        run = start_login(book, path, [])
         _, faults = run.communicate()
         equal((run.returncode, faults), want)
-        equal(not os.path.lexists(path), bool(removed), path)
+        equal(not os.path.lexists(path), removed, path)
 
 
 def twenty_at_once(folder):
@@ -113,7 +80,7 @@ def twenty_at_once(folder):
     book = pathlib.Path(folder, "book")
     for _ in range(5):
         book.write_text(BOOK)
-        runs = [start(book, f"{folder}/socket{number}", [code(0)], subprocess.PIPE) for number in range(20)]
+        runs = [start_login(book, f"{folder}/socket{number}", [code(0)]) for number in range(20)]
         logs = [run.communicate() for run in runs]
         holds(all(faults == "" for _, faults in logs), logs)
         replies = sorted(re.findall(r"^S (PASS|FAIL) ", log, re.M) for log, _ in logs)

@@ -23,11 +23,11 @@ from typing import NamedTuple
 
 import shims
 import suite
-from all_commands import (
+from checks import equal, holds
+from command_table import (
     BOOK, audited, book_of, command_of, commands, is_front, is_kept, left, login_log, new_book, prepare, printed_begins_clean, run,
 )
-from checks import equal, holds
-from outside import numbered
+from expected import numbered
 from suite import AS_NOBODY, NOBODY, NONCES, PROGRAM, ROOT, totp
 
 
@@ -84,6 +84,11 @@ TABLE = {
 }
 
 
+def closed_by(what):
+    """The descriptors that a disturbance closes."""
+    return [int(number) for number in re.findall(r"\d", what)] if what.endswith(" closed") else []
+
+
 def named():
     """All commands by the names of the table."""
     return {**{command.name: command for command in commands()}, "new": new_book()}
@@ -101,10 +106,9 @@ class Machine:
         self.clock = pathlib.Path(folder, "clock")
         self.with_clock = {**os.environ, "LD_PRELOAD": shims.built("turn_clock", folder), "CLOCK": str(self.clock)}
 
-    def disturbed(self, what, name, command):
+    def disturbed(self, what, command):
         """A run of a command with this disturbance: its status, output and faults."""
-        closed = [int(number) for number in re.findall(r"\d(?=.*closed)", what)]
-        if closed:
+        if closed := closed_by(what):
             return run(command, self.folder, preexec_fn=lambda: [os.close(number) for number in closed])
         return {
             "a full device as output": self.full_output,
@@ -171,10 +175,10 @@ def table(folder):
         for name, command in named().items():
             due = row.get(name, WELL)
             prepare(here.folder, command)
-            answer = here.disturbed(what, name, command)
+            answer = here.disturbed(what, command)
             cell = (what, name)
             printed = command.printed if due.printed is None else due.printed
-            fault = f"scramotp: {due.fault.format(folder=here.folder)}\n" if due.fault and "2" not in what else ""
+            fault = f"scramotp: {due.fault.format(folder=here.folder)}\n" if due.fault and 2 not in closed_by(what) else ""
             equal(answer, (due.status, printed if is_seen(what) else "", fault), cell)
             equal((book_of(here.folder), left(here.folder)), (command.books[due.saves], set()), (*cell, "the book, and what else is left"))
             holds(due.saves != 0 or is_kept(here.folder, command, ""), cell)
@@ -184,7 +188,7 @@ def table(folder):
 
 def is_seen(what):
     """Whether what is printed can be seen."""
-    return "output" not in what and not re.search(r"1.*closed", what)
+    return "output" not in what and 1 not in closed_by(what)
 
 
 def socket_elsewhere(folder):

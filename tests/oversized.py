@@ -3,12 +3,11 @@
 
 Usage: oversized.py PROGRAM
 
-What is due at a limit is worked out by clients.py and hmac from RFC 5802 and RFC 4226. Endless input is made as it is asked for, and
+What is due at a limit is worked out by clients.py and expected.py from RFC 5802 and RFC 4226. Endless input is made as it is asked for, and
 the most memory that a run has had is compared early and late.
 """
 import array
 import fcntl
-import hmac
 import itertools
 import os
 import pathlib
@@ -18,14 +17,14 @@ import termios
 import time
 
 import clients
-import outside
+import expected
 import suite
-from all_commands import BOOK, command_of, commands, login_log, prepare
 from checks import equal, holds
 from clients import Account, Exchange, base, dealt, escaped, gone, logged_in, opened, said
+from command_table import BOOK, command_of, commands, login_log, prepare
+from expected import AUDITS
 from halls import Hall, clean
-from outside import AUDITS
-from suite import PROGRAM
+from suite import PROGRAM, sleeps
 
 MOST = 16777216
 # How much more memory a run may have had late than early, in KiB.
@@ -35,7 +34,7 @@ NO_AND_END = ["S NO :", "E"]
 
 def decoy(name):
     """The challenge's salt and count for a name that has no account (RFC 5802, section 5)."""
-    return f"s={base(outside.decoy_salt(name))},i={clients.COUNT}"
+    return f"s={base(expected.decoy_salt(name))},i={clients.COUNT}"
 
 
 def first_messages(account):
@@ -101,15 +100,14 @@ def lengths_of_lines(folder):
     told("lines", len(rows))
 
 
-def final_message(account, more, proof_of=None):
+def final_message(account, more, given=None):
     """A login in which the client's last message has this extension, and its messages; its proof is right unless one is given."""
     it = account.exchange("abc", "def")
     unproved = f"c=biws,r=abcdef{more}"
     signed = f"{it.first[3:]},{it.challenge},{unproved}".encode()
-    mask = hmac.digest(account.stored, signed, account.hash)
-    proof = bytes(one ^ other for one, other in zip(account.client, mask)) if proof_of is None else proof_of
-    signature = base(hmac.digest(account.server, signed, account.hash))
-    return Exchange(it.first, it.challenge, f"{unproved},p={base(proof)}", signature, "")
+    right, signature = expected.proved(account.hash, account.client, account.server, signed)
+    proof = right if given is None else given
+    return Exchange(it.first, it.challenge, f"{unproved},p={base(proof)}", base(signature), "")
 
 
 def lengths_of_last_messages(folder):
@@ -151,7 +149,7 @@ def lengths_of_words(folder):
         equal(done, want, own, others)
         tried += 1
     for size in [9, 10, 64, 65]:
-        want = (0, f"{outside.code(bytes(size), 7)}\n", "") if 10 <= size <= 64 else (2, "", "scramotp: bad value for --secret\n")
+        want = (0, f"{expected.code(bytes(size), 7)}\n", "") if 10 <= size <= 64 else (2, "", "scramotp: bad value for --secret\n")
         equal(ended([PROGRAM, "code", "--secret", "00" * size, "--counter", "7"], b""), want, size)
         tried += 1
     told("nonces and secrets", tried)
@@ -203,16 +201,12 @@ class Fed:
         """The most memory that the run has had in KiB, once it has read all that it was fed and waits for more."""
         left = array.array("i", [1])
         until = time.monotonic() + 60
-        while left[0] > 0 or not self.waits():
+        while left[0] > 0 or not sleeps(self.run.pid):
             holds(time.monotonic() < until, "what was fed is not read")
             time.sleep(0.005)
             fcntl.ioctl(self.run.stdin.fileno(), termios.FIONREAD, left)
         status = pathlib.Path(f"/proc/{self.run.pid}/status").read_text()
         return int(status.split("VmHWM:")[1].split()[0])
-
-    def waits(self):
-        """Whether the run sleeps."""
-        return pathlib.Path(f"/proc/{self.run.pid}/stat").read_text().rpartition(") ")[2][0] == "S"
 
     def end(self):
         """Ends the input. Returns the status, what was printed and the fault."""

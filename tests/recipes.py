@@ -24,11 +24,11 @@ from concurrent.futures import ThreadPoolExecutor
 from pathlib import Path
 
 import clients
-import outside
+import expected
 import suite
 from checks import equal, holds
-from outside import AUDITS, BOOK_FAULTS, VECTORS, keys_of
-from suite import CODES, NOBODY, PROGRAM, ROOT, USER, code, hotp, is_locked, read, seen
+from expected import AUDITS, BOOK_FAULTS, VECTORS, keys_of
+from suite import BOOK_OF_USER, CODES, NOBODY, PROGRAM, ROOT, code, hotp, is_locked, is_root, read_book, seen, until
 
 DOCUMENT = Path(sys.argv[2]) if len(sys.argv) > 2 else Path(__file__).resolve().parent.parent / "docs" / "OPERATING.md"
 NAME = "user@example.org"
@@ -51,10 +51,7 @@ used = set()
 
 def all_blocks():
     """Each block of the document: its section's title, its language and its text."""
-    sections = re.split(r"^## (.*)\n", DOCUMENT.read_text(encoding="utf-8"), flags=re.M)
-    for title, text in zip(sections[1::2], sections[2::2]):
-        for language, block in re.findall(r"^```(\w*)\n(.*?)^```$", text, re.M | re.S):
-            yield title, language, block
+    return suite.blocks_of(DOCUMENT)
 
 
 def blocks(title, language="sh"):
@@ -90,7 +87,7 @@ def does(folder, block, text="", printed="", **more):
 
 
 def book_of(folder):
-    return read(Path(folder, "book.toml"))
+    return read_book(Path(folder, "book.toml"))
 
 
 def with_tools(folder, text):
@@ -117,26 +114,18 @@ def with_fob(folder):
     does(folder, blocks("Give a user one-time codes")[-1].replace(FOB, NAME).replace("no such account", "no token"))
 
 
-def totp(secret, moment):
-    """RFC 6238: six digits, SHA-1, steps of 30 seconds from 0."""
-    return outside.code(secret, moment // 30)
+def code_at(secret, moment):
+    """The TOTP code of a moment (RFC 6238): six digits, SHA-1, steps of 30 seconds from 0."""
+    return expected.code(secret, moment // 30)
 
 
 def verify(name, *codes, moment=5):
     return f"printf '%s\\n' {' '.join(codes)} | scramotp verify --book book.toml --name {name} --moment {moment}"
 
 
-def until(is_so):
-    for _ in range(1000):
-        if is_so():
-            return
-        time.sleep(0.01)
-    raise AssertionError("it does not come to be so")
-
-
 def an_editor_and_a_command(folder):
     """An edit by an editor with an option, and one by a command. The file keeps owner and group, and nobody else can read it."""
-    book = with_tools(folder, USER)
+    book = with_tools(folder, BOOK_OF_USER)
     os.chown(book, -1, 2345 if ROOT else [os.getegid(), *os.getgroups()][-1])
     before = book.stat()
     editor = Path(folder, "editor")
@@ -153,25 +142,25 @@ def an_editor_and_a_command(folder):
 
 def an_edit_that_fails(folder):
     """A text that is no book, and a command or an editor that fails, leave the book as it was."""
-    book = with_tools(folder, USER)
+    book = with_tools(folder, BOOK_OF_USER)
     real = os.path.realpath(book)
     status, output, faults = ran(folder, "tools/edit-book book.toml sed s/format/former/")
     found = re.fullmatch(rf"scramotp: bad book: 61\nedit-book: {real} is as it was; look into (.*)\n", faults)
     equal((status, output), (1, ""), faults)
     holds(found, faults)
-    equal(Path(found[1]).read_text(), USER.replace("format", "former"))
+    equal(Path(found[1]).read_text(), BOOK_OF_USER.replace("format", "former"))
     os.remove(found[1])
     found = ran(folder, "tools/edit-book book.toml false")
     equal(found, (1, "", f"edit-book: {real} is as it was, since false failed\n"))
     found = ran(folder, "tools/edit-book book.toml", EDITOR="false")
     equal(found, (1, "", f"edit-book: {real} is as it was, since the editor failed\n"))
-    equal(book.read_text(), USER)
+    equal(book.read_text(), BOOK_OF_USER)
     equal(set(os.listdir(folder)), {"bin", "book.toml", "tools"})
 
 
 def an_edit_of_anothers_book(folder):
     """A book of another user is refused, and stays as it was. As root also one in such a user's folder."""
-    book = with_tools(folder, USER)
+    book = with_tools(folder, BOOK_OF_USER)
     if ROOT:
         os.chown(book, 65534, 65534)
     else:
@@ -184,7 +173,7 @@ def an_edit_of_anothers_book(folder):
         found = ran(folder, edit)
         equal(found, (1, "", belongs))
         equal(seen(book), before, edit)
-    if ROOT:
+    if is_root():
         os.chown(book, 0, 0)
         os.chown(folder, 65534, 65534)
         before = seen(book)
@@ -196,19 +185,19 @@ def an_edit_of_anothers_book(folder):
 
 def an_edit_that_is_stopped(folder):
     """An edit whose processes are told to end leaves the book as it was, and no file beside it."""
-    book = with_tools(folder, USER)
+    book = with_tools(folder, BOOK_OF_USER)
     edit = start(folder, "exec setsid tools/edit-book book.toml sh -c 'sed s/4096/4097/; exec sleep 60'")
     until(lambda: any(path.read_text() for path in Path(folder).glob("book.toml.*")))
     os.killpg(edit.pid, signal.SIGTERM)
     edit.communicate(timeout=30)
     equal(edit.returncode, 1)
-    equal(book.read_text(), USER)
+    equal(book.read_text(), BOOK_OF_USER)
     equal(list(Path(folder).glob("book.toml.*")), [])
 
 
 def an_edit_waits(folder):
     """An edit that waits for a run works on the file that the run has put in the book's place."""
-    book = with_tools(folder, USER + hotp(look_ahead=3, limit=3))
+    book = with_tools(folder, BOOK_OF_USER + hotp(look_ahead=3, limit=3))
     run = start(folder, "exec scramotp verify --book book.toml --name user --moment 5")
     until(lambda: is_locked(book))
     edit = start(folder, "tools/edit-book book.toml sed s/4096/4097/")
@@ -223,7 +212,7 @@ def an_edit_waits(folder):
 
 def a_run_waits(folder):
     """A run that waits for an edit works on the file that the edit has put in the book's place."""
-    book = with_tools(folder, USER + hotp(look_ahead=3, limit=3))
+    book = with_tools(folder, BOOK_OF_USER + hotp(look_ahead=3, limit=3))
     slow = start(folder, "tools/edit-book book.toml sh -c 'sed s/4096/4097/; sleep 1'")
     until(lambda: is_locked(book))
     does(folder, verify("user", CODES[0]), printed="PASS 5 0\n")
@@ -235,7 +224,7 @@ def a_run_waits(folder):
 
 def many_at_once(folder):
     """Of edits and runs at the same time none loses what another has changed."""
-    with_tools(folder, USER + hotp(look_ahead=9, limit=99))
+    with_tools(folder, BOOK_OF_USER + hotp(look_ahead=9, limit=99))
     edits = [f"tools/edit-book book.toml sh -c 'cat; echo \"[accounts.a{number}]\"'" for number in range(20)]
     enrols = [f"scramotp enrol --book book.toml --name b{number} --count 1" for number in range(20)]
     with ThreadPoolExecutor(40) as pool:
@@ -248,12 +237,12 @@ def many_at_once(folder):
 
 def an_edit_gives_up(folder):
     """An edit waits for 30 seconds, and then leaves the book alone."""
-    book = with_tools(folder, USER)
+    book = with_tools(folder, BOOK_OF_USER)
     with open(book, "rb") as file:
         fcntl.flock(file, fcntl.LOCK_EX)
         found = ran(folder, "tools/edit-book book.toml sed s/4096/4097/")
     equal(found, (1, "", f"edit-book: {os.path.realpath(book)} is in use\n"))
-    equal(book.read_text(), USER)
+    equal(book.read_text(), BOOK_OF_USER)
 
 
 def a_token(folder):
@@ -267,7 +256,7 @@ def a_token(folder):
     equal(len(secret), 20)
     holds(not Path(folder, "token.toml").exists(), "the token's text is left")
     moment = 1234567890
-    does(folder, verify(NAME, totp(secret, moment), moment=moment), printed=f"PASS {moment} {moment // 30}\n")
+    does(folder, verify(NAME, code_at(secret, moment), moment=moment), printed=f"PASS {moment} {moment // 30}\n")
     equal(ran(folder, verify("other", "000000"))[2], "scramotp: no token\n")
     before = book_of(folder)
     mistyped = set_token.replace("user", "usr")
@@ -451,7 +440,7 @@ def verifiers_of_others(folder):
     for number, row in enumerate(rows):
         of_row = Path(folder, str(number))
         of_row.mkdir()
-        with_tools(of_row, USER)
+        with_tools(of_row, BOOK_OF_USER)
         does(of_row, script)
         fields = [row[name] for name in ["mechanism", "count", "salt_hex", "stored_hex", "server_hex"]]
         does(of_row, into, texts(*fields)[1] + "\n")
@@ -463,7 +452,7 @@ def verifiers_of_others(folder):
 
 def a_verifier_there_and_back(folder):
     """The verifier of RFC 7677's user comes in as PostgreSQL's, and goes out as both. The account logs in as that user does."""
-    with_tools(folder, USER.replace("user", "other"))
+    with_tools(folder, BOOK_OF_USER.replace("user", "other"))
     salt = base64.b64decode("W22ZaJ0SNY7soEsUEjb6gQ==").hex()
     both = texts("SCRAM-SHA-256", 4096, salt, *keys_of("sha256", b"pencil", bytes.fromhex(salt), 4096))
     script, into, out = blocks("Keys from PostgreSQL and Dovecot")
@@ -493,59 +482,163 @@ def line_of(client):
     return text[:-1].decode()
 
 
-def greeted(folder):
-    """A client of the hall that serves in this folder, which was greeted."""
+def connected(folder):
+    """A client of the program that serves in this folder, once that listens."""
     client = socket.socket(socket.AF_UNIX)
     client.settimeout(20)
-    client.connect(str(Path(folder, "hall.sock")))
+
+    def is_connected():
+        try:
+            client.connect(str(Path(folder, "hall.sock")))
+        except (FileNotFoundError, ConnectionRefusedError):
+            return False
+        return True
+
+    until(is_connected)
+    return client
+
+
+def greeted(folder):
+    """Such a client, which was greeted."""
+    client = connected(folder)
     equal(line_of(client), clients.MECHS[2:], "the greeting")
     return client
 
 
+def begins_login(client, account):
+    """The client sends the first message of a login of this account."""
+    client.sendall(f"AUTH {account.mechanism} :{account.exchange('fyko', '').first}\n".encode())
+
+
 def logs_in(client, account):
-    """The rest of a login of this account, whose first message the client has sent, and a code."""
+    """The rest of such a login."""
     challenge = line_of(client).removeprefix("CONT :")
     own = re.match(r"r=fyko([^,]{24}),", challenge)[1]
     it = account.exchange("fyko", own)
     equal(challenge, it.challenge, "the challenge")
     client.sendall(f"RESP :{it.final}\n".encode())
     equal(line_of(client), f"OK :v={it.signature}", "the login")
-    client.sendall(f"CODE {account.code(0)}\n".encode())
+
+
+def is_told(client, line, answer):
+    """The client sends a line, and its answer is of this form."""
+    client.sendall(f"{line}\n".encode())
     told = line_of(client)
-    holds(re.fullmatch(r"PASS \d+ 0", told), told)
+    holds(re.fullmatch(answer, told), line, told)
+
+
+def serving_hall(folder, book, patience=60):
+    """The document's program over a book with this text. It waits so many seconds for a line."""
+    with_tools(folder, book)
+    [script] = blocks("Serve many logins with `hall`")
+    equal(script.count("\nPATIENCE = 60\n"), 1, "the seconds that it waits")
+    does(folder, script.replace("\nPATIENCE = 60\n", f"\nPATIENCE = {patience}\n"))
+    return start(folder, "umask 077; exec tools/serve-hall book.toml hall.sock hall.log")
+
+
+def stops(serving):
+    """Stops the program until it is told to continue."""
+    serving.send_signal(signal.SIGSTOP)
+    os.waitid(os.P_PID, serving.pid, os.WSTOPPED)
+
+
+def serves_until(serving, number, folder, answer):
+    """The program ends well at this signal. Its log is clean for the book that it began with: the audit's answer."""
+    serving.send_signal(number)
+    equal((serving.wait(timeout=20), serving.stdout.read(), serving.stderr.read()), (0, "", ""), "the end")
+    does(folder, "scramotp audit --book hall.log.toml --log hall.log", printed=f"{answer}\n")
 
 
 def a_hall_of_your_own(folder):
-    """Four clients at a time: one logs in and sends a code, one sends a line that is too long, one asks for another mechanism, and one
-    goes away. The log is clean for the book that it began with."""
+    """Five clients: one logs in and sends a code, one sends a line that is too long, one asks for another mechanism, one goes away, and
+    one is gone before it is greeted."""
     account = clients.Account("user", "SCRAM-SHA-256")
-    with_tools(folder, clients.book([account]))
-    [script] = blocks("Serve many logins with `hall`")
-    does(folder, script)
-    serving = start(folder, "umask 077; exec tools/serve-hall book.toml hall.sock hall.log")
-    until(lambda: Path(folder, "hall.sock").exists())
+    serving = serving_hall(folder, clients.book([account]))
     good, long, other, away = [greeted(folder) for _ in range(4)]
     away.close()
-    first = account.exchange("fyko", "").first
-    good.sendall(f"AUTH SCRAM-SHA-256 :{first}\n".encode())
+    stops(serving)
+    connected(folder).close()
+    serving.send_signal(signal.SIGCONT)
+    begins_login(good, account)
     long.sendall(b"x" * 7000 + b"\n")
     equal([line_of(long), line_of(long)], ["NO :", ""], "a line that is too long")
     other.sendall(b"AUTH PLAIN\n")
     equal([line_of(other), line_of(other)], ["NO :", ""], "another mechanism")
     logs_in(good, account)
-    serving.send_signal(signal.SIGINT)
-    equal((serving.wait(timeout=20), serving.stdout.read(), serving.stderr.read()), (0, "", ""), "the end")
+    is_told(good, f"CODE {account.code(0)}", r"PASS \d+ 0")
+    serves_until(serving, signal.SIGINT, folder, "clean sessions=5 accepted=1 codes=1")
     equal(line_of(good), "", "the client is told no more")
-    audit = "scramotp audit --book hall.log.toml --log hall.log"
-    does(folder, audit, printed="clean sessions=4 accepted=1 codes=1\n")
     equal([Path(folder, name).stat().st_mode & 0o777 for name in ["hall.log", "hall.log.toml"]], [0o600, 0o600], "the mode of the log")
     equal(book_of(folder)["accounts"]["user"]["token"]["next"], 1, "the counter is used")
+
+
+def a_full_hall(folder):
+    """Where 64 clients are there the next is turned away, until one leaves. Who has no token can send codes all the same."""
+    account = clients.Account("bare", "SCRAM-SHA-256")
+    book, token, _ = clients.book([account]).partition('\n[accounts."bare".token]\n')
+    holds(token, "the token that is left out")
+    serving = serving_hall(folder, book)
+    guests = [greeted(folder) for _ in range(64)]
+    away = connected(folder)
+    equal([line_of(away), line_of(away)], ["BUSY", ""], "the 65th")
+    is_told(guests[0], "ABORT", "NO :")
+    equal(line_of(guests[0]), "", "one that has left")
+    last = greeted(folder)
+    begins_login(last, account)
+    logs_in(last, account)
+    for _ in range(2):
+        is_told(last, "CODE 755224", r"NOCODE \d+")
+    serves_until(serving, signal.SIGTERM, folder, "clean sessions=65 accepted=1 codes=0")
+
+
+def a_hall_that_halts(folder):
+    """Where a code can't be saved its client is told HALT, unless it is gone, and the program ends. Its log is clean all the same."""
+    account = clients.Account("user", "SCRAM-SHA-256")
+    for is_gone in [False, True]:
+        place = Path(folder, str(is_gone))
+        place.mkdir()
+        serving = serving_hall(place, clients.book([account]))
+        client, other = greeted(place), greeted(place)
+        begins_login(client, account)
+        logs_in(client, account)
+        Path(place, "book.toml.new").mkdir()
+        stops(serving)
+        client.sendall(f"CODE {account.code(0)}\n".encode())
+        if is_gone:
+            client.close()
+        serving.send_signal(signal.SIGCONT)
+        if not is_gone:
+            equal([line_of(client), line_of(client)], ["HALT", ""], "the code's client")
+        equal(line_of(other), "", "another client")
+        faults = ["scramotp: cannot write book.toml", "serve-hall: the book can't be saved"]
+        equal((serving.wait(timeout=20), sorted(serving.stderr.read().splitlines())), (1, faults), is_gone)
+        holds(not Path(place, "hall.sock").exists(), "the socket is left")
+        does(place, "scramotp audit --book hall.log.toml --log hall.log", printed="clean sessions=2 accepted=1 codes=0\n")
+
+
+def a_slow_client(folder):
+    """A client that sends byte after byte and no whole line is cut off."""
+    serving = serving_hall(folder, BOOK_OF_USER, patience=3)
+    slow = greeted(folder)
+    slow.settimeout(0.02)
+
+    def is_cut_off():
+        try:
+            slow.sendall(b"x")
+            return slow.recv(1) == b""
+        except TimeoutError:
+            return False
+        except OSError:
+            return True
+
+    until(is_cut_off)
+    serves_until(serving, signal.SIGINT, folder, "clean sessions=1 accepted=0 codes=0")
 
 
 def a_code_in_a_script(folder):
     """Only a code that passes lets in. A blank line is not asked for, and counts nowhere."""
     tokens = [hotp(look_ahead=0, limit=2, name=name) for name in ["user", "-x"]]
-    with_tools(folder, USER + "".join(tokens) + "\n[accounts.bare]\n")
+    with_tools(folder, BOOK_OF_USER + "".join(tokens) + "\n[accounts.bare]\n")
     [script] = blocks("Verify a code in a script")
     does(folder, script)
 
@@ -574,15 +667,15 @@ def a_code_in_a_script(folder):
 
 def faulty(row):
     """The book of a row of data/book_faults/cases.csv."""
-    return outside.edited((BOOK_FAULTS / row["base"]).with_suffix(".toml").read_bytes(), row)
+    return expected.edited((BOOK_FAULTS / row["base"]).with_suffix(".toml").read_bytes(), row)
 
 
 def keys_at_fault(folder):
     """Something is told of each book that is refused with 62, and nothing of a book that is read."""
     [script] = blocks("`bad book: 62`")
-    with_tools(folder, USER.replace("4096", '"4096"').replace("format = 1", "format = 1\nx = 1"))
+    with_tools(folder, BOOK_OF_USER.replace("4096", '"4096"').replace("format = 1", "format = 1\nx = 1"))
     for header, number in [("user@example.org", 60), ("example.org", 62), ('"user@example.org"', None)]:
-        Path(folder, "named.toml").write_text(USER + f"\n[accounts.{header}]\n")
+        Path(folder, "named.toml").write_text(BOOK_OF_USER + f"\n[accounts.{header}]\n")
         fault = f"scramotp: bad book: {number}\n" if number else "scramotp: no token\n"
         equal(ran(folder, "scramotp unlock --book named.toml --name user"), (1, "", fault), header)
     wrong = {"the document: 'x' is unknown", "the document: 'decoy_count' is of another type"}
@@ -601,7 +694,7 @@ def keys_at_fault(folder):
 
 def a_backup(folder):
     """A copy has the book's text, and nobody else can read it. The newest copy is put back."""
-    book = with_tools(folder, USER)
+    book = with_tools(folder, BOOK_OF_USER)
     copy, put_back = blocks("Backups")
     does(folder, copy, TZ="SUMMER-2")
     [found] = Path(folder, "backups").iterdir()
@@ -610,13 +703,13 @@ def a_backup(folder):
     Path(folder, "backups", "book-20010203T040506Z.toml").write_text("older\n")
     does(folder, "tools/edit-book book.toml sed s/4096/4097/")
     does(folder, put_back)
-    equal(book.read_text(), USER)
+    equal(book.read_text(), BOOK_OF_USER)
     # A copy that is made later, where the clock was put back an hour
-    newer = USER.replace("4096", "4098")
+    newer = BOOK_OF_USER.replace("4096", "4098")
     book.write_text(newer)
     until(lambda: time.time() > found.stat().st_mtime + 1)
     does(folder, copy, TZ="WINTER-1")
-    book.write_text(USER)
+    book.write_text(BOOK_OF_USER)
     does(folder, put_back)
     equal(book.read_text(), newer)
 
@@ -626,7 +719,7 @@ def a_shell(folder):
     shell, *_ = blocks("Set up")
     make_user, block = shell.split("\n", 1)
     equal(make_user, "useradd --system --user-group scramotp")
-    if not ROOT:
+    if not is_root():
         return
     os.chmod(folder, 0o711)
     place = os.path.realpath(Path(folder, "place"))
@@ -677,7 +770,7 @@ def units(folder):
         done = subprocess.run(shlex.split(command), env=environment(folder, **where), capture_output=True, text=True)
         answers.append((done.returncode, done.stdout, done.stderr))
     equal(answers, [(0, "enrolled user\n", ""), (0, "clean sessions=1 accepted=1 codes=0\n", "")])
-    keys = read(state / "book.toml")["accounts"]["user"]["sha256"]
+    keys = read_book(state / "book.toml")["accounts"]["user"]["sha256"]
     equal(keys["stored"], keys_of("sha256", b"pencil", bytes.fromhex(keys["salt"]), keys["count"])[0])
 
 
@@ -711,6 +804,9 @@ TESTS = [
     a_backup,
     a_shell,
     a_hall_of_your_own,
+    a_full_hall,
+    a_hall_that_halts,
+    a_slow_client,
     all_in_order,
     units,
     every_block,

@@ -13,14 +13,14 @@ import subprocess
 
 import shims
 import suite
-from all_commands import read_book, with_account
 from checks import equal, holds
-from outside import AUDITS
-from suite import PROGRAM, USER, hotp
+from command_table import parsed_book, with_account
+from expected import AUDITS
+from suite import BOOK_OF_USER, PROGRAM, hotp
 
 BENCH = pathlib.Path(__file__).parent.parent / "crates" / "bench" / "out" / "bench"
 BOOK = (AUDITS / "sha256.toml").read_text() + hotp(look_ahead=3, limit=3)
-NOBODY = USER.replace("[accounts.user]", "[accounts]")
+NOBODY = BOOK_OF_USER.replace("[accounts.user]", "[accounts]")
 CODE = "C CODE 755224\nS PASS 5 0\n"
 # The recorded login of RFC 7677's example, section 3, with the first code of RFC 4226, appendix D, before its end.
 LOGGED = (AUDITS / "sha256.log").read_text().replace("C GONE\n", f"{CODE}C GONE\n")
@@ -135,8 +135,8 @@ def changed_again(folder, book):
     texts, told = whole.rsplit("out of memory ", 1)
     before, after = texts.split("---\n")
     equal(told, "0 0 0\n", whole)
-    equal(read_book(before), read_book(book), before)
-    equal(read_book(after), with_account(read_book(book)), after)
+    equal(parsed_book(before), parsed_book(book), before)
+    equal(parsed_book(after), with_account(parsed_book(book)), after)
     counts = [0, 0, 0]
     for answer in answers:
         if answer not in (None, whole):

@@ -13,8 +13,8 @@ import re
 
 import shims
 import suite
-from all_commands import book_of, commands, is_done, is_front, is_kept, left, new_book, prepare, printed_begins_clean, run
 from checks import equal, holds
+from command_table import book_of, commands, is_done, is_front, is_kept, left, new_book, prepare, printed_begins_clean, run
 
 # The calls that move bytes, and the others that are refused.
 MOVES = "read,write,recv,send"

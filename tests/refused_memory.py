@@ -12,11 +12,10 @@ import subprocess
 
 import shims
 import suite
-from all_commands import book_of, commands, is_done, is_front, is_kept, left, new_book, prepare, printed_begins_clean, run
 from checks import equal, holds
-from outside import AUDITS
+from command_table import book_of, commands, is_done, is_front, is_kept, left, new_book, prepare, printed_begins_clean, run
+from expected import AUDITS
 from suite import PROGRAM
-
 
 
 def run_refused(folder, words, shim, refused):

@@ -3,21 +3,27 @@
 
 Usage: run.py PROGRAM [TEST ..]
 
-A test is a script beside this one that takes the program's path. Its output is shown once it has ended. The status is 1
-where one of them failed.
+A test is a script beside this one that takes the program's path. It has no input, and is stopped after half an hour. Its output is shown
+once it has ended, or was stopped, and what it started and left running ends with it. The status is 1 where one of them failed.
 """
+import asyncio
+import contextlib
 import os
+import signal
 import subprocess
 import sys
+import tempfile
 import time
-from concurrent.futures import ThreadPoolExecutor
 from pathlib import Path
 
 FOLDER = Path(__file__).resolve().parent
-# Those that wait for a lock begin first: they take the longest, and do the least.
+# The seconds after which a test is stopped.
+LIMIT = 1800
+# Those that wait for a lock begin first: they take long, and leave the processors to others.
 TESTS = [
     "books.py",
     "recipes.py",
+    "book_commands.py",
     "login_kill.py",
     "hall_kill.py",
     "cut_logs.py",
@@ -28,7 +34,6 @@ TESTS = [
     "hall.py",
     "hall_faults.py",
     "login.py",
-    "book_commands.py",
     "audits.py",
     "sessions.py",
     "upgrades.py",
@@ -38,27 +43,61 @@ TESTS = [
     "refused_memory.py",
     "refused_calls.py",
     "commands.py",
-    "process.sh",
     "terminal.py",
+    "install.py",
     "story.py",
+    "formats.py",
     "documents.py",
 ]
 
 
-def ran(test, program):
-    """Runs one test, shows what it printed, and returns whether it passed."""
-    command = [sys.executable if test.endswith(".py") else "sh", str(FOLDER / test), program]
-    began = time.monotonic()
-    done = subprocess.run(command, stdout=subprocess.PIPE, stderr=subprocess.STDOUT, text=True)
-    how = "passed" if done.returncode == 0 else f"FAILED with status {done.returncode}"
-    print(f"{done.stdout}{test}: {how}, {time.monotonic() - began:.0f} s", flush=True)
-    return done.returncode == 0
+async def ended(run):
+    """Waits for a test, whose process leads a group of its own, and ends all of that group. Returns the test's status, or None where it
+    was stopped."""
+    try:
+        async with asyncio.timeout(LIMIT):
+            return await run.wait()
+    except TimeoutError:
+        return None
+    finally:
+        with contextlib.suppress(ProcessLookupError):
+            os.killpg(run.pid, signal.SIGKILL)
+        await run.wait()
+
+
+async def ran(test, program, slots):
+    """Runs one test where a slot is free, shows what it printed, and returns whether it passed."""
+    async with slots:
+        began = time.monotonic()
+        with tempfile.TemporaryFile() as output:
+            run = await asyncio.create_subprocess_exec(
+                sys.executable, "-u", FOLDER / test, program,
+                stdin=subprocess.DEVNULL, stdout=output, stderr=subprocess.STDOUT, start_new_session=True,
+            )
+            status = await ended(run)
+            output.seek(0)
+            printed = output.read().decode(errors="replace")
+        how = {0: "passed", None: f"FAILED: it did not end in {LIMIT} s"}.get(status, f"FAILED with status {status}")
+        print(f"{printed}{test}: {how}, {time.monotonic() - began:.0f} s", flush=True)
+        return status == 0
+
+
+async def all_passed(program, tests):
+    """Runs these tests, as many at once as there are processors for, and returns of each whether it passed."""
+    slots = asyncio.Semaphore(len(os.sched_getaffinity(0)))
+    async with asyncio.TaskGroup() as group:
+        tasks = [group.create_task(ran(test, program, slots)) for test in tests]
+    return [task.result() for task in tasks]
 
 
 def main():
     program, *tests = sys.argv[1:]
-    with ThreadPoolExecutor(os.cpu_count()) as pool:
-        passed = list(pool.map(lambda test: ran(test, os.path.abspath(program)), tests or TESTS))
+    # TERM ends the tests as Ctrl-C does.
+    signal.signal(signal.SIGTERM, signal.default_int_handler)
+    try:
+        passed = asyncio.run(all_passed(os.path.abspath(program), tests or TESTS))
+    except KeyboardInterrupt:
+        return 130
     print(f"{sum(passed)} tests passed, {len(passed) - sum(passed)} failed")
     return 0 if all(passed) else 1
 

@@ -6,18 +6,14 @@ Usage: sessions.py PROGRAM
 Three sessions dealt in all 1680 orders of their turns, each log clean, and with one session's outcome turned, at fault in
 that line with the same outcome due in every order; 64 logins with codes, shuffled, in which replies follow the order of the
 whole log; 64 open sessions and a 65th that is turned away; numbers that are none, or not due; and the longest
-lines. Exits at the first difference.
+lines.
 """
-import os
 import pathlib
 import random
-import subprocess
-import sys
-import tempfile
 
-from checks import equal
-from outside import AUDITS, orders_of_turns
-from suite import code
+import suite
+from expected import AUDITS, orders_of_turns
+from suite import audit_says, code
 
 BOOK = AUDITS / "hotp.toml"
 FIRST_LINE = "SCRAMLOG 2"
@@ -37,16 +33,11 @@ OUTCOMES = [
 ]
 
 
-def says(what, program, log, text, status, answer, book=BOOK):
-    """Compares the answer to a log of this text, and its status."""
-    log.write_text(text)
-    done = subprocess.run([program, "audit", "--book", book, "--log", log], capture_output=True, text=True, timeout=60)
-    equal((done.returncode, done.stdout, done.stderr), (status, answer + "\n", ""), what)
-
-
-def answers(what, program, log, lines, status, answer, book=BOOK):
-    """The same of a log of these lines."""
-    says(what, program, log, "".join(line + "\n" for line in lines), status, answer, book)
+def answers(what, folder, lines, answer, book=BOOK):
+    """Compares the answer to a log of these lines."""
+    log = pathlib.Path(folder, "log")
+    log.write_text("".join(f"{line}\n" for line in lines))
+    audit_says(book, log, answer, what)
 
 
 def numbers_of(order):
@@ -54,7 +45,7 @@ def numbers_of(order):
     return {which: number for number, which in enumerate(dict.fromkeys(order), 1)}
 
 
-def dealt(order, sessions):
+def log_of(order, sessions):
     """The log of these sessions, whose turns come in this order, and of each line whose it is."""
     turns, numbers = [iter(session) for session in sessions], numbers_of(order)
     lines, owners = [FIRST_LINE], [None]
@@ -65,34 +56,32 @@ def dealt(order, sessions):
     return lines, owners
 
 
-def all_orders(program, log):
+def all_orders(folder):
     """Every order of three turns of three sessions, each outcome turned in a third of the orders."""
     orders = orders_of_turns()
     for index, order in enumerate(orders):
-        lines, owners = dealt(order, [LET_IN, REFUSED, LEAVES])
-        answers(order, program, log, lines, 0, "clean sessions=3 accepted=1 codes=0")
+        lines, owners = log_of(order, [LET_IN, REFUSED, LEAVES])
+        answers(order, folder, lines, "clean sessions=3 accepted=1 codes=0")
         which = index % 3
         outcome, other, answer = OUTCOMES[which]
         number = numbers_of(order)[which]
         at = next(at for at, owner in enumerate(owners) if owner == which and lines[at] == f"{number} {outcome}")
         lines[at] = f"{number} {other}"
-        answers(f"{order}, {which} turned", program, log, lines, 1, f"line {at + 1}: {answer}")
-    return len(orders)
+        answers(f"{order}, {which} turned", folder, lines, f"line {at + 1}: {answer}")
 
 
-def shuffled(seed):
+def shuffled():
     """64 logins in a random order, each of which sends the code of a counter near the next one. The reply is the one due to
     the replies before it in the whole log: a code passes where its counter is none that passed before, nor before such a one."""
     turns = [[MECHS], [AUTH, CONT], [RESP, OK], ["code"], ["reply"], [GONE, END]]
-    chosen = random.Random(seed)
     order = [which for which in range(64) for _ in turns]
-    chosen.shuffle(order)
+    random.shuffle(order)
     left, numbers = [iter(turns) for _ in range(64)], numbers_of(order)
     lines, sent, after, passed = [FIRST_LINE], {}, 0, 0
     for which in order:
         for line in next(left[which]):
             if line == "code":
-                sent[which] = after + chosen.randrange(3)
+                sent[which] = after + random.randrange(3)
                 line = f"C CODE {code(sent[which])}"
             elif line == "reply" and sent[which] >= after:
                 after, passed = sent[which] + 1, passed + 1
@@ -103,54 +92,54 @@ def shuffled(seed):
     return lines, passed
 
 
-def shuffles(program, log, folder):
+def shuffles(folder):
     """The token's history is that of the whole log, whichever session sends a code."""
-    book = folder / "book"
+    book = pathlib.Path(folder, "book")
     book.write_text(BOOK.read_text().replace("limit = 3\n", "limit = 100\n"))
-    for seed in range(40):
-        lines, passed = shuffled(seed)
-        answers(f"shuffle {seed}", program, log, lines, 0, f"clean sessions=64 accepted=64 codes={passed}", book)
+    for number in range(40):
+        lines, passed = shuffled()
+        answers(f"shuffle {number}", folder, lines, f"clean sessions=64 accepted=64 codes={passed}", book)
         at = next(at for at, line in enumerate(lines) if " S FAIL " in line)
         moment = lines[at].rpartition(" ")[2]
         lines[at] = lines[at].replace(f"S FAIL {moment}", f"S PASS {moment} 0")
-        answers(f"shuffle {seed}, turned", program, log, lines, 1, f"line {at + 1}: reply, due FAIL {moment}", book)
+        answers(f"shuffle {number}, turned", folder, lines, f"line {at + 1}: reply, due FAIL {moment}", book)
 
 
-def sixty_four(program, log):
+def sixty_four(folder):
     """64 sessions are open, and one more is turned away; where it is offered mechanisms, its line is at fault."""
     opened = [FIRST_LINE] + [f"{number} {MECHS}" for number in range(1, 65)]
     ended = [f"{number} {line}" for number in range(1, 65) for line in (GONE, END)]
     away = ["65 S BUSY", "65 E"]
     clean = "clean sessions=64 accepted=0 codes=0"
-    answers("64 and one more", program, log, opened + away + ended, 0, clean)
-    answers("64 and two more", program, log, opened + away + ["66 S BUSY", "66 E"] + ended, 0, clean)
-    answers("a 65th", program, log, opened + [f"65 {MECHS}"] + ended, 1, "line 66: order")
-    answers("BUSY with 63 open", program, log, opened[:64] + ["64 S BUSY", "64 E"], 1, "line 65: order")
-    answers("BUSY without its E", program, log, opened + away[:1] + ended, 1, "line 67: order")
-    answers("the E of another", program, log, opened + ["65 S BUSY", "64 E"], 1, "line 67: order")
-    answers("the number of BUSY again", program, log, opened + away + ended[:2] + [f"65 {MECHS}"], 1, "line 70: order")
-    answers("the number after BUSY's", program, log, opened + away + ended[:2] + [f"66 {MECHS}", "66 C GONE", "66 E"] + ended[2:], 0,
+    answers("64 and one more", folder, opened + away + ended, clean)
+    answers("64 and two more", folder, opened + away + ["66 S BUSY", "66 E"] + ended, clean)
+    answers("a 65th", folder, opened + [f"65 {MECHS}"] + ended, "line 66: order")
+    answers("BUSY with 63 open", folder, opened[:64] + ["64 S BUSY", "64 E"], "line 65: order")
+    answers("BUSY without its E", folder, opened + away[:1] + ended, "line 67: order")
+    answers("the E of another", folder, opened + ["65 S BUSY", "64 E"], "line 67: order")
+    answers("the number of BUSY again", folder, opened + away + ended[:2] + [f"65 {MECHS}"], "line 70: order")
+    answers("the number after BUSY's", folder, opened + away + ended[:2] + [f"66 {MECHS}", "66 C GONE", "66 E"] + ended[2:],
             "clean sessions=65 accepted=0 codes=0")
-    answers("nothing after BUSY's E", program, log, opened + away, 1, "line 68: cut")
+    answers("nothing after BUSY's E", folder, opened + away, "line 68: cut")
 
 
-def other_numbers(program, log):
+def other_numbers(folder):
     """A number is a decimal from 1 to 9223372036854775806 without a leading zero, and each session has the next one."""
     first, ended = [FIRST_LINE, f"1 {MECHS}"], [f"1 {GONE}", f"1 {END}"]
     for number in ["0", "01", "-1", "+1", " 1", "", "9223372036854775807", "9223372036854775808", "18446744073709551617"]:
-        answers(f"number {number!r}", program, log, [FIRST_LINE, f"{number} {MECHS}"], 1, "line 2: not a line")
-        answers(f"then number {number!r}", program, log, first + [f"{number} {GONE}"], 1, "line 3: not a line")
+        answers(f"number {number!r}", folder, [FIRST_LINE, f"{number} {MECHS}"], "line 2: not a line")
+        answers(f"then number {number!r}", folder, first + [f"{number} {GONE}"], "line 3: not a line")
     for number in ["2", "9223372036854775806"]:
-        answers(f"number {number}", program, log, [FIRST_LINE, f"{number} {MECHS}"], 1, "line 2: order")
-        answers(f"then number {number}", program, log, first + [f"{number} {GONE}"], 1, "line 3: order")
-    answers("a number that is left out", program, log, first + [f"3 {MECHS}"], 1, "line 3: order")
-    answers("a number that comes back", program, log, first + ended + ended[:1], 1, "line 5: order")
-    answers("a number that begins again", program, log, first + ended + first[1:], 1, "line 5: order")
-    answers("two spaces", program, log, [FIRST_LINE, f"1  {MECHS}"], 1, "line 2: not a line")
-    answers("no space", program, log, [FIRST_LINE, f"1{MECHS}"], 1, "line 2: not a line")
+        answers(f"number {number}", folder, [FIRST_LINE, f"{number} {MECHS}"], "line 2: order")
+        answers(f"then number {number}", folder, first + [f"{number} {GONE}"], "line 3: order")
+    answers("a number that is left out", folder, first + [f"3 {MECHS}"], "line 3: order")
+    answers("a number that comes back", folder, first + ended + ended[:1], "line 5: order")
+    answers("a number that begins again", folder, first + ended + first[1:], "line 5: order")
+    answers("two spaces", folder, [FIRST_LINE, f"1  {MECHS}"], "line 2: not a line")
+    answers("no space", folder, [FIRST_LINE, f"1{MECHS}"], "line 2: not a line")
 
 
-def long_lines(program, log):
+def long_lines(folder):
     """A line may have 6202 bytes, and 6222 after the first line of version 2, 6202 of them after its number."""
     cases = [
         ("6202 bytes of a first line", "S" * 6202, "line 1: cut"),
@@ -175,21 +164,10 @@ def long_lines(program, log):
             line = f"{number}C AUTH PLAIN :".ljust(size, "x")
             cases.append((f"{size} bytes after {number!r}", f"SCRAMLOG 2\n{line}", f"line 2: {said[0]}"))
             cases.append((f"{size} bytes after {number!r} and LF", f"SCRAMLOG 2\n{line}\n", f"line 2: {ended}"))
+    log = pathlib.Path(folder, "log")
     for what, text, answer in cases:
-        says(what, program, log, text, 1, answer)
+        log.write_text(text)
+        audit_says(BOOK, log, answer, what)
 
 
-def main():
-    program = os.path.abspath(sys.argv[1])
-    with tempfile.TemporaryDirectory() as name:
-        folder = pathlib.Path(name)
-        log = folder / "log"
-        sixty_four(program, log)
-        other_numbers(program, log)
-        long_lines(program, log)
-        shuffles(program, log, folder)
-        orders = all_orders(program, log)
-    print(f"sessions.py: three sessions in {orders} orders, and 40 shuffles of 64, as they should be")
-
-
-main()
+suite.run_all([sixty_four, other_numbers, long_lines, shuffles, all_orders])

@@ -15,10 +15,10 @@ import sys
 import tempfile
 from pathlib import Path
 
-from checks import equal
+from checks import equal, holds
 from suite import PROGRAM
 
-ROOT = Path(__file__).resolve().parent.parent
+TOP = Path(__file__).resolve().parent.parent
 TITLE = "A story"
 SHOWN = "#>"
 PASSWORD = "pencil\n"
@@ -93,10 +93,11 @@ def ran(story):
 
 
 def main():
-    text = Path(sys.argv[2] if len(sys.argv) > 2 else ROOT / "README.md").read_text(encoding="utf-8")
+    text = Path(sys.argv[2] if len(sys.argv) > 2 else TOP / "README.md").read_text(encoding="utf-8")
     story = [step for block in blocks(text, TITLE) for step in steps(block)]
     equal([word for word in NEEDED if not any(word in command for command, _, _ in story)], [], "what the story lacks")
     shown = [(without_comment(command), printed) for command, printed, _ in story]
+    holds(excerpts(text), "the document shows no command at its head")
     equal([part for part in excerpts(text) if part not in shown], [], "what is shown and not in the story")
     answers = ran(story)
     for (command, printed, status), (output, ended) in zip(story, answers):

@@ -1,17 +1,20 @@
 """What several scripts share: the account `user` with RFC 4226's secret, a folder with a book, the user nobody, what is asked of books,
 locks and logs, and the run of all tests."""
 import fcntl
+import functools
 import os
 import pathlib
 import pwd
 import random
+import re
 import secrets
 import subprocess
 import sys
 import tempfile
+import time
 import tomllib
 
-import outside
+import expected
 from checks import equal
 
 PROGRAM = os.path.abspath(sys.argv[1])
@@ -25,6 +28,15 @@ ROOT = os.geteuid() == 0
 NOBODY = pwd.getpwnam("nobody")
 AS_NOBODY = {"user": NOBODY.pw_uid, "group": NOBODY.pw_gid, "extra_groups": []} if ROOT else {}
 
+
+@functools.cache
+def is_root():
+    """Whether root runs the script. If not, what only root can test is left out, and the script says so, once."""
+    if not ROOT:
+        print(f"{os.path.basename(sys.argv[0])}: not root, so other users and groups are not tested", file=sys.stderr)
+    return ROOT
+
+
 # The secret and the codes of RFC 4226, appendix D.
 SECRET = "3132333435363738393031323334353637383930"
 CODES = ["755224", "287082", "359152", "969429", "338314", "254676", "287922", "162583", "399871", "520489"]
@@ -34,7 +46,7 @@ SALT = "4125c247e43ab1e93c6dff76"
 KEYS_OF_PENCIL = "stored=e9d94660c39d65c38fbad91c358f14da0eef2bd6\nserver=0fe09258b3ac852ba502cc62ba903eaacdbf7d31\n"
 NONCES = ["--client-nonce", "fyko+d2lbbFgONRv9qkxdawL", "--server-nonce", "3rfcNHYJY1ZVvWVs7j"]
 
-USER = """format = 1
+BOOK_OF_USER = """format = 1
 decoy_key = "000102030405060708090a0b0c0d0e0f101112131415161718191a1b1c1d1e1f"
 decoy_count = 4096
 
@@ -78,10 +90,10 @@ failures = 0
 
 def code(counter):
     """The code of a counter by that secret."""
-    return outside.code(bytes.fromhex(SECRET), counter)
+    return expected.code(bytes.fromhex(SECRET), counter)
 
 
-def read(path):
+def read_book(path):
     """What a book says."""
     with open(path, "rb") as file:
         return tomllib.load(file)
@@ -89,7 +101,7 @@ def read(path):
 
 def token(path, name="user"):
     """The token of an account."""
-    return read(path)["accounts"][name]["token"]
+    return read_book(path)["accounts"][name]["token"]
 
 
 def seen(path):
@@ -99,9 +111,17 @@ def seen(path):
         return found.st_ino, found.st_mode, found.st_uid, found.st_gid, found.st_mtime_ns, found.st_ctime_ns, file.read()
 
 
-def told(fault):
+def fault_text(fault):
     """What standard error has of a fault, which is given without its beginning, or of none."""
     return f"scramotp: {fault}\n" if fault else ""
+
+
+def blocks_of(page):
+    """Each block of a document that stands in a section: the section's title, the block's language and its text."""
+    sections = re.split(r"^## (.*)\n", page.read_text(encoding="utf-8"), flags=re.M)
+    for title, text in zip(sections[1::2], sections[2::2]):
+        for language, block in re.findall(r"^```(\w*)\n(.*?)^```$", text, re.M | re.S):
+            yield title, language, block
 
 
 def is_locked(path):
@@ -114,12 +134,41 @@ def is_locked(path):
     return False
 
 
+def until(is_so):
+    """Waits until this is so, for at least ten seconds."""
+    for _ in range(1000):
+        if is_so():
+            return
+        time.sleep(0.01)
+    raise AssertionError("it does not come to be so")
+
+
+def sleeps(process):
+    """Whether a process sleeps, as it does while it waits for input."""
+    with open(f"/proc/{process}/stat", encoding="ascii", errors="replace") as file:
+        return file.read().rpartition(") ")[2][0] == "S"
+
+
+def processor_time():
+    """The seconds of processor time that the runs of this script have taken, each counted once it has ended."""
+    times = os.times()
+    return times.children_user + times.children_system
+
+
 def begins_clean(book, log):
     """Whether a log, which may be cut, is at fault in no line that it has, by the book that it began with."""
     words = [PROGRAM, "audit", "--book", book, "--log", "/dev/stdin"]
     done = subprocess.run(words, input=log, capture_output=True, text=True, timeout=60)
     cut = f"line {log.count(chr(10)) + 1}: cut\n"
     return done.stderr == "" and (done.stdout.startswith("clean ") or done.stdout == cut)
+
+
+def audit_says(book, log, answer, *about, text=None):
+    """Runs an audit of a file, or of a text as standard input. Compares its answer, the status that goes with that, and that no fault
+    is told."""
+    done = subprocess.run([PROGRAM, "audit", "--book", book, "--log", log], input=text, capture_output=True, text=True, timeout=60)
+    status = 0 if answer.startswith("clean ") else 3 if answer == "read fault" else 1
+    equal((done.returncode, done.stdout, done.stderr), (status, f"{answer}\n", ""), *about)
 
 
 class BookFolder:
@@ -139,7 +188,7 @@ class BookFolder:
         """Runs the program on this input, and compares its status, log and fault."""
         data = text if isinstance(text, bytes) else text.encode()
         done = subprocess.run(words, input=data, capture_output=True, timeout=60)
-        equal((done.returncode, done.stdout.decode(), done.stderr.decode()), (status, log, told(fault)), (words, text[:200]))
+        equal((done.returncode, done.stdout.decode(), done.stderr.decode()), (status, log, fault_text(fault)), (words, text[:200]))
 
     def seen(self):
         """What differs once the book was written or replaced, or another file was left beside it."""
@@ -147,9 +196,7 @@ class BookFolder:
 
     def audited(self, log, answer):
         """Compares what the audit says of a log under the book that it began with."""
-        words = [PROGRAM, "audit", "--book", self.before, "--log", "/dev/stdin"]
-        done = subprocess.run(words, input=log, capture_output=True, text=True)
-        equal((done.stdout, done.stderr), (answer + "\n", ""), log)
+        audit_says(self.before, "/dev/stdin", answer, log, text=log)
 
 
 def run_all(tests):

@@ -14,8 +14,8 @@ from pathlib import Path
 
 import suite
 from checks import equal
-from outside import AUDITS
-from suite import KEYS_OF_PENCIL, NONCES, PROGRAM, SALT, USER, hotp
+from expected import AUDITS
+from suite import BOOK_OF_USER, KEYS_OF_PENCIL, NONCES, PROGRAM, SALT, hotp
 
 PASSWORD = "Type the password and press Enter; it is shown as you type.\r\n"
 BOTH = "Type the password and press Enter, then one code a line; all is shown as you type. Ctrl-D ends.\r\n"
@@ -55,7 +55,7 @@ def prepare(folder, words):
     if words[0] == "enrol":
         book.unlink(missing_ok=True)
     else:
-        keys = (AUDITS / "keys.toml").read_text() if words[0] == "login" else USER
+        keys = (AUDITS / "keys.toml").read_text() if words[0] == "login" else BOOK_OF_USER
         book.write_text(keys + hotp(look_ahead=3, limit=3))
 
 
@@ -141,7 +141,7 @@ def nothing_to_wait_for(folder):
         (["audit", "--book", str(book), "--log", str(log)], 0, "clean sessions=0 accepted=0 codes=0\n", ""),
         (["--version"], 0, "scramotp 0.1.0\n", ""),
     ]:
-        book.write_text(USER)
+        book.write_text(BOOK_OF_USER)
         with Terminal() as terminal:
             run = start(words, terminal.end, terminal.end)
             got = (run.communicate(timeout=20)[0], run.returncode, terminal.all_shown())

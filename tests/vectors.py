@@ -11,7 +11,7 @@ import csv
 import subprocess
 
 from checks import equal, holds
-from outside import VECTORS
+from expected import VECTORS
 from suite import PROGRAM
 
 

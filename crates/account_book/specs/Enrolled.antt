@@ -11,7 +11,12 @@ use Rattle.book_format.specs.declared.account.MechKeys.{MechKeys}
 abbrev pub keys_from : Mechanism → List ℕ → List ℕ → ℕ → MechKeys
 keys_from m password salt count =
     let keys = password_keys m password salt count in
-    record { salt = salt; count = count; keys = record { stored = record { items = keys.stored }; server = record { items = keys.server } } }
+    record {
+      salt = salt;
+      count = count;
+      keys =
+          record { stored = record { items = keys.stored }; server = record { items = keys.server } };
+    }
 
 -- an account with the keys of a password for both mechanisms, which acts as no other name and has no token
 abbrev pub enrolled : List ℕ → List ℕ → List ℕ → ℕ → AccountFields

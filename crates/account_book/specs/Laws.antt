@@ -3,7 +3,7 @@ use Rattle.std.specs.Prelude.{ℕ, ◌≡◌, List, cond}
 use Rattle.std.specs.Str.{bytes_eq}
 use Rattle.std.specs.declared.option.Option.TheVariants.{Some}
 use Rattle.mac_core.specs.declared.mechanism.Mechanism.{Mechanism}
-use Rattle.otp_core.specs.declared.token.kinds.Fields.{Fields}
+use Rattle.otp_core.specs.declared.token.kinds.TokenFields.{TokenFields}
 use Rattle.book_format.specs.Account.{AccountFields}
 use Rattle.book_format.specs.Book.{BookFields}
 use Rattle.account_book.specs.Accounts.{account_at, with_account, with_changed}
@@ -12,21 +12,23 @@ use Rattle.account_book.specs.Tokens.{token_at, with_token}
 
 -- the account of this name has the other token, and every other name the token that it had
 abbrev pub TokensAreApart : Type 0
-TokensAreApart = (old : BookFields) (name : List ℕ) (token next : Fields) → token_at old name ≡ Some token
-    → (other : List ℕ) → token_at (with_changed old name (with_token next)) other ≡ cond (bytes_eq name other) (Some next) (token_at old other)
+TokensAreApart = (old : BookFields) (name : List ℕ) (token next : TokenFields) → token_at old name ≡ Some token
+    → (other : List ℕ) → token_at (with_changed old name (with_token next)) other
+    ≡ cond (bytes_eq name other) (Some next) (token_at old other)
 
 -- what a server keeps of a name stays as it was: it has no token in it
 abbrev pub EntriesStay : Type 0
-EntriesStay = (old : BookFields) (name : List ℕ) (token next : Fields) → token_at old name ≡ Some token
+EntriesStay = (old : BookFields) (name : List ℕ) (token next : TokenFields) → token_at old name ≡ Some token
     → (m : Mechanism) (other : List ℕ) → entry_in (with_changed old name (with_token next)) m other ≡ entry_in old m other
 
 -- a token that is put where it stands changes nothing
 abbrev pub TokensStay : Type 0
-TokensStay = (old : BookFields) (name : List ℕ) (token : Fields) → token_at old name ≡ Some token → with_changed old name (with_token token) ≡ old
+TokensStay = (old : BookFields) (name : List ℕ) (token : TokenFields) → token_at old name ≡ Some token
+    → with_changed old name (with_token token) ≡ old
 
 -- a token that is put back makes the book that there was
 abbrev pub TokensGoBack : Type 0
-TokensGoBack = (old : BookFields) (name : List ℕ) (token next : Fields) → token_at old name ≡ Some token
+TokensGoBack = (old : BookFields) (name : List ℕ) (token next : TokenFields) → token_at old name ≡ Some token
     → with_changed (with_changed old name (with_token next)) name (with_token token) ≡ old
 
 -- the account that is added stands at its name, and every other name has the account that it had

@@ -3,6 +3,6 @@ pub mod Enrolled
 pub mod View
 pub mod Faults
 pub mod Laws
-pub mod Saves
+pub mod SavedBooks
 pub mod Store
 pub mod Tokens

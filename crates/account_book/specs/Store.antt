@@ -13,24 +13,24 @@ pub record StoreFacts : Type 0 where
   pub saves : ℕ
 
 -- a store that had not failed takes up a save of this text
-pub record TakesUp (old : StoreFacts) (text : List ℕ) (new : StoreFacts) : Type 0 where
+pub record BeginsSave (old : StoreFacts) (text : List ℕ) (new : StoreFacts) : Type 0 where
   pub working : old.failed ≡ false
   pub asked : new.asked ≡ text
   pub counted : new.saves ≡ old.saves + 1
 
 -- a save that succeeds: the store holds the text
 pub record IsSaved (old : StoreFacts) (text : List ℕ) (new : StoreFacts) : Type 0 where
-  pub taken_up : TakesUp old text new
+  pub begun : BeginsSave old text new
   pub saved : new.saved ≡ text
   pub working : new.failed ≡ false
 
 -- a save in which the store fails: it holds the text from before, or this one
-pub record IsLost (old : StoreFacts) (text : List ℕ) (new : StoreFacts) : Type 0 where
-  pub taken_up : TakesUp old text new
+pub record IsFailedSave (old : StoreFacts) (text : List ℕ) (new : StoreFacts) : Type 0 where
+  pub begun : BeginsSave old text new
   pub saved : (new.saved ≡ old.saved) ⊎ (new.saved ≡ text)
   pub failed : new.failed ≡ true
 
 -- one save and its answer. A store that has failed answers Err, and stays as it is.
-abbrev pub Saves : StoreFacts → List ℕ → Result (Unit {0}) StoreFault → StoreFacts → Type 0
-Saves old text (Ok done) new = IsSaved old text new
-Saves old text (Err fault) new = ((old.failed ≡ true) × (new ≡ old)) ⊎ IsLost old text new
+abbrev pub IsSaveAnswered : StoreFacts → List ℕ → Result (Unit {0}) StoreFault → StoreFacts → Type 0
+IsSaveAnswered old text (Ok done) new = IsSaved old text new
+IsSaveAnswered old text (Err fault) new = ((old.failed ≡ true) × (new ≡ old)) ⊎ IsFailedSave old text new

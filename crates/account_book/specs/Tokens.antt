@@ -7,26 +7,26 @@ use Rattle.otp_core.specs.Reply.{IsDueReply}
 use Rattle.otp_core.specs.Settings.{unlocked}
 use Rattle.otp_core.specs.State.{advanced}
 use Rattle.otp_core.specs.declared.token.answer.Reply.{Reply}
-use Rattle.otp_core.specs.declared.token.kinds.Fields.{Fields}
+use Rattle.otp_core.specs.declared.token.kinds.TokenFields.{TokenFields}
 use Rattle.book_format.specs.Account.{AccountFields}
 use Rattle.book_format.specs.Book.{BookFields}
 use Rattle.account_book.specs.Accounts.{account_at, IsChanged}
 
 -- the token of the account of this name
-abbrev pub token_at : BookFields → List ℕ → Option Fields
+abbrev pub token_at : BookFields → List ℕ → Option TokenFields
 token_at book name = option_and_then (λ account. account.token) (account_at book name)
 
 -- an account that has this token
-abbrev pub with_token : Fields → AccountFields → AccountFields
+abbrev pub with_token : TokenFields → AccountFields → AccountFields
 with_token token account = record account { token = Some token }
 
 -- what an attempt on the token of the account of this name does: for every start and history that lead to the
 -- token, the reply is the one due after them, and with this attempt added they lead to the token that the
 -- account has afterwards
-pub record IsAttempt (old : BookFields) (name : List ℕ) (token : Fields) (moment : ℕ) (sent : CodeTexts) (reply : Reply)
+pub record IsAttempt (old : BookFields) (name : List ℕ) (token : TokenFields) (moment : ℕ) (sent : CodeTexts) (reply : Reply)
     (new : BookFields) : Type 0 where
-  pub due : (start : Fields) (history : List Attempt) → IsAfter start history token → IsDueReply start history moment sent reply
-  pub after : (start : Fields) (history : List Attempt) → IsAfter start history token
+  pub due : (start : TokenFields) (history : List Attempt) → IsAfter start history token → IsDueReply start history moment sent reply
+  pub after : (start : TokenFields) (history : List Attempt) → IsAfter start history token
       → IsAfter start (attempt_of moment sent reply ∷ history) (advanced token moment reply)
   pub kept : IsChanged old name (with_token (advanced token moment reply)) new
 

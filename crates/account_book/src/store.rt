@@ -1,6 +1,6 @@
 //! Where the text of a book is kept.
 ghost use Rattle.std.specs.Prelude.{ℕ, List, ⊤, OnOk, string_bytes};
-ghost use Rattle.account_book.specs.Store.{StoreFacts, Saves};
+ghost use Rattle.account_book.specs.Store.{StoreFacts, IsSaveAnswered};
 
 use thiserror::Error;
 
@@ -29,6 +29,6 @@ pub trait BookStore {
     /// is to fail only where it can't replace its text in that call, or where `saves` comes to 2^64 - 1; no contract
     /// says so.
     fn save(&mut self, text: String) -> Result<(), StoreFault>
-        ensures saves { Saves (facts self.old) (string_bytes text) result (facts self.new) }
+        ensures saves { IsSaveAnswered (facts self.old) (string_bytes text) result (facts self.new) }
         ensures stored { OnOk result (IsStored (string_bytes text)) };
 }

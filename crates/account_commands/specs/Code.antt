@@ -1,5 +1,5 @@
 -- The code that the words of the command `code` ask for.
-use Rattle.std.specs.Prelude.{◌≡◌, ℕ, suc, ◌≤◌, List, Ok}
+use Rattle.std.specs.Prelude.{◌≡◌, ◌⊎◌, ℕ, suc, ◌≤◌, List, [], ◌∷◌, Ok}
 use Rattle.std.specs.Fmt.{decimal}
 use Rattle.std.specs.declared.option.Option.TheVariants.{None, Some}
 use Rattle.hex.specs.Hex.{decode_of}
@@ -7,14 +7,17 @@ use Rattle.clap.specs.declared.parser.matches.ArgMatches.{ArgMatches}
 use Rattle.otp_core.specs.Code.{hotp_text_by, steps_from}
 use Rattle.otp_core.specs.Hash.{hash_name}
 use Rattle.otp_core.specs.declared.hash.OtpHash.TheVariants.{Sha1}
+use Rattle.command_line.specs.declared.fault.Fault.{Fault}
+use Rattle.command_line.specs.declared.fault.Fault.TheVariants.{NoCounterOrMoment, BeforeFirstStep, CannotWriteOutput, NoMemory}
 use Rattle.command_line.specs.declared.value.OptionName.TheVariants as option
 use Rattle.command_words.specs.Values.{value_of, given_value}
+use Rattle.account_commands.specs.BadValues.{GivesBadValue, HasBadValue}
 use Rattle.account_commands.specs.declared.moving_factor.MovingFactor.{MovingFactor}
 use Rattle.account_commands.specs.declared.moving_factor.MovingFactor.TheVariants.{Counter, Time}
 
 -- the code for a moving factor: HOTP's of a counter, with SHA-1 (RFC 4226), or TOTP's of a moment, whose
 -- steps begin at t0 (RFC 6238)
-abbrev pub IsCodeFor : MovingFactor → ℕ → List ℕ → List ℕ → Type 0
+abbrev pub IsCodeFor : MovingFactor → (digits : ℕ) → (secret code : List ℕ) → Type 0
 IsCodeFor (Counter counter) digits secret code = code ≡ hotp_text_by Sha1 digits secret counter
 IsCodeFor (Time t) digits secret code =
     (t.t0 ≤ t.moment) × (code ≡ hotp_text_by t.hash digits secret (steps_from t.t0 t.step t.moment))
@@ -29,7 +32,8 @@ abbrev pub IsFactorAsked : ArgMatches → MovingFactor → Type 0
 IsFactorAsked words (Counter counter) = value_of words option.Counter ≡ Some (decimal counter)
 IsFactorAsked words (Time t) =
     (value_of words option.Counter ≡ None) × (value_of words option.Moment ≡ Some (decimal t.moment))
-    × (given_value words option.Hash ≡ hash_name t.hash) × (given_value words option.T0 ≡ decimal t.t0) × (given_value words option.Step ≡ decimal t.step)
+    × (given_value words option.Hash ≡ hash_name t.hash) × (given_value words option.T0 ≡ decimal t.t0)
+    × (given_value words option.Step ≡ decimal t.step)
 
 -- the words ask for this code: the secret is given in hexadecimal
 pub record IsCodeAsked (words : ArgMatches) (code : List ℕ) : Type 0 where
@@ -44,3 +48,18 @@ pub record IsCodeAsked (words : ArgMatches) (code : List ℕ) : Type 0 where
 -- the words ask for a code of a moment before t0
 abbrev pub IsAskedTooEarly : ArgMatches → Type 0
 IsAskedTooEarly words = (factor : MovingFactor) × IsFactorAsked words factor × IsTooEarly factor
+
+-- the words give no moving factor: an option refuses its value, or neither a counter nor a moment is given
+abbrev pub LacksFactor : ArgMatches → Fault → Type 0
+LacksFactor words fault =
+    HasBadValue (option.Hash ∷ option.T0 ∷ option.Step ∷ []) words fault
+    ⊎ (GivesBadValue option.Counter words fault ⊎ (GivesBadValue option.Moment words fault
+    ⊎ ((fault ≡ NoCounterOrMoment) × (value_of words option.Counter ≡ None) × (value_of words option.Moment ≡ None))))
+
+-- the fault that ends `code`: an option refuses its value, the words give no moving factor, the moment is before t0, the output can't be
+-- written, or memory ran out
+abbrev pub CannotPrintCode : ArgMatches → Fault → Type 0
+CannotPrintCode words fault =
+    HasBadValue (option.Secret ∷ option.Digits ∷ []) words fault
+    ⊎ (LacksFactor words fault ⊎ (((fault ≡ BeforeFirstStep) × IsAskedTooEarly words)
+    ⊎ ((fault ≡ CannotWriteOutput) ⊎ (fault ≡ NoMemory))))

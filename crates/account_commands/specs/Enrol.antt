@@ -1,17 +1,25 @@
 -- What the command `enrol` adds to a book, and what it prints.
-use Rattle.std.specs.Prelude.{ℕ, ◌≡◌, ◌⊎◌, List, [], ◌∷◌, ◌++◌, length, codes, Option}
+use Rattle.std.specs.Prelude.{ℕ, ◌≡◌, ◌⊎◌, List, [], ◌∷◌, ◌++◌, length, true, is_some, codes, Option}
 use Rattle.std.specs.Fmt.{decimal}
 use Rattle.std.specs.Io.KnownBytes.{Appends, Consumes}
 use Rattle.std.specs.Str.{byte}
 use Rattle.scram_text.specs.Class.{IsPassword}
 use Rattle.book_format.specs.Book.{BookFields}
-use Rattle.account_book.specs.Saves.{WasSaved}
+use Rattle.account_book.specs.Accounts.{account_at}
+use Rattle.account_book.specs.SavedBooks.{WasSaved}
 use Rattle.book_file.specs.Text.{IsWritten}
 use Rattle.clap.specs.declared.parser.matches.ArgMatches.{ArgMatches}
+use Rattle.command_line.specs.Fault.{IsUnwritten}
+use Rattle.command_line.specs.declared.fault.Fault.{Fault}
+use Rattle.command_line.specs.declared.fault.Fault.TheVariants.{NameTaken, CannotWriteOutput}
 use Rattle.command_line.specs.declared.value.OptionName.TheVariants as option
-use Rattle.account_commands.specs.HeldBook.{IsEnrolled, IsReadBook, IsStoredShort}
-use Rattle.account_commands.specs.Input.{IsFirstLine}
+use Rattle.account_commands.specs.BadValues.{HasBadPassword, HasBadValue}
+use Rattle.account_commands.specs.File.{IsFileUnread}
+use Rattle.account_commands.specs.HeldBook.{IsEnrolled, IsReadBook, IsStoredShort, IsUnheld}
+use Rattle.account_commands.specs.Input.{IsFirstLine, IsUnread}
 use Rattle.command_words.specs.Values.{given_value}
+use Rattle.account_commands.specs.declared.new_account.NewAccount.{NewAccount}
+use Rattle.account_commands.specs.declared.new_account.Salts.{Salts}
 
 -- a new book: it has no accounts, and its decoys have this key and 4096 iterations
 abbrev pub new_book : (decoy_key : List ℕ) → BookFields
@@ -25,36 +33,68 @@ IsReadOrNew bytes_of old new book =
     ⊎ ((decoy_key : List ℕ) × (length decoy_key ≡ 32) × Consumes old new decoy_key × (book ≡ new_book decoy_key))
 
 -- a source of random bytes loses two salts of 16 bytes, one after the other: no byte is in both
-pub record TakesSalts (old : Option (List ℕ)) (salt1 salt256 : List ℕ) (new : Option (List ℕ)) : Type 0 where
-  pub length1 : length salt1 ≡ 16
-  pub length256 : length salt256 ≡ 16
-  pub taken : Consumes old new (salt1 ++ salt256)
+pub record TakesSalts (old : Option (List ℕ)) (salts : Salts) (new : Option (List ℕ)) : Type 0 where
+  pub length_sha1 : length salts.sha1 ≡ 16
+  pub length_sha256 : length salts.sha256 ≡ 16
+  pub taken : Consumes old new (salts.sha1 ++ salts.sha256)
+
+-- a book is this one, or was read from a file since
+abbrev pub IsThisOrRead : {File : Type 0} → (bytes_of : File → Option (List ℕ)) → (this book : BookFields) → Type 0
+IsThisOrRead bytes_of this book = (book ≡ this) ⊎ ((text : List ℕ) × IsReadBook bytes_of text book)
 
 -- an account with the keys of a password is added to a book, which is this one or was read from a file since, and the text of
 -- the book as it is then is written to a file
-pub record SavesAccount {File : Type 0} (bytes_of written_to : File → Option (List ℕ)) (book : BookFields) (name password salt1 salt256 : List ℕ)
-    (count : ℕ) : Type 0 where
+pub record SavesAccount {File : Type 0} (bytes_of written_to : File → Option (List ℕ)) (book : BookFields)
+    (account : NewAccount) (salts : Salts) : Type 0 where
   pub first : BookFields
-  pub is_first : (first ≡ book) ⊎ ((text : List ℕ) × IsReadBook bytes_of text first)
+  pub is_first : IsThisOrRead bytes_of book first
   pub last : BookFields
-  pub is_enrolled : IsEnrolled name password salt1 salt256 count first last
+  pub is_enrolled : IsEnrolled account salts first last
   pub is_saved : WasSaved (IsStoredShort (IsWritten written_to)) last
 
 -- the account that the words and the first line of the input describe is added to a book that was read, or to a new one, whose
 -- text is then written to a file. A file gives the random bytes: the key of a new book, and then the salts. And the name is printed.
-pub record EnrolsAsked {File : Type 0} (bytes_of written_to : File → Option (List ℕ)) (words : ArgMatches) (input old new : Option (List ℕ)) : Type 0 where
-  pub password : List ℕ
-  pub is_first : IsFirstLine input password
-  pub is_password : IsPassword password
-  pub count : ℕ
-  pub is_count : given_value words option.Count ≡ decimal count
+pub record EnrolsAsked {File : Type 0} (bytes_of written_to : File → Option (List ℕ)) (words : ArgMatches)
+    (input old new : Option (List ℕ)) : Type 0 where
+  pub account : NewAccount
+  pub is_name : account.name ≡ given_value words option.Name
+  pub is_first : IsFirstLine input account.password
+  pub is_password : IsPassword account.password
+  pub is_count : given_value words option.Count ≡ decimal account.count
   pub file : File
   pub there : Option (List ℕ)
   pub after : File
   pub book : BookFields
   pub is_book : IsReadOrNew bytes_of (bytes_of file) there book
-  pub salt1 : List ℕ
-  pub salt256 : List ℕ
-  pub takes_salts : TakesSalts there salt1 salt256 (bytes_of after)
-  pub is_saved : SavesAccount bytes_of written_to book (given_value words option.Name) password salt1 salt256 count
-  pub printed : Appends old new (codes "enrolled " ++ (given_value words option.Name ++ byte "\n" ∷ []))
+  pub salts : Salts
+  pub takes_salts : TakesSalts there salts (bytes_of after)
+  pub is_saved : SavesAccount bytes_of written_to book account salts
+  pub printed : Appends old new (codes "enrolled " ++ (account.name ++ byte "\n" ∷ []))
+
+-- the words and the input describe no account: an option refuses its value, or the first line is no password or can't be read
+abbrev pub DescribesNoAccount : ArgMatches → (input : Option (List ℕ)) → Fault → Type 0
+DescribesNoAccount words input fault =
+    HasBadValue (option.Name ∷ option.Count ∷ []) words fault ⊎ (HasBadPassword input fault ⊎ IsUnread fault)
+
+-- the name is taken in a book, which is this one or was read from a file since
+abbrev pub IsNameTakenIn : {File : Type 0} → (bytes_of : File → Option (List ℕ)) → BookFields → (name : List ℕ) → Fault → Type 0
+IsNameTakenIn bytes_of this name fault =
+    (fault ≡ NameTaken) × (book : BookFields) × IsThisOrRead bytes_of this book × (is_some (account_at book name) ≡ true)
+
+-- the name is taken in a book that was read from a file
+abbrev pub IsNameTaken : {File : Type 0} → (bytes_of : File → Option (List ℕ)) → (name : List ℕ) → Fault → Type 0
+IsNameTaken bytes_of name fault =
+    (fault ≡ NameTaken) × (text : List ℕ) × (book : BookFields) × IsReadBook bytes_of text book × (is_some (account_at book name) ≡ true)
+
+-- the book at this path can't be held or read, or can't be saved
+abbrev pub CannotBeChanged : {File : Type 0} → (bytes_of : File → Option (List ℕ)) → (path : List ℕ) → Fault → Type 0
+CannotBeChanged bytes_of path fault = IsUnheld bytes_of path fault ⊎ IsUnwritten path fault
+
+-- the fault that ends `enrol`: no account is described, the name is taken, the book can't be held, read or saved, the file of random
+-- bytes can't be read, or the output can't be written
+abbrev pub CannotEnrol : {File : Type 0} → (bytes_of : File → Option (List ℕ)) → ArgMatches → (input : Option (List ℕ)) → Fault → Type 0
+CannotEnrol bytes_of words input fault =
+    DescribesNoAccount words input fault
+    ⊎ (IsNameTaken bytes_of (given_value words option.Name) fault
+    ⊎ (CannotBeChanged bytes_of (given_value words option.Book) fault
+    ⊎ (IsFileUnread (given_value words option.Random) fault ⊎ (fault ≡ CannotWriteOutput))))

@@ -1,5 +1,6 @@
 -- What becomes of a held book and of its store.
-use Rattle.std.specs.Prelude.{ℕ, ◌≡◌, ◌≤◌, ◌<◌, ◌⊎◌, true, false, List, [], ◌∷◌, ◌++◌, length, codes, string_bytes, Option, is_some, None, Some, IfSome, MatchOption}
+use Rattle.std.specs.Prelude.{ℕ, ◌≡◌, ◌≤◌, ◌<◌, ◌⊎◌, true, false, List, [], ◌∷◌, ◌++◌, length, codes, string_bytes}
+use Rattle.std.specs.Prelude.{Option, is_some, None, Some, IfSome, MatchOption}
 use Rattle.std.specs.Str.{byte}
 use Rattle.std.specs.Io.KnownBytes.{Appends}
 use Rattle.otp_core.specs.Attempt.{CodeTexts}
@@ -11,18 +12,22 @@ use Rattle.book_format.specs.Trees.{IsBookText}
 use Rattle.book_format.specs.declared.fault.BookFault.{BookFault}
 use Rattle.account_book.specs.Accounts.{account_at, IsAdded}
 use Rattle.account_book.specs.Enrolled.{enrolled}
-use Rattle.account_book.specs.Saves.{needs_save, SavesBook, WasSaved}
-use Rattle.account_book.specs.Store.{StoreFacts, IsLost}
+use Rattle.account_book.specs.SavedBooks.{needs_save, SavesBook, WasSaved}
+use Rattle.account_book.specs.Store.{StoreFacts, IsFailedSave}
 use Rattle.account_book.specs.Tokens.{IsAttempt, IsUnlocked, token_at}
 use Rattle.book_file.specs.Text.{IsRead, IsWritten}
 use Rattle.book_file.specs.declared.file.TheConstants.{MOST_BOOK}
 use Rattle.clap.specs.declared.parser.matches.ArgMatches.{ArgMatches}
-use Rattle.command_line.specs.Fault.{of_book}
+use Rattle.command_line.specs.Fault.{of_book, IsTokenFault}
 use Rattle.command_line.specs.declared.fault.Fault.{Fault}
-use Rattle.command_line.specs.declared.fault.Fault.TheVariants.{NoSuchAccount, NoToken, CannotRead, CannotWrite, NoMemory}
+use Rattle.command_line.specs.declared.fault.Fault.TheVariants.{NoSuchAccount, NoToken, CannotRead, CannotWrite}
+use Rattle.command_line.specs.declared.fault.Fault.TheVariants.{CannotWriteOutput, NoMemory}
 use Rattle.command_line.specs.declared.value.OptionName.TheVariants as option
 use Rattle.command_words.specs.Values.{given_value}
+use Rattle.account_commands.specs.BadValues.{HasBadValue}
 use Rattle.account_commands.specs.declared.held_book.HeldBook.{HeldBook}
+use Rattle.account_commands.specs.declared.new_account.NewAccount.{NewAccount}
+use Rattle.account_commands.specs.declared.new_account.Salts.{Salts}
 
 -- what is known of a held book: the book, and the facts of its store
 pub record HeldFacts : Type 0 where
@@ -43,7 +48,7 @@ IsBookSaved IsStored old book new = SavesBook (IsStoredShort IsStored) old book 
 
 -- the book is not saved: the store is as it was; or it failed in saving the book, and has that text or the one from before
 abbrev pub IsBookUnsaved : (old : StoreFacts) → BookFields → (new : StoreFacts) → Type 0
-IsBookUnsaved old book new = (new ≡ old) ⊎ ((text : List ℕ) × IsBookText text book × IsLost old text new)
+IsBookUnsaved old book new = (new ≡ old) ⊎ ((text : List ℕ) × IsBookText text book × IsFailedSave old text new)
 
 -- a change of the book failed: nothing has changed, or the book has changed and is not saved
 abbrev pub IsChangeUnsaved : (old : HeldFacts) → (Changes : BookFields → BookFields → Type 0) → (new : HeldFacts) → Type 0
@@ -78,17 +83,20 @@ abbrev pub IsTokenUnlocked : (name : List ℕ) → BookFields → BookFields →
 IsTokenUnlocked name old new = (is_some (token_at old name) ≡ true) × IsUnlocked old name new
 
 -- an account with the keys of a password, under a name that had none, is added
-abbrev pub IsEnrolled : (name password salt1 salt256 : List ℕ) → (count : ℕ) → BookFields → BookFields → Type 0
-IsEnrolled name password salt1 salt256 count old new =
-    (account_at old name ≡ None) × IsAdded old name (enrolled password salt1 salt256 count) new
+abbrev pub IsEnrolled : NewAccount → Salts → BookFields → BookFields → Type 0
+IsEnrolled account salts old new =
+    (account_at old account.name ≡ None)
+    × IsAdded old account.name (enrolled account.password salts.sha1 salts.sha256 account.count) new
 
 -- the reply is due to what was sent at a moment by the token of the account of this name, and the book is this one after it
-pub record IsAttemptAnswered (old : BookFields) (name : List ℕ) (moment : ℕ) (said : CodeTexts) (reply : Reply) (new : BookFields) : Type 0 where
+pub record IsAttemptAnswered (old : BookFields) (name : List ℕ) (moment : ℕ) (said : CodeTexts) (reply : Reply) (new : BookFields)
+    : Type 0 where
   pub there : is_some (token_at old name) ≡ true
   pub due : IfSome (token_at old name) (λ token. IsAttempt old name token moment said reply new)
 
 -- the reply is due, and the book after it is saved where the reply needs that; else the store is as it was
-pub record IsReplySaved (IsStored : List ℕ → Type 0) (old : HeldFacts) (name : List ℕ) (moment : ℕ) (said : CodeTexts) (reply : Reply) (new : HeldFacts) : Type 0 where
+pub record IsReplySaved (IsStored : List ℕ → Type 0) (old : HeldFacts) (name : List ℕ) (moment : ℕ) (said : CodeTexts) (reply : Reply)
+    (new : HeldFacts) : Type 0 where
   pub due : IsAttemptAnswered old.book name moment said reply new.book
   pub saved : needs_save (Some reply) ≡ true → IsBookSaved IsStored old.store new.book new.store
   pub unasked : needs_save (Some reply) ≡ false → new.store ≡ old.store
@@ -96,7 +104,8 @@ pub record IsReplySaved (IsStored : List ℕ → Type 0) (old : HeldFacts) (name
 -- nothing has changed; or a reply was due, and the book after it is not saved
 abbrev pub IsReplyUnsaved : (old : HeldFacts) → (name : List ℕ) → (moment : ℕ) → CodeTexts → (new : HeldFacts) → Type 0
 IsReplyUnsaved old name moment said new =
-    (new ≡ old) ⊎ ((reply : Reply) × IsAttemptAnswered old.book name moment said reply new.book × IsBookUnsaved old.store new.book new.store)
+    (new ≡ old)
+    ⊎ ((reply : Reply) × IsAttemptAnswered old.book name moment said reply new.book × IsBookUnsaved old.store new.book new.store)
 
 -- the token of this name is unlocked, and the book is saved
 pub record IsUnlockSaved (IsStored : List ℕ → Type 0) (name : List ℕ) (old new : HeldFacts) : Type 0 where
@@ -110,7 +119,8 @@ pub record IsReadBook {File : Type 0} (bytes_of : File → Option (List ℕ)) (t
 
 -- a book is read from a file, the token of the name that the words give is unlocked, and the text of the book as it is then is
 -- written to a file; and the name is printed
-pub record UnlocksAsked {File : Type 0} (bytes_of written_to : File → Option (List ℕ)) (words : ArgMatches) (old new : Option (List ℕ)) : Type 0 where
+pub record UnlocksAsked {File : Type 0} (bytes_of written_to : File → Option (List ℕ)) (words : ArgMatches) (old new : Option (List ℕ))
+    : Type 0 where
   pub text : List ℕ
   pub first : BookFields
   pub is_first : IsReadBook bytes_of text first
@@ -118,3 +128,16 @@ pub record UnlocksAsked {File : Type 0} (bytes_of written_to : File → Option (
   pub is_unlocked : IsTokenUnlocked (given_value words option.Name) first last
   pub is_saved : WasSaved (IsStoredShort (IsWritten written_to)) last
   pub printed : Appends old new (codes "unlocked " ++ (given_value words option.Name ++ byte "\n" ∷ []))
+
+-- a book that was read has no token for the name, or can't be saved in the file of this path: the fault says which
+abbrev pub CannotUnlockToken : {File : Type 0} → (bytes_of : File → Option (List ℕ)) → (path name : List ℕ) → Fault → Type 0
+CannotUnlockToken bytes_of path name fault =
+    (text : List ℕ) × (book : BookFields) × IsReadBook bytes_of text book × IsTokenFault path (account_at book name) fault
+
+-- the fault that ends `unlock`: the name is none, the book can't be held or read, it has no token for the name or can't be saved, or the
+-- output can't be written
+abbrev pub CannotUnlock : {File : Type 0} → (bytes_of : File → Option (List ℕ)) → ArgMatches → Fault → Type 0
+CannotUnlock bytes_of words fault =
+    HasBadValue (option.Name ∷ []) words fault
+    ⊎ (IsUnheld bytes_of (given_value words option.Book) fault
+    ⊎ (CannotUnlockToken bytes_of (given_value words option.Book) (given_value words option.Name) fault ⊎ (fault ≡ CannotWriteOutput)))

@@ -39,15 +39,16 @@ pub record AreLinesOf (bytes : List ℕ) (lines : List (List ℕ)) : Type 0 wher
   pub are : lines ≡ texts ++ last_line rest
 
 -- each of these lines is worked on in turn, by a step that says whether the line passed; and whether each passed
-abbrev pub EachInTurn : {State : Type 0} → (Step : List ℕ → State → (passed : Bool) → State → Type 0) → List (List ℕ) → State → (all_passed : Bool) → State → Type 0
+abbrev pub EachInTurn : {State : Type 0} → (Step : List ℕ → State → (passed : Bool) → State → Type 0) → List (List ℕ) → State
+    → (all_passed : Bool) → State → Type 0
 EachInTurn Step [] old all_passed new = (new ≡ old) × (all_passed ≡ true)
 EachInTurn {State} Step (line ∷ lines) old all_passed new =
     (passed : Bool) × (next : State) × (others : Bool) × Step line old passed next × EachInTurn Step lines next others new
     × (all_passed ≡ (passed && others))
 
 -- the lines of an input, where its bytes are known, but for these last ones: each is worked on in turn
-pub record LinesInTurn {State : Type 0} (Step : List ℕ → State → (passed : Bool) → State → Type 0) (input : Option (List ℕ)) (last : List (List ℕ))
-    (old : State) (all_passed : Bool) (new : State) : Type 0 where
+pub record LinesInTurn {State : Type 0} (Step : List ℕ → State → (passed : Bool) → State → Type 0) (input : Option (List ℕ))
+    (last : List (List ℕ)) (old : State) (all_passed : Bool) (new : State) : Type 0 where
   pub lines : List (List ℕ)
   pub are : IfSome input (λ bytes. AreLinesOf bytes (lines ++ last))
   pub in_turn : EachInTurn Step lines old all_passed new

@@ -1,5 +1,5 @@
 -- What the command `keys` prints.
-use Rattle.std.specs.Prelude.{ℕ, ◌≡◌, List, [], ◌∷◌, ◌++◌, codes, Option, Ok}
+use Rattle.std.specs.Prelude.{ℕ, ◌≡◌, ◌⊎◌, List, [], ◌∷◌, ◌++◌, codes, Option, Ok}
 use Rattle.std.specs.Str.{byte}
 use Rattle.std.specs.Fmt.{decimal}
 use Rattle.std.specs.Io.KnownBytes.{Appends}
@@ -8,13 +8,16 @@ use Rattle.clap.specs.declared.parser.matches.ArgMatches.{ArgMatches}
 use Rattle.mac_core.specs.declared.mechanism.Mechanism.{Mechanism}
 use Rattle.mac_core.specs.Mechanism.{name_of, hi_by, client_key_by, stored_key_by, server_key_by}
 use Rattle.scram_text.specs.Class.{IsPassword}
+use Rattle.command_line.specs.declared.fault.Fault.{Fault}
+use Rattle.command_line.specs.declared.fault.Fault.TheVariants.{CannotWriteOutput}
 use Rattle.command_line.specs.declared.value.OptionName.TheVariants as option
-use Rattle.account_commands.specs.Input.{IsFirstLine}
+use Rattle.account_commands.specs.BadValues.{HasBadPassword, HasBadValue}
+use Rattle.account_commands.specs.Input.{IsFirstLine, IsUnread}
 use Rattle.command_words.specs.Values.{given_value}
 
 -- the two lines of `keys`: StoredKey and ServerKey of a password (RFC 5802, section 3) in lower-case
 -- hexadecimal, each after its name and an equals sign
-abbrev pub printed_keys : Mechanism → List ℕ → List ℕ → ℕ → List ℕ
+abbrev pub printed_keys : Mechanism → (password salt : List ℕ) → (count : ℕ) → List ℕ
 printed_keys mechanism password salt count =
     let salted = hi_by mechanism password salt count in
     let stored = stored_key_by mechanism (client_key_by mechanism salted) in
@@ -33,3 +36,10 @@ pub record PrintsKeysAsked (words : ArgMatches) (input old new : Option (List �
   pub is_first : IsFirstLine input password
   pub is_password : IsPassword password
   pub printed : Appends old new (printed_keys mechanism password salt count)
+
+-- the fault that ends `keys`: an option refuses its value, the first line of the input is no password or can't be read, or the output
+-- can't be written
+abbrev pub CannotPrintKeys : ArgMatches → (input : Option (List ℕ)) → Fault → Type 0
+CannotPrintKeys words input fault =
+    HasBadValue (option.Mechanism ∷ option.Salt ∷ option.Count ∷ []) words fault
+    ⊎ (HasBadPassword input fault ⊎ (IsUnread fault ⊎ (fault ≡ CannotWriteOutput)))

@@ -3,6 +3,7 @@ ghost use Rattle.std.specs.Prelude.{◌≡◌, ◌++◌, ◌∷◌, [], ℕ, Lis
 ghost use Rattle.std.specs.Str.{byte};
 ghost use Rattle.std.specs.Io.KnownBytes.{Appends};
 ghost use Rattle.account_commands.specs.Code.{IsCodeFor, IsTooEarly, IsFactorAsked, IsCodeAsked, IsAskedTooEarly};
+ghost use Rattle.account_commands.specs.Code.{CannotPrintCode, LacksFactor};
 ghost use Rattle.command_words.specs.Values.{value_of};
 ghost use Rattle.account_commands.specs.Printed.{PrintsNothing};
 
@@ -30,11 +31,12 @@ fn answer(secret: &Secret, digits: Digits, factor: &MovingFactor) -> Result<Code
 }
 
 // Judges the options that say which code is meant, in their order.
-fn judge(words: &ArgMatches<'_>) -> Result<MovingFactor, Fault>
+fn read_options(words: &ArgMatches<'_>) -> Result<MovingFactor, Fault>
     ensures asked { IfOk result (IsFactorAsked words.now) }
     ensures nothing { IsErrOf result Fault.NoCounterOrMoment
         → (value_of words.now OptionName.Counter ≡ None) × (value_of words.now OptionName.Moment ≡ None) }
     ensures in_time { IsErrOf result Fault.BeforeFirstStep → ⊥ }
+    ensures why { IfErr result (LacksFactor words.now) }
 {
     let counter = match optional(words, OptionName::Counter) {
         Some(text) => Some(value::within(OptionName::Counter, text, 0, MOST_COUNTER)?),
@@ -70,13 +72,14 @@ pub fn code<O: Write>(alloc: Global, words: &ArgMatches<'_>, output: &mut O) -> 
     ensures printed { OnOk result ((code : List ℕ) × IsCodeAsked words.now code
         × Appends (O.contents output.old) (O.contents output.new) (code ++ byte "\n" ∷ [])) }
     ensures err { IfErr result (λ fault. PrintsNothing fault (O.contents output.old) (O.contents output.new)) }
+    ensures why { IfErr result (CannotPrintCode words.now) }
     ensures early { IsErrOf result Fault.BeforeFirstStep → IsAskedTooEarly words.now }
     ensures nothing { IsErrOf result Fault.NoCounterOrMoment
         → (value_of words.now OptionName.Counter ≡ None) × (value_of words.now OptionName.Moment ≡ None) }
 {
     let secret = value::secret(alloc, given(words, OptionName::Secret))?;
     let digits = value::digits(given(words, OptionName::Digits))?;
-    let factor = judge(words)?;
+    let factor = read_options(words)?;
     let code = answer(&secret, digits, &factor)?;
     print_code(code.text(), output)
 }

@@ -1,8 +1,10 @@
 //! The command `enrol`: adds an account with a password to a book.
-ghost use Rattle.std.specs.Prelude.{◌≡◌, IfOk, IfErr, IfSome, OnOk, string_bytes};
+ghost use Rattle.std.specs.Prelude.{◌≡◌, ◌⊎◌, IfOk, IfErr, IfSome, OnOk, string_bytes};
 ghost use Rattle.std.specs.Fmt.{decimal};
 ghost use Rattle.scram_text.specs.Class.{IsPassword};
 ghost use Rattle.account_commands.specs.Enrol.{EnrolsAsked, IsReadOrNew, SavesAccount, TakesSalts};
+ghost use Rattle.account_commands.specs.Enrol.{CannotBeChanged, CannotEnrol, DescribesNoAccount, IsNameTakenIn};
+ghost use Rattle.account_commands.specs.File.{IsFileUnread};
 ghost use Rattle.account_commands.specs.HeldBook.{IsReadBook};
 ghost use Rattle.account_commands.specs.Input.{IsFirstLine};
 ghost use Rattle.command_words.specs.Values.{given_value};
@@ -11,8 +13,8 @@ ghost use Rattle.account_commands.specs.Printed.{PrintsNothing};
 use crate::done::print_done;
 use crate::held_book::{HeldBook, Seen};
 use crate::new_account::{NewAccount, Salts};
-use crate::progress::Watched;
-use crate::prompt::{PASSWORD, Typed, ask};
+use crate::progress::TerminalOutput;
+use crate::prompt::{PASSWORD, TerminalInput, ask};
 use crate::random::Random;
 use crate::{held_book, input};
 use account_book::Book;
@@ -44,13 +46,15 @@ pub fn enrol<R, I, O, E>(
 where
     R: Files + Clock + AllocGlobal,
     R::File: Lockable,
-    I: Typed,
+    I: TerminalInput,
     O: Write,
-    E: Watched,
-    ensures ok { OnOk result (EnrolsAsked R.File.remaining R.File.contents words.now (I.remaining input.old) (O.contents output.old) (O.contents output.new)) }
+    E: TerminalOutput,
+    ensures ok { OnOk result (EnrolsAsked R.File.remaining R.File.contents words.now (I.remaining input.old) (O.contents output.old)
+        (O.contents output.new)) }
     ensures err { IfErr result (λ fault. PrintsNothing fault (O.contents output.old) (O.contents output.new)) }
+    ensures why { IfErr result (CannotEnrol R.File.remaining words.now (I.remaining input.old)) }
 {
-    let asked = judge(rt.alloc(), words, input, faults)?;
+    let asked = read_account(rt.alloc(), words, input, faults)?;
     let path = given(words, OptionName::Book);
     let seen = held_book::read_and_release(rt, path, faults)?;
     let mut random = Random::open(rt, given(words, OptionName::Random))?;
@@ -67,7 +71,9 @@ fn seen_or_new<F: Read + Drop>(
     random: &mut Random<'_, F>,
 ) -> Result<(Book, Option<String>), Fault>
     requires { IfSome seen (λ seen. IsReadBook F.remaining (string_bytes seen.text) seen.book) }
-    ensures { IfOk result (λ found. IsReadOrNew F.remaining (F.remaining random.old.file) (F.remaining random.new.file) found.0) }
+    ensures book { IfOk result (λ found. IsReadOrNew F.remaining (F.remaining random.old.file) (F.remaining random.new.file) found.0) }
+    ensures err { IfErr result (IsFileUnread random.old.path.now) }
+    ensures path { random.new.path.now ≡ random.old.path.now }
 {
     match seen {
         Some(seen) => Ok((seen.book, Some(seen.text))),
@@ -80,7 +86,8 @@ fn seen_or_new<F: Read + Drop>(
 
 // Two salts of random bytes, for SCRAM-SHA-1 and for SCRAM-SHA-256.
 fn two_salts<F: Read + Drop>(random: &mut Random<'_, F>) -> Result<Salts, Fault>
-    ensures { IfOk result (λ salts. TakesSalts (F.remaining random.old.file) salts.sha1 salts.sha256 (F.remaining random.new.file)) }
+    ensures salts { IfOk result (λ salts. TakesSalts (F.remaining random.old.file) salts (F.remaining random.new.file)) }
+    ensures err { IfErr result (IsFileUnread random.old.path.now) }
 {
     let sha1 = salt(random.bytes()?);
     let sha256 = salt(random.bytes()?);
@@ -88,7 +95,7 @@ fn two_salts<F: Read + Drop>(random: &mut Random<'_, F>) -> Result<Salts, Fault>
 }
 
 // Judges the options that describe the account, and reads the password.
-fn judge<I: Typed, E: Watched>(
+fn read_account<I: TerminalInput, E: TerminalOutput>(
     alloc: Global,
     words: &ArgMatches<'_>,
     input: &mut I,
@@ -97,6 +104,7 @@ fn judge<I: Typed, E: Watched>(
     ensures name { IfOk result (λ asked. asked.name ≡ given_value words.now OptionName.Name) }
     ensures count { IfOk result (λ asked. given_value words.now OptionName.Count ≡ decimal asked.count) }
     ensures password { IfOk result (λ asked. IsFirstLine (I.remaining input.old) asked.password × IsPassword asked.password) }
+    ensures err { IfErr result (DescribesNoAccount words.now (I.remaining input.old)) }
 {
     let name = value::name(given(words, OptionName::Name))?;
     let count = value::count(given(words, OptionName::Count))?;
@@ -117,7 +125,7 @@ fn judge<I: Typed, E: Watched>(
 fn save<R, E>(
     rt: &R,
     path: &str,
-    book: Book,
+    mut book: Book,
     text: Option<String>,
     asked: &NewAccount,
     salts: &Salts,
@@ -127,11 +135,12 @@ where
     R: Files + Clock + AllocGlobal,
     R::File: Lockable,
     E: Write,
-    ensures { OnOk result (SavesAccount R.File.remaining R.File.contents book asked.now.name asked.now.password salts.now.sha1 salts.now.sha256 asked.now.count) }
+    ensures saved { OnOk result (SavesAccount R.File.remaining R.File.contents book asked.now salts.now) }
+    ensures err { IfErr result (λ fault. IsNameTakenIn R.File.remaining book asked.now.name fault
+        ⊎ CannotBeChanged R.File.remaining path.now fault) }
 {
     let alloc = rt.alloc();
-    let mut with_account = book;
-    held_book::add(alloc, &mut with_account, asked, salts)?;
+    held_book::add(alloc, &mut book, asked, salts)?;
     let held = match text {
         Some(_) => BookFile::hold(rt, path),
         None => BookFile::hold_or_make(rt, path),
@@ -144,7 +153,7 @@ where
         }
         _ => {
             let store = FileStore::new(file, text.unwrap_or(String::new(alloc)));
-            HeldBook::new(with_account, store, path).save(alloc)
+            HeldBook::new(book, store, path).save(alloc)
         }
     }
 }

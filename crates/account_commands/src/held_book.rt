@@ -1,20 +1,23 @@
 //! A book that this run holds, and its store: each change is saved before it is reported.
-ghost use Rattle.std.specs.Prelude.{◌≡◌, ◌≢◌, ◌≤◌, ◌⊎◌, ℕ, List, true, false, is_some, None, Some, IfErr, IfOk, IfSome, MatchOption, OnOk, OnErr, string_bytes};
+ghost use Rattle.std.specs.Prelude.{◌≡◌, ◌≢◌, ◌⊎◌, ℕ, List, true, false, is_some, None, Some, IfErr, IfOk, IfSome, MatchOption, OnOk};
+ghost use Rattle.std.specs.Prelude.{OnErr, string_bytes};
 ghost use Rattle.book_format.specs.Reading.{IsFirstFault};
 ghost use Rattle.book_format.specs.Trees.{IsBookText};
 ghost use Rattle.book_format.specs.declared.fault.BookFault.{BookFault};
 ghost use Rattle.account_book.specs.Accounts.{account_at};
-ghost use Rattle.account_book.specs.Saves.{needs_save};
+ghost use Rattle.account_book.specs.SavedBooks.{needs_save};
 ghost use Rattle.account_book.specs.Tokens.{token_at};
 ghost use Rattle.book_file.specs.Text.{IsRead};
 ghost use Rattle.otp_core.specs.Sent.{texts_of};
 ghost use Rattle.command_line.specs.Fault.{IsTokenFault, IsUnwritten, of_book};
-ghost use Rattle.account_commands.specs.HeldBook.{held_shown, CannotBeSaved, CannotHold, IsBookSaved, IsBookUnsaved, IsChangeUnsaved, IsEnrolled, IsAttemptAnswered, IsReadBook, IsReplyUnsaved, IsTokenUnlocked, IsUnheld, IsUnlockSaved, LacksToken};
+ghost use Rattle.account_commands.specs.HeldBook.{held_shown, CannotBeSaved, CannotHold, IsBookSaved, IsBookUnsaved, IsChangeUnsaved};
+ghost use Rattle.account_commands.specs.HeldBook.{IsEnrolled, IsAttemptAnswered, IsReadBook, IsReplyUnsaved, IsTokenUnlocked, IsUnheld};
+ghost use Rattle.account_commands.specs.HeldBook.{IsUnlockSaved, LacksToken};
 
 use crate::new_account::{NewAccount, Salts};
 use account_book::{Book, BookStore, BookWhy, EnrolFault, Reply};
 use book_file::{BookFile, FileStore, HoldFault, Lockable, MOST_BOOK};
-use command_line::{Fault, Shown};
+use command_line::{Fault, TerminalText};
 use otp_core::{Moment, Sent};
 use scram_text::PlainName;
 use std::alloc::{AllocError, Global};
@@ -43,9 +46,9 @@ pub struct Seen {
 }
 
 /// Takes hold of the book at `path`, reads it and lets it go; None where there is no file. Faults: CannotRead where
-/// the file can't be read or other runs hold it for 30 seconds, CannotWrite where the file of the next text can't
-/// be made, BadBook where the text is no book, and NoMemory.
-#[tactic(auto, using(crate::proofs::HeldFaults::no_book))]
+/// the file can't be read or other runs hold it for 30 seconds; CannotWrite where a save could not keep the file's owner, or
+/// where what stands at the path of the next text can't be removed; BadBook where the text is no book; and NoMemory.
+#[tactic(auto, using(crate::proofs::lemmas::HeldFaults::no_book))]
 pub fn read_and_release<R, E>(rt: &R, path: &str, faults: &mut E) -> Result<Option<Seen>, Fault>
 where
     R: Files + Clock + AllocGlobal,
@@ -68,7 +71,7 @@ where
 
 /// Takes hold of the book at `path`, which has to be there, and reads it. Faults: as `read_and_release`, and CannotRead where
 /// there is no file.
-#[tactic(auto, using(crate::proofs::HeldFaults::no_book))]
+#[tactic(auto, using(crate::proofs::lemmas::HeldFaults::no_book))]
 pub fn open<'a, 'r, R, E>(
     rt: &'r R,
     path: &'a str,
@@ -116,7 +119,7 @@ where
 // The fault of a command that could not hold the book at `path`: that it can't be read, or that a file can't be
 // written. Where other runs held the book, or it belongs to another user, a line on `faults` says so first. The error
 // is that memory ran out.
-#[tactic(auto, using(crate::proofs::HeldFaults::unread))]
+#[tactic(auto, using(crate::proofs::lemmas::HeldFaults::unread))]
 fn unheld<E: Write>(
     alloc: Global,
     path: &str,
@@ -132,7 +135,7 @@ fn unheld<E: Write>(
         HoldFault::Unwritable(_) => Fault::CannotWrite(file),
         HoldFault::InTheWay(next) => Fault::CannotWrite(next),
         HoldFault::OfAnother => {
-            let shown = Shown(path);
+            let shown = TerminalText(path);
             let _ = writeln!(
                 faults,
                 "scramotp: {shown} belongs to another user: only that user and root can save it"
@@ -140,7 +143,7 @@ fn unheld<E: Write>(
             Fault::CannotWrite(file)
         }
         HoldFault::Held => {
-            let shown = Shown(path);
+            let shown = TerminalText(path);
             let _ = writeln!(faults, "scramotp: other runs held {shown} for 30 seconds");
             Fault::CannotRead(file)
         }
@@ -149,7 +152,7 @@ fn unheld<E: Write>(
 
 // The text of a book's file, or None where there is no file. Faults: CannotRead, BadBook where the text is not UTF-8, and
 // NoMemory.
-#[tactic(auto, using(crate::proofs::HeldFaults::unread))]
+#[tactic(auto, using(crate::proofs::lemmas::HeldFaults::unread))]
 fn text_of<R>(
     alloc: Global,
     file: &mut BookFile<'_, R>,
@@ -195,8 +198,7 @@ where
 
 /// Adds an account with the keys of a password to a book. Faults: NameTaken and NoMemory; the book is then unchanged.
 pub fn add(alloc: Global, book: &mut Book, account: &NewAccount, salts: &Salts) -> Result<(), Fault>
-    ensures added { OnOk result (IsEnrolled account.now.name account.now.password salts.now.sha1 salts.now.sha256 account.now.count
-        book.old book.new) }
+    ensures added { OnOk result (IsEnrolled account.now salts.now book.old book.new) }
     ensures unchanged { OnErr result (book.new ≡ book.old) }
     ensures err { IfErr result (λ fault. MatchOption (account_at book.old account.now.name)
         (fault ≡ Fault.NoMemory) (λ account. fault ≡ Fault.NameTaken)) }
@@ -229,15 +231,14 @@ impl<'a, S: BookStore> HeldBook<'a, S> {
     }
 
     /// Adds an account with the keys of a password for both mechanisms, and saves the book. Faults: NameTaken,
-    /// CannotWrite and NoMemory; after the first the store was not asked.
+    /// CannotWrite and NoMemory; after NameTaken and NoMemory the store was not asked.
     pub fn enrol(&mut self, alloc: Global, account: &NewAccount, salts: &Salts) -> Result<(), Fault>
-        ensures added { OnOk result (IsEnrolled account.now.name account.now.password salts.now.sha1 salts.now.sha256 account.now.count
-            self.old.book self.new.book) }
+        ensures added { OnOk result (IsEnrolled account.now salts.now self.old.book self.new.book) }
         ensures err { IfErr result (λ fault. MatchOption (account_at self.old.book account.now.name)
             (IsUnwritten self.old.path.now fault) (λ account. fault ≡ Fault.NameTaken)) }
+        ensures path { self.new.path.now ≡ self.old.path.now }
         ensures unasked { IfErr result (λ fault. fault ≡ Fault.NoMemory → self.new.store ≡ self.old.store) }
-        ensures unsaved { OnErr result (IsChangeUnsaved (held_shown S.facts self.old)
-            (IsEnrolled account.now.name account.now.password salts.now.sha1 salts.now.sha256 account.now.count)
+        ensures unsaved { OnErr result (IsChangeUnsaved (held_shown S.facts self.old) (IsEnrolled account.now salts.now)
             (held_shown S.facts self.new)) }
         ensures saved { OnOk result (IsBookSaved S.IsStored (S.facts self.old.store) self.new.book (S.facts self.new.store)) }
     {
@@ -260,7 +261,8 @@ impl<'a, S: BookStore> HeldBook<'a, S> {
     }
 
     /// Judges one code, or two in a row, at `moment` by the account's token, and saves the book unless the token is
-    /// locked. Faults: NoSuchAccount, NoToken, CannotWrite and NoMemory.
+    /// locked. Faults: NoSuchAccount, NoToken, CannotWrite and NoMemory; after the last two the book may have the attempt
+    /// without being saved.
     pub fn attempt(
         &mut self,
         alloc: Global,
@@ -280,7 +282,7 @@ impl<'a, S: BookStore> HeldBook<'a, S> {
     {
         self.check_token(name)?;
         let Some(reply) = self.book.judge(name, moment, sent) else {
-            return Err(Fault::NoToken);
+            unreachable!()
         };
         if reply != Reply::Locked {
             self.save(alloc)?;
@@ -292,6 +294,7 @@ impl<'a, S: BookStore> HeldBook<'a, S> {
     /// CannotWrite and NoMemory.
     pub fn unlock(&mut self, alloc: Global, name: &PlainName) -> Result<(), Fault>
         ensures done { OnOk result (IsUnlockSaved S.IsStored name.now (held_shown S.facts self.old) (held_shown S.facts self.new)) }
+        ensures path { self.new.path.now ≡ self.old.path.now }
         ensures err { IfErr result (IsTokenFault self.old.path.now (account_at self.old.book name.now)) }
         ensures unasked { IfErr result (λ fault. fault ≡ Fault.NoMemory → self.new.store ≡ self.old.store) }
         ensures unsaved { OnErr result (IsChangeUnsaved (held_shown S.facts self.old) (IsTokenUnlocked name.now)

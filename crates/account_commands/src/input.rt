@@ -1,5 +1,5 @@
 //! Standard input, as lines.
-ghost use Rattle.std.specs.Prelude.{◌≡◌, ◌≤◌, ◌+◌, Bool, [], ◌∷◌, length, IfErr, IfOk, IfSome, IfNone, MatchOption};
+ghost use Rattle.std.specs.Prelude.{◌≡◌, ◌≤◌, ◌+◌, Bool, [], ◌∷◌, length, IfErr, IfOk, IfSome, IfNone};
 ghost use Rattle.std.specs.Io.KnownBytes.{Consumes, IsAtEnd};
 ghost use Rattle.account_commands.specs.Input.{line_bytes, TakesLine, IsFirstLine, IsUnread};
 ghost use Rattle.account_commands.specs.declared.input.TheConstants.{MOST_INPUT};
@@ -15,7 +15,8 @@ const MOST_INPUT: usize = 16_777_216;
 // fails; NoMemory where it fails since memory ran out.
 fn next_byte<I: Read>(input: &mut I) -> Result<Option<u8>, Fault>
     ensures some { IfOk result (λ found. IfSome found (λ byte. Consumes (I.remaining input.old) (I.remaining input.new) (byte ∷ []))) }
-    ensures none { IfOk result (λ found. IfNone found (Consumes (I.remaining input.old) (I.remaining input.new) [] × IsAtEnd (I.remaining input.new))) }
+    ensures none { IfOk result (λ found. IfNone found (Consumes (I.remaining input.old) (I.remaining input.new) []
+        × IsAtEnd (I.remaining input.new))) }
     ensures err { IfErr result IsUnread }
 {
     let mut byte = [0];
@@ -55,7 +56,7 @@ fn read_line<I: Read>(alloc: Global, input: &mut I, most: usize) -> Result<(Vec<
 /// The first line of `input` without its LF, or all of `input` where it has no LF. Nothing after the line
 /// is looked at. CannotReadInput where a read fails, and where the line and its LF have more than
 /// 16777216 bytes; NoMemory where memory runs out.
-#[tactic(auto, using(crate::proofs::InputLines::first_taken))]
+#[tactic(auto, using(crate::proofs::lemmas::InputLines::first_taken))]
 pub fn first_line<I: BufRead>(alloc: Global, input: &mut I) -> Result<Vec<u8>, Fault>
     ensures first { IfOk result (λ line. IsFirstLine (I.remaining input.old) line.items) }
     ensures taken { IfOk result (λ line. (has_lf : Bool) × TakesLine (I.remaining input.old) line.items has_lf (I.remaining input.new)) }

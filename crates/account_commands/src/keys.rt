@@ -2,13 +2,14 @@
 ghost use Rattle.std.specs.Prelude.{◌≡◌, ◌≤◌, ◌⊎◌, ℕ, List, IfErr, IfOk, OnOk, string_bytes};
 ghost use Rattle.std.specs.Io.KnownBytes.{Appends};
 ghost use Rattle.scram_text.specs.Class.{IsPassword};
+ghost use Rattle.account_commands.specs.BadValues.{HasBadPassword};
 ghost use Rattle.account_commands.specs.Input.{IsFirstLine};
-ghost use Rattle.account_commands.specs.Keys.{printed_keys, PrintsKeysAsked};
+ghost use Rattle.account_commands.specs.Keys.{printed_keys, CannotPrintKeys, PrintsKeysAsked};
 ghost use Rattle.account_commands.specs.Printed.{PrintsNothing};
 
 use crate::input;
-use crate::progress::Watched;
-use crate::prompt::{PASSWORD, Typed, ask};
+use crate::progress::TerminalOutput;
+use crate::prompt::{PASSWORD, TerminalInput, ask};
 use clap::ArgMatches;
 use command_line::value::OptionName;
 use command_line::{Fault, value};
@@ -58,8 +59,7 @@ fn print_keys<I: BufRead, O: Write>(
 
     // A stream failed, memory ran out, or the first line is no password.
     ensures err { IfErr result (λ fault. (fault ≡ Fault.CannotReadInput) ⊎ ((fault ≡ Fault.CannotWriteOutput)
-        ⊎ ((fault ≡ Fault.NoMemory) ⊎ ((fault ≡ Fault.BadPassword)
-        × ((line : List ℕ) × IsFirstLine (I.remaining input.old) line × (IsPassword line → ⊥)))))) }
+        ⊎ ((fault ≡ Fault.NoMemory) ⊎ HasBadPassword (I.remaining input.old) fault))) }
     ensures unprinted { IfErr result (λ fault. PrintsNothing fault (O.contents output.old) (O.contents output.new)) }
 {
     let line = input::first_line(alloc, input)?;
@@ -71,7 +71,7 @@ fn print_keys<I: BufRead, O: Write>(
 
 /// Judges the options in their order, reads the password, and prints its keys. At a terminal it asks for the
 /// password first. Faults: BadValue and BadPassword, in this order, CannotReadInput, CannotWriteOutput and NoMemory.
-pub fn keys<I: Typed, O: Write, E: Watched>(
+pub fn keys<I: TerminalInput, O: Write, E: TerminalOutput>(
     alloc: Global,
     words: &ArgMatches<'_>,
     input: &mut I,
@@ -80,6 +80,7 @@ pub fn keys<I: Typed, O: Write, E: Watched>(
 ) -> Result<(), Fault>
     ensures ok { OnOk result (PrintsKeysAsked words.now (I.remaining input.old) (O.contents output.old) (O.contents output.new)) }
     ensures err { IfErr result (λ fault. PrintsNothing fault (O.contents output.old) (O.contents output.new)) }
+    ensures why { IfErr result (CannotPrintKeys words.now (I.remaining input.old)) }
 {
     let mechanism = value::mechanism(given(words, OptionName::Mechanism))?;
     let salt = value::salt(alloc, given(words, OptionName::Salt))?;

@@ -5,35 +5,44 @@ use std::io;
 use std::io::{BufWriter, IsTerminal, Read, Write};
 use std::time::{Clock, Instant};
 
+/// The seconds in which nothing is shown.
+const QUIET: u64 = 2;
+
 /// Where faults are written, which may be a terminal.
-pub trait Watched: Write {
+pub trait TerminalOutput: Write {
     /// Whether it is a terminal, where someone may be waiting.
-    fn is_watched(&self) -> bool;
+    fn is_terminal(&self) -> bool;
 }
 
-impl<W: Write + IsTerminal + Drop> Watched for BufWriter<W> {
-    fn is_watched(&self) -> bool {
+impl<W: Write + IsTerminal + Drop> TerminalOutput for BufWriter<W> {
+    fn is_terminal(&self) -> bool {
         self.get_ref().is_terminal()
     }
 }
 
-/// Counts the lines and bytes that were read. After two seconds it shows them on one line, anew each second.
+/// Shows someone who waits at a terminal how many lines and bytes were read: on one line, after two seconds, anew each second.
 #[derive(Drop)]
 pub struct Progress<'a, R, E> {
     clock: &'a R,
     faults: &'a mut E,
+
+    // When the count began, or None where nothing is ever shown.
     begun: Option<Instant>,
-    shown_at: u64,
+
+    // How many seconds after that the counts were last shown, or None where nothing is shown yet.
+    shown_at: Option<u64>,
+
+    // The lines and bytes so far. Where nothing is ever shown, they are not counted.
     lines: u64,
     bytes: u64,
 }
 
-impl<'a, R: Clock, E: Watched> Progress<'a, R, E> {
+impl<'a, R: Clock, E: TerminalOutput> Progress<'a, R, E> {
     /// Begins to count. Nothing is ever shown where `faults` is no terminal, or the clock can't be read.
     pub fn begin(clock: &'a R, faults: &'a mut E) -> Progress<'a, R, E>
         ensures { (result.lines ≡ 0) × (result.bytes ≡ 0) }
     {
-        let begun = if faults.is_watched() {
+        let begun = if faults.is_terminal() {
             Instant::now(clock).ok()
         } else {
             None
@@ -42,13 +51,13 @@ impl<'a, R: Clock, E: Watched> Progress<'a, R, E> {
             clock,
             faults,
             begun,
-            shown_at: 1,
+            shown_at: None,
             lines: 0,
             bytes: 0,
         }
     }
 
-    // Counts these bytes, and shows the counts where it is time.
+    // Counts these bytes where someone waits, and shows the counts where it is time.
     fn add(&mut self, bytes: &[u8]) {
         let Some(begun) = self.begun else {
             return;
@@ -58,8 +67,9 @@ impl<'a, R: Clock, E: Watched> Progress<'a, R, E> {
         let Ok(elapsed) = begun.elapsed(self.clock) else {
             return;
         };
-        if elapsed.as_secs() > self.shown_at {
-            self.shown_at = elapsed.as_secs();
+        let seconds = elapsed.as_secs();
+        if seconds >= QUIET && self.shown_at != Some(seconds) {
+            self.shown_at = Some(seconds);
             let _ = write!(self.faults, "\r{} lines, {} bytes", self.lines, self.bytes);
             let _ = self.faults.flush();
         }
@@ -67,7 +77,7 @@ impl<'a, R: Clock, E: Watched> Progress<'a, R, E> {
 
     /// Clears what is shown.
     pub fn end(self) {
-        if self.shown_at > 1 {
+        if self.shown_at.is_some() {
             let _ = self.faults.write_all(b"\r\x1b[K");
             let _ = self.faults.flush();
         }
@@ -76,13 +86,7 @@ impl<'a, R: Clock, E: Watched> Progress<'a, R, E> {
 
 // The number of lines that end in these bytes.
 fn lines_in(bytes: &[u8]) -> u64 {
-    let mut lines = 0u64;
-    for byte in bytes {
-        if *byte == b'\n' {
-            lines = lines.saturating_add(1);
-        }
-    }
-    lines
+    bytes.iter().filter(|byte| **byte == b'\n').count() as u64
 }
 
 /// The file of a log, whose reads are counted.
@@ -101,7 +105,7 @@ impl<'a, 'b, F, R, E> Counted<'a, 'b, F, R, E> {
     }
 }
 
-impl<F: Read, R: Clock, E: Watched> Read for Counted<'_, '_, F, R, E> {
+impl<F: Read, R: Clock, E: TerminalOutput> Read for Counted<'_, '_, F, R, E> {
     ghost remaining = { λ counted. F.remaining counted.file };
 
     fn read(&mut self, buf: &mut [u8]) -> io::Result<usize> {

@@ -2,7 +2,7 @@
 ghost use Rattle.std.specs.Prelude.{◌≡◌, ◌&&◌, true, false, OnOk};
 ghost use Rattle.std.specs.Io.KnownBytes.{Appends};
 
-use crate::progress::Watched;
+use crate::progress::TerminalOutput;
 use std::io;
 use std::io::{BufRead, BufReader, IsTerminal, Read, Write};
 
@@ -20,21 +20,21 @@ pub const LOGIN: &str =
 pub const EVENTS: &str = "Type one event a line: open, line or gone; Ctrl-D ends.\n";
 
 /// Where input is read, which may be a terminal.
-pub trait Typed: BufRead {
+pub trait TerminalInput: BufRead {
     /// Whether it is a terminal, where someone types.
-    fn is_typed(&self) -> bool;
+    fn is_terminal(&self) -> bool;
 }
 
-impl<R: Read + IsTerminal + Drop> Typed for BufReader<R> {
-    fn is_typed(&self) -> bool {
+impl<R: Read + IsTerminal + Drop> TerminalInput for BufReader<R> {
+    fn is_terminal(&self) -> bool {
         self.get_ref().is_terminal()
     }
 }
 
 /// Says on `faults` what is waited for, where `input` and `faults` are both terminals. Elsewhere it writes nothing.
 /// That it can't be said is no fault.
-pub fn ask<I: Typed, E: Watched>(input: &I, faults: &mut E, line: &str) {
-    let _ = say(input.is_typed(), faults.is_watched(), faults, line);
+pub fn ask<I: TerminalInput, E: TerminalOutput>(input: &I, faults: &mut E, line: &str) {
+    let _ = say(input.is_terminal(), faults.is_terminal(), faults, line);
 }
 
 // Writes the line where someone types and watches, and nothing elsewhere.

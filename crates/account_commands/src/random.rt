@@ -1,7 +1,7 @@
 //! The file that random bytes come from.
 ghost use Rattle.std.specs.Prelude.{◌≡◌, IfErr, IfOk};
 ghost use Rattle.std.specs.Io.KnownBytes.{Consumes};
-ghost use Rattle.command_line.specs.Fault.{status_of};
+ghost use Rattle.account_commands.specs.File.{IsFileUnread};
 
 use crate::file::open_file;
 use command_line::Fault;
@@ -23,7 +23,8 @@ impl<'a, F: Read + Drop> Random<'a, F> {
         rt: &R,
         path: &'a str,
     ) -> Result<Random<'a, F>, Fault>
-        ensures { IfErr result (λ fault. status_of fault ≡ 3) }
+        ensures err { IfErr result (IsFileUnread path.now) }
+        ensures path { IfOk result (λ random. random.path.now ≡ path.now) }
     {
         let file = open_file(rt, path)?;
         Ok(Random {
@@ -35,8 +36,11 @@ impl<'a, F: Read + Drop> Random<'a, F> {
 
     /// The next `N` bytes of the file. CannotRead where it has fewer, and where a read fails; NoMemory
     /// where memory runs out.
+    #[tactic(auto, using(crate::proofs::lemmas::HeldFaults::file_unread))]
     pub fn bytes<const N: usize>(&mut self) -> Result<[u8; N], Fault>
         ensures next { IfOk result (λ bytes. Consumes (F.remaining self.old.file) (F.remaining self.new.file) bytes) }
+        ensures err { IfErr result (IsFileUnread self.old.path.now) }
+        ensures path { self.new.path.now ≡ self.old.path.now }
     {
         let mut bytes = [0u8; N];
         match self.file.read_exact(&mut bytes) {

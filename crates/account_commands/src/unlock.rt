@@ -1,6 +1,6 @@
 //! The command `unlock`: lets a token take codes again.
 ghost use Rattle.std.specs.Prelude.{OnOk, IfErr};
-ghost use Rattle.account_commands.specs.HeldBook.{UnlocksAsked};
+ghost use Rattle.account_commands.specs.HeldBook.{CannotUnlock, UnlocksAsked};
 ghost use Rattle.account_commands.specs.Printed.{PrintsNothing};
 
 use crate::done::print_done;
@@ -31,6 +31,7 @@ where
     E: Write,
     ensures ok { OnOk result (UnlocksAsked R.File.remaining R.File.contents words.now (O.contents output.old) (O.contents output.new)) }
     ensures err { IfErr result (λ fault. PrintsNothing fault (O.contents output.old) (O.contents output.new)) }
+    ensures why { IfErr result (CannotUnlock R.File.remaining words.now) }
 {
     let name = value::name(given(words, OptionName::Name))?;
     let mut held = held_book::open(rt, given(words, OptionName::Book), faults)?;

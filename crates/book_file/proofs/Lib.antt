@@ -1,1 +1,1 @@
-mod WholeReads
+mod lemmas

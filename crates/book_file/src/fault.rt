@@ -1,4 +1,8 @@
 //! Why a book could not be held.
+ghost use Rattle.std.specs.Prelude.{◌≡◌};
+ghost use Rattle.std.specs.declared.io.Error.{Error};
+ghost use Rattle.book_file.specs.declared.fault.HoldFault.TheVariants.{Unreadable};
+
 use std::alloc::AllocError;
 use std::io;
 
@@ -25,12 +29,16 @@ pub enum HoldFault {
 }
 
 impl From<io::Error> for HoldFault {
+    ghost from_gives = { λ error fault. fault ≡ Unreadable error };
+
     fn from(error: io::Error) -> HoldFault {
         HoldFault::Unreadable(error)
     }
 }
 
 impl From<AllocError> for HoldFault {
+    ghost from_gives = { λ _ fault. (error : Error) × (fault ≡ Unreadable error) };
+
     fn from(error: AllocError) -> HoldFault {
         HoldFault::Unreadable(io::Error::from(error))
     }

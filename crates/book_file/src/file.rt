@@ -1,11 +1,13 @@
 //! The file of a book, held by one run at a time.
-ghost use Rattle.std.specs.Prelude.{◌≡◌, ◌≤◌, IfOk, IfSome, OnOk, vec_len};
+ghost use Rattle.std.specs.Prelude.{◌≡◌, ◌≤◌, ◌<◌, true, false, length, IfOk, IfErr, IfSome, IsErrAnd, OnOk, vec_len};
+ghost use Rattle.std.specs.IoError.{error_kind};
+ghost use Rattle.book_file.specs.Faults.{IsErrorOf, IsHoldFault};
 ghost use Rattle.book_file.specs.Text.{IsRead, IsWritten};
 
 use crate::fault::HoldFault;
 use crate::hold::{Held, OpenBook, hold, is_named, next_of};
 use crate::lock::Lockable;
-use crate::place::Place;
+use crate::paths::BookPaths;
 use crate::trust;
 use std::fs::{Files, Metadata, OpenFile, Permissions};
 use std::io::{ErrorKind, Read, Seek, SeekFrom, Write};
@@ -22,7 +24,7 @@ const OWNER_BITS: u32 = 0o700;
 /// A book's file, or the place of one that is still to be made. No other run works on the book while this value lives.
 pub struct BookFile<'a, R: Files> {
     rt: &'a R,
-    place: Place,
+    paths: BookPaths,
 
     // The folder, so that the system can be asked to write its names to its device.
     folder: R::File,
@@ -33,7 +35,7 @@ pub struct BookFile<'a, R: Files> {
     // The file at the book's path, or None where there is none.
     book: Option<OpenBook<R::File>>,
 
-    // The file of the next text, once it was made.
+    // The file of a new book's first text, until a save takes it.
     next: Option<R::File>,
 }
 
@@ -41,11 +43,11 @@ pub struct BookFile<'a, R: Files> {
 impl<'a, R: Files> Drop for BookFile<'a, R> {
     fn drop(self) {
         if let Some(next) = &self.next {
-            remove_own_next(self.rt, &self.place, next);
+            remove_own_next(self.rt, &self.paths, next);
         }
         let BookFile {
             rt: _,
-            place: _,
+            paths: _,
             folder: _,
             is_shared: _,
             book: _,
@@ -54,8 +56,9 @@ impl<'a, R: Files> Drop for BookFile<'a, R> {
     }
 }
 
-// Gives a file the owner and the group of the book. The system refuses a group that the user who runs is not in. It may do
-// nothing with the book, of whose mode the owner's bits alone stay; so it is left out then, if the file has the book's owner.
+// Gives a file the owner and the group of the book. The system refuses a group that the user who runs is not in. The group may do
+// nothing with the file anyway, since only the owner's bits of the mode are kept: so that refusal is passed over where the file has
+// the book's owner already.
 fn give_owner<F: OpenFile + Lockable>(file: &F, book: &Metadata) -> io::Result<()> {
     match file.set_owner(book.uid(), book.gid()) {
         Err(error)
@@ -65,9 +68,19 @@ fn give_owner<F: OpenFile + Lockable>(file: &F, book: &Metadata) -> io::Result<(
     }
 }
 
+// Why a save has no next file: the error of the call that failed, or ResourceBusy where its name can't be had.
+fn next_error(fault: HoldFault) -> io::Error
+    ensures { IsErrorOf fault result }
+{
+    match fault {
+        HoldFault::Unreadable(error) | HoldFault::Unwritable(error) => error,
+        _ => io::Error::from(ErrorKind::ResourceBusy),
+    }
+}
+
 // Removes the file of the next text, if it still has that name.
-fn remove_own_next<R: Files>(rt: &R, place: &Place, next: &R::File) {
-    let path = place.next.as_str();
+fn remove_own_next<R: Files>(rt: &R, paths: &BookPaths, next: &R::File) {
+    let path = paths.next.as_str();
     if is_named(rt, next, path).unwrap_or(false) {
         let _ = fs::remove_file(rt, path);
     }
@@ -83,21 +96,28 @@ where
     /// leave the old text there), where it belongs to others in a folder that others may write, and where it or its
     /// folder can't be opened or locked. OfAnother where a save could not keep the book's owner. InTheWay where the text
     /// that a killed run left can't be removed.
-    pub fn hold(rt: &'a R, path: &str) -> Result<BookFile<'a, R>, HoldFault> {
+    pub fn hold(rt: &'a R, path: &str) -> Result<BookFile<'a, R>, HoldFault>
+        ensures { IfErr result (IsHoldFault false) }
+    {
         BookFile::hold_at(rt, path, false)
     }
 
     /// As `hold`; but where there is no file at `path`, takes hold of the place of a book that is to be made there.
     /// Unwritable where none can be made.
-    pub fn hold_or_make(rt: &'a R, path: &str) -> Result<BookFile<'a, R>, HoldFault> {
+    pub fn hold_or_make(rt: &'a R, path: &str) -> Result<BookFile<'a, R>, HoldFault>
+        ensures { IfErr result (IsHoldFault true) }
+    {
         BookFile::hold_at(rt, path, true)
     }
 
-    fn hold_at(rt: &'a R, path: &str, makes: bool) -> Result<BookFile<'a, R>, HoldFault> {
-        let place = Place::find(rt, path)?;
-        let folder = fs::open(rt, place.folder.as_str())?;
+    // As `hold`, or, where `makes` is true, as `hold_or_make`.
+    fn hold_at(rt: &'a R, path: &str, makes: bool) -> Result<BookFile<'a, R>, HoldFault>
+        ensures { IfErr result (IsHoldFault makes) }
+    {
+        let paths = BookPaths::find(rt, path)?;
+        let folder = fs::open(rt, paths.folder.as_str())?;
         let is_shared = trust::is_shared(&folder.metadata()?);
-        let (book, next) = match hold(rt, &place, is_shared, makes)? {
+        let (book, next) = match hold(rt, &paths, is_shared, makes)? {
             Held::Book(book) if !trust::can_give_owner(&book.state) => {
                 return Err(HoldFault::OfAnother);
             }
@@ -106,7 +126,7 @@ where
         };
         Ok(BookFile {
             rt,
-            place,
+            paths,
             folder,
             is_shared,
             book,
@@ -131,42 +151,64 @@ where
     /// Puts a file with this text in the place of the book, whole or not at all: a run that is stopped leaves the
     /// old text or the new one. The owner stays, the group where the user who runs may give it, and of the mode the owner's bits; a
     /// new book's mode is 0600. NotFound where the file at the path is not the one that this run has read or put there last, or has
-    /// changed since; AlreadyExists where there was none and there now is one; ResourceBusy where the next file
-    /// can't be made; FileTooLarge where the text has more bytes than `read` takes; else the error of the call to the
-    /// file system that failed.
+    /// changed since; AlreadyExists where there was none and there now is one; ResourceBusy where another run holds the next
+    /// file for 30 seconds, or what has its name can't be removed; FileTooLarge where the text has more bytes than `read` takes; else
+    /// the error of the call to the file system that failed.
     pub fn replace(&mut self, text: &str) -> io::Result<()>
         ensures written { OnOk result (IsWritten R.File.contents text.now) }
-    {
-        let replaced = self.write_and_put(text);
-        if let Some(next) = self.next.take() {
-            remove_own_next(self.rt, &self.place, &next);
-        }
-        replaced
-    }
-
-    // Writes the text to a file of its own, and puts that in the place of the book.
-    fn write_and_put(&mut self, text: &str) -> io::Result<()>
-        ensures { OnOk result (IsWritten R.File.contents text.now) }
-    {
-        self.write_next(text)?;
-        self.put_in_place()
-    }
-
-    // Writes the text to a file of its own, and asks the system to write that to its device.
-    fn write_next(&mut self, text: &str) -> io::Result<()>
-        ensures { OnOk result (IsWritten R.File.contents text.now) }
+        ensures long { MOST_BOOK < length text.now → IsErrAnd result (λ error. error_kind error ≡ ErrorKind.FileTooLarge) }
     {
         if text.len() > MOST_BOOK {
             return Err(io::Error::from(ErrorKind::FileTooLarge));
         }
         self.check_unchanged()?;
-        if self.next.is_none() {
-            let state = self.book.as_ref().map(|book| &book.state);
-            self.next = next_of(self.rt, &self.place, state, self.is_shared).ok();
+        let mut next = self.take_next()?;
+        match self.write_and_put(&mut next, text) {
+            Ok(state) => {
+                self.book = Some(OpenBook { file: next, state });
+                self.folder.sync_all()
+            }
+            Err(error) => {
+                remove_own_next(self.rt, &self.paths, &next);
+                Err(error)
+            }
         }
-        let Some(next) = &mut self.next else {
-            return Err(io::Error::from(ErrorKind::ResourceBusy));
+    }
+
+    // Checks that the file at the book's path is the one that was read, or put there last, and is unchanged.
+    fn check_unchanged(&self) -> io::Result<()> {
+        let Some(book) = &self.book else {
+            return Ok(());
         };
+        let found = fs::symlink_metadata(self.rt, self.paths.book.as_str())?;
+        if trust::are_unchanged(&found, &book.state) {
+            Ok(())
+        } else {
+            Err(io::Error::from(ErrorKind::NotFound))
+        }
+    }
+
+    // Takes the file of the next text, or makes it where there is none yet.
+    fn take_next(&mut self) -> io::Result<R::File> {
+        if let Some(next) = self.next.take() {
+            return Ok(next);
+        }
+        let state = self.book.as_ref().map(|book| &book.state);
+        next_of(self.rt, &self.paths, state, self.is_shared).map_err(next_error)
+    }
+
+    // Writes the text to the next file, and gives that file the book's name. Returns its metadata.
+    fn write_and_put(&self, next: &mut R::File, text: &str) -> io::Result<Metadata>
+        ensures { OnOk result (IsWritten R.File.contents text.now) }
+    {
+        self.write_next(next, text)?;
+        self.put_in_place(next)
+    }
+
+    // Writes the text to the next file, and asks the system to write that to its device.
+    fn write_next(&self, next: &mut R::File, text: &str) -> io::Result<()>
+        ensures { OnOk result (IsWritten R.File.contents text.now) }
+    {
         if let Some(book) = &self.book {
             give_owner(next, &book.state)?;
             next.set_permissions(Permissions::from_mode(book.state.mode() & OWNER_BITS))?;
@@ -175,37 +217,20 @@ where
         next.sync_all()
     }
 
-    // Checks that the file at the book's path is the one that was read, or put there last, and is unchanged.
-    fn check_unchanged(&self) -> io::Result<()> {
-        let Some(book) = &self.book else {
-            return Ok(());
-        };
-        let found = fs::symlink_metadata(self.rt, self.place.book.as_str())?;
-        if trust::are_unchanged(&found, &book.state) {
-            Ok(())
-        } else {
-            Err(io::Error::from(ErrorKind::NotFound))
-        }
-    }
-
-    // Gives the next file, which write_next has left open, the book's name, and makes it the book.
-    fn put_in_place(&mut self) -> io::Result<()> {
-        let (book, next) = (self.place.book.as_str(), self.place.next.as_str());
+    // Gives the next file the book's name. Returns its metadata.
+    fn put_in_place(&self, file: &R::File) -> io::Result<Metadata> {
+        let (book, next) = (self.paths.book.as_str(), self.paths.next.as_str());
         if self.book.is_some() {
             fs::rename(self.rt, next, book)?;
         } else {
             fs::hard_link(self.rt, next, book)?;
             fs::remove_file(self.rt, next)?;
         }
-        let Some(file) = self.next.take() else {
-            return Err(io::Error::from(ErrorKind::ResourceBusy));
-        };
-        if !is_named(self.rt, &file, book)? {
-            return Err(io::Error::from(ErrorKind::NotFound));
+        if is_named(self.rt, file, book)? {
+            file.metadata()
+        } else {
+            Err(io::Error::from(ErrorKind::NotFound))
         }
-        let state = file.metadata()?;
-        self.book = Some(OpenBook { file, state });
-        self.folder.sync_all()
     }
 }
 

@@ -3,9 +3,12 @@
 //! The lock is on the book's own file, so whoever may not open the book can't keep a run from it. A save puts
 //! another file in its place, which the run has locked before: so once a lock is taken, the book's name has to be
 //! looked up once more. Where there is no book yet, the file of its next text stands for it.
+ghost use Rattle.std.specs.Prelude.{IfErr, true, false};
+ghost use Rattle.book_file.specs.Faults.{IsHoldFault};
+
 use crate::fault::HoldFault;
 use crate::lock::Lockable;
-use crate::place::Place;
+use crate::paths::BookPaths;
 use crate::trust;
 use crate::wait::Wait;
 use std::fs::{Files, Metadata, OpenFile, OpenOptions};
@@ -42,20 +45,21 @@ pub enum Held<F> {
 /// seconds for other runs.
 pub fn hold<R>(
     rt: &R,
-    place: &Place,
+    paths: &BookPaths,
     is_shared: bool,
     makes: bool,
 ) -> Result<Held<R::File>, HoldFault>
 where
     R: Files + Clock + AllocGlobal,
     R::File: Lockable,
+    ensures { IfErr result (IsHoldFault makes) }
 {
     let wait = Wait::begin(rt)?;
     // Bounded only because every function has to return; what ends it is in its body.
     for _ in 0..u64::MAX {
-        let held = match open_plain(rt, place.book.as_str(), is_shared)? {
-            Some(file) => try_book(rt, place, file, is_shared)?,
-            None if makes => try_first(rt, place, is_shared)?,
+        let held = match open_plain(rt, paths.book.as_str(), is_shared)? {
+            Some(file) => try_book(rt, paths, file, is_shared)?,
+            None if makes => try_first(rt, paths, is_shared)?,
             None => return Err(HoldFault::Missing),
         };
         if let Some(held) = held {
@@ -90,19 +94,21 @@ fn open_plain<R: Files>(rt: &R, path: &str, is_shared: bool) -> io::Result<Optio
 // the book, or has put another file in its place.
 fn try_book<R>(
     rt: &R,
-    place: &Place,
+    paths: &BookPaths,
     file: R::File,
     is_shared: bool,
 ) -> Result<Option<Held<R::File>>, HoldFault>
 where
     R: Files + AllocGlobal,
     R::File: Lockable,
+    ensures holding { IfErr result (IsHoldFault false) }
+    ensures making { IfErr result (IsHoldFault true) }
 {
-    if !claim(rt, &file, place.book.as_str())? {
+    if !claim(rt, &file, paths.book.as_str())? {
         return Ok(None);
     }
     let locked = file.metadata()?;
-    if !clear_next(rt, place, Some(&locked), is_shared)? {
+    if !clear_next(rt, paths, Some(&locked), is_shared)? {
         return Ok(None);
     }
     let state = file.metadata()?;
@@ -114,18 +120,23 @@ where
 
 // Makes the file of the first text of a book that does not exist. None where another run is making the book, or has
 // made it in the meantime.
-fn try_first<R>(rt: &R, place: &Place, is_shared: bool) -> Result<Option<Held<R::File>>, HoldFault>
+fn try_first<R>(
+    rt: &R,
+    paths: &BookPaths,
+    is_shared: bool,
+) -> Result<Option<Held<R::File>>, HoldFault>
 where
     R: Files + AllocGlobal,
     R::File: Lockable,
+    ensures { IfErr result (IsHoldFault true) }
 {
-    let Some(next) = try_next(rt, place, None, is_shared)? else {
+    let Some(next) = try_next(rt, paths, None, is_shared)? else {
         return Ok(None);
     };
-    match fs::symlink_metadata(rt, place.book.as_str()) {
+    match fs::symlink_metadata(rt, paths.book.as_str()) {
         Err(error) if error.kind() == ErrorKind::NotFound => Ok(Some(Held::Next(next))),
         found => {
-            remove(rt, place.next.as_str())?;
+            remove(rt, paths.next.as_str())?;
             found?;
             Ok(None)
         }
@@ -136,7 +147,7 @@ where
 /// for the book before this one was there.
 pub fn next_of<R>(
     rt: &R,
-    place: &Place,
+    paths: &BookPaths,
     book: Option<&Metadata>,
     is_shared: bool,
 ) -> Result<R::File, HoldFault>
@@ -147,7 +158,7 @@ where
     let wait = Wait::begin(rt)?;
     // Bounded only because every function has to return; what ends it is in its body.
     for _ in 0..u64::MAX {
-        if let Some(next) = try_next(rt, place, book, is_shared)? {
+        if let Some(next) = try_next(rt, paths, book, is_shared)? {
             return Ok(next);
         }
         if !wait.pause(rt)? {
@@ -160,16 +171,17 @@ where
 // Makes and locks the file of the next text. None where another run has one.
 fn try_next<R>(
     rt: &R,
-    place: &Place,
+    paths: &BookPaths,
     book: Option<&Metadata>,
     is_shared: bool,
 ) -> Result<Option<R::File>, HoldFault>
 where
     R: Files + AllocGlobal,
     R::File: Lockable,
+    ensures { IfErr result (IsHoldFault true) }
 {
-    let next = place.next.as_str();
-    if !clear_next(rt, place, book, is_shared)? {
+    let next = paths.next.as_str();
+    if !clear_next(rt, paths, book, is_shared)? {
         return Ok(None);
     }
     match make_next(rt, next) {
@@ -218,21 +230,23 @@ where
 // holds it. `book` is the metadata of the book that is held.
 fn clear_next<R>(
     rt: &R,
-    place: &Place,
+    paths: &BookPaths,
     book: Option<&Metadata>,
     is_shared: bool,
 ) -> Result<bool, HoldFault>
 where
     R: Files + AllocGlobal,
     R::File: Lockable,
+    ensures holding { IfErr result (IsHoldFault false) }
+    ensures making { IfErr result (IsHoldFault true) }
 {
-    let next = place.next.as_str();
+    let next = paths.next.as_str();
     let found = match fs::symlink_metadata(rt, next) {
         Err(error) if error.kind() == ErrorKind::NotFound => return Ok(true),
         found => found?,
     };
-    let is_of_run = found.is_file() && trust::is_ours(&found);
-    let is_book = book.is_some_and(|book| trust::are_of_one_file(book, &found));
+    let is_of_run = found.is_file() && trust::has_trusted_owner(&found);
+    let is_book = book.is_some_and(|book| trust::is_same_file(book, &found));
     if !is_of_run || is_book {
         remove(rt, next)?;
         return Ok(true);
@@ -250,7 +264,10 @@ where
 }
 
 // Removes what has this name. A folder stays; then no save can be made.
-fn remove<R: Files + AllocGlobal>(rt: &R, next: &str) -> Result<(), HoldFault> {
+fn remove<R: Files + AllocGlobal>(rt: &R, next: &str) -> Result<(), HoldFault>
+    ensures holding { IfErr result (IsHoldFault false) }
+    ensures making { IfErr result (IsHoldFault true) }
+{
     match fs::remove_file(rt, next) {
         Err(error) if !is_gone(error.kind()) => {
             Err(HoldFault::InTheWay(String::from_str(rt.alloc(), next)?))
@@ -268,6 +285,6 @@ fn is_gone(kind: ErrorKind) -> bool {
 pub fn is_named<R: Files>(rt: &R, file: &R::File, path: &str) -> io::Result<bool> {
     match fs::symlink_metadata(rt, path) {
         Err(error) if error.kind() == ErrorKind::NotFound => Ok(false),
-        found => Ok(trust::are_of_one_file(&found?, &file.metadata()?)),
+        found => Ok(trust::is_same_file(&found?, &file.metadata()?)),
     }
 }

@@ -23,7 +23,7 @@ mod fault;
 mod file;
 mod hold;
 mod lock;
-mod place;
+mod paths;
 mod store;
 mod trust;
 mod wait;

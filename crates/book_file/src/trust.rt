@@ -1,8 +1,10 @@
 //! Whose files and folders a run trusts: those of its user, and those of root. What the system says of owners and of files'
 //! numbers is not specified by the kit, so the clauses speak of modes, kinds and lengths alone.
-ghost use Rattle.std.specs.Prelude.{◌≡◌, true, bit_and, OnOk, OnErr};
+ghost use Rattle.std.specs.Prelude.{◌≡◌, true, bit_and, OnOk, OnErr, IfErr};
+ghost use Rattle.std.specs.IoError.{error_kind};
 ghost use Rattle.std.specs.Bool.{OnFalse, OnTrue};
 ghost use Rattle.std.specs.Fs.{metadata_len, metadata_mode, file_type, IsFile};
+ghost use Rattle.book_file.specs.declared.trust.TheConstants.{OTHERS_WRITE};
 
 use std::fs::Metadata;
 use std::io;
@@ -17,15 +19,15 @@ const ROOT: u32 = 0;
 const OTHERS_WRITE: u32 = 0o022;
 
 /// Whether this belongs to the user who runs, or to root.
-pub fn is_ours(found: &Metadata) -> bool {
+pub fn has_trusted_owner(found: &Metadata) -> bool {
     found.uid() == libc::geteuid() || found.uid() == ROOT
 }
 
 /// Whether anyone but the user who runs, and root, may change the names of this folder.
 pub fn is_shared(folder: &Metadata) -> bool
-    ensures { OnFalse result (bit_and (metadata_mode folder.now) 0o022 ≡ 0) }
+    ensures { OnFalse result (bit_and (metadata_mode folder.now) OTHERS_WRITE ≡ 0) }
 {
-    !is_ours(folder) || folder.mode() & OTHERS_WRITE != 0
+    !has_trusted_owner(folder) || folder.mode() & OTHERS_WRITE != 0
 }
 
 /// Whether the user who runs can give another file the owner of this one.
@@ -38,8 +40,9 @@ pub fn can_give_owner(found: &Metadata) -> bool {
 pub fn check(found: &Metadata, is_shared: bool) -> io::Result<()>
     ensures plain { OnOk result (IsFile (file_type found.now)) }
     ensures others { IsFile (file_type found.now) → OnErr result (is_shared ≡ true) }
+    ensures kind { IfErr result (λ error. error_kind error ≡ ErrorKind.InvalidInput) }
 {
-    if found.is_file() && (!is_shared || is_ours(found)) {
+    if found.is_file() && (!is_shared || has_trusted_owner(found)) {
         Ok(())
     } else {
         Err(io::Error::from(ErrorKind::InvalidInput))
@@ -47,7 +50,7 @@ pub fn check(found: &Metadata, is_shared: bool) -> io::Result<()>
 }
 
 /// Whether both are of one file, whatever names it has.
-pub fn are_of_one_file(one: &Metadata, other: &Metadata) -> bool {
+pub fn is_same_file(one: &Metadata, other: &Metadata) -> bool {
     one.dev() == other.dev() && one.ino() == other.ino()
 }
 
@@ -55,7 +58,7 @@ pub fn are_of_one_file(one: &Metadata, other: &Metadata) -> bool {
 pub fn are_unchanged(one: &Metadata, other: &Metadata) -> bool
     ensures { OnTrue result (metadata_len one.now ≡ metadata_len other.now) }
 {
-    are_of_one_file(one, other)
+    is_same_file(one, other)
         && one.len() == other.len()
         && one.ctime() == other.ctime()
         && one.ctime_nsec() == other.ctime_nsec()

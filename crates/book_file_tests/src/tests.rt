@@ -2,7 +2,7 @@
 mod folder;
 
 use account_book::{BookStore, StoreFault};
-use book_file::{BookFile, FileStore, HoldFault};
+use book_file::{BookFile, FileStore, HoldFault, Lockable};
 use faulty_files::{Calls, Faulty};
 use folder::has;
 use std::fs;
@@ -290,6 +290,65 @@ fn each_call_fails_in_turn(rt: HostRuntime) -> Result<(), Fail> {
         assert_eq!(rt; fs::read_dir(&rt, folder.as_str())?.count(), 1, "{failing}");
     }
     assert!(rt; saved_at_last);
+    Ok(fs::remove_dir_all(&rt, folder.as_str())?)
+}
+
+// Whichever call of the file system fails in a save, the save answers with its error.
+#[test]
+fn each_failed_call_is_told(rt: HostRuntime) -> Result<(), Fail> {
+    let folder = folder::make(&rt, "told")?;
+    let book = format!(in rt.alloc(); "{folder}/book")?;
+    let mut is_told = false;
+    for failing in 1..60u32 {
+        fs::write(&rt, book.as_str(), "old")?;
+        let calls = Calls::new(rt.alloc(), failing);
+        let faulty = Faulty {
+            rt: &rt,
+            calls: &calls,
+        };
+        let Ok(mut file) = BookFile::hold(&faulty, book.as_str()) else {
+            continue;
+        };
+        let Err(error) = file.replace("new") else {
+            assert!(rt; !calls.are_over(), "{failing}");
+            break;
+        };
+        assert_eq!(rt; error.kind(), ErrorKind::StorageFull, "{failing}");
+        is_told = true;
+    }
+    assert!(rt; is_told);
+    Ok(fs::remove_dir_all(&rt, folder.as_str())?)
+}
+
+// Where another run keeps the file of the next text, or what has its name can't be replaced, the save says so.
+#[test]
+fn no_next_file(rt: HostRuntime) -> Result<(), Fail> {
+    let folder = folder::make(&rt, "no-next")?;
+    let book = format!(in rt.alloc(); "{folder}/book")?;
+    let next = format!(in rt.alloc(); "{folder}/book.new")?;
+    fs::write(&rt, book.as_str(), "old")?;
+    let calls = Calls::new(rt.alloc(), 0);
+    let hasty = Faulty {
+        rt: &rt,
+        calls: &calls,
+    };
+    let Ok(mut file) = BookFile::hold(&hasty, book.as_str()) else {
+        return Err(Fail::from("the book is not held"));
+    };
+    let other = File::create(&rt, next.as_str())?;
+    assert!(rt; other.try_hold()?);
+    assert_eq!(rt;
+        file.replace("new").map_err(|error| error.kind()),
+        Err(ErrorKind::ResourceBusy)
+    );
+    assert_eq!(rt; hasty.monotonic()?, Duration::from_secs(30));
+    fs::remove_file(&rt, next.as_str())?;
+    fs::create_dir(&rt, next.as_str())?;
+    assert_eq!(rt;
+        file.replace("new").map_err(|error| error.kind()),
+        Err(ErrorKind::AlreadyExists)
+    );
+    assert!(rt; has(&rt, book.as_str(), "old"));
     Ok(fs::remove_dir_all(&rt, folder.as_str())?)
 }
 

@@ -1,11 +1,1 @@
-mod Binds
-mod Fields
-mod Lists
-mod Entries
-mod RowLemmas
-mod ValueTypeLemmas
-mod TableLemmas
-mod Whole
-mod WritesItself
-mod PutLemmas
-mod Printable
+mod lemmas

@@ -7,7 +7,7 @@ use Rattle.mac_core.specs.declared.mechanism.Mechanism.TheVariants.{ScramSha1, S
 use Rattle.scram_text.specs.Class.{IsSalt}
 use Rattle.scram_text.specs.Parts.{IsCount}
 use Rattle.book_format.specs.declared.account.MechKeys.{MechKeys}
-use Rattle.otp_core.specs.declared.token.kinds.Fields.{Fields}
+use Rattle.otp_core.specs.declared.token.kinds.TokenFields.{TokenFields}
 
 -- the most other names that an account may act as
 abbrev pub most_names : ℕ
@@ -18,7 +18,7 @@ pub record AccountFields : Type 0 where
   pub sha1 : Option MechKeys
   pub sha256 : Option MechKeys
   pub act_as : List (List ℕ)
-  pub token : Option Fields
+  pub token : Option TokenFields
 
 -- keys as long as the digests, of `len` bytes, of their hash function, with a salt and an iteration count in
 -- the ranges that a challenge can show

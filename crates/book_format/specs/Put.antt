@@ -8,7 +8,8 @@ use Rattle.toml.specs.Data.{Data, Members, no_members, member}
 abbrev pub put_member : List ℕ → Data → Members → Members
 put_member key value no_members = member key value no_members
 put_member key value (member k d rest) =
-    match_ordering (slice_cmp nat_cmp key k) (member key value (member k d rest)) (member k value rest) (member k d (put_member key value rest))
+    match_ordering (slice_cmp nat_cmp key k) (member key value (member k d rest)) (member k value rest)
+    (member k d (put_member key value rest))
 
 -- the members with a value at a key where there is a value, else unchanged
 abbrev pub put_some : List ℕ → Option Data → Members → Members

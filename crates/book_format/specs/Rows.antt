@@ -1,6 +1,7 @@
 -- What a table of the format is: a row for each key. Which TOML table is that of a value, what the first fault of
 -- another is, and as what a value is written, are said here, once for all tables.
-use Rattle.std.specs.Prelude.{ℕ, ◌≡◌, ◌⊎◌, ◌++◌, List, [], ◌∷◌, map, codes, Bool, true, false, pos, Option, Some, None, option_map, ok_or, Result, Ok, Err, IsTrue}
+use Rattle.std.specs.Prelude.{ℕ, ◌≡◌, ◌⊎◌, ◌++◌, List, [], ◌∷◌, map, codes, Bool, true, false, pos, Option, Some, None, option_map, ok_or}
+use Rattle.std.specs.Prelude.{Result, Ok, Err, IsTrue}
 use Prim.Native.String.{String}
 use Rattle.toml.specs.Data.{Data, integer, table, Members, no_members, get_member, as_table}
 use Rattle.book_format.specs.Keys.{is_among, has_only}
@@ -153,7 +154,8 @@ row name k field = record {
   field = field;
 }
 
--- a row whose key has to be there, of a type with a bound: the whole number at another key
+-- a row whose key has to be there, of a type with a bound: the whole number at another key. How a value is written does not
+-- depend on the bound, so 0 stands for it there.
 abbrev pub row_to : {T V : Type 0} → String → (ℕ → ValueType V) → String → (T → V) → Row T
 row_to name k bound field = record {
   V = _;

@@ -6,14 +6,16 @@ use Rattle.toml.specs.Data.{Data, string, integer, table, Members, get_member}
 use Rattle.mac_core.specs.Mechanism.{length_by}
 use Rattle.mac_core.specs.declared.mechanism.Mechanism.TheVariants.{ScramSha1, ScramSha256}
 use Rattle.scram_text.specs.Parts.{most_count}
-use Rattle.otp_core.specs.Ranges.{least_secret, most_secret, least_digits, most_digits, last_moment, most_counter, most_look_ahead, most_sync_ahead, longest_step, most_steps, most_drift, most_limit}
-use Rattle.otp_core.specs.declared.token.kinds.Fields.{Fields}
-use Rattle.otp_core.specs.declared.token.kinds.Fields.TheVariants.{Hotp, Totp}
+use Rattle.otp_core.specs.Ranges.{least_secret, most_secret, least_digits, most_digits, last_moment, most_counter, most_look_ahead}
+use Rattle.otp_core.specs.Ranges.{most_sync_ahead, longest_step, most_steps, most_drift, most_limit}
+use Rattle.otp_core.specs.declared.token.kinds.TokenFields.{TokenFields}
+use Rattle.otp_core.specs.declared.token.kinds.TokenFields.TheVariants.{Hotp, Totp}
 use Rattle.otp_core.specs.declared.token.kinds.HotpFields.{HotpFields}
 use Rattle.otp_core.specs.declared.token.kinds.TotpFields.{TotpFields}
 use Rattle.book_format.specs.Account.{AccountFields}
 use Rattle.book_format.specs.ValueTypes.{number, signed, bytes, text_in, hash, name_list, any_table}
-use Rattle.book_format.specs.Rows.{◌>>=◌, table_of, ValueType, Table, row, row_to, row_or, optional, IsTableIn, read_or, read_table, written, in_table}
+use Rattle.book_format.specs.Rows.{◌>>=◌, table_of, ValueType, Table, row, row_to, row_or, optional, IsTableIn, read_or, read_table}
+use Rattle.book_format.specs.Rows.{written, in_table}
 use Rattle.book_format.specs.declared.account.MechKeys.{MechKeys}
 use Rattle.book_format.specs.declared.fault.BookWhy.{BookWhy}
 use Rattle.book_format.specs.declared.fault.BookWhy.TheVariants.{Salt, Count, Key, KeyLength, Token}
@@ -31,6 +33,14 @@ mech len = record {
   make = λ salt count stored server.
       record { salt = salt; count = count; keys = record { stored = record { items = stored }; server = record { items = server } } };
 }
+
+-- what is kept for SCRAM-SHA-1
+abbrev pub sha1_keys : Table MechKeys
+sha1_keys = mech (length_by ScramSha1)
+
+-- what is kept for SCRAM-SHA-256
+abbrev pub sha256_keys : Table MechKeys
+sha256_keys = mech (length_by ScramSha256)
 
 -- a HOTP token
 abbrev pub hotp : Table HotpFields
@@ -91,31 +101,31 @@ totp = record {
 }
 
 -- the table of a token of either kind
-abbrev pub IsToken : Data → Fields → Type 0
+abbrev pub IsToken : Data → TokenFields → Type 0
 IsToken d (Hotp t) = IsTableIn hotp d t
 IsToken d (Totp t) = IsTableIn totp d t
 
 -- a token of the kind of this name
-unfoldable pub token_of_kind : List ℕ → Members → Result Fields BookWhy
+unfoldable pub token_of_kind : List ℕ → Members → Result TokenFields BookWhy
 token_of_kind name ms =
     if bytes_eq name (codes "hotp") then (read_table hotp ms >>= λ t. Ok (Hotp t))
     else if bytes_eq name (codes "totp") then (read_table totp ms >>= λ t. Ok (Totp t))
     else Err Token
 
 -- a token: its kind comes before all else
-unfoldable pub token_in : Data → Result Fields BookWhy
+unfoldable pub token_in : Data → Result TokenFields BookWhy
 token_in d = do
   ms ← table_of d
   name ← read_or (Err Key) text_in (get_member (codes "kind") ms)
   token_of_kind name ms
 
 -- the table that a token is written as
-abbrev pub token_tree : Fields → Data
+abbrev pub token_tree : TokenFields → Data
 token_tree (Hotp t) = table (written hotp t)
 token_tree (Totp t) = table (written totp t)
 
 -- tokens of either kind
-abbrev pub token : ValueType Fields
+abbrev pub token : ValueType TokenFields
 token = record { Is = IsToken; read = token_in; write = token_tree }
 
 -- an account: a mechanism without its key has no keys, and without `token` there is none
@@ -123,8 +133,8 @@ abbrev pub account : Table AccountFields
 account = record {
   marks = [];
   rows =
-      optional "sha1" (in_table (mech (length_by ScramSha1))) (λ a. a.sha1)
-      ∷ optional "sha256" (in_table (mech (length_by ScramSha256))) (λ a. a.sha256)
+      optional "sha1" (in_table sha1_keys) (λ a. a.sha1)
+      ∷ optional "sha256" (in_table sha256_keys) (λ a. a.sha256)
       ∷ row_or [] "act_as" name_list (λ a. a.act_as)
       ∷ optional "token" token (λ a. a.token)
       ∷ [];

@@ -1,6 +1,7 @@
 -- The types of values of the format, each with its range: texts, whole numbers, bytes, names. The fault of a value of
 -- another TOML type comes before that of a value out of its range.
-use Rattle.std.specs.Prelude.{ℕ, ◌≡◌, ◌≤◌, ◌&&◌, ◌+◌, nat_le, ℤ, pos, negsuc, nat_abs, Bool, true, if◌then◌else◌, List, [], ◌∷◌, length, map, is_some, ok_or, Result, Ok, Err}
+use Rattle.std.specs.Prelude.{ℕ, ◌≡◌, ◌≤◌, ◌&&◌, ◌+◌, nat_le, ℤ, pos, negsuc, nat_abs, Bool, true, if◌then◌else◌, List, [], ◌∷◌, length}
+use Rattle.std.specs.Prelude.{map, is_some, ok_or, Result, Ok, Err}
 use Rattle.std.specs.List.{AllByRecursion, list_all}
 use Rattle.hex.specs.Hex.{decode_of, encode_lower}
 use Rattle.toml.specs.Data.{Data, string, integer, array, table, Items, no_items, item, Members, as_str}

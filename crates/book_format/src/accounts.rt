@@ -8,7 +8,7 @@ ghost use Rattle.book_format.specs.Rows.{in_table, read_or, read_some, table_in}
 ghost use Rattle.book_format.specs.Tables.{mech, token, account};
 ghost use Rattle.book_format.specs.declared.fault.BookWhy.TheVariants.{NoMemory};
 
-use crate::account::{Account, MechKeys};
+use crate::account::{Account, MechKeys, SHA1_KEY, SHA256_KEY};
 use crate::fault::{BookFault, BookWhy};
 use crate::field::{at, known_keys, table_of};
 use crate::mech::mech_of;
@@ -85,8 +85,8 @@ fn account_of(alloc: Global, value: &Value) -> Result<Account, BookWhy>
 {
     let table = table_of(value)?;
     known_keys(table, &["sha1", "sha256", "act_as", "token"])?;
-    let sha1 = mech_at(20, table, "sha1")?;
-    let sha256 = mech_at(32, table, "sha256")?;
+    let sha1 = mech_at(SHA1_KEY, table, "sha1")?;
+    let sha256 = mech_at(SHA256_KEY, table, "sha256")?;
     let act_as = act_as_at(alloc, table)?;
     let token = token_at(table)?;
     Ok(Account {

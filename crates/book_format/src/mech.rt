@@ -4,7 +4,7 @@ ghost use Rattle.toml.specs.View.{view};
 ghost use Rattle.book_format.specs.Rows.{table_in};
 ghost use Rattle.book_format.specs.Tables.{mech};
 
-use crate::account::MechKeys;
+use crate::account::{MOST_COUNT, MOST_SALT, MechKeys};
 use crate::fault::BookWhy;
 use crate::field::{bytes_of, known_keys, number_of, table_of};
 use mac_core::{ScramKeys, Tag};
@@ -21,8 +21,8 @@ pub(crate) fn mech_of(len: usize, value: &Value) -> Result<MechKeys, BookWhy>
 {
     let table = table_of(value)?;
     known_keys(table, &["salt", "count", "stored", "server"])?;
-    let salt = bytes_of(table, "salt", 1, 64, BookWhy::Salt)?;
-    let count = number_of(table, "count", 1, 4_294_967_295, BookWhy::Count)?;
+    let salt = bytes_of(table, "salt", 1, MOST_SALT, BookWhy::Salt)?;
+    let count = number_of(table, "count", 1, MOST_COUNT, BookWhy::Count)?;
     let stored = bytes_of(table, "stored", len, len, BookWhy::KeyLength)?;
     let server = bytes_of(table, "server", len, len, BookWhy::KeyLength)?;
     Ok(MechKeys {

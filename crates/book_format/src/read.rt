@@ -4,13 +4,14 @@ ghost use Rattle.toml.specs.Data.{get_member, as_integer};
 ghost use Rattle.toml.specs.View.{table_view};
 ghost use Rattle.book_format.specs.Book.{BookFields};
 ghost use Rattle.book_format.specs.Trees.{IsBookText};
-ghost use Rattle.book_format.specs.Reading.{IsReadAs, IsReadOrFault, seen, at_top, tree_in, top_of, accounts_of_table, book_in, is_one, IsFirstFault};
+ghost use Rattle.book_format.specs.Reading.{IsReadAs, IsReadOrFault, seen, at_top, tree_in, top_of, accounts_of_table, book_in, is_one};
+ghost use Rattle.book_format.specs.Reading.{IsFirstFault};
 ghost use Rattle.book_format.specs.ValueTypes.{any_table};
 ghost use Rattle.book_format.specs.Rows.{read_some};
 ghost use Rattle.book_format.specs.declared.fault.BookWhy.TheVariants.{NoMemory};
 ghost use Rattle.book_format.specs.declared.read.Top.{Top};
 
-use crate::account::Account;
+use crate::account::{Account, MOST_COUNT};
 use crate::accounts::accounts_from;
 use crate::contents::Contents;
 use crate::fault::{BookFault, BookWhy};
@@ -33,7 +34,8 @@ impl Contents {
     /// Reads the contents that `bytes` are the text of, or answers the first fault (60 to 67): of the
     /// document, of `format`, of the document's keys, then of account after account in byte order of
     /// names. In each table unknown keys come first, and then its keys in the order of the format; of
-    /// a token, `kind` comes before both. 99 NoMemory may come at any place.
+    /// a token, `kind` comes before both. 99 NoMemory may come at any place;
+    /// no clause says that it comes only where memory runs out.
     pub fn read(alloc: Global, bytes: &[u8]) -> Result<Contents, BookFault>
         ensures found { IfOk result (λ c. IsBookText bytes.now c) }
         ensures only { (c : BookFields) → IsBookText bytes.now c → (result ≡ Ok c) ⊎ IsErrAnd result (λ f. f.why ≡ NoMemory) }
@@ -93,14 +95,18 @@ fn document_of(alloc: Global, bytes: &[u8]) -> Result<Table, BookWhy>
 // key at fault: `Key` where it is missing or its value has another type, else `KeyLength` or `Count`.
 #[tactic(auto, unfolding(crate::specs::Reading::top_of, crate::specs::Rows::read_table))]
 fn top_of(table: &Table) -> Result<Top<'_>, BookWhy>
-    ensures { seen (λ t. record { decoy_key = t.decoy_key; decoy_count = t.decoy_count; accounts = option_map (λ m. table_view m.now) t.accounts }) result ≡ top_of (table_view table.now) }
+    ensures { seen (λ t. record {
+      decoy_key = t.decoy_key;
+      decoy_count = t.decoy_count;
+      accounts = option_map (λ m. table_view m.now) t.accounts;
+    }) result ≡ top_of (table_view table.now) }
 {
     if !is_format(table) {
         return Err(BookWhy::Format);
     }
     known_keys(table, &["format", "decoy_key", "decoy_count", "accounts"])?;
     let decoy_key = bytes_of(table, "decoy_key", 32, 32, BookWhy::KeyLength)?;
-    let decoy_count = number_of(table, "decoy_count", 1, 4_294_967_295, BookWhy::Count)?;
+    let decoy_count = number_of(table, "decoy_count", 1, MOST_COUNT, BookWhy::Count)?;
     let accounts = table_at(table, "accounts")?;
     Ok(Top {
         decoy_key: key_of(&decoy_key),

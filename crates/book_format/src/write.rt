@@ -26,7 +26,8 @@ use toml::{Table, Value};
 impl Contents {
     /// The book's text, which `read` reads as these contents. It has each key that has a value, in
     /// byte order of the keys, with bytes in lower-case hexadecimal; `act_as` is written even where
-    /// it is empty. `AllocError` comes only where memory runs out.
+    /// it is empty. `AllocError` comes only where memory runs out, which no clause
+    /// says.
     pub fn write(&self, alloc: Global) -> Result<String, AllocError>
         ensures stands { IfOk result (λ s. IsBookText (string_bytes s) self.now) }
         ensures text { IfOk result (λ s. IsDocumentText false (book_tree self.now) (string_bytes s)) }

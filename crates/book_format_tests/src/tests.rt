@@ -1,7 +1,7 @@
 //! What no contract shows: that the definitions are those of the format, by books that a person wrote,
 //! and that each fault comes at each place that can have it.
 use book_format::{Account, BookFault, BookWhy, Contents, MechKeys};
-use otp_core::{Fields, OtpHash};
+use otp_core::{OtpHash, TokenFields};
 use std::alloc::{AllocError, Global};
 use std::fmt::Debug;
 use std::process::Abort;

@@ -1,1 +1,1 @@
-mod Decimals
+mod lemmas

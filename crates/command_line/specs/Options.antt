@@ -1,7 +1,9 @@
 -- The names of the options whose values the program judges, or takes as paths.
 use Rattle.std.specs.Prelude.{ℕ, List, codes}
 use Rattle.command_line.specs.declared.value.OptionName.{OptionName}
-use Rattle.command_line.specs.declared.value.OptionName.TheVariants.{Book, Log, Name, As, Socket, Random, ClientNonce, ServerNonce, Mechanism, Salt, Count, Secret, Digits, Counter, Moment, Hash, T0, Step}
+use Rattle.command_line.specs.declared.value.OptionName.TheVariants.{Book, Log, Name, As, Socket, Random, ClientNonce, ServerNonce}
+use Rattle.command_line.specs.declared.value.OptionName.TheVariants.{Mechanism, Salt, Count, Secret, Digits, Counter, Moment, Hash, T0}
+use Rattle.command_line.specs.declared.value.OptionName.TheVariants.{Step}
 
 -- an option's name, as on the command line without its hyphens and in the fault about its value
 abbrev pub option_name : OptionName → List ℕ

@@ -100,8 +100,12 @@ impl Fault {
             | Fault::BadBook(_)
             | Fault::BadEvent => 1,
             Fault::BadValue(_) | Fault::BadPassword | Fault::NoCounterOrMoment => 2,
-            Fault::CannotRead(_) | Fault::CannotWrite(_) | Fault::Socket => 3,
-            Fault::CannotReadInput | Fault::CannotWriteOutput | Fault::NoMemory => 3,
+            Fault::CannotRead(_)
+            | Fault::CannotWrite(_)
+            | Fault::Socket
+            | Fault::CannotReadInput
+            | Fault::CannotWriteOutput
+            | Fault::NoMemory => 3,
         }
     }
 }

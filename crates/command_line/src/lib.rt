@@ -13,8 +13,8 @@
 #![tactic(auto)]
 
 mod fault;
-mod shown;
+mod terminal_text;
 pub mod value;
 
 pub use fault::Fault;
-pub use shown::Shown;
+pub use terminal_text::TerminalText;

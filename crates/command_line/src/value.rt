@@ -12,7 +12,7 @@ ghost use Rattle.command_line.specs.Options.{option_name};
 
 use crate::fault::Fault;
 use mac_core::Mechanism;
-use otp_core::{Digits, LAST_MOMENT, Moment, OtpHash, Secret};
+use otp_core::{Digits, LAST_MOMENT, LEAST_DIGITS, MOST_DIGITS, Moment, OtpHash, Secret};
 use scram_text::{NoncePart, PlainName, Salt};
 use std::alloc::Global;
 use std::fmt;
@@ -168,7 +168,8 @@ pub fn digits(text: &str) -> Result<Digits, Fault>
     ensures err { IfErr result (λ fault. (fault ≡ Fault.BadValue OptionName.Digits)
         × ((n : ℕ) → 6 ≤ n → n ≤ 8 → text.now ≢ decimal n)) }
 {
-    match within(OptionName::Digits, text, 6, 8) {
+    let (least, most) = (u64::from(LEAST_DIGITS), u64::from(MOST_DIGITS));
+    match within(OptionName::Digits, text, least, most) {
         Ok(n) => {
             let Ok(digits) = Digits::new(n as u8) else {
                 unreachable!()
@@ -207,7 +208,7 @@ pub fn name(text: &str) -> Result<PlainName, Fault>
 }
 
 /// The name to act as, of this text: 1 to 255 bytes from space to tilde. Answers BadValue for any other text.
-pub fn name_to_act_as(text: &str) -> Result<PlainName, Fault>
+pub fn authzid(text: &str) -> Result<PlainName, Fault>
     ensures ok { IfOk result (λ name. name ≡ text.now) }
     ensures err { IfErr result (λ fault. (fault ≡ Fault.BadValue OptionName.As)
         × (IsPlainName text.now → ⊥)) }
@@ -215,6 +216,7 @@ pub fn name_to_act_as(text: &str) -> Result<PlainName, Fault>
     plain_name(OptionName::As, text)
 }
 
+// The name of this text, 1 to 255 bytes from space to tilde. Answers BadValue of the option for any other text.
 fn plain_name(option: OptionName, text: &str) -> Result<PlainName, Fault>
     ensures ok { IfOk result (λ name. name ≡ text.now) }
     ensures err { IfErr result (λ fault. (fault ≡ Fault.BadValue option)

@@ -1,11 +1,36 @@
 -- The words that the program understands: its commands, and the options of each.
 use Rattle.std.specs.Prelude.{ℕ, ◌≡◌, true, false, List, [], ◌∷◌, codes}
+use Rattle.std.specs.declared.option.Option.{Option}
 use Rattle.std.specs.declared.option.Option.TheVariants.{Some}
 use Rattle.clap.specs.Simple.{new_shape}
-use Rattle.clap.specs.Words.{App, Rule, Shape, app_of, new_rule}
+use Rattle.clap.specs.Words.{App, Row, Rule, Shape, Text, app_of, new_rule}
 use Rattle.clap.specs.declared.builder.action.ArgAction.TheVariants.{Set}
 use Rattle.clap.specs.declared.builder.command.Command.{Command}
 use Rattle.clap.specs.declared.builder.command.Command.TheViews.{out-Command as fields_of}
+
+-- the commands
+pub data CommandName : Type 0 where
+  Keys : CommandName
+  Enrol : CommandName
+  Code : CommandName
+  Verify : CommandName
+  Unlock : CommandName
+  Login : CommandName
+  Hall : CommandName
+  Audit : CommandName
+  Upgrade : CommandName
+
+-- the word that names a command
+abbrev pub word_of : CommandName → List ℕ
+word_of Keys = codes "keys"
+word_of Enrol = codes "enrol"
+word_of Code = codes "code"
+word_of Verify = codes "verify"
+word_of Unlock = codes "unlock"
+word_of Login = codes "login"
+word_of Hall = codes "hall"
+word_of Audit = codes "audit"
+word_of Upgrade = codes "upgrade"
 
 -- an option that takes one value, and may be left out
 abbrev pub option : (name : List ℕ) → Rule
@@ -16,8 +41,8 @@ abbrev pub required : (name : List ℕ) → Rule
 required name = record (option name) { required = true }
 
 -- an option that has a default
-abbrev pub optional : (name default : List ℕ) → Rule
-optional name default = record (option name) { defaults = default ∷ [] }
+abbrev pub with_default : (name default : List ℕ) → Rule
+with_default name default = record (option name) { defaults = default ∷ [] }
 
 -- a command of this name, with these options
 abbrev pub command : (name : List ℕ) → List Rule → Shape
@@ -29,13 +54,14 @@ keys_options = required (codes "mechanism") ∷ required (codes "salt") ∷ requ
 
 -- the options of `enrol`
 abbrev pub enrol_options : List Rule
-enrol_options = required (codes "book") ∷ required (codes "name") ∷ optional (codes "count") (codes "4096")
-    ∷ optional (codes "random") (codes "/dev/urandom") ∷ []
+enrol_options = required (codes "book") ∷ required (codes "name") ∷ with_default (codes "count") (codes "4096")
+    ∷ with_default (codes "random") (codes "/dev/urandom") ∷ []
 
 -- the options of `code`
 abbrev pub code_options : List Rule
-code_options = required (codes "secret") ∷ optional (codes "digits") (codes "6") ∷ option (codes "counter") ∷ option (codes "moment")
-    ∷ optional (codes "hash") (codes "sha1") ∷ optional (codes "t0") (codes "0") ∷ optional (codes "step") (codes "30") ∷ []
+code_options = required (codes "secret") ∷ with_default (codes "digits") (codes "6") ∷ option (codes "counter")
+    ∷ option (codes "moment") ∷ with_default (codes "hash") (codes "sha1") ∷ with_default (codes "t0") (codes "0")
+    ∷ with_default (codes "step") (codes "30") ∷ []
 
 -- the options of `verify`
 abbrev pub verify_options : List Rule
@@ -47,8 +73,9 @@ unlock_options = required (codes "book") ∷ required (codes "name") ∷ []
 
 -- the options of `login`
 abbrev pub login_options : List Rule
-login_options = required (codes "book") ∷ required (codes "name") ∷ option (codes "mechanism") ∷ option (codes "as") ∷ required (codes "socket")
-    ∷ optional (codes "random") (codes "/dev/urandom") ∷ option (codes "client-nonce") ∷ option (codes "server-nonce") ∷ option (codes "moment") ∷ []
+login_options = required (codes "book") ∷ required (codes "name") ∷ option (codes "mechanism") ∷ option (codes "as")
+    ∷ required (codes "socket") ∷ with_default (codes "random") (codes "/dev/urandom") ∷ option (codes "client-nonce")
+    ∷ option (codes "server-nonce") ∷ option (codes "moment") ∷ []
 
 -- the options of `hall`
 abbrev pub hall_options : List Rule
@@ -71,16 +98,20 @@ program = record {
     subcommand_required = true;
     disable_help_subcommand = true;
   };
-  subs = command (codes "keys") keys_options
-      ∷ command (codes "enrol") enrol_options
-      ∷ command (codes "code") code_options
-      ∷ command (codes "verify") verify_options
-      ∷ command (codes "unlock") unlock_options
-      ∷ command (codes "login") login_options
-      ∷ command (codes "hall") hall_options
-      ∷ command (codes "audit") audit_options
-      ∷ command (codes "upgrade") upgrade_options ∷ [];
+  subs = command (word_of Keys) keys_options
+      ∷ command (word_of Enrol) enrol_options
+      ∷ command (word_of Code) code_options
+      ∷ command (word_of Verify) verify_options
+      ∷ command (word_of Unlock) unlock_options
+      ∷ command (word_of Login) login_options
+      ∷ command (word_of Hall) hall_options
+      ∷ command (word_of Audit) audit_options
+      ∷ command (word_of Upgrade) upgrade_options ∷ [];
 }
+
+-- what clap finds in a command line is one of the commands, and the values of its options
+abbrev pub NamesCommand : (found : Option (Text × List Row)) → Type 0
+NamesCommand found = (name : CommandName) × (values : List Row) × (found ≡ Some (word_of name, values))
 
 -- clap reads the words of a command of this name by these options, none of which is global
 abbrev pub HasOptions : (name : List ℕ) → List Rule → Command → Type 0

@@ -1,20 +1,23 @@
 //! The program's commands, their options and their help.
 ghost use Rattle.std.specs.Prelude.{◌≡◌, false, codes, IfOk};
 ghost use Rattle.clap.specs.Words.{app_of, rule_of};
-ghost use Rattle.command_words.specs.Commands.{option, required, optional, program, HasOptions, keys_options, enrol_options, code_options, verify_options, unlock_options, login_options, hall_options, audit_options, upgrade_options};
+ghost use Rattle.command_words.specs.Commands.{option, required, with_default, program, HasOptions, keys_options, enrol_options};
+ghost use Rattle.command_words.specs.Commands.{code_options, verify_options, unlock_options, login_options, hall_options, audit_options};
+ghost use Rattle.command_words.specs.Commands.{upgrade_options};
 
 use clap::{Arg, ArgAction, Command};
 use std::alloc::{AllocError, Global};
 
 const STATUSES: &str =
-    "Exit status: 0 done, 1 refused or faulty, 2 usage, 3 files, sockets, input, output or memory.";
+    "Exit status: 0 done, passed and clean; 1 refused or at fault; 2 wrong usage, or a value or password
+that is not in its form; 3 a file, a socket, the input or output failed, or memory ran out.";
 
-// What stands after the options in the help of each command: notes, and an example that runs as it stands. The examples that have a
-// book run in the order in which they name one another; all their files are in a folder that nobody else can enter.
+// What stands after the options in the help of each command: notes, and an example that runs as it stands, after those that it names.
+// All files of the examples are in a folder that nobody else can enter.
 
 const KEYS_NOTES: &str =
-    "The password is the first line of standard input, 1 to 1024 bytes from space to tilde. Typed at a
-terminal, it is shown.
+    "Prints `stored=` and `server=`, each with a key in hexadecimal. The password is the first line of
+standard input, 1 to 1024 bytes from space to tilde. Typed at a terminal, it is shown.
 
 Example:
   echo pencil | scramotp keys --mechanism SCRAM-SHA-1 \\
@@ -24,8 +27,8 @@ const CODE_NOTES: &str =
     "With --counter the code is HOTP's, with SHA-1. Else --moment is needed, and it is TOTP's. Standard
 input is not read.
 
-Other users of the machine can read the words of a command while it runs (`ps`), and so the secret:
-give none that they may not have.
+Other users of the machine can read the words of a command while it runs (`ps`), so give no secret
+that they must not learn.
 
 Examples:
   scramotp code --secret 3132333435363738393031323334353637383930 --counter 0
@@ -35,8 +38,8 @@ const ENROL_NOTES: &str =
     "The password is the first line of standard input, 1 to 1024 bytes from space to tilde. Typed at a
 terminal, it is shown. Prints `enrolled` and the name once the book is saved.
 
-The book is made, readable by its owner alone, where the file is not there. Put it into a folder
-that nobody else can write, and whose parents nobody else can write.
+The book is made, readable by its owner alone, where the file is not there. Only you and root may be
+able to write the book's folder and the folders above it.
 
 The account gets keys for SCRAM-SHA-1 and SCRAM-SHA-256, with salts of 16 bytes. A login name
 without an account is answered by a decoy: with a salt of 16 bytes, and the count that the book has
@@ -54,12 +57,12 @@ saves nothing. The book is locked until the input ends; other runs wait for it, 
 Exit status 0 means that every reply was PASS, also where there was none.
 
 A line as `SYNC 399871 520489`, with two codes in a row, finds a HOTP token that ran ahead of the
-book: it passes where the first is the code of `next` or of one of the `sync_ahead` counters
-after it.
+book: it passes where the first is the code of `next` or of one of the `sync_ahead` counters after
+it, and the second that of the counter after that.
 
-Nobody else may be able to write the book's folder, nor the folders above it.
+Only you and root may be able to write the book's folder and the folders above it.
 
-Example, after that of `scramotp enrol --help`: a token, and its first code
+Example, after that of enrol: a token, and its first code
   # while nothing else uses the book
   echo '[accounts.user.token]
     kind = \"hotp\"
@@ -75,9 +78,9 @@ const UNLOCK_NOTES: &str =
     "A token is locked once as many codes in a row have failed as its limit says. Prints `unlocked` and
 the name once the book is saved. Standard input is not read.
 
-Nobody else may be able to write the book's folder, nor the folders above it.
+Only you and root may be able to write the book's folder and the folders above it.
 
-Example, after that of `scramotp verify --help`:
+Example, after those of enrol and verify:
   scramotp unlock --book logins/book.toml --name user";
 
 const AUDIT_NOTES: &str =
@@ -87,18 +90,19 @@ is /dev/stdin. Prints `clean` and the counts of sessions, accepted logins and co
 the first line at fault, why, and what was due. Exit status 0 means that the log is clean, 3 also
 that a read of it failed.
 
-Example, after that of `scramotp enrol --help`: a log whose client leaves at once
+Example, after that of enrol: a log whose client leaves at once
   printf '%s\\n' 'SCRAMLOG 1' 'S MECHS SCRAM-SHA-256 SCRAM-SHA-1' 'C GONE' E >logins/log.txt
   scramotp audit --book logins/book.toml --log logins/log.txt";
 
 const UPGRADE_NOTES: &str =
     "A log of version 2 begins with `SCRAMLOG 2`, and the number of its session stands before each other
 line: one more than the number of `E` lines before. The new log is clean exactly where the old one
-is, by the same book. Its lines need not be due, only lines of a log. Else nothing is printed, and
-the first line at fault is told on standard error, as `audit` tells it. The log is read whole, up to
-1000000 lines, before anything is printed. Standard input is read only where the log is /dev/stdin.
+is, by the same book. Lines may be at fault, but each has to be in the form of a log's line. Where
+one is not, nothing is printed, and standard error names the first such line, as `audit` does. The
+log is read whole, up to 1000000 lines, before anything is printed. Standard input is read only
+where the log is /dev/stdin.
 
-Example, after that of `scramotp audit --help`:
+Example, after those of enrol and audit:
   scramotp upgrade --log logins/log.txt >logins/log2.txt
   scramotp audit --book logins/book.toml --log logins/log2.txt";
 
@@ -110,17 +114,17 @@ is shown.
 Both ends run here: a service over the book, and a client. They talk through a socket, whose file is
 made for this run and removed at its end. Put it into a folder that nobody else can enter; a file
 that is there already is a socket fault, also one that a killed run left. The client learns only
-what any service would tell it, and ends the login where the service does not have the account's
-keys.
+what any service would tell it, and ends the login where the service does not show that it has the
+account's keys.
 
 Prints the service's log, each line before the client is told of it. Codes are saved before they are
 told; the book is locked from its reading to the end of the input, and other runs wait for it, up to
 30 seconds. Exit status 0 means that the login was accepted and every code passed.
 
 Nonces are made of 18 random bytes each, unless they are given: give them only to repeat a recorded
-login. Nobody else may be able to write the book's folder, nor the folders above it.
+login. Only you and root may be able to write the book's folder and the folders above it.
 
-Example, after that of `scramotp unlock --help`: a login and a code, and the audit of its log
+Example, after those of enrol and verify: a login and a code, and the audit of its log
   cp logins/book.toml logins/before.toml
   printf '%s\\n' pencil 287082 |
       scramotp login --book logins/book.toml --name user --socket logins/socket >logins/login.txt
@@ -128,23 +132,24 @@ Example, after that of `scramotp unlock --help`: a login and a code, and the aud
 
 const HALL_NOTES: &str = "Each line of standard input is an event:
 
-  open NONCE          a client comes; NONCE is the service's part of its nonce, fresh and random
+  open NONCE          a client comes; NONCE, fresh and random, is the service's part of the nonce
   line N MOMENT TEXT  the client of session N sends a line: TEXT is the whole line, and MOMENT is in
                       seconds since 1970
   gone N MOMENT       the client of session N goes away
 
 Sessions get the numbers 1, 2 and so on as their clients come. Up to 64 are open at a time; a client
-that comes then is told BUSY. Another line, or a number of no open session, is a bad event and ends
-the run, with exit status 1.
+that comes then is told BUSY. Any other line, or the number of a session that is not open, is a bad
+event and ends the run, with exit status 1.
 
 Prints the log, of version 2, each event's lines before the next event is read. What client N is to
 be told is in the lines that begin with its number and ` S `. Codes are saved before they are told;
 the book is locked from its reading to the end of the input, and other runs wait for it, up to 30
-seconds. Where a save fails the log ends with `S HALT`, and the run with it.
+seconds. Where the save of a code fails the log ends with that client's ` S HALT`, and the run with
+it. Where the first save fails nothing is printed.
 
-Nobody else may be able to write the book's folder, nor the folders above it.
+Only you and root may be able to write the book's folder and the folders above it.
 
-Example, after that of `scramotp login --help`: two clients at a time, and the audit of their log
+Example, after that of enrol: two clients at a time, and the audit of their log
   cp logins/book.toml logins/opened.toml
   printf '%s\\n' 'open 3rfcNHYJY1ZVvWVs7j' 'open hvYDpWUa2RaTCAfuxFIl' 'line 2 5 ABORT' 'gone 1 6' |
       scramotp hall --book logins/book.toml >logins/hall.txt
@@ -178,7 +183,7 @@ fn with_default<'a>(
     help: &'a str,
     default: &'a str,
 ) -> Arg<'a>
-    ensures rule { rule_of result ≡ optional name.now default.now }
+    ensures rule { rule_of result ≡ with_default name.now default.now }
     ensures local { result.global ≡ false }
 {
     option(alloc, name, value, help).default_value(default)
@@ -204,7 +209,7 @@ fn name<'a>(alloc: Global) -> Arg<'a>
 }
 
 fn random<'a>(alloc: Global) -> Arg<'a>
-    ensures rule { rule_of result ≡ optional (codes "random") (codes "/dev/urandom") }
+    ensures rule { rule_of result ≡ with_default (codes "random") (codes "/dev/urandom") }
     ensures local { result.global ≡ false }
 {
     with_default(
@@ -250,8 +255,8 @@ fn code<'a>(alloc: Global) -> Result<Command<'a>, AllocError>
 {
     let digits = "The digits of the code, 6 to 8";
     let hash = "TOTP's hash function: sha1, sha256 or sha512";
-    let t0 = "The moment at which TOTP's step 0 begins";
-    let step = "The length of a step, 1 to 3600";
+    let t0 = "The moment at which TOTP's step 0 begins, 0 to 253402300799";
+    let step = "The length of a step in seconds, 1 to 3600";
     Command::new(alloc, "code")
         .about("Prints a one-time code")
         .after_help(CODE_NOTES)
@@ -272,7 +277,7 @@ fn code<'a>(alloc: Global) -> Result<Command<'a>, AllocError>
             alloc,
             "moment",
             "SECONDS",
-            "TOTP's moment, in seconds since 1970",
+            "TOTP's moment, in seconds since 1970, 0 to 253402300799",
         ))?
         .arg(with_default(alloc, "hash", "NAME", hash, "sha1"))?
         .arg(with_default(alloc, "t0", "SECONDS", t0, "0"))?
@@ -291,7 +296,7 @@ fn verify<'a>(alloc: Global) -> Result<Command<'a>, AllocError>
             alloc,
             "moment",
             "SECONDS",
-            "The moment of the codes, in seconds since 1970",
+            "The moment of the codes, in seconds since 1970, 0 to 253402300799",
         ))
 }
 
@@ -343,12 +348,17 @@ fn login<'a>(alloc: Global) -> Result<Command<'a>, AllocError>
             "The socket to make, a path of at most 107 bytes",
         ))?
         .arg(random(alloc))?
-        .arg(option(alloc, "client-nonce", "TEXT", "The client's nonce"))?
+        .arg(option(
+            alloc,
+            "client-nonce",
+            "TEXT",
+            "The client's nonce, 1 to 256 bytes from ! to tilde without a comma",
+        ))?
         .arg(option(
             alloc,
             "server-nonce",
             "TEXT",
-            "The service's part of the nonce",
+            "The service's part of the nonce, in the same form",
         ))?
         .arg(option(alloc, "moment", "SECONDS", moment))
 }

@@ -1,6 +1,6 @@
 //! The fault of words that the program does not understand.
 use crate::commands::scramotp;
-use command_line::Shown;
+use command_line::TerminalText;
 use std::alloc::{AllocError, Global};
 use std::convert::AsStr;
 
@@ -17,7 +17,7 @@ pub fn usage_text<S: AsStr>(alloc: Global, words: &[S]) -> Result<String, AllocE
 fn shown_words<S: AsStr>(alloc: Global, words: &[S]) -> Result<Vec<String>, AllocError> {
     let mut shown = Vec::new(alloc);
     for word in words {
-        shown.push(format!(in alloc; "{}", Shown(word.as_str()))?)?;
+        shown.push(format!(in alloc; "{}", TerminalText(word.as_str()))?)?;
     }
     Ok(shown)
 }

@@ -41,8 +41,8 @@ abbrev pub WaitsForSignature : Stage → Answered → Type 0
 WaitsForSignature (Proved client) l = IsExpecting client l
 WaitsForSignature stage l = ⊥
 
--- the mechanism that is taken: the one that the user asks for, else the best of those whose names the server offers
--- (RFC 5802, section 4; RFC 7677 prefers SCRAM-SHA-256)
+-- the mechanism that is taken: the one that the user asks for, whether or not the server offers it; else the best of those whose
+-- names it offers (RFC 5802, section 4; RFC 7677 prefers SCRAM-SHA-256)
 abbrev pub IsChosen : (asked : Option Mechanism) → (names : List ℕ) → Mechanism → Type 0
 IsChosen (Some asked) names mechanism = mechanism ≡ asked
 IsChosen None names mechanism = IsOffered mechanism names × (IsOffered ScramSha256 names → mechanism ≡ ScramSha256)
@@ -58,7 +58,7 @@ pub record BeginsLogin (user : User) (nonce names said : List ℕ) (stage : Stag
   pub is_mechanism : IsChosen user.mechanism names login.mechanism
   pub are_limits : AreUsual login.limits
   pub is_name : login.name ≡ user.name
-  pub is_authzid : login.authzid ≡ user.act_as
+  pub is_authzid : login.authzid ≡ user.authzid
   pub is_nonce : login.nonce ≡ nonce
   pub waits : WaitsForChallenge stage login
   pub line : said ≡ said_line (auth_with (name_of login.mechanism) login.client_first)
@@ -74,7 +74,8 @@ pub record AnswersChallenge (login : Started) (password server_first said : List
 -- what a client may say when it is told a line, at the stage where it is: it begins a login by one of the mechanisms that
 -- it is told, and in the login that it has begun it answers the challenge that it is told. It says nothing else.
 abbrev pub MaySay : ClientEnd → Stage → (told said : List ℕ) → Stage → Type 0
-MaySay client Silent told said new = (names : List ℕ) × IsLine told (from_server (mechs names)) × BeginsLogin client.user client.nonce names said new
+MaySay client Silent told said new =
+    (names : List ℕ) × IsLine told (from_server (mechs names)) × BeginsLogin client.user client.nonce names said new
 MaySay client (Begun one) told said new =
     (server_first : List ℕ) × IsLine told (from_server (cont server_first))
     × ((login : Started) → IsStarted one login → AnswersChallenge login client.password server_first said new)
@@ -88,10 +89,22 @@ ShowsKeys (Proved client) line = (message : List ℕ) × IsLine line (from_serve
     × ((l : Answered) (x : IsExpecting client l) → IsAuthentic message x.signature)
 ShowsKeys stage line = ⊥
 
+-- the client has begun no login, or waits for the challenge of one or for the signature, or is done
+abbrev pub IsInLogin : Stage → Type 0
+IsInLogin Silent = Unit {0}
+IsInLogin (Begun client) = (login : Started) × IsStarted client login
+IsInLogin (Proved client) = (login : Answered) × IsExpecting client login
+IsInLogin Over = Unit {0}
+
+-- such a client has to leave at a line: there is nothing that it may say, and the line does not show the account's keys
+abbrev pub HasToLeave : ClientEnd → (told : List ℕ) → Type 0
+HasToLeave client told = IsInLogin client.stage
+    → ((said : List ℕ) (new : Stage) → MaySay client client.stage told said new → ⊥) × (ShowsKeys client.stage told → ⊥)
+
 -- the login is one of this user, by this nonce and this password
 pub record IsOfUser (user : User) (nonce password : List ℕ) (login : Answered) : Type 0 where
   pub is_name : login.name ≡ user.name
-  pub is_authzid : login.authzid ≡ user.act_as
+  pub is_authzid : login.authzid ≡ user.authzid
   pub is_nonce : login.nonce ≡ nonce
   pub is_password : login.password ≡ password
 

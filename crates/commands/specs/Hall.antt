@@ -1,4 +1,4 @@
--- The input of the command `hall`, and the log that it prints.
+-- The input of the command `hall`, the log that it prints, and which faults end it.
 use Rattle.std.specs.Prelude.{ℕ, ◌≡◌, ◌⊎◌, List, [], ◌∷◌, ◌++◌, reverse, codes, decimal, IfSome}
 use Rattle.std.specs.List.{AllZip}
 use Rattle.std.specs.Str.{byte}
@@ -10,19 +10,26 @@ use Rattle.scram_text.specs.Class.{IsNoncePart}
 use Rattle.book_format.specs.Book.{BookFields}
 use Rattle.account_book.specs.Store.{StoreFacts}
 use Rattle.book_file.specs.Text.{IsWritten}
+use Rattle.clap.specs.declared.parser.matches.ArgMatches.{ArgMatches}
+use Rattle.command_line.specs.Fault.{IsUnwritten}
 use Rattle.command_line.specs.declared.fault.Fault.{Fault}
-use Rattle.log_grammar.specs.Numbered.{Numbered}
+use Rattle.command_line.specs.declared.fault.Fault.TheVariants.{BadEvent, CannotWriteOutput}
+use Rattle.command_line.specs.declared.value.OptionName.TheVariants as option
+use Rattle.command_words.specs.Values.{given_value}
+use Rattle.log_grammar.specs.Demands.{Accounts}
+use Rattle.log_grammar.specs.Numbered.{Numbered, of_number}
 use Rattle.log_grammar.specs.NumberedLines.{IsSessionNumber}
 use Rattle.sasl_log.specs.Sink.{SinkFacts}
 use Rattle.sasl_desk.specs.Events.{ClientEvent, sends, goes_away}
 use Rattle.log_grammar.specs.Books.{accounts_in}
+use Rattle.log_grammar.specs.Places.{between}
 use Rattle.log_grammar.specs.Versions.{IsFront}
-use Rattle.sasl_desk.specs.Halls.{HallFields, hall_shown, hall_lines, hall_bytes, phase_in, StandsHall}
+use Rattle.sasl_desk.specs.Halls.{HallFields, hall_shown, hall_lines, hall_bytes, phase_in, IsStay, IsHallAfter}
 use Rattle.sasl_desk.specs.Runs.{greets, hears, Call}
 use Rattle.sasl_desk.specs.Saved.{AreLinesSaved}
 use Rattle.sasl_desk.specs.declared.hall.Hall.{Hall}
-use Rattle.account_commands.specs.HeldBook.{IsReadBook}
-use Rattle.account_commands.specs.Input.{AreLinesOf}
+use Rattle.account_commands.specs.HeldBook.{IsReadBook, IsUnheld}
+use Rattle.account_commands.specs.Input.{AreLinesOf, IsUnread}
 use Rattle.commands.specs.PrintedLog.{IsLogFault}
 
 -- what happens to a hall: a client comes, and this is the server's part of its nonce; or the client of the session of this number
@@ -60,6 +67,12 @@ IsOfNobody hall (opens own) = ⊥
 IsOfNobody hall (says session moment text) = phase_in hall session ≡ None
 IsOfNobody hall (goes session moment) = phase_in hall session ≡ None
 
+-- by these calls of a hall the event is that of a session that is not open: the session stands where none has begun, or where it is over
+abbrev pub IsOfNoSession : Accounts → List (Numbered Call) → InputEvent → Type 0
+IsOfNoSession accounts calls (opens own) = ⊥
+IsOfNoSession accounts calls (says session moment text) = IsStay accounts (of_number session calls) between
+IsOfNoSession accounts calls (goes session moment) = IsStay accounts (of_number session calls) between
+
 -- an input line says no event
 abbrev pub SaysNothing : List ℕ → Type 0
 SaysNothing line = (event : InputEvent) → SaysEvent line event → ⊥
@@ -78,25 +91,6 @@ IsCallFor (goes session moment) c = (c.number ≡ session) × (c.value.asked ≡
 abbrev pub AreCallsFor : List InputEvent → List (Numbered Call) → Type 0
 AreCallsFor events calls = AllZip IsCallFor events calls
 
--- a hall that began with this book has heard these events, the latest of which comes first, and the log took its lines after
--- what it had before
-pub record IsHallLogOf {S : Type 0} (facts : S → StoreFacts) (IsStored : List ℕ → Type 0) (start : BookFields) (before : Option (List ℕ)) (events : List InputEvent) (hall : Hall S)
-    (log : SinkFacts) : Type 0 where
-  pub calls : List (Numbered Call)
-  pub heard : AreCallsFor events calls
-  pub stands : StandsHall facts IsStored start calls (hall_shown hall)
-  pub logged : Appends before log.given (hall_bytes calls)
-
--- the hall has heard these events more: where the log was the hall's, it is still
-abbrev pub Hears : {S : Type 0} → (S → StoreFacts) → (IsStored : List ℕ → Type 0) → List InputEvent → (old : Hall S) → (log : SinkFacts) → (new : Hall S) → (log' : SinkFacts) → Type 0
-Hears facts IsStored events old log new log' =
-    (start : BookFields) (before : Option (List ℕ)) (earlier : List InputEvent)
-    → IsHallLogOf facts IsStored start before earlier old log → IsHallLogOf facts IsStored start before (events ++ earlier) new log'
-
--- the hall has heard what the line says
-abbrev pub HearsLine : {S : Type 0} → (S → StoreFacts) → (IsStored : List ℕ → Type 0) → (line : List ℕ) → (old : Hall S) → (log : SinkFacts) → (new : Hall S) → (log' : SinkFacts) → Type 0
-HearsLine facts IsStored line old log new log' = (event : InputEvent) × SaysEvent line event × Hears facts IsStored (event ∷ []) old log new log'
-
 -- these lines say these events, in their order
 abbrev pub AreSaid : List (List ℕ) → List InputEvent → Type 0
 AreSaid lines events = AllZip SaysEvent lines events
@@ -108,29 +102,51 @@ pub record SaysEvents (input : Option (List ℕ)) (last : List (List ℕ)) : Typ
   pub are : IfSome input (λ bytes. AreLinesOf bytes (lines ++ last))
   pub said : AreSaid lines events
 
--- the hall has heard what the lines of an input say, but for the last of them, which are these
-pub record HearsUpTo {S : Type 0} (facts : S → StoreFacts) (IsStored : List ℕ → Type 0) (input : Option (List ℕ)) (last : List (List ℕ)) (old : Hall S) (log : SinkFacts) (new : Hall S)
-    (log' : SinkFacts) : Type 0 where
-  pub says : SaysEvents input last
-  pub heard : Hears facts IsStored (reverse says.events) old log new log'
+-- what a hall hears, where this is known of its store, and these are the texts that are stored
+module _ {S : Type 0} (facts : S → StoreFacts) (IsStored : List ℕ → Type 0) where
+  -- a hall that began with this book has heard these events, the latest of which comes first, and the log took its lines after
+  -- what it had before
+  pub record IsHallLogOf (start : BookFields) (before : Option (List ℕ)) (events : List InputEvent) (hall : Hall S)
+      (log : SinkFacts) : Type 0 where
+    pub calls : List (Numbered Call)
+    pub heard : AreCallsFor events calls
+    pub stands : IsHallAfter facts IsStored start calls (hall_shown hall)
+    pub logged : Appends before log.given (hall_bytes calls)
 
--- the hall has heard what each line of the input says, in their order
-abbrev pub HearsAllLines : {S : Type 0} → (S → StoreFacts) → (IsStored : List ℕ → Type 0) → Option (List ℕ) → (old : Hall S) → (log : SinkFacts) → (new : Hall S) → (log' : SinkFacts) → Type 0
-HearsAllLines facts IsStored input old log new log' = HearsUpTo facts IsStored input [] old log new log'
+  -- the hall has heard these events more: where the log was the hall's, it is still
+  abbrev pub Hears : List InputEvent → (old : Hall S) → (log : SinkFacts) → (new : Hall S) → (log' : SinkFacts) → Type 0
+  Hears events old log new log' =
+      (start : BookFields) (before : Option (List ℕ)) (earlier : List InputEvent)
+      → IsHallLogOf start before earlier old log → IsHallLogOf start before (events ++ earlier) new log'
 
--- a fault came: it is that the log has failed, or the hall has heard what the first lines of the input say, and its log has that
-abbrev pub HearsFirstLines : {S : Type 0} → (S → StoreFacts) → (IsStored : List ℕ → Type 0) → Option (List ℕ) → (old : Hall S) → (log : SinkFacts) → (new : Hall S) → (log' : SinkFacts) → Fault → Type 0
-HearsFirstLines facts IsStored input old log new log' fault =
-    IsLogFault log' fault ⊎ ((last : List (List ℕ)) × HearsUpTo facts IsStored input last old log new log')
+  -- the hall has heard what the line says
+  abbrev pub HearsLine : (line : List ℕ) → (old : Hall S) → (log : SinkFacts) → (new : Hall S) → (log' : SinkFacts) → Type 0
+  HearsLine line old log new log' = (event : InputEvent) × SaysEvent line event × Hears (event ∷ []) old log new log'
 
--- the next line of the input says no event to the hall as it is after the lines before it
-abbrev pub MeetsBadEvent : {S : Type 0} → (S → StoreFacts) → (IsStored : List ℕ → Type 0) → Option (List ℕ) → (old : Hall S) → (log : SinkFacts) → (new : Hall S) → (log' : SinkFacts) → Type 0
-MeetsBadEvent facts IsStored input old log new log' =
-    (line : List ℕ) × (last : List (List ℕ)) × HearsUpTo facts IsStored input (line ∷ last) old log new log' × IsBadEvent line (hall_shown new)
+  -- the hall has heard what the lines of an input say, but for the last of them, which are these
+  pub record HearsUpTo (input : Option (List ℕ)) (last : List (List ℕ)) (old : Hall S) (log : SinkFacts) (new : Hall S)
+      (log' : SinkFacts) : Type 0 where
+    pub says : SaysEvents input last
+    pub heard : Hears (reverse says.events) old log new log'
+
+  -- the hall has heard what each line of the input says, in their order
+  abbrev pub HearsAllLines : Option (List ℕ) → (old : Hall S) → (log : SinkFacts) → (new : Hall S) → (log' : SinkFacts) → Type 0
+  HearsAllLines input old log new log' = HearsUpTo input [] old log new log'
+
+  -- a fault came: it is that the log has failed, or the hall has heard what the first lines of the input say, and its log has that
+  abbrev pub HearsFirstLines : Option (List ℕ) → (old : Hall S) → (log : SinkFacts) → (new : Hall S) → (log' : SinkFacts) → Fault → Type 0
+  HearsFirstLines input old log new log' fault =
+      IsLogFault log' fault ⊎ ((last : List (List ℕ)) × HearsUpTo input last old log new log')
+
+  -- the next line of the input says no event, or one of a session that is not open in the hall after the lines before it
+  abbrev pub MeetsBadEvent : Option (List ℕ) → (old : Hall S) → (log : SinkFacts) → (new : Hall S) → (log' : SinkFacts) → Type 0
+  MeetsBadEvent input old log new log' =
+      (line : List ℕ) × (last : List (List ℕ)) × HearsUpTo input (line ∷ last) old log new log' × IsBadEvent line (hall_shown new)
 
 -- what the lines of an input say, but for the last of them, which are these, was heard in their order by a hall that began with
 -- this book; what it logged is printed, and that is a front; and the book after what it tells was saved
-pub record PrintsHallLog (IsStored : List ℕ → Type 0) (book : BookFields) (input : Option (List ℕ)) (last : List (List ℕ)) (old new : Option (List ℕ)) : Type 0 where
+pub record PrintsHallLog (IsStored : List ℕ → Type 0) (book : BookFields) (input : Option (List ℕ)) (last : List (List ℕ))
+    (old new : Option (List ℕ)) : Type 0 where
   pub says : SaysEvents input last
   pub calls : List (Numbered Call)
   pub heard : AreCallsFor (reverse says.events) calls
@@ -138,9 +154,35 @@ pub record PrintsHallLog (IsStored : List ℕ → Type 0) (book : BookFields) (i
   pub printed : Appends old new (hall_bytes calls)
   pub saved : AreLinesSaved IsStored book (hall_lines calls)
 
--- so it was, with a book that was read from a file, and saved in being written to one
-pub record RunsHall {File : Type 0} (bytes_of written_to : File → Option (List ℕ)) (input : Option (List ℕ)) (last : List (List ℕ)) (old new : Option (List ℕ)) : Type 0 where
+-- after these calls of a hall the line says no event, or one of a session that is not open
+abbrev pub IsBadAfter : Accounts → List (Numbered Call) → (line : List ℕ) → Type 0
+IsBadAfter accounts calls line = SaysNothing line ⊎ ((event : InputEvent) × SaysEvent line event × IsOfNoSession accounts calls event)
+
+-- `PrintsHallLog`, and the next line is bad after it
+abbrev pub PrintsToBadEvent : (IsStored : List ℕ → Type 0) → BookFields → (input old new : Option (List ℕ)) → Type 0
+PrintsToBadEvent IsStored book input old new =
+    (line : List ℕ) × (last : List (List ℕ)) × (log : PrintsHallLog IsStored book input (line ∷ last) old new)
+    × IsBadAfter (accounts_in book) log.calls line
+
+-- `PrintsHallLog`, with a book that was read from a file, and saved in being written to one
+pub record RunsHall {File : Type 0} (bytes_of written_to : File → Option (List ℕ)) (input : Option (List ℕ)) (last : List (List ℕ))
+    (old new : Option (List ℕ)) : Type 0 where
   pub text : List ℕ
   pub book : BookFields
   pub is_read : IsReadBook bytes_of text book
   pub printed : PrintsHallLog (IsWritten written_to) book input last old new
+
+-- `RunsHall`, and the next line of the input is bad after it
+abbrev pub RunsToBadEvent : {File : Type 0} → (bytes_of written_to : File → Option (List ℕ)) → (input old new : Option (List ℕ)) → Type 0
+RunsToBadEvent bytes_of written_to input old new =
+    (text : List ℕ) × (book : BookFields) × IsReadBook bytes_of text book × PrintsToBadEvent (IsWritten written_to) book input old new
+
+-- the fault at which a hall stops to hear: a line of its input can't be read, says no event, or one of a session that is not open; the
+-- book, whose file has this path, can't be saved; the output can't be written; or memory ran out
+abbrev pub StopsHearing : (path : List ℕ) → Fault → Type 0
+StopsHearing path fault = IsUnread fault ⊎ ((fault ≡ BadEvent) ⊎ (IsUnwritten path fault ⊎ (fault ≡ CannotWriteOutput)))
+
+-- the fault that ends `hall`: the book can't be held or read, or the hall stops to hear
+abbrev pub CannotRunHall : {File : Type 0} → (bytes_of : File → Option (List ℕ)) → ArgMatches → Fault → Type 0
+CannotRunHall bytes_of words fault =
+    IsUnheld bytes_of (given_value words option.Book) fault ⊎ StopsHearing (given_value words option.Book) fault

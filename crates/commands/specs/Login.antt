@@ -1,6 +1,8 @@
--- What the command `login` logs, what its client sends for the lines of its input, and when these pass.
-use Rattle.std.specs.Prelude.{ℕ, ◌≡◌, ◌≤◌, length, ◌⊎◌, ◌↔◌, Bool, true, List, [], ◌∷◌, ◌++◌, codes, take, option_map, IsTrue, IfSome}
+-- What the command `login` logs, what its client sends for the lines of its input, when these pass, and which faults end it.
+use Rattle.std.specs.Prelude.{ℕ, ◌≡◌, ◌≤◌, ◌+◌, length, ◌⊎◌, ◌↔◌, Bool, true, List, [], ◌∷◌, ◌++◌, codes, take, option_map, IsTrue, IfSome}
+use Rattle.std.specs.List.{AllByRecursion}
 use Rattle.std.specs.Str.{byte}
+use Rattle.std.specs.Fmt.{decimal}
 use Rattle.std.specs.Io.KnownBytes.{Appends, Consumes, IsAtEnd}
 use Rattle.std.specs.declared.option.Option.{Option}
 use Rattle.std.specs.declared.option.Option.TheVariants.{Some}
@@ -19,38 +21,64 @@ use Rattle.command_line.specs.declared.fault.Fault.TheVariants.{Socket, CannotWr
 use Rattle.log_grammar.specs.Books.{accounts_in}
 use Rattle.log_grammar.specs.Bytes.{LacksLf}
 use Rattle.log_grammar.specs.Demands.{Accounts}
-use Rattle.log_grammar.specs.Lines.{LogLine, IsLine, from_server, replies, log_bytes}
+use Rattle.log_grammar.specs.Lines.{LogLine, IsLine, longest_line, from_server, replies, log_bytes}
+use Rattle.log_grammar.specs.Places.{Place}
 use Rattle.sasl_log.specs.Sink.{SinkFacts}
 use Rattle.sasl_log.specs.Source.{SourceFacts}
-use Rattle.sasl_desk.specs.Desks.{Stands}
-use Rattle.sasl_desk.specs.Runs.{Call, run_lines}
+use Rattle.sasl_desk.specs.Desks.{IsDeskAfter}
+use Rattle.sasl_desk.specs.Runs.{Asked, greets, hears, Call, run_lines, IsRun}
 use Rattle.sasl_desk.specs.Saved.{IsLogSaved}
 use Rattle.sasl_desk.specs.declared.desk.Desk.{Desk}
 use Rattle.sasl_desk.specs.declared.fault.ServeFault.{ServeFault}
 use Rattle.sasl_desk.specs.declared.fault.ServeFault.TheVariants as serve
 use Rattle.commands.specs.ClientEnd.{IsLoggedIn}
-use Rattle.account_commands.specs.HeldBook.{IsReadBook}
-use Rattle.account_commands.specs.Input.{TakesLine, AreLinesOf, LinesInTurn}
+use Rattle.account_commands.specs.BadValues.{GivesBadValue, HasBadPassword, HasBadValue}
+use Rattle.account_commands.specs.File.{IsFileUnread}
+use Rattle.account_commands.specs.HeldBook.{IsReadBook, IsUnheld}
+use Rattle.account_commands.specs.Input.{TakesLine, IsUnread, LinesInTurn}
 use Rattle.command_words.specs.Values.{value_of, given_value}
+use Rattle.commands.specs.Nonces.{AreNonces}
 use Rattle.commands.specs.PrintedLog.{IsLogFault, IsUnsavedOrUnlogged}
 use Rattle.commands.specs.Sent.{Says}
 use Rattle.commands.specs.Talked.{Talked, IsTold, LogSays}
 use Rattle.commands.specs.declared.login.client_end.User.{User}
 
--- a desk that began with this book has answered some calls, and the log took their lines after what it had before
-pub record IsDeskLog {S : Type 0} (facts : S → StoreFacts) (IsStored : List ℕ → Type 0) (start : BookFields) (before : Option (List ℕ)) (desk : Desk S) (log : SinkFacts) : Type 0 where
-  pub calls : List Call
-  pub stands : Stands facts IsStored start calls desk
-  pub logged : Appends before log.given (log_bytes (run_lines calls))
+-- a moment is the one that was given, where one was
+abbrev pub IsGiven : (given : Option ℕ) → (moment : ℕ) → Type 0
+IsGiven given moment = IfSome given (λ m. moment ≡ m)
 
--- whatever was asked of the desk meanwhile: where the log was the desk's, it is the desk's still
-abbrev pub StaysItsLog : {S : Type 0} → (S → StoreFacts) → (IsStored : List ℕ → Type 0) → (old : Desk S) → (log : SinkFacts) → (new : Desk S) → (log' : SinkFacts) → Type 0
-StaysItsLog facts IsStored old log new log' =
-    (start : BookFields) (before : Option (List ℕ)) → IsDeskLog facts IsStored start before old log → IsDeskLog facts IsStored start before new log'
+-- where a desk is asked to begin a session, this is the server's part of the nonce; and where it hears its client, the moment is such
+abbrev pub IsAskedWith : (own : List ℕ) → (IsNow : ℕ → Type 0) → Asked → Type 0
+IsAskedWith own IsNow (greets part) = part ≡ own
+IsAskedWith own IsNow (hears event moment) = IsNow moment
 
--- what holds of the log after a fault: the fault is that it has failed, or it is still the desk's
-abbrev pub IsLogAfterFault : {S : Type 0} → (S → StoreFacts) → (IsStored : List ℕ → Type 0) → (old : Desk S) → (log : SinkFacts) → (new : Desk S) → (log' : SinkFacts) → Fault → Type 0
-IsLogAfterFault facts IsStored old log new log' fault = IsLogFault log' fault ⊎ StaysItsLog facts IsStored old log new log'
+-- the log of a desk, where this is known of its store, these are the texts that are stored, and its clock gives such moments
+module _ {S : Type 0} (facts : S → StoreFacts) (IsStored : List ℕ → Type 0) (IsNow : ℕ → Type 0) where
+  -- a desk that began with this book has answered some calls, each session begun with this part of the nonce and heard by the clock, and
+  -- the log took their lines after what it had before
+  pub record IsDeskLog (start : BookFields) (before : Option (List ℕ)) (own : List ℕ) (desk : Desk S) (log : SinkFacts) : Type 0 where
+    pub calls : List Call
+    pub stands : IsDeskAfter facts IsStored start calls desk
+    pub asked : AllByRecursion (λ c. IsAskedWith own IsNow c.asked) calls
+    pub logged : Appends before log.given (log_bytes (run_lines calls))
+
+  -- where the log was that of the desk, with this part of the nonce, it is so still
+  abbrev pub StaysItsLogWith : (own : List ℕ) → (old : Desk S) → (log : SinkFacts) → (new : Desk S) → (log' : SinkFacts) → Type 0
+  StaysItsLogWith own old log new log' =
+      (start : BookFields) (before : Option (List ℕ)) → IsDeskLog start before own old log → IsDeskLog start before own new log'
+
+  -- whatever was heard by the desk meanwhile: where the log was the desk's, it is the desk's still
+  abbrev pub StaysItsLog : (old : Desk S) → (log : SinkFacts) → (new : Desk S) → (log' : SinkFacts) → Type 0
+  StaysItsLog old log new log' = (own : List ℕ) → StaysItsLogWith own old log new log'
+
+  -- what holds of the log after a fault: the fault is that it has failed, or it is still the desk's
+  abbrev pub IsLogAfterFault : (old : Desk S) → (log : SinkFacts) → (new : Desk S) → (log' : SinkFacts) → Fault → Type 0
+  IsLogAfterFault old log new log' fault = IsLogFault log' fault ⊎ StaysItsLog old log new log'
+
+  -- `IsLogAfterFault`, of a desk with this part of the nonce
+  abbrev pub IsLogAfterFaultWith : (own : List ℕ) → (old : Desk S) → (log : SinkFacts) → (new : Desk S) → (log' : SinkFacts) → Fault
+      → Type 0
+  IsLogAfterFaultWith own old log new log' fault = IsLogFault log' fault ⊎ StaysItsLogWith own old log new log'
 
 -- a source gives no line of at most so many bytes with its LF: it has failed, or it has ended, or these bytes have no LF
 pub record GivesNoLine (most : ℕ) (old new : SourceFacts) : Type 0 where
@@ -63,7 +91,7 @@ pub record GivesNoLine (most : ℕ) (old new : SourceFacts) : Type 0 where
 -- memory ran out, also for what is to be sent
 abbrev pub IsFaultOf : (path : List ℕ) → ServeFault → Fault → Type 0
 IsFaultOf path serve.Halted fault = IsUnwritten path fault
-IsFaultOf path serve.Unwritable fault = IsUnwritten path fault
+IsFaultOf path serve.Unwritable fault = ⊥
 IsFaultOf path serve.NoMemory fault = fault ≡ NoMemory
 IsFaultOf path serve.WriteFault fault = fault ≡ NoMemory
 IsFaultOf path serve.LogFault fault = fault ≡ CannotWriteOutput
@@ -72,11 +100,11 @@ IsFaultOf path serve.LogFault fault = fault ≡ CannotWriteOutput
 abbrev pub IsFaultInTurn : (path : List ℕ) → (log : SinkFacts) → Fault → Type 0
 IsFaultInTurn path log fault = (fault ≡ Socket) ⊎ IsUnsavedOrUnlogged path log fault
 
--- what is sent for an input line, by what the line says: the line itself where it is two codes in a row, else `CODE ` and the
--- line. No more than 6201 of its bytes are sent, and a line of the protocol has at most 6200.
+-- what is sent for an input line, by what the line says: the line itself where it is two codes in a row; else `CODE ` and the line, of
+-- which a longer one is cut one byte past the longest line, so that it is too long
 abbrev pub sent_for : List ℕ → CodeTexts → List ℕ
-sent_for line (TwoTexts first second) = take 6201 line ++ byte "\n" ∷ []
-sent_for line (OneText text) = codes "CODE " ++ (take 6201 line ++ byte "\n" ∷ [])
+sent_for line (TwoTexts first second) = line ++ byte "\n" ∷ []
+sent_for line (OneText text) = codes "CODE " ++ (take (longest_line + 1) line ++ byte "\n" ∷ [])
 
 -- the service says that a code has passed
 abbrev pub IsPassLine : List ℕ → Type 0
@@ -93,64 +121,105 @@ pub record SendsLine (line : List ℕ) (old : Talked) (passed : Bool) (new : Tal
   pub told : IsTold old new (reply ++ byte "\n" ∷ [])
   pub is_pass : IsTrue passed ↔ IsPassLine reply
 
--- the client sends the lines of its input in turn, but for those that are left; and whether each passed
-pub record SendsLines (input left : Option (List ℕ)) (old : Talked) (all_passed : Bool) (new : Talked) : Type 0 where
-  pub last : List (List ℕ)
-  pub are_left : IfSome left (λ bytes. AreLinesOf bytes last)
-  pub sent : LinesInTurn SendsLine input last old all_passed new
-
--- the client is logged in, and then each line of its input that it sends passes
-pub record IsInAndPasses (user : User) (nonce password : List ℕ) (input left : Option (List ℕ)) (old new : Talked) : Type 0 where
+-- the client is logged in, and then sends each line of its input, which passes
+pub record IsInAndPasses (user : User) (nonce password : List ℕ) (input : Option (List ℕ)) (old new : Talked) : Type 0 where
   pub there : Talked
   pub is_in : IsLoggedIn user nonce password old there
-  pub passes : SendsLines input left there true new
+  pub passes : LinesInTurn SendsLine input [] there true new
 
--- after the bytes from before stands a log of this kind, as a clean one, by the accounts of a book; and the book after what it
--- tells was saved
-abbrev pub HasSavedLog : (IsStored : List ℕ → Type 0) → (IsOfKind : Accounts → List ℕ → Type 0) → BookFields → (before after : Option (List ℕ)) → Type 0
-HasSavedLog IsStored IsOfKind book before after =
-    (log : List ℕ) × IsOfKind (accounts_in book) log × Appends before after log × IsLogSaved IsStored book log
+-- the log is that of a desk over these accounts, each of whose sessions was begun with this server's part of the nonce, so that each
+-- challenge has it, and whose clock gave such moments, so that each reply bears one
+pub record IsRunLog (accounts : Accounts) (own : List ℕ) (IsNow : ℕ → Type 0) (log : List ℕ) : Type 0 where
+  pub calls : List Call
+  pub place : Place
+  pub is_run : IsRun accounts calls place
+  pub asked : AllByRecursion (λ c. IsAskedWith own IsNow c.asked) calls
+  pub is_log : log ≡ log_bytes (run_lines calls)
 
--- so it is, and then the service says nothing more
-pub record TalkPasses (user : User) (nonce password : List ℕ) (input left : Option (List ℕ)) (old new : Talked) : Type 0 where
+-- after the bytes from before stands a log of this kind, as a clean one, by the accounts of a book, of a desk with this part of the
+-- nonce, whose clock gave such moments; and the book after what it tells was saved
+abbrev pub HasSavedLog : (IsStored : List ℕ → Type 0) → (IsNow : ℕ → Type 0) → (IsOfKind : Accounts → List ℕ → Type 0) → BookFields
+    → (own : List ℕ) → (before after : Option (List ℕ)) → Type 0
+HasSavedLog IsStored IsNow IsOfKind book own before after =
+    (log : List ℕ) × IsOfKind (accounts_in book) log × IsRunLog (accounts_in book) own IsNow log × Appends before after log
+    × IsLogSaved IsStored book log
+
+-- the client is logged in, each line passes, and then the service says nothing more
+pub record TalkPasses (user : User) (nonce password : List ℕ) (input : Option (List ℕ)) (old new : Talked) : Type 0 where
   pub last : Talked
-  pub passes : IsInAndPasses user nonce password input left old last
+  pub passes : IsInAndPasses user nonce password input old last
   pub ends : LogSays last.logged new.logged []
 
 -- a log is printed that begins with some lines, and goes on with a talk in which this user is let in, by this nonce and this
--- password, and in which each line of the input that is sent passes
+-- password, and in which each line of the input is sent and passes
 pub record PrintsPasses (user : User) (nonce password : List ℕ) (input old new : Option (List ℕ)) : Type 0 where
   pub begun : List LogLine
   pub first : Talked
   pub last : Talked
-  pub left : Option (List ℕ)
   pub begins : Appends old first.logged (log_bytes begun)
-  pub passes : TalkPasses user nonce password input left first last
+  pub passes : TalkPasses user nonce password input first last
   pub printed : last.logged ≡ new
 
 -- the user whom the words describe: the name, and, where they give one, the name to act as and the mechanism
 pub record IsUserAsked (words : ArgMatches) (user : User) : Type 0 where
   pub is_name : user.name ≡ given_value words option.Name
-  pub acts_as : user.act_as ≡ value_of words option.As
+  pub is_authzid : user.authzid ≡ value_of words option.As
   pub is_mechanism : option_map name_of user.mechanism ≡ value_of words option.Mechanism
 
--- such a log is printed, of the user whom the words describe, by the nonce that they give, where they give one, and by the
--- password that is the first line of the input
-pub record PrintsPassesAsked (words : ArgMatches) (input old new : Option (List ℕ)) : Type 0 where
+-- such a log is printed, of the user whom the words describe, by the nonce that they give, or a fresh one where they give none, and by
+-- the password that is the first line of the input
+pub record PrintsPassesAsked {File : Type 0} (bytes_of : File → Option (List ℕ)) (words : ArgMatches) (input old new : Option (List ℕ))
+    : Type 0 where
   pub user : User
   pub is_user : IsUserAsked words user
   pub nonce : List ℕ
-  pub is_nonce : IfSome (value_of words option.ClientNonce) (λ given. nonce ≡ given)
+  pub own : List ℕ
+  pub are_nonces : AreNonces bytes_of words nonce own
   pub password : List ℕ
   pub has_lf : Bool
   pub rest : Option (List ℕ)
   pub is_first : TakesLine input password has_lf rest
   pub passes : PrintsPasses user nonce password rest old new
 
--- a log of this kind, as a clean one, is printed, by a book that was read from a file; and the text of the book after what it tells
--- was written to a file
-pub record PrintsLogin {File : Type 0} (bytes_of written_to : File → Option (List ℕ)) (IsOfKind : Accounts → List ℕ → Type 0) (old new : Option (List ℕ)) : Type 0 where
+-- a log of this kind, as a clean one, is printed, by a book that was read from a file, of a desk whose part of the nonce is the one that
+-- the words give, or a fresh one, and whose moment is the one that they give, where they give one; and the text of the book after what it
+-- tells was written to a file
+pub record PrintsLogin {File : Type 0} (bytes_of written_to : File → Option (List ℕ)) (words : ArgMatches)
+    (IsOfKind : Accounts → List ℕ → Type 0) (old new : Option (List ℕ)) : Type 0 where
   pub text : List ℕ
   pub book : BookFields
   pub is_read : IsReadBook bytes_of text book
-  pub printed : HasSavedLog (IsWritten written_to) IsOfKind book old new
+  pub nonce : List ℕ
+  pub own : List ℕ
+  pub are_nonces : AreNonces bytes_of words nonce own
+  pub moment : Option ℕ
+  pub is_moment : option_map decimal moment ≡ value_of words option.Moment
+  pub printed : HasSavedLog (IsWritten written_to) (IsGiven moment) IsOfKind book own old new
+
+-- an option of `login` refuses the value that the words give, and the fault names it
+abbrev pub HasBadLoginValue : ArgMatches → Fault → Type 0
+HasBadLoginValue words fault =
+    HasBadValue (option.Name ∷ []) words fault
+    ⊎ (GivesBadValue option.Mechanism words fault
+    ⊎ (GivesBadValue option.As words fault
+    ⊎ (GivesBadValue option.ClientNonce words fault
+    ⊎ (GivesBadValue option.ServerNonce words fault ⊎ GivesBadValue option.Moment words fault))))
+
+-- what a login begins with is not there: an option refuses its value, the first line of the input is no password or can't be read, the
+-- book can't be held or read, or the file of random bytes can't be read
+abbrev pub CannotPrepare : {File : Type 0} → (bytes_of : File → Option (List ℕ)) → ArgMatches → (input : Option (List ℕ)) → Fault → Type 0
+CannotPrepare bytes_of words input fault =
+    HasBadLoginValue words fault
+    ⊎ (HasBadPassword input fault
+    ⊎ (IsUnread fault
+    ⊎ (IsUnheld bytes_of (given_value words option.Book) fault ⊎ IsFileUnread (given_value words option.Random) fault)))
+
+-- the fault that ends a talk: a line of the input can't be read, the socket fails, the book, whose file has this path, can't be saved, the
+-- output can't be written, or memory ran out
+abbrev pub StopsTalking : (path : List ℕ) → Fault → Type 0
+StopsTalking path fault = IsUnread fault ⊎ ((fault ≡ Socket) ⊎ (IsUnwritten path fault ⊎ (fault ≡ CannotWriteOutput)))
+
+-- the fault that ends `login`: what it begins with is not there, or its talk ends
+abbrev pub CannotLogIn : {File : Type 0} → (bytes_of : File → Option (List ℕ)) → ArgMatches → (input : Option (List ℕ)) → Fault → Type 0
+CannotLogIn bytes_of words input fault =
+    CannotPrepare bytes_of words input fault ⊎ StopsTalking (given_value words option.Book) fault

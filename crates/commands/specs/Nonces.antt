@@ -1,9 +1,12 @@
 -- The nonces of a login: given by the user, or made of random bytes.
-use Rattle.std.specs.Prelude.{ℕ, ◌≡◌, List, [], length}
+use Rattle.std.specs.Prelude.{ℕ, ◌≡◌, ◌⊎◌, List, [], length}
 use Rattle.std.specs.Io.KnownBytes.{Consumes}
 use Rattle.std.specs.declared.option.Option.{Option}
 use Rattle.std.specs.declared.option.Option.TheVariants.{None, Some}
 use Rattle.scram_text.specs.Base64Field.{base64}
+use Rattle.clap.specs.declared.parser.matches.ArgMatches.{ArgMatches}
+use Rattle.command_line.specs.declared.value.OptionName.TheVariants as option
+use Rattle.command_words.specs.Values.{value_of}
 
 -- the nonce is the one that is given, and takes no random bytes; or it is the base64 text of 18 of them
 abbrev pub IsNonceOf : (given : Option (List ℕ)) → (random nonce : List ℕ) → Type 0
@@ -15,6 +18,15 @@ abbrev pub TakesNonce : (old : Option (List ℕ)) → (given : Option (List ℕ)
 TakesNonce old given nonce new = (random : List ℕ) × IsNonceOf given random nonce × Consumes old new random
 
 -- a source of random bytes loses those of two nonces, one after the other: no byte is in both
-abbrev pub TakesNonces : (old : Option (List ℕ)) → (first second : Option (List ℕ)) → (nonces : List ℕ × List ℕ) → (new : Option (List ℕ)) → Type 0
+abbrev pub TakesNonces : (old : Option (List ℕ)) → (first second : Option (List ℕ)) → (nonces : List ℕ × List ℕ) → (new : Option (List ℕ))
+    → Type 0
 TakesNonces old first second nonces new =
     (there : Option (List ℕ)) × TakesNonce old first nonces.0 there × TakesNonce there second nonces.1 new
+
+-- the client's nonce and the server's part of it are those that the words give; or each that they do not give is the base64 text of the
+-- next 18 bytes of a file
+abbrev pub AreNonces : {File : Type 0} → (bytes_of : File → Option (List ℕ)) → ArgMatches → (nonce own : List ℕ) → Type 0
+AreNonces {File} bytes_of words nonce own =
+    ((value_of words option.ClientNonce ≡ Some nonce) × (value_of words option.ServerNonce ≡ Some own))
+    ⊎ ((file : File) × (after : File)
+    × TakesNonces (bytes_of file) (value_of words option.ClientNonce) (value_of words option.ServerNonce) (nonce, own) (bytes_of after))

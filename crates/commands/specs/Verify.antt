@@ -1,15 +1,13 @@
 -- What the command `verify` prints, what is saved before, and which faults end it.
-use Rattle.std.specs.Prelude.{ℕ, ◌≡◌, ◌≢◌, ◌⊎◌, Bool, true, false, List, [], ◌∷◌, ◌++◌}
+use Rattle.std.specs.Prelude.{ℕ, ◌≡◌, ◌⊎◌, Bool, true, false, List, [], ◌∷◌, ◌++◌}
 use Rattle.std.specs.Str.{byte}
 use Rattle.std.specs.Fmt.{decimal}
 use Rattle.std.specs.Io.KnownBytes.{Appends}
 use Rattle.std.specs.declared.option.Option.{Option}
 use Rattle.std.specs.declared.option.Option.TheVariants.{Some}
 use Rattle.otp_core.specs.Attempt.{CodeTexts}
-use Rattle.otp_core.specs.Ranges.{IsMoment}
 use Rattle.otp_core.specs.declared.token.answer.Reply.{Reply}
 use Rattle.otp_core.specs.declared.token.answer.Reply.TheVariants.{Pass, Fail, Locked}
-use Rattle.scram_text.specs.Class.{IsPlainName}
 use Rattle.book_format.specs.Book.{BookFields}
 use Rattle.account_book.specs.Accounts.{account_at}
 use Rattle.account_book.specs.Store.{StoreFacts}
@@ -20,7 +18,9 @@ use Rattle.command_line.specs.Fault.{IsTokenFault}
 use Rattle.command_line.specs.declared.fault.Fault.{Fault}
 use Rattle.command_line.specs.declared.fault.Fault.TheVariants.{BadValue, CannotWriteOutput, NoMemory}
 use Rattle.command_line.specs.declared.value.OptionName.TheVariants as option
-use Rattle.account_commands.specs.HeldBook.{HeldFacts, held_shown, IsReadBook, IsReplySaved, IsReplyUnsaved, IsUnheld, LacksToken}
+use Rattle.account_commands.specs.BadValues.{Refuses}
+use Rattle.account_commands.specs.HeldBook.{HeldFacts, held_shown, IsReadBook, IsReplySaved, IsReplyUnsaved, IsUnheld}
+use Rattle.account_commands.specs.HeldBook.{LacksToken}
 use Rattle.account_commands.specs.Input.{LinesInTurn, IsUnread}
 use Rattle.commands.specs.Sent.{Says}
 use Rattle.command_words.specs.Values.{given_value}
@@ -45,13 +45,6 @@ pub record VerifyRun : Type 0 where
 abbrev pub run_of : {S : Type 0} → (S → StoreFacts) → HeldBook S → Option (List ℕ) → VerifyRun
 run_of facts held printed = record { held = held_shown facts held; printed = printed }
 
--- a line is answered: the reply is due to what it says, what the reply changes is saved, and then the reply is printed
-pub record IsLineAnswered (IsStored : List ℕ → Type 0) (name : List ℕ) (moment : ℕ) (line : List ℕ) (old : VerifyRun) (reply : Reply) (new : VerifyRun) : Type 0 where
-  pub said : CodeTexts
-  pub says : Says line said
-  pub saved : IsReplySaved IsStored old.held name moment said reply new.held
-  pub printed : Appends old.printed new.printed (printed_reply reply moment)
-
 -- the fault of a reply that is not printed: the output can't be written; or memory ran out, and nothing is printed
 abbrev pub IsUnprinted : Fault → (old new : Option (List ℕ)) → Type 0
 IsUnprinted fault old new = (fault ≡ CannotWriteOutput) ⊎ ((fault ≡ NoMemory) × (new ≡ old))
@@ -60,48 +53,57 @@ IsUnprinted fault old new = (fault ≡ CannotWriteOutput) ⊎ ((fault ≡ NoMemo
 -- can't be written, or memory ran out
 abbrev pub IsReplyLost : (path name : List ℕ) → (moment : ℕ) → CodeTexts → (old : VerifyRun) → Fault → (new : VerifyRun) → Type 0
 IsReplyLost path name moment said old fault new =
-    IsReplyUnsaved old.held name moment said new.held × IsTokenFault path (account_at old.held.book name) fault × (new.printed ≡ old.printed)
+    IsReplyUnsaved old.held name moment said new.held × IsTokenFault path (account_at old.held.book name) fault
+    × (new.printed ≡ old.printed)
 
--- the reply to what a line says is saved, and is not printed
-abbrev pub IsReplyUntold : (IsStored : List ℕ → Type 0) → (name : List ℕ) → (moment : ℕ) → CodeTexts → (old : VerifyRun) → Fault → (new : VerifyRun)
-    → Type 0
-IsReplyUntold IsStored name moment said old fault new =
-    (reply : Reply) × IsReplySaved IsStored old.held name moment said reply new.held × IsUnprinted fault old.printed new.printed
+-- how the lines of an input are answered, where these are the texts that are stored
+module _ (IsStored : List ℕ → Type 0) where
+  -- a line is answered: the reply is due to what it says, what the reply changes is saved, and then the reply is printed
+  pub record IsLineAnswered (name : List ℕ) (moment : ℕ) (line : List ℕ) (old : VerifyRun) (reply : Reply) (new : VerifyRun) : Type 0 where
+    pub said : CodeTexts
+    pub says : Says line said
+    pub saved : IsReplySaved IsStored old.held name moment said reply new.held
+    pub printed : Appends old.printed new.printed (printed_reply reply moment)
 
--- a fault at a line: the reply to what it says is not saved, or it is saved and not printed
-abbrev pub FailsAtLine : (IsStored : List ℕ → Type 0) → (path name : List ℕ) → (moment : ℕ) → (line : List ℕ) → (old : VerifyRun) → Fault
-    → (new : VerifyRun) → Type 0
-FailsAtLine IsStored path name moment line old fault new =
-    (said : CodeTexts) × Says line said × (IsReplyLost path name moment said old fault new ⊎ IsReplyUntold IsStored name moment said old fault new)
+  -- the reply to what a line says is saved, and is not printed
+  abbrev pub IsReplyUntold : (name : List ℕ) → (moment : ℕ) → CodeTexts → (old : VerifyRun) → Fault → (new : VerifyRun) → Type 0
+  IsReplyUntold name moment said old fault new =
+      (reply : Reply) × IsReplySaved IsStored old.held name moment said reply new.held × IsUnprinted fault old.printed new.printed
 
--- a line is answered, and whether its code passed
-abbrev pub AnswersLine : (IsStored : List ℕ → Type 0) → (name : List ℕ) → (moment : ℕ) → (line : List ℕ) → VerifyRun → (passed : Bool) → VerifyRun → Type 0
-AnswersLine IsStored name moment line old passed new = (reply : Reply) × IsLineAnswered IsStored name moment line old reply new × (passed ≡ is_passed reply)
+  -- a fault at a line: the reply to what it says is not saved, or it is saved and not printed
+  abbrev pub FailsAtLine : (path name : List ℕ) → (moment : ℕ) → (line : List ℕ) → (old : VerifyRun) → Fault → (new : VerifyRun) → Type 0
+  FailsAtLine path name moment line old fault new =
+      (said : CodeTexts) × Says line said × (IsReplyLost path name moment said old fault new ⊎ IsReplyUntold name moment said old fault new)
 
--- each line of the input is answered, in their order
-abbrev pub AnswersAllLines : (IsStored : List ℕ → Type 0) → (name : List ℕ) → (moment : ℕ) → Option (List ℕ) → VerifyRun → (all_passed : Bool) → VerifyRun → Type 0
-AnswersAllLines IsStored name moment input old all_passed new = LinesInTurn (AnswersLine IsStored name moment) input [] old all_passed new
+  -- a line is answered, and whether its code passed
+  abbrev pub AnswersLine : (name : List ℕ) → (moment : ℕ) → (line : List ℕ) → VerifyRun → (passed : Bool) → VerifyRun → Type 0
+  AnswersLine name moment line old passed new = (reply : Reply) × IsLineAnswered name moment line old reply new × (passed ≡ is_passed reply)
 
--- the first lines of the input are answered, and then comes a fault: the next line can't be read, or the fault is at that line
-abbrev pub AnswersFirstLines : (IsStored : List ℕ → Type 0) → (path name : List ℕ) → (moment : ℕ) → Option (List ℕ) → (old : VerifyRun) → Fault
-    → (new : VerifyRun) → Type 0
-AnswersFirstLines IsStored path name moment input old fault new =
-    ((last : List (List ℕ)) × (all_passed : Bool) × LinesInTurn (AnswersLine IsStored name moment) input last old all_passed new × IsUnread fault)
-    ⊎ ((line : List ℕ) × (last : List (List ℕ)) × (all_passed : Bool) × (there : VerifyRun)
-    × LinesInTurn (AnswersLine IsStored name moment) input (line ∷ last) old all_passed there
-    × FailsAtLine IsStored path name moment line there fault new)
+  -- each line of the input is answered, in their order
+  abbrev pub AnswersAllLines : (name : List ℕ) → (moment : ℕ) → Option (List ℕ) → VerifyRun → (all_passed : Bool) → VerifyRun → Type 0
+  AnswersAllLines name moment input old all_passed new = LinesInTurn (AnswersLine name moment) input [] old all_passed new
+
+  -- the first lines of the input are answered, and then comes a fault: the next line can't be read, or the fault is at that line
+  abbrev pub AnswersFirstLines : (path name : List ℕ) → (moment : ℕ) → Option (List ℕ) → (old : VerifyRun) → Fault
+      → (new : VerifyRun) → Type 0
+  AnswersFirstLines path name moment input old fault new =
+      ((last : List (List ℕ)) × (all_passed : Bool) × LinesInTurn (AnswersLine name moment) input last old all_passed new × IsUnread fault)
+      ⊎ ((line : List ℕ) × (last : List (List ℕ)) × (all_passed : Bool) × (there : VerifyRun)
+      × LinesInTurn (AnswersLine name moment) input (line ∷ last) old all_passed there
+      × FailsAtLine path name moment line there fault new)
 
 -- the name or the moment that the words give is none, and that is the fault
 abbrev pub IsBadWord : ArgMatches → Fault → Type 0
 IsBadWord words fault =
-    ((fault ≡ BadValue option.Name) × (IsPlainName (given_value words option.Name) → ⊥))
-    ⊎ ((fault ≡ BadValue option.Moment) × ((moment : ℕ) → IsMoment moment → given_value words option.Moment ≢ decimal moment))
+    ((fault ≡ BadValue option.Name) × Refuses option.Name (given_value words option.Name))
+    ⊎ ((fault ≡ BadValue option.Moment) × Refuses option.Moment (given_value words option.Moment))
 
 -- a run of `verify` does not begin: a word is bad, the book can't be held or read, or a book that was read has no token for the name
 abbrev pub CannotBegin : {File : Type 0} → (bytes_of : File → Option (List ℕ)) → ArgMatches → Fault → Type 0
 CannotBegin bytes_of words fault =
     IsBadWord words fault ⊎ (IsUnheld bytes_of (given_value words option.Book) fault
-    ⊎ ((text : List ℕ) × (book : BookFields) × IsReadBook bytes_of text book × LacksToken (account_at book (given_value words option.Name)) fault))
+    ⊎ ((text : List ℕ) × (book : BookFields) × IsReadBook bytes_of text book
+    × LacksToken (account_at book (given_value words option.Name)) fault))
 
 -- a run of `verify` begins, at the moment that the words give: its book was read from a file, and this is printed
 pub record BeginsToVerify {File : Type 0} (bytes_of : File → Option (List ℕ)) (words : ArgMatches) (printed : Option (List ℕ)) (moment : ℕ)
@@ -110,23 +112,24 @@ pub record BeginsToVerify {File : Type 0} (bytes_of : File → Option (List ℕ)
   pub is_book : IsReadBook bytes_of run.held.store.saved run.held.book
   pub is_printed : run.printed ≡ printed
 
--- a run begins, and each line of the input is answered by the token of the name that the words give; what a reply changes was
--- written to a file
-pub record VerifiesAllLines {File : Type 0} (bytes_of written_to : File → Option (List ℕ)) (words : ArgMatches) (input old : Option (List ℕ))
-    (all_passed : Bool) (new : Option (List ℕ)) : Type 0 where
-  pub moment : ℕ
-  pub first : VerifyRun
-  pub last : VerifyRun
-  pub begins : BeginsToVerify bytes_of words old moment first
-  pub answers : AnswersAllLines (IsWritten written_to) (given_value words option.Name) moment input first all_passed last
-  pub printed : last.printed ≡ new
+-- a run, where files have these bytes, and this was written to them
+module _ {File : Type 0} (bytes_of written_to : File → Option (List ℕ)) where
+  -- a run begins, and each line of the input is answered by the token of the name that the words give; what a reply changes was
+  -- written to a file
+  pub record VerifiesAllLines (words : ArgMatches) (input old : Option (List ℕ)) (all_passed : Bool) (new : Option (List ℕ)) : Type 0 where
+    pub moment : ℕ
+    pub first : VerifyRun
+    pub last : VerifyRun
+    pub begins : BeginsToVerify bytes_of words old moment first
+    pub answers : AnswersAllLines (IsWritten written_to) (given_value words option.Name) moment input first all_passed last
+    pub printed : last.printed ≡ new
 
--- a run begins, and the first lines of the input are answered so; then comes this fault
-pub record VerifiesFirstLines {File : Type 0} (bytes_of written_to : File → Option (List ℕ)) (words : ArgMatches) (input old : Option (List ℕ))
-    (fault : Fault) (new : Option (List ℕ)) : Type 0 where
-  pub moment : ℕ
-  pub first : VerifyRun
-  pub last : VerifyRun
-  pub begins : BeginsToVerify bytes_of words old moment first
-  pub answers : AnswersFirstLines (IsWritten written_to) (given_value words option.Book) (given_value words option.Name) moment input first fault last
-  pub printed : last.printed ≡ new
+  -- a run begins, and the first lines of the input are answered so; then comes this fault
+  pub record VerifiesFirstLines (words : ArgMatches) (input old : Option (List ℕ)) (fault : Fault) (new : Option (List ℕ)) : Type 0 where
+    pub moment : ℕ
+    pub first : VerifyRun
+    pub last : VerifyRun
+    pub begins : BeginsToVerify bytes_of words old moment first
+    pub answers : AnswersFirstLines (IsWritten written_to) (given_value words option.Book) (given_value words option.Name) moment input
+        first fault last
+    pub printed : last.printed ≡ new

@@ -1,5 +1,6 @@
 //! Why a desk or a hall can't go on, as a command says it.
-ghost use Rattle.std.specs.Prelude.{◌≡◌};
+
+ghost use Rattle.std.specs.Prelude.{◌≡◌, ◌≢◌};
 ghost use Rattle.command_line.specs.Fault.{IsUnwritten};
 
 use command_line::Fault;
@@ -19,10 +20,13 @@ pub fn unsaved(alloc: Global, path: &str) -> Fault
 /// Why a desk or a hall refuses a call. It has halted where it can't save the book, whose file has this path; no number is left
 /// only after more sessions than an input has lines.
 pub fn of_refusal(alloc: Global, path: &str, fault: DeskFault) -> Fault
-    ensures { IsUnwritten path.now result }
+    requires { fault ≢ DeskFault.Unwritable }
+    ensures unwritten { IsUnwritten path.now result }
+    ensures memory { fault ≡ DeskFault.NoMemory → result ≡ Fault.NoMemory }
 {
     match fault {
         DeskFault::NoMemory => Fault::NoMemory,
-        DeskFault::Halted | DeskFault::Unwritable | DeskFault::NoNumber => unsaved(alloc, path),
+        DeskFault::Halted | DeskFault::NoNumber => unsaved(alloc, path),
+        DeskFault::Unwritable => unreachable!(),
     }
 }

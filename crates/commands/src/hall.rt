@@ -1,6 +1,6 @@
 //! The command `hall`: lets up to 64 users in at a time, over one book, by the events of its input, and prints the log.
-ghost use Rattle.std.specs.Prelude.{ℕ, List, [], IfErr, OnOk};
-ghost use Rattle.commands.specs.Hall.{PrintsHallLog, RunsHall};
+ghost use Rattle.std.specs.Prelude.{ℕ, List, [], IfErr, IsErrOf, OnOk};
+ghost use Rattle.commands.specs.Hall.{CannotRunHall, PrintsHallLog, PrintsToBadEvent, RunsHall, RunsToBadEvent, StopsHearing};
 ghost use Rattle.commands.specs.PrintedLog.{StopsAfter};
 
 mod event;
@@ -11,15 +11,15 @@ use account_book::BookStore;
 use account_commands::held_book;
 use account_commands::held_book::HeldBook;
 use account_commands::input::Lines;
-use account_commands::progress::Watched;
-use account_commands::prompt::{EVENTS, Typed, ask};
+use account_commands::progress::TerminalOutput;
+use account_commands::prompt::{EVENTS, TerminalInput, ask};
 use book_file::Lockable;
 use clap::ArgMatches;
 use command_line::Fault;
 use command_line::value::OptionName;
 use command_words::given;
 use logged_hall::LoggedHall;
-use sasl_desk::laws::hall::{log_is_a_front, log_is_saved};
+use sasl_desk::laws::hall::{log_is_a_front, log_is_saved, phases_are_those_of_places};
 use std::alloc::Global;
 use std::fs::Files;
 use std::io::{BufRead, Write};
@@ -39,12 +39,17 @@ pub fn hall<R, I, O, E>(
 where
     R: Files + Clock + AllocGlobal,
     R::File: Lockable,
-    I: Typed,
+    I: TerminalInput,
     O: Write + Drop,
-    E: Watched,
-    ensures ok { OnOk result.0 (RunsHall R.File.remaining R.File.contents (I.remaining input.old) [] (O.contents output) (O.contents result.1)) }
+    E: TerminalOutput,
+    ensures ok { OnOk result.0 (RunsHall R.File.remaining R.File.contents (I.remaining input.old) []
+        (O.contents output) (O.contents result.1)) }
     ensures err { IfErr result.0 (λ fault. StopsAfter fault (O.contents output) (O.contents result.1)
-        ((last : List (List ℕ)) × RunsHall R.File.remaining R.File.contents (I.remaining input.old) last (O.contents output) (O.contents result.1))) }
+        ((last : List (List ℕ)) × RunsHall R.File.remaining R.File.contents (I.remaining input.old) last
+        (O.contents output) (O.contents result.1))) }
+    ensures bad { IsErrOf result.0 Fault.BadEvent
+        → RunsToBadEvent R.File.remaining R.File.contents (I.remaining input.old) (O.contents output) (O.contents result.1) }
+    ensures why { IfErr result.0 (CannotRunHall R.File.remaining words.now) }
 {
     match held_book::open(rt, given(words, OptionName::Book), faults) {
         Ok(held) => {
@@ -66,12 +71,18 @@ where
     S: BookStore + Drop,
     I: BufRead,
     O: Write + Drop,
-    ensures ok { OnOk result.0 (PrintsHallLog S.IsStored held.entry.book (I.remaining input.old) [] (O.contents output) (O.contents result.1)) }
+    ensures ok { OnOk result.0 (PrintsHallLog S.IsStored held.entry.book (I.remaining input.old) []
+        (O.contents output) (O.contents result.1)) }
     ensures err { IfErr result.0 (λ fault. StopsAfter fault (O.contents output) (O.contents result.1)
-        ((last : List (List ℕ)) × PrintsHallLog S.IsStored held.entry.book (I.remaining input.old) last (O.contents output) (O.contents result.1))) }
+        ((last : List (List ℕ)) × PrintsHallLog S.IsStored held.entry.book (I.remaining input.old) last
+        (O.contents output) (O.contents result.1))) }
+    ensures bad { IsErrOf result.0 Fault.BadEvent
+        → PrintsToBadEvent S.IsStored held.entry.book (I.remaining input.old) (O.contents output) (O.contents result.1) }
+    ensures why { IfErr result.0 (StopsHearing held.entry.path.now) }
 {
     log_is_a_front::<S>();
     log_is_saved::<S>();
+    phases_are_those_of_places::<S>();
     let mut lines = Lines::new(input);
     match LoggedHall::begin(alloc, held, PrintedLog::new(output)) {
         Ok(mut hall) => {

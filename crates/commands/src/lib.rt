@@ -15,6 +15,6 @@ mod sent;
 mod upgrade;
 mod verify;
 
-pub use account_commands::progress::Watched;
-pub use account_commands::prompt::Typed;
+pub use account_commands::progress::TerminalOutput;
+pub use account_commands::prompt::TerminalInput;
 pub use program::{USAGE, run};

@@ -1,22 +1,27 @@
 //! The command `login`: logs a user in to a service over a book, and prints the service's log.
-ghost use Rattle.std.specs.Prelude.{◌≡◌, true, ℕ, Bool, List, [], Option, Ok, IfSome, IfOk, IfErr, OnOk};
+ghost use Rattle.std.specs.Prelude.{◌≡◌, ◌⊎◌, true, ℕ, Bool, List, [], Option, Ok, Some, decimal, option_map, IfOk, IfErr, OnOk};
+ghost use Rattle.scram_text.specs.Class.{IsNoncePart};
 ghost use Rattle.book_format.specs.Book.{BookFields};
 ghost use Rattle.log_grammar.specs.Versions.{IsClean, IsFront};
 ghost use Rattle.sasl_desk.specs.Desks.{phase_of};
 ghost use Rattle.sasl_desk.specs.declared.desk.state.Phase.TheVariants as Phase;
 ghost use Rattle.commands.specs.declared.login.client_end.Stage.{Stage};
 ghost use Rattle.account_commands.specs.HeldBook.{IsReadBook};
-ghost use Rattle.account_commands.specs.Input.{TakesLine};
-ghost use Rattle.command_words.specs.Values.{value_of};
-ghost use Rattle.commands.specs.Login.{IsDeskLog, StaysItsLog, IsLogAfterFault, TalkPasses, PrintsPasses, PrintsPassesAsked, IsUserAsked, HasSavedLog, PrintsLogin};
+ghost use Rattle.account_commands.specs.BadValues.{HasBadPassword};
+ghost use Rattle.account_commands.specs.Input.{IsUnread, TakesLine};
+ghost use Rattle.command_words.specs.Values.{given_value, value_of};
+ghost use Rattle.commands.specs.Login.{IsDeskLog, StaysItsLog, StaysItsLogWith, IsLogAfterFault, IsLogAfterFaultWith, TalkPasses};
+ghost use Rattle.commands.specs.Login.{PrintsPasses, PrintsPassesAsked, IsGiven, IsUserAsked, HasSavedLog, PrintsLogin};
+ghost use Rattle.commands.specs.Login.{CannotLogIn, CannotPrepare, HasBadLoginValue, StopsTalking};
+ghost use Rattle.commands.specs.Nonces.{AreNonces};
 ghost use Rattle.commands.specs.Talked.{LogSays, talked_in};
 ghost use Rattle.commands.specs.PrintedLog.{StopsAfter};
 
 mod client_end;
+mod clock;
 mod code_line;
-mod moments;
+mod memory_sink;
 mod nonces;
-mod said;
 mod socket;
 mod talk;
 
@@ -25,43 +30,44 @@ use account_book::BookStore;
 use account_commands::held_book;
 use account_commands::held_book::HeldBook;
 use account_commands::input::Lines;
-use account_commands::progress::Watched;
-use account_commands::prompt::{LOGIN, Typed, ask};
+use account_commands::progress::TerminalOutput;
+use account_commands::prompt::{LOGIN, TerminalInput, ask};
 use book_file::{FileStore, Lockable};
 use clap::ArgMatches;
 use client_end::{ClientEnd, User};
+use clock::{GivenMoment, LoginClock};
 use command_line::value::OptionName;
 use command_line::{Fault, value};
 use command_words::{given, optional};
-use moments::Moments;
 use otp_core::Moment;
 use sasl_desk::laws::{log_is_a_front, log_is_clean, log_is_saved};
-use sasl_log::{Sink, Source};
+use sasl_log::{LONGEST_LINE, Sink, Source};
 use scram_text::{NoncePart, Password};
 use socket::Ends;
 use std::alloc::Global;
 use std::fs::Files;
 use std::io::{BufRead, Write};
+use std::marker::Brand;
 use std::net::Net;
 use std::time::Clock;
 use talk::Talk;
 
 /// The most bytes of a line of the protocol with its LF; more are not read.
-const MOST_WITH_LF: usize = 6201;
+const MOST_WITH_LF: usize = LONGEST_LINE + 1;
 
 // What the words say of a login.
 #[derive(Drop)]
 struct LoginOptions {
-    who: User,
+    user: User,
     client_nonce: Option<NoncePart>,
-    service_nonce: Option<NoncePart>,
+    server_nonce: Option<NoncePart>,
     moment: Option<Moment>,
 }
 
-// What a login begins with: the book, the client and the lines that it is to send, the service's part of the nonce, and the
-// moment where the words give one.
+// What a login begins with: the book, the client and the lines that it is to send, the service's part of the nonce, and the moment
+// of all codes, where one is given.
 #[derive(Drop)]
-struct Prepared<'a, S, I> {
+struct LoginSetup<'a, S, I> {
     held: HeldBook<'a, S>,
     client: ClientEnd,
     lines: Lines<'a, I>,
@@ -87,23 +93,25 @@ pub fn login<R, I, O, E>(
 where
     R: Files + Net + Clock + AllocGlobal,
     R::File: Lockable,
-    I: Typed,
+    I: TerminalInput,
     O: Write + Drop,
-    E: Watched,
-    ensures ok { OnOk result.0 (PrintsLogin R.File.remaining R.File.contents IsClean (O.contents output) (O.contents result.1)) }
-    // It answers true only where the log has a login of the user whom the words describe, by the nonce that they give, where they
-    // give one, and by the password that is the input's first line, and then nothing but passes, one for each line that is sent.
-    ensures passes { result.0 ≡ Ok true → PrintsPassesAsked words.now (I.remaining input.old) (O.contents output) (O.contents result.1) }
+    E: TerminalOutput,
+    ensures ok { OnOk result.0 (PrintsLogin R.File.remaining R.File.contents words.now IsClean (O.contents output) (O.contents result.1)) }
+    // It answers true only where the log has a login of the user whom the words describe, by the nonce that they give, or a fresh
+    // one where they give none, and by the password that is the input's first line, and then nothing but passes, one for each
+    // further line of the input. Of the answer false it promises no more than the log.
+    ensures passes { result.0 ≡ Ok true → PrintsPassesAsked R.File.remaining words.now (I.remaining input.old) (O.contents output)
+        (O.contents result.1) }
     ensures err { IfErr result.0 (λ fault. StopsAfter fault (O.contents output) (O.contents result.1)
-        (PrintsLogin R.File.remaining R.File.contents IsFront (O.contents output) (O.contents result.1))) }
+        (PrintsLogin R.File.remaining R.File.contents words.now IsFront (O.contents output) (O.contents result.1))) }
+    ensures why { IfErr result.0 (CannotLogIn R.File.remaining words.now (I.remaining input.old)) }
 {
     let login = match prepare(rt, words, input, faults) {
         Ok(login) => login,
         Err(fault) => return (Err(fault), output),
     };
-    let clock = Moments::new(rt, login.moment);
     match socket::open(rt, given(words, OptionName::Socket)) {
-        Ok((ends, _file)) => talk_over(rt.alloc(), login, &ends, clock, output),
+        Ok((ends, _file)) => talk_over::<Brand, R, _, _, _>(rt, login, &ends, output),
         Err(fault) => (Err(fault), output),
     }
 }
@@ -114,28 +122,32 @@ fn prepare<'a, R, I, E>(
     words: &'a ArgMatches<'_>,
     input: &'a mut I,
     faults: &mut E,
-) -> Result<Prepared<'a, FileStore<'a, R>, I>, Fault>
+) -> Result<LoginSetup<'a, FileStore<'a, R>, I>, Fault>
 where
     R: Files + Clock + AllocGlobal,
     R::File: Lockable,
-    I: Typed,
-    E: Watched,
+    I: TerminalInput,
+    E: TerminalOutput,
     ensures user { IfOk result (λ login. IsUserAsked words.now login.client.user) }
-    ensures nonce { IfOk result (λ login. IfSome (value_of words.now OptionName.ClientNonce) (λ given. login.client.nonce ≡ given)) }
+    ensures nonces { IfOk result (λ login. AreNonces R.File.remaining words.now login.client.nonce login.own) }
+    ensures moment { IfOk result (λ login. option_map decimal login.moment ≡ value_of words.now OptionName.Moment) }
     ensures password { IfOk result (λ login. (has_lf : Bool)
         × TakesLine (I.remaining input.old) login.client.password has_lf (I.remaining login.lines.input.now)) }
-    ensures book { IfOk result (λ login. IsReadBook R.File.remaining (⟦<FileStore<'a, R> as BookStore>⟧.facts login.held.store).saved login.held.book) }
+    ensures book { IfOk result (λ login. IsReadBook R.File.remaining (⟦<FileStore<'a, R> as BookStore>⟧.facts login.held.store).saved
+        login.held.book) }
+    ensures path { IfOk result (λ login. login.held.path.now ≡ given_value words.now OptionName.Book) }
+    ensures err { IfErr result (CannotPrepare R.File.remaining words.now (I.remaining input.old)) }
 {
-    let options = judge(words)?;
+    let options = read_options(words)?;
     ask(input, faults, LOGIN);
     let mut lines = Lines::new(input);
     let password = read_password(rt.alloc(), &mut lines)?;
     let held = held_book::open(rt, given(words, OptionName::Book), faults)?;
     let random = given(words, OptionName::Random);
-    let (nonce, own) = nonces::both(rt, random, options.client_nonce, options.service_nonce)?;
-    Ok(Prepared {
+    let (nonce, own) = nonces::both(rt, random, options.client_nonce, options.server_nonce)?;
+    Ok(LoginSetup {
         held,
-        client: ClientEnd::new(options.who, password, nonce),
+        client: ClientEnd::new(options.user, password, nonce),
         lines,
         own,
         moment: options.moment,
@@ -144,31 +156,38 @@ where
 
 // Lets the client of a login talk to a desk over the book, and prints the desk's log. Returns whether the client was logged in
 // and each code passed, and hands back the output.
-fn talk_over<S, I, C, O>(
-    alloc: Global,
-    login: Prepared<'_, S, I>,
+fn talk_over<G, R, S, I, O>(
+    rt: &R,
+    login: LoginSetup<'_, S, I>,
     ends: &Ends,
-    clock: C,
     output: O,
 ) -> (Result<bool, Fault>, O)
 where
+    G: GivenMoment,
+    R: Clock + AllocGlobal,
     S: BookStore + Drop,
     I: BufRead,
-    C: sasl_desk::Clock + Drop,
     O: Write + Drop,
-    ensures ok { OnOk result.0 (HasSavedLog S.IsStored IsClean login.entry.held.book (O.contents output) (O.contents result.1)) }
+    requires { login.moment ≡ G.moment }
+    ensures ok { OnOk result.0
+        (HasSavedLog S.IsStored (IsGiven G.moment) IsClean login.entry.held.book login.entry.own
+        (O.contents output) (O.contents result.1)) }
     ensures passes { result.0 ≡ Ok true → PrintsPasses login.entry.client.user login.entry.client.nonce login.entry.client.password
         (I.remaining login.entry.lines.input.now) (O.contents output) (O.contents result.1) }
     ensures err { IfErr result.0 (λ fault. StopsAfter fault (O.contents output) (O.contents result.1)
-        (HasSavedLog S.IsStored IsFront login.entry.held.book (O.contents output) (O.contents result.1))) }
+        (HasSavedLog S.IsStored (IsGiven G.moment) IsFront login.entry.held.book login.entry.own
+        (O.contents output) (O.contents result.1))) }
+    ensures why { IfErr result.0 (StopsTalking login.entry.held.path.now) }
 {
-    let Prepared {
+    let LoginSetup {
         held,
         client,
         mut lines,
         own,
-        moment: _,
+        moment,
     } = login;
+    let alloc = rt.alloc();
+    let clock = LoginClock::<R, G>::new(rt, moment);
     log_is_a_front::<S>();
     log_is_saved::<S>();
     match Talk::begin(alloc, held, ends.wires(), PrintedLog::new(output), clock) {
@@ -180,7 +199,7 @@ where
     }
 }
 
-// Lets the client log in, send its codes and go away. Returns whether it was logged in and each line that it sent passed; no
+// Lets the client log in, send its codes and go away. Returns whether it was logged in, and each line was sent and passed; no
 // session is open then. Faults: CannotReadInput, CannotWrite, CannotWriteOutput, Socket and NoMemory.
 fn converse<S, R, W, L, C, I>(
     alloc: Global,
@@ -200,13 +219,17 @@ where
     requires closed { phase_of talk.old.desk.state ≡ Phase.Closed }
     requires silent { client.stage ≡ Stage.Silent }
     ensures passes { result ≡ Ok true → TalkPasses client.user client.nonce client.password
-        (I.remaining lines.old.input.now) (I.remaining lines.new.input.now)
+        (I.remaining lines.old.input.now)
         (talked_in R.facts W.facts L.facts talk.old) (talked_in R.facts W.facts L.facts talk.new) }
-    ensures log { OnOk result (StaysItsLog S.facts S.IsStored talk.old.desk (L.facts talk.old.log) talk.new.desk (L.facts talk.new.log)) }
+    ensures log { OnOk result (StaysItsLogWith S.facts S.IsStored C.IsNow own
+        talk.old.desk (L.facts talk.old.log) talk.new.desk (L.facts talk.new.log)) }
     ensures closed { OnOk result (phase_of talk.new.desk.state ≡ Phase.Closed) }
-    ensures clean { OnOk result ((start : BookFields) (before : Option (List ℕ)) → IsDeskLog S.facts S.IsStored start before talk.old.desk (L.facts talk.old.log)
-        → HasSavedLog S.IsStored IsClean start before (L.facts talk.new.log).given) }
-    ensures after_fault { IfErr result (IsLogAfterFault S.facts S.IsStored talk.old.desk (L.facts talk.old.log) talk.new.desk (L.facts talk.new.log)) }
+    ensures clean { OnOk result ((start : BookFields) (before : Option (List ℕ)) → IsDeskLog S.facts S.IsStored C.IsNow start before own
+        talk.old.desk (L.facts talk.old.log)
+        → HasSavedLog S.IsStored C.IsNow IsClean start own before (L.facts talk.new.log).given) }
+    ensures after_fault { IfErr result (IsLogAfterFaultWith S.facts S.IsStored C.IsNow own
+        talk.old.desk (L.facts talk.old.log) talk.new.desk (L.facts talk.new.log)) }
+    ensures err { IfErr result (StopsTalking talk.old.path.now) }
 {
     log_is_clean::<S>();
     log_is_saved::<S>();
@@ -216,7 +239,7 @@ where
 }
 
 // Lets the client go away, where its session is still open; the desk says nothing to that. Faults: those of a turn.
-#[tactic(auto, using(crate::proofs::Told::says_none))]
+#[tactic(auto, using(crate::proofs::lemmas::Told::says_none))]
 fn hang_up<S, R, W, L, C>(
     alloc: Global,
     talk: &mut Talk<'_, S, R, W, L, C>,
@@ -230,56 +253,64 @@ where
     C: sasl_desk::Clock + Drop,
     ensures client { talk.new.wires.of_client ≡ talk.old.wires.of_client }
     ensures silent { OnOk result (LogSays (L.facts talk.old.log).given (L.facts talk.new.log).given []) }
-    ensures log { OnOk result (StaysItsLog S.facts S.IsStored talk.old.desk (L.facts talk.old.log) talk.new.desk (L.facts talk.new.log)) }
+    ensures log { OnOk result (StaysItsLog S.facts S.IsStored C.IsNow talk.old.desk (L.facts talk.old.log)
+        talk.new.desk (L.facts talk.new.log)) }
     ensures closed { OnOk result (phase_of talk.new.desk.state ≡ Phase.Closed) }
-    ensures after_fault { IfErr result (IsLogAfterFault S.facts S.IsStored talk.old.desk (L.facts talk.old.log) talk.new.desk (L.facts talk.new.log)) }
+    ensures after_fault { IfErr result (IsLogAfterFault S.facts S.IsStored C.IsNow talk.old.desk (L.facts talk.old.log)
+        talk.new.desk (L.facts talk.new.log)) }
+    ensures err { IfErr result (StopsTalking talk.old.path.now) }
 {
-    if !talk.is_open() {
+    if talk.is_closed() {
         return Ok(());
     }
     ends.hang_up()?;
     let said = talk.turn(alloc)?;
-    if talk.is_open() || !said.is_empty() {
+    if !talk.is_closed() || !said.is_empty() {
         return Err(Fault::Socket);
     }
     Ok(())
 }
 
 // Judges the options that are not taken as they are, in their order.
-fn judge(words: &ArgMatches<'_>) -> Result<LoginOptions, Fault>
-    ensures user { IfOk result (λ options. IsUserAsked words.now options.who) }
+fn read_options(words: &ArgMatches<'_>) -> Result<LoginOptions, Fault>
+    ensures user { IfOk result (λ options. IsUserAsked words.now options.user) }
     ensures nonce { IfOk result (λ options. options.client_nonce ≡ value_of words.now OptionName.ClientNonce) }
+    ensures own { IfOk result (λ options. options.server_nonce ≡ value_of words.now OptionName.ServerNonce) }
+    ensures moment { IfOk result (λ options. option_map decimal options.moment ≡ value_of words.now OptionName.Moment) }
+    ensures err { IfErr result (HasBadLoginValue words.now) }
 {
     let name = value::name(given(words, OptionName::Name))?;
     let mechanism = match optional(words, OptionName::Mechanism) {
         Some(text) => Some(value::mechanism(text)?),
         None => None,
     };
-    let act_as = match optional(words, OptionName::As) {
-        Some(text) => Some(value::name_to_act_as(text)?),
+    let authzid = match optional(words, OptionName::As) {
+        Some(text) => Some(value::authzid(text)?),
         None => None,
     };
     let client_nonce = optional_nonce(words, OptionName::ClientNonce)?;
-    let service_nonce = optional_nonce(words, OptionName::ServerNonce)?;
+    let server_nonce = optional_nonce(words, OptionName::ServerNonce)?;
     let moment = match optional(words, OptionName::Moment) {
         Some(text) => Some(value::moment(OptionName::Moment, text)?),
         None => None,
     };
     Ok(LoginOptions {
-        who: User {
+        user: User {
             mechanism,
             name,
-            act_as,
+            authzid,
         },
         client_nonce,
-        service_nonce,
+        server_nonce,
         moment,
     })
 }
 
 // The nonce that an option gives, or None where it is not given. Answers BadValue where it is none.
 fn optional_nonce(words: &ArgMatches<'_>, option: OptionName) -> Result<Option<NoncePart>, Fault>
-    ensures { IfOk result (λ nonce. nonce ≡ value_of words.now option) }
+    ensures ok { IfOk result (λ nonce. nonce ≡ value_of words.now option) }
+    ensures err { IfErr result (λ fault. (fault ≡ Fault.BadValue option)
+        × ((text : List ℕ) × (value_of words.now option ≡ Some text) × (IsNoncePart text → ⊥))) }
 {
     match optional(words, option) {
         Some(text) => Ok(Some(value::nonce(option, text)?)),
@@ -289,8 +320,9 @@ fn optional_nonce(words: &ArgMatches<'_>, option: OptionName) -> Result<Option<N
 
 // Reads the first line, which is the password. BadPassword also where there is no line.
 fn read_password<I: BufRead>(alloc: Global, lines: &mut Lines<'_, I>) -> Result<Password, Fault>
-    ensures { IfOk result (λ password. (has_lf : Bool)
+    ensures ok { IfOk result (λ password. (has_lf : Bool)
         × TakesLine (I.remaining lines.old.input.now) password has_lf (I.remaining lines.new.input.now)) }
+    ensures err { IfErr result (λ fault. IsUnread fault ⊎ HasBadPassword (I.remaining lines.old.input.now) fault) }
 {
     let Some(line) = lines.next(alloc)? else {
         return Err(Fault::BadPassword);

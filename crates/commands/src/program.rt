@@ -3,16 +3,24 @@ ghost use Rattle.std.specs.Prelude.{◌≡◌, ◌≤◌, ◌⊎◌, ℕ, List, 
 ghost use Rattle.std.specs.Io.KnownBytes.{Appends};
 ghost use Rattle.clap.specs.Words.{kind_of, subcommand_rows_of};
 ghost use Rattle.command_line.specs.Fault.{status_of};
-ghost use Rattle.commands.specs.Program.{answer_status, EndsCommand, EndsRun, Explains, StopsCommand};
+ghost use Rattle.command_words.specs.Commands.{NamesCommand};
+ghost use Rattle.commands.specs.Program.{answer_status, EndsCommand, EndsRun, Explains};
 
-use crate::{audit, hall, login, upgrade, verify};
-use account_commands::progress::Watched;
-use account_commands::prompt::Typed;
-use account_commands::{code, enrol, keys, unlock};
+use crate::audit::audit;
+use crate::hall::hall;
+use crate::login::login;
+use crate::upgrade::upgrade;
+use crate::verify::verify;
+use account_commands::code::code;
+use account_commands::enrol::enrol;
+use account_commands::keys::keys;
+use account_commands::progress::TerminalOutput;
+use account_commands::prompt::TerminalInput;
+use account_commands::unlock::unlock;
 use book_file::Lockable;
 use clap::error::ErrorKind;
 use clap::{ArgMatches, Error};
-use command_line::{Fault, Shown};
+use command_line::{Fault, TerminalText};
 use command_words::{scramotp, usage_text};
 use std::alloc::Global;
 use std::convert::AsStr;
@@ -35,9 +43,9 @@ where
     R: Files + Net + Clock + AllocGlobal,
     R::File: Lockable,
     S: AsStr,
-    I: Typed,
+    I: TerminalInput,
     O: Write + Drop,
-    E: Watched,
+    E: TerminalOutput,
     ensures most { result.0 ≤ 3 }
     ensures ends { EndsRun R.File.remaining R.File.contents (map S.text words.now) result.0 (I.remaining input.old) (O.contents output)
         (O.contents result.1) }
@@ -106,10 +114,9 @@ fn refuse<S: AsStr, E: Write>(alloc: Global, words: &[S], faults: &mut E) -> u8
     }
 }
 
-// Runs the command of the matches, flushes what it printed, and hands back the output. Returns the status: 0, or another where
-// a code or a login was refused, or a log is not clean; USAGE where the matches name no command. Faults: those of the command,
-// and CannotWriteOutput.
-fn dispatch<R, I, O, E>(
+// Runs the command that the matches name, flushes what it printed, and hands back the output. Returns the status: 0, or another
+// where a code or a login was refused, or a log is not clean. Faults: those of the command, and CannotWriteOutput.
+fn dispatch<R, I: TerminalInput, O: Write + Drop, E: TerminalOutput>(
     rt: &R,
     matches: &ArgMatches<'_>,
     input: &mut I,
@@ -119,14 +126,10 @@ fn dispatch<R, I, O, E>(
 where
     R: Files + Net + Clock + AllocGlobal,
     R::File: Lockable,
-    I: Typed,
-    O: Write + Drop,
-    E: Watched,
+    requires { NamesCommand (subcommand_rows_of matches.now) }
     ensures most { IfOk result.0 (λ status. status ≤ 3) }
-    ensures ok { IfOk result.0 (λ status. EndsCommand R.File.remaining R.File.contents (subcommand_rows_of matches.now) status
-        (I.remaining input.old) (O.contents output) (O.contents result.1)) }
-    ensures err { IfErr result.0 (λ fault. StopsCommand R.File.remaining R.File.contents (subcommand_rows_of matches.now) fault
-        (I.remaining input.old) (O.contents output) (O.contents result.1)) }
+    ensures ends { EndsCommand R.File.remaining R.File.contents (subcommand_rows_of matches.now) result.0 (I.remaining input.old)
+        (O.contents output) (O.contents result.1) }
 {
     let (ended, mut output) = run_command(rt, matches, input, output, faults);
     match ended {
@@ -139,7 +142,7 @@ where
 }
 
 // As `dispatch`, but for the flush.
-fn run_command<R, I, O, E>(
+fn run_command<R, I: TerminalInput, O: Write + Drop, E: TerminalOutput>(
     rt: &R,
     matches: &ArgMatches<'_>,
     input: &mut I,
@@ -149,42 +152,33 @@ fn run_command<R, I, O, E>(
 where
     R: Files + Net + Clock + AllocGlobal,
     R::File: Lockable,
-    I: Typed,
-    O: Write + Drop,
-    E: Watched,
+    requires { NamesCommand (subcommand_rows_of matches.now) }
     ensures most { IfOk result.0 (λ status. status ≤ 3) }
-    ensures ok { IfOk result.0 (λ status. EndsCommand R.File.remaining R.File.contents (subcommand_rows_of matches.now) status
-        (I.remaining input.old) (O.contents output) (O.contents result.1)) }
-    ensures err { IfErr result.0 (λ fault. StopsCommand R.File.remaining R.File.contents (subcommand_rows_of matches.now) fault
-        (I.remaining input.old) (O.contents output) (O.contents result.1)) }
+    ensures ends { EndsCommand R.File.remaining R.File.contents (subcommand_rows_of matches.now) result.0 (I.remaining input.old)
+        (O.contents output) (O.contents result.1) }
 {
+    let alloc = rt.alloc();
     let mut output = output;
     match matches.subcommand() {
-        Some(("keys", words)) => {
-            let ended = keys::keys(rt.alloc(), words, input, &mut output, faults);
-            (done(ended), output)
-        }
-        Some(("enrol", words)) => {
-            let ended = enrol::enrol(rt, words, input, &mut output, faults);
-            (done(ended), output)
-        }
-        Some(("code", words)) => (done(code::code(rt.alloc(), words, &mut output)), output),
-        Some(("verify", words)) => {
-            let passed = verify::verify(rt, words, input, &mut output, faults);
-            (answered(passed), output)
-        }
-        Some(("unlock", words)) => (done(unlock::unlock(rt, words, &mut output, faults)), output),
+        Some(("keys", words)) => (done(keys(alloc, words, input, &mut output, faults)), output),
+        Some(("enrol", words)) => (done(enrol(rt, words, input, &mut output, faults)), output),
+        Some(("code", words)) => (done(code(alloc, words, &mut output)), output),
+        Some(("verify", words)) => (
+            answered(verify(rt, words, input, &mut output, faults)),
+            output,
+        ),
+        Some(("unlock", words)) => (done(unlock(rt, words, &mut output, faults)), output),
         Some(("login", words)) => {
-            let (passed, output) = login::login(rt, words, input, output, faults);
+            let (passed, output) = login(rt, words, input, output, faults);
             (answered(passed), output)
         }
         Some(("hall", words)) => {
-            let (ended, output) = hall::hall(rt, words, input, output, faults);
+            let (ended, output) = hall(rt, words, input, output, faults);
             (done(ended), output)
         }
-        Some(("audit", words)) => (audit::audit(rt, words, &mut output, faults), output),
-        Some(("upgrade", words)) => (upgrade::upgrade(rt, words, &mut output, faults), output),
-        _ => (Ok(USAGE), output),
+        Some(("audit", words)) => (audit(rt, words, &mut output, faults), output),
+        Some(("upgrade", words)) => (upgrade(rt, words, &mut output, faults), output),
+        _ => unreachable!(),
     }
 }
 
@@ -214,7 +208,7 @@ fn report<E: Write>(alloc: Global, faults: &mut E, fault: Fault) -> u8
     ensures { result ≡ status_of fault }
 {
     let _ = match format!(in alloc; "{fault}") {
-        Ok(text) => writeln!(faults, "scramotp: {}", Shown(text.as_str())),
+        Ok(text) => writeln!(faults, "scramotp: {}", TerminalText(text.as_str())),
         Err(_) => writeln!(faults, "scramotp: {}", Fault::NoMemory),
     };
     let _ = faults.flush();

@@ -1,7 +1,8 @@
 //! The command `verify`: judges each input line as a one-time code, or as two in a row.
 ghost use Rattle.std.specs.Prelude.{◌≡◌, ◌⊎◌, ◌&&◌, IfOk, IfErr, OnOk};
 ghost use Rattle.std.specs.Io.KnownBytes.{Appends};
-ghost use Rattle.commands.specs.Verify.{is_passed, printed_reply, run_of, IsLineAnswered, IsUnprinted, CannotBegin, FailsAtLine, AnswersAllLines, AnswersFirstLines, VerifiesAllLines, VerifiesFirstLines};
+ghost use Rattle.commands.specs.Verify.{is_passed, printed_reply, run_of, IsLineAnswered, IsUnprinted, CannotBegin, FailsAtLine};
+ghost use Rattle.commands.specs.Verify.{AnswersAllLines, AnswersFirstLines, VerifiesAllLines, VerifiesFirstLines};
 
 use crate::reply;
 use crate::sent::sent_by;
@@ -9,8 +10,8 @@ use account_book::{BookStore, Reply};
 use account_commands::held_book;
 use account_commands::held_book::HeldBook;
 use account_commands::input::Lines;
-use account_commands::progress::Watched;
-use account_commands::prompt::{CODES, Typed, ask};
+use account_commands::progress::TerminalOutput;
+use account_commands::prompt::{CODES, TerminalInput, ask};
 use book_file::Lockable;
 use clap::ArgMatches;
 use command_line::value::OptionName;
@@ -37,11 +38,11 @@ pub fn verify<R, I, O, E>(
 where
     R: Files + Clock + AllocGlobal,
     R::File: Lockable,
-    I: Typed,
+    I: TerminalInput,
     O: Write,
-    E: Watched,
-    ensures ok { IfOk result (λ all_passed. VerifiesAllLines R.File.remaining R.File.contents words.now (I.remaining input.old) (O.contents output.old) all_passed
-        (O.contents output.new)) }
+    E: TerminalOutput,
+    ensures ok { IfOk result (λ all_passed. VerifiesAllLines R.File.remaining R.File.contents words.now (I.remaining input.old)
+        (O.contents output.old) all_passed (O.contents output.new)) }
     ensures err { IfErr result (λ fault. (CannotBegin R.File.remaining words.now fault × (O.contents output.new ≡ O.contents output.old))
         ⊎ VerifiesFirstLines R.File.remaining R.File.contents words.now (I.remaining input.old) (O.contents output.old) fault
         (O.contents output.new)) }

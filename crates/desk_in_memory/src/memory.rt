@@ -41,8 +41,6 @@ impl Memory {
 }
 
 impl BookStore for Memory {
-    ghost use Rattle.account_book.specs.Store.{StoreFacts};
-
     ghost facts = { λ s. record {
       saved = string_bytes s.saved;
       asked = unwrap_or (option_map string_bytes s.asked) (string_bytes s.saved);

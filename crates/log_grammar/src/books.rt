@@ -3,7 +3,7 @@
 ghost use Rattle.std.specs.Prelude.{ℕ, ◌↔◌, List, []};
 ghost use Rattle.book_format.specs.Book.{BookFields, IsBook};
 ghost use Rattle.log_grammar.specs.Bytes.{IsCut};
-ghost use Rattle.log_grammar.specs.Demands.{AreFit};
+ghost use Rattle.log_grammar.specs.Demands.{AllCanBeChallenged};
 ghost use Rattle.log_grammar.specs.Books.{accounts_in};
 ghost use Rattle.log_grammar.specs.Versions.{IsFront, IsFaultLine, BeginsClean, IsFirstToBeginNoClean};
 
@@ -12,12 +12,13 @@ use crate::laws::fronts_begin_clean;
 
 /// A challenge can be written for each account of a book, and for each decoy.
 pub fn books_are_fit()
-    ensures { (book : BookFields) → IsBook book → AreFit (accounts_in book) }
+    ensures { (book : BookFields) → IsBook book → AllCanBeChallenged (accounts_in book) }
 {}
 
 /// Each front begins a clean log, for every account book: what a log may begin with can be completed to a clean log.
 pub fn fronts_of_books_begin_clean()
-    ensures { (book : BookFields) → IsBook book → (bytes : List ℕ) → IsFront (accounts_in book) bytes → BeginsClean (accounts_in book) bytes }
+    ensures { (book : BookFields) → IsBook book → (bytes : List ℕ) → IsFront (accounts_in book) bytes
+        → BeginsClean (accounts_in book) bytes }
 {
     fronts_begin_clean();
     books_are_fit();

@@ -3,12 +3,12 @@ ghost use Rattle.std.specs.Prelude.{ℕ, ◌≡◌, ◌⊎◌, ◌↔◌, List, 
 ghost use Rattle.log_grammar.specs.Payload.{IsMessage};
 ghost use Rattle.log_grammar.specs.Lines.{Line, LogLine, client_text, resp, IsLine, IsLogLine, IsNoLogLine};
 ghost use Rattle.log_grammar.specs.Bytes.{ended_by_lf, IsCut};
-ghost use Rattle.log_grammar.specs.Told.{Told};
+ghost use Rattle.log_grammar.specs.LoggedReply.{LoggedReply};
 ghost use Rattle.log_grammar.specs.Places.{Place};
 ghost use Rattle.log_grammar.specs.Demands.{Accounts, demands, AreReplies};
 ghost use Rattle.log_grammar.specs.laws.Histories.{IsHistory};
-ghost use Rattle.log_grammar.specs.state_machine.Steps.{Goes, told_at};
-ghost use Rattle.log_grammar.specs.Clean.{Spells, Begins, AreLines};
+ghost use Rattle.log_grammar.specs.state_machine.Steps.{IsTransition, told_at};
+ghost use Rattle.log_grammar.specs.Begins.{Spells, Begins, AreLines};
 ghost use Rattle.log_grammar.specs.Versions.{IsFront, IsClean, IsFaultLine, IsWhy};
 ghost use Rattle.log_grammar.specs.Why.{Why};
 
@@ -51,10 +51,11 @@ pub fn lines_bear_one_message()
 /// What a log begins with goes on by a line exactly where the line may stand at its place, with the reply that is
 /// due where it is one: what a reader and a writer of a log have to decide at each line, its ranges aside.
 pub fn logs_go_on_exactly_so()
-    ensures { (accounts : Accounts) (log : List LogLine) (place : Place) (told : List Told) (line : LogLine) (next : Place) (all : List Told)
+    ensures { (accounts : Accounts) (log : List LogLine) (place : Place) (told : List LoggedReply) (line : LogLine) (next : Place)
+        (all : List LoggedReply)
         → Begins (demands accounts) log place told
         → Begins (demands accounts) (log ++ line ∷ []) next all
-        ↔ (Goes (demands accounts) place line next × AreReplies (demands accounts) (reverse told) (told_at place line)
+        ↔ (IsTransition (demands accounts) place line next × AreReplies (demands accounts) (reverse told) (told_at place line)
         × (all ≡ told ++ told_at place line)) }
 {
     goes_on_by_a_line();
@@ -103,7 +104,7 @@ pub fn each_log_has_one_answer()
 /// In a log that is read from bytes, what was told of each account is a legal history of its token; where it has no
 /// token, each code was told to have no reply.
 pub fn logs_have_legal_histories()
-    ensures { (accounts : Accounts) (bytes : List ℕ) (lines : List LogLine) (rest : List ℕ) (place : Place) (told : List Told)
+    ensures { (accounts : Accounts) (bytes : List ℕ) (lines : List LogLine) (rest : List ℕ) (place : Place) (told : List LoggedReply)
         → AreLines bytes lines rest → Spells (demands accounts) lines place told
         → (account : List ℕ) → IsHistory (accounts.token account) account told }
 {

@@ -3,20 +3,22 @@
 ghost use Rattle.std.specs.Prelude.{ℕ, ◌≡◌, ◌<◌, ◌≤◌, ◌+◌, List, [], ◌∷◌, ◌++◌, length, codes, flat_map, Some};
 ghost use Rattle.otp_core.specs.Ranges.{IsDigitCount, IsMoment};
 ghost use Rattle.otp_core.specs.declared.token.answer.Reply.TheVariants.{Pass, Fail};
-ghost use Rattle.otp_core.specs.declared.token.kinds.Fields.TheVariants.{Hotp, Totp};
+ghost use Rattle.otp_core.specs.declared.token.kinds.TokenFields.TheVariants.{Hotp, Totp};
 ghost use Rattle.otp_core.specs.declared.token.kinds.HotpFields.{HotpFields};
 ghost use Rattle.otp_core.specs.declared.token.kinds.TotpFields.{TotpFields};
 ghost use Rattle.log_grammar.specs.Words.{IsCodeWord, IsCounter};
-ghost use Rattle.log_grammar.specs.Lines.{LogLine, header, said, heard, gone, ended, mechs, cont, accepts, replies, auth_with, resp, code, sync};
+ghost use Rattle.log_grammar.specs.Lines.{LogLine, header, said, heard, gone, ended, mechs, cont, accepts, replies, auth_with, resp, code};
+ghost use Rattle.log_grammar.specs.Lines.{sync};
 ghost use Rattle.log_grammar.specs.Bytes.{LacksLf, ended_by_lf};
 ghost use Rattle.log_grammar.specs.Counts.{counts_of};
-ghost use Rattle.log_grammar.specs.Told.{Told};
+ghost use Rattle.log_grammar.specs.LoggedReply.{LoggedReply};
 ghost use Rattle.log_grammar.specs.Places.{Place, halted};
 ghost use Rattle.log_grammar.specs.Demands.{Accounts, demands};
 ghost use Rattle.log_grammar.specs.Sessions.{Session, session_lines};
-ghost use Rattle.log_grammar.specs.Clean.{Begins};
+ghost use Rattle.log_grammar.specs.Begins.{Begins};
 ghost use Rattle.log_grammar.specs.Versions.{IsClean, IsWhy};
-ghost use Rattle.log_grammar.specs.Why.{LineClass, IsClassDue, is_cut, no_line, out_of_order, other_mechs, other_challenge, other_outcome, other_reply, refused_with};
+ghost use Rattle.log_grammar.specs.Why.{LineClass, IsClassDue, is_cut, no_line, out_of_order, other_mechs, other_challenge, other_outcome};
+ghost use Rattle.log_grammar.specs.Why.{other_reply, refused_with};
 ghost use Rattle.log_grammar.specs.Upgrades.{original_text};
 ghost use Rattle.log_grammar.specs.laws.Logins.{Exchange, IsLoginTo, login_session};
 ghost use Rattle.log_grammar.specs.laws.Replies.{passes, next_two};
@@ -100,11 +102,11 @@ pub fn faulty_logs()
 
 /// A log that ends with a halt is clean, and whatever line follows one is at fault: nothing is due after it.
 pub fn halt_is_last()
-    ensures clean { (accounts : Accounts) (texts : List (List ℕ)) (log : List LogLine) (told : List Told)
+    ensures clean { (accounts : Accounts) (texts : List (List ℕ)) (log : List LogLine) (told : List LoggedReply)
         → AreWhole texts log → Begins (demands accounts) log halted told → IsClean accounts (ended_by_lf texts) }
-    ensures none { (accounts : Accounts) (log : List LogLine) (told : List Told) (class : LineClass)
+    ensures none { (accounts : Accounts) (log : List LogLine) (told : List LoggedReply) (class : LineClass)
         → Begins (demands accounts) log halted told → IsClassDue log class → ⊥ }
-    ensures more { (accounts : Accounts) (texts : List (List ℕ)) (log : List LogLine) (told : List Told)
+    ensures more { (accounts : Accounts) (texts : List (List ℕ)) (log : List LogLine) (told : List LoggedReply)
         (text : List ℕ) (line : LogLine) → AreWhole (texts ++ text ∷ []) (log ++ line ∷ [])
         → Begins (demands accounts) log halted told
         → IsWhy accounts (ended_by_lf (texts ++ text ∷ [])) (length texts + 1) out_of_order }
@@ -123,18 +125,22 @@ pub fn lines_end_with_lf()
 /// After whole lines that a log may begin with, bytes without an LF are a log that is cut, up to 6202 bytes, and
 /// then no line; and a whole line of more bytes is none. A part of a line after a halt is such a cut too.
 pub fn lines_have_6202_bytes_at_most()
-    ensures part { (accounts : Accounts) (texts : List (List ℕ)) (log : List LogLine) (place : Place) (told : List Told) (rest : List ℕ)
+    ensures part { (accounts : Accounts) (texts : List (List ℕ)) (log : List LogLine) (place : Place) (told : List LoggedReply)
+        (rest : List ℕ)
         → AreWhole texts log → Begins (demands accounts) log place told → LacksLf rest → 1 ≤ length rest → length rest ≤ 6202
         → IsWhy accounts (ended_by_lf texts ++ rest) (length texts + 1) is_cut }
-    ensures long_part { (accounts : Accounts) (texts : List (List ℕ)) (log : List LogLine) (place : Place) (told : List Told) (rest : List ℕ)
+    ensures long_part { (accounts : Accounts) (texts : List (List ℕ)) (log : List LogLine) (place : Place) (told : List LoggedReply)
+        (rest : List ℕ)
         → AreWhole texts log → Begins (demands accounts) log place told → LacksLf rest → 6203 ≤ length rest
         → IsWhy accounts (ended_by_lf texts ++ rest) (length texts + 1) no_line }
-    ensures long_line { (accounts : Accounts) (texts : List (List ℕ)) (log : List LogLine) (place : Place) (told : List Told) (text : List ℕ)
+    ensures long_line { (accounts : Accounts) (texts : List (List ℕ)) (log : List LogLine) (place : Place) (told : List LoggedReply)
+        (text : List ℕ)
         → AreWhole texts log → Begins (demands accounts) log place told → LacksLf text → 6203 ≤ length text
         → IsWhy accounts (ended_by_lf (texts ++ text ∷ [])) (length texts + 1) no_line }
     ensures second { (accounts : Accounts) (text : List ℕ) → LacksLf text → 6203 ≤ length text
         → IsWhy accounts (ended_by_lf (first_text ∷ text ∷ [])) 2 no_line }
-    ensures second_part { (accounts : Accounts) (rest : List ℕ) → LacksLf rest → 6203 ≤ length rest → IsWhy accounts (first_alone ++ rest) 2 no_line }
+    ensures second_part { (accounts : Accounts) (rest : List ℕ) → LacksLf rest → 6203 ≤ length rest
+        → IsWhy accounts (first_alone ++ rest) 2 no_line }
     ensures second_cut { (accounts : Accounts) (rest : List ℕ) → LacksLf rest → 1 ≤ length rest → length rest ≤ 6202
         → IsWhy accounts (first_alone ++ rest) 2 is_cut }
 {}
@@ -169,7 +175,8 @@ pub fn logs_of_two_codes()
         → t.failures < t.limit → IsDigitCount t.digits → IsCounter (t.next + 1) → IsWhy accounts
         (original_text (login_session mechanism exchange ++ next_two t ∷ passes moment t.next ∷ [])) 8
         (other_reply moment (Some (Pass (t.next + 1)))) }
-    ensures of_totp { (accounts : Accounts) (mechanism name : List ℕ) (exchange : Exchange) (first second : List ℕ) (moment counter : ℕ) (t : TotpFields)
+    ensures of_totp { (accounts : Accounts) (mechanism name : List ℕ) (exchange : Exchange) (first second : List ℕ) (moment counter : ℕ)
+        (t : TotpFields)
         → IsLoginTo accounts mechanism name exchange → IsMoment moment → accounts.token name ≡ Some (Totp t)
         → t.failures < t.limit → IsCodeWord first → IsCodeWord second → IsCounter counter → IsWhy accounts
         (original_text (login_session mechanism exchange ++ heard (sync first second) ∷ passes moment counter ∷ [])) 8

@@ -1,6 +1,7 @@
 //! What an audit's answer means: a clean log is that of sessions, and the line at fault is the first that begins no
 //! clean log.
-ghost use Rattle.log_grammar.specs.laws.Headline.{CleanLogsAreThoseOfSessions, FrontsAreWhatBeginsCleanLogs, FaultLinesBeginNoCleanLog, EachCodeIsOfItsLogin, EachCodeHasItsLogin};
+ghost use Rattle.log_grammar.specs.laws.Headline.{CleanLogsAreThoseOfSessions, FrontsAreWhatBeginsCleanLogs, FaultLinesBeginNoCleanLog};
+ghost use Rattle.log_grammar.specs.laws.Headline.{EachCodeIsOfItsLogin, EachCodeHasItsLogin};
 
 use crate::laws::fronts_begin_clean;
 

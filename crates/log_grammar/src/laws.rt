@@ -1,6 +1,9 @@
 //! Laws of lines and logs, for proofs that rest on this crate: each is the promise of a function that does nothing.
-ghost use Rattle.log_grammar.specs.laws.LineLaws.{EscapesOneMessage, IsOneLine, IsOneLogLine, LineIsDecided, LogLineIsDecided, WrittenLinesAreRead, LinesLackLf, AreCut, AreCutOneWay};
-ghost use Rattle.log_grammar.specs.laws.LogLaws.{GoesOnByALine, GoesOnByNoOther, HasOneReading, FrontsBeginWithFronts, CleanLogsAreFronts, EachAccountHasItsHistory, MomentsAreInRange, HasOneFaultLine, HasOneWhy, EachLogIsJudged, ClassesFollowThePlace, FrontsBeginClean};
+ghost use Rattle.log_grammar.specs.laws.LineLaws.{EscapesOneMessage, EachTextIsAtMostOneLine, IsOneLogLine, LineIsDecided};
+ghost use Rattle.log_grammar.specs.laws.LineLaws.{LogLineIsDecided, WrittenLinesAreRead, LinesLackLf, BytesAreCut, BytesAreCutOneWay};
+ghost use Rattle.log_grammar.specs.laws.LogLaws.{GoesOnByALine, GoesOnByNoOther, LogsHaveOneReading, FrontsBeginWithFronts};
+ghost use Rattle.log_grammar.specs.laws.LogLaws.{CleanLogsAreFronts, EachAccountHasItsHistory, MomentsAreInRange, HasOneFaultLine};
+ghost use Rattle.log_grammar.specs.laws.LogLaws.{EachFaultHasOneReason, EachLogIsJudged, ClassesFollowThePlace, FrontsBeginClean};
 
 use otp_core::laws::{only_one_reply_is_due, some_reply_is_due};
 use scram_ends::laws::{at_most_one_verdict_is_due, some_verdict_is_due};
@@ -16,7 +19,7 @@ pub fn escapes_one_message()
 
 /// A text is at most one line of the protocol.
 pub fn is_one_line()
-    ensures { IsOneLine }
+    ensures { EachTextIsAtMostOneLine }
 {}
 
 /// A text is at most one line of a log.
@@ -50,12 +53,12 @@ pub fn lines_lack_lf()
 
 /// All bytes are lines, each with its LF, and what follows the last LF.
 pub fn are_cut()
-    ensures { AreCut }
+    ensures { BytesAreCut }
 {}
 
 /// Bytes are cut into lines in one way.
 pub fn are_cut_one_way()
-    ensures { AreCutOneWay }
+    ensures { BytesAreCutOneWay }
 {}
 
 /// At a place where a line may stand, with the reply that is due where it is one, a log goes on with it.
@@ -70,7 +73,7 @@ pub fn goes_on_by_no_other()
 
 /// The place after a log's lines, and what was told in them, follow from the lines.
 pub fn has_one_reading()
-    ensures { HasOneReading }
+    ensures { LogsHaveOneReading }
 {
     has_one_client_first();
     spells_one_name();
@@ -104,7 +107,7 @@ pub fn has_one_fault_line()
 
 /// There is at most one reason why a line is at fault.
 pub fn has_one_why()
-    ensures { HasOneWhy }
+    ensures { EachFaultHasOneReason }
 {
     has_one_client_first();
     spells_one_name();

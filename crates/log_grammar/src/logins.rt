@@ -1,12 +1,13 @@
 //! Logins in a log: an `S OK` is the last message of a valid login, and each valid login can be recorded.
-ghost use Rattle.std.specs.Prelude.{ℕ, List, [], ◌∷◌, ◌++◌, codes};
+ghost use Rattle.std.specs.Prelude.{ℕ, List, [], ◌∷◌, ◌++◌};
 ghost use Rattle.mac_core.specs.declared.mechanism.Mechanism.{Mechanism};
 ghost use Rattle.scram_text.specs.Class.{IsPlainName};
 ghost use Rattle.log_grammar.specs.Lines.{LogLine, said, halt, log_bytes};
-ghost use Rattle.log_grammar.specs.Demands.{Accounts, IsFit};
+ghost use Rattle.log_grammar.specs.Demands.{Accounts, CanBeChallenged};
 ghost use Rattle.log_grammar.specs.Versions.{IsClean};
 ghost use Rattle.log_grammar.specs.Upgrades.{original_text};
-ghost use Rattle.log_grammar.specs.laws.Logins.{EachOkEndsALogin, LoginsAreClean, LoginsMayHalt, LoginsAreAnswered, HasPassword, PasswordsLogIn, RefusedLoginsAreAtFault, OtherRepliesAreAtFault};
+ghost use Rattle.log_grammar.specs.laws.Logins.{EachOkEndsALogin, LoginsAreClean, LoginsMayHalt, LoginsAreAnswered, HasPassword};
+ghost use Rattle.log_grammar.specs.laws.Logins.{PasswordsLogIn, RefusedLoginsAreAtFault, OtherRepliesAreAtFault};
 
 use otp_core::laws::only_one_reply_is_due;
 use scram_ends::honest_login;
@@ -58,7 +59,7 @@ pub fn passwords_log_in()
 
 /// Some clean log ends with a halt, wherever one account has a password.
 pub fn some_log_halts()
-    ensures { (accounts : Accounts) (m : Mechanism) (name password : List ℕ) → IsFit (accounts.entry m name) → IsPlainName name
+    ensures { (accounts : Accounts) (m : Mechanism) (name password : List ℕ) → CanBeChallenged (accounts.entry m name) → IsPlainName name
         → HasPassword (accounts.entry m name) m password → (lines : List LogLine) × IsClean accounts (log_bytes (lines ++ said halt ∷ [])) }
 {
     logins_are_clean();

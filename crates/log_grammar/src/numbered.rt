@@ -5,7 +5,9 @@ ghost use Rattle.log_grammar.specs.Lines.{gone};
 ghost use Rattle.log_grammar.specs.Demands.{Accounts};
 ghost use Rattle.log_grammar.specs.Numbered.{numbered};
 ghost use Rattle.log_grammar.specs.laws.NumberedExamples.{offer, turns_away, two_at_once, IsWholeForTwo, BeginsNoneForTwo};
-ghost use Rattle.log_grammar.specs.laws.NumberedLaws.{GoesOnByANumberedLine, GoesOnByNoOtherNumberedLine, HasOneNumberedReading, NumberedLogsGoOnExactlySo, FirstNumberedLinesAreLogs, SessionsStandAlone, OpenSessionsAreCounted, FewSessionsAreOpen, NumberClassesFollowThePlace};
+ghost use Rattle.log_grammar.specs.laws.NumberedLaws.{GoesOnByANumberedLine, GoesOnByNoOtherNumberedLine, HasOneNumberedReading};
+ghost use Rattle.log_grammar.specs.laws.NumberedLaws.{NumberedLogsGoOnExactlySo, FirstNumberedLinesAreLogs, SessionsStandAlone};
+ghost use Rattle.log_grammar.specs.laws.NumberedLaws.{OpenSessionsAreCounted, FewSessionsAreOpen, NumberClassesFollowThePlace};
 
 use scram_text::laws::{has_one_client_first, spells_one_name};
 

@@ -1,5 +1,6 @@
 //! Laws of the lines of a log of version 2: each is the promise of a function that does nothing.
-ghost use Rattle.log_grammar.specs.laws.NumberedLineLaws.{IsOneNumberedLineOrNone, UnnumberedLinesAreNone, WrittenNumberedLinesAreRead, NumbersGoBeforeLines};
+ghost use Rattle.log_grammar.specs.laws.NumberedLineLaws.{IsOneNumberedLineOrNone, UnnumberedLinesAreNone, WrittenNumberedLinesAreRead};
+ghost use Rattle.log_grammar.specs.laws.NumberedLineLaws.{NumbersGoBeforeLines};
 
 /// Each text is one numbered line or none.
 pub fn is_one_numbered_line_or_none()

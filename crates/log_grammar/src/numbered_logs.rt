@@ -1,6 +1,7 @@
 //! Laws of whole logs of version 2, as bytes, for every limit of open sessions: each is the promise of a function that
 //! does nothing.
-ghost use Rattle.log_grammar.specs.laws.NumberedLogLaws.{EachNumberedLogIsJudged, NumberedLogsHaveOneWhy, NumberedFrontsBeginWithFronts, NumberedFrontsBeginClean};
+ghost use Rattle.log_grammar.specs.laws.NumberedLogLaws.{EachNumberedLogIsJudged, NumberedLogsHaveOneWhy, NumberedFrontsBeginWithFronts};
+ghost use Rattle.log_grammar.specs.laws.NumberedLogLaws.{NumberedFrontsBeginClean};
 
 use otp_core::laws::{only_one_reply_is_due, some_reply_is_due};
 use scram_ends::laws::{at_most_one_verdict_is_due, some_verdict_is_due};

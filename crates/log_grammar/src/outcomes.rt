@@ -1,6 +1,7 @@
 //! The server's lines one by one: where each may stand in a log. They are what the demands make due at its place,
 //! stated line by line.
-ghost use Rattle.log_grammar.specs.laws.Outcomes.{FirstLinesBeginLogs, PlacesHaveTheirMessages, EachOfferIsDue, EachChallengeIsDue, EachRefusalIsDue, EachReplyIsDue, EachHaltEndsACode};
+ghost use Rattle.log_grammar.specs.laws.Outcomes.{FirstLinesBeginLogs, PlacesHaveTheirMessages, EachOfferIsDue, EachChallengeIsDue};
+ghost use Rattle.log_grammar.specs.laws.Outcomes.{EachRefusalIsDue, EachReplyIsDue, EachHaltEndsACode};
 
 use scram_ends::laws::{acceptance_is_due_to_valid_logins, at_most_one_verdict_is_due};
 

@@ -1,6 +1,7 @@
 //! What the reason of a fault says of the log: which line may stand in the place of the one at fault, and that what
 //! follows it does not matter.
-ghost use Rattle.log_grammar.specs.laws.Reasons.{DueRepliesCanBeWritten, WhatIsDueMayStand, EachLineThatIsDueMayStand, FaultsHoldWhateverFollows};
+ghost use Rattle.log_grammar.specs.laws.Reasons.{DueRepliesCanBeWritten, WhatIsDueMayStand, EachLineThatIsDueMayStand};
+ghost use Rattle.log_grammar.specs.laws.Reasons.{FaultsHoldWhateverFollows};
 
 use crate::laws::fronts_begin_clean;
 

@@ -1,5 +1,6 @@
 //! Codes that passed in a log.
-ghost use Rattle.log_grammar.specs.laws.Replies.{EachPassIsACode, CountersRise, NoCounterIsUsedTwice, NextHotpCodePasses, NextTwoHotpCodesPass};
+ghost use Rattle.log_grammar.specs.laws.Replies.{EachPassIsACode, CountersRise, NoCounterIsUsedTwice, NextHotpCodePasses};
+ghost use Rattle.log_grammar.specs.laws.Replies.{NextTwoHotpCodesPass};
 
 use crate::logins::logins_are_clean;
 use crate::outcomes::each_reply_is_due;

@@ -1,6 +1,7 @@
 //! Logs of one login, upgraded: each is judged as the log of version 1 is.
 ghost use Rattle.log_grammar.specs.Upgrades.{upgraded_text};
-ghost use Rattle.log_grammar.specs.laws.Logins.{LoginsAreClean, LoginsMayHalt, LoginsAreAnswered, RefusedLoginsAreAtFault, OtherRepliesAreAtFault};
+ghost use Rattle.log_grammar.specs.laws.Logins.{LoginsAreClean, LoginsMayHalt, LoginsAreAnswered, RefusedLoginsAreAtFault};
+ghost use Rattle.log_grammar.specs.laws.Logins.{OtherRepliesAreAtFault};
 
 use crate::logins::{logins_are_clean, other_answers_to_logins_are_at_fault};
 use crate::upgrades::{upgraded_logs_are_clean, upgraded_logs_have_the_same_fault};

@@ -1,6 +1,7 @@
 //! Laws of upgraded logs, whole logs of version 1 with the numbers of their sessions, as bytes: each is the promise of a
 //! function that does nothing.
-ghost use Rattle.log_grammar.specs.laws.UpgradedLogs.{RenumberedLogsAreClean, UpgradedLogsAreClean, UpgradedLogsHaveTheSameFault, UpgradedLogsHaveTheSameCounts};
+ghost use Rattle.log_grammar.specs.laws.UpgradedLogs.{RenumberedLogsAreClean, UpgradedLogsAreClean, UpgradedLogsHaveTheSameFault};
+ghost use Rattle.log_grammar.specs.laws.UpgradedLogs.{UpgradedLogsHaveTheSameCounts};
 
 use crate::consequences::{clean_logs_have_no_fault, logs_have_one_judgement};
 use crate::laws::each_log_is_judged;

@@ -29,7 +29,8 @@ hmac hash block key text =
 
 -- a running MAC stands for a key and the text so far: its two hashes, whose messages `holds` gives, have
 -- taken in what HMAC hashes, except the inner digest
-pub record IsMacOf {H : Type 0} (holds : H → List ℕ → Type 0) (hash : List ℕ → List ℕ) (block : ℕ) (mac : Mac H) (key text : List ℕ) : Type 0 where
+pub record IsMacOf {H : Type 0} (holds : H → List ℕ → Type 0) (hash : List ℕ → List ℕ) (block : ℕ) (mac : Mac H)
+    (key text : List ℕ) : Type 0 where
   pub inner : holds mac.inner (inner_block hash block key ++ text)
   pub outer : holds mac.outer (outer_block hash block key)
 

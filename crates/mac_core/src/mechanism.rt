@@ -1,7 +1,8 @@
 //! The formulas of `keys` and `hmac` with a hash function that is chosen at run time, by the name of
 //! a SCRAM mechanism.
 ghost use Rattle.std.specs.Prelude.{◌≡◌, ◌≢◌, ◌≤◌, ◌↔◌, IsTrue, ℕ, List, [], ◌++◌, length, IfSome, IfNone};
-ghost use Rattle.mac_core.specs.Mechanism.{name_of, IsOffered, length_by, hmac_by, hi_by, client_key_by, stored_key_by, server_key_by, IsScramMac};
+ghost use Rattle.mac_core.specs.Mechanism.{name_of, IsOffered, length_by, hmac_by, hi_by, client_key_by, stored_key_by, server_key_by};
+ghost use Rattle.mac_core.specs.Mechanism.{IsScramMac};
 
 use crate::digest::{HSha1, HSha256, Tag};
 use crate::hmac::Mac;

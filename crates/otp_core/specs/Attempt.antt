@@ -25,11 +25,11 @@ counters_of (OneText text) counter = counter ∷ []
 counters_of (TwoTexts first second) counter = counter ∷ (counter - 1) ∷ []
 
 -- the counters that a reply uses
-abbrev pub used_by : CodeTexts → Reply → List ℕ
-used_by sent (Pass counter) = counters_of sent counter
-used_by sent Fail = []
-used_by sent Locked = []
+abbrev pub used_in_reply : CodeTexts → Reply → List ℕ
+used_in_reply sent (Pass counter) = counters_of sent counter
+used_in_reply sent Fail = []
+used_in_reply sent Locked = []
 
 -- the counters that a history has used, the latest first: those that passed, and of a pair also the one before
 abbrev pub used_in : List Attempt → List ℕ
-used_in history = flat_map (λ a. used_by a.sent a.reply) history
+used_in history = flat_map (λ a. used_in_reply a.sent a.reply) history

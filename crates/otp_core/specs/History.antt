@@ -4,28 +4,28 @@ use Rattle.otp_core.specs.Ranges.{IsMoment}
 use Rattle.otp_core.specs.Attempt.{Attempt}
 use Rattle.otp_core.specs.Window.{IsCandidate, IsPairCandidate}
 use Rattle.otp_core.specs.Reply.{IsDueReply, failures_after}
-use Rattle.otp_core.specs.declared.token.kinds.Fields.{Fields}
-use Rattle.otp_core.specs.declared.token.kinds.Fields.TheVariants.{Hotp, Totp}
+use Rattle.otp_core.specs.declared.token.kinds.TokenFields.{TokenFields}
+use Rattle.otp_core.specs.declared.token.kinds.TokenFields.TheVariants.{Hotp, Totp}
 
 -- each reply of a history is the one due after the attempts before it, and each moment is in its range
-abbrev pub IsLegal : Fields → List Attempt → Type 0
+abbrev pub IsLegal : TokenFields → List Attempt → Type 0
 IsLegal start [] = Unit {0}
 IsLegal start (a ∷ before) = IsMoment a.moment × IsDueReply start before a.moment a.sent a.reply × IsLegal start before
 
 -- a token's settings: the token with its state blanked
-abbrev pub settings_of : Fields → Fields
+abbrev pub settings_of : TokenFields → TokenFields
 settings_of (Hotp t) = Hotp (record t { next = 0; failures = 0 })
 settings_of (Totp t) = Totp (record t { last = None; drift = pos 0; failures = 0 })
 
 -- two starts with their histories have equal settings and failures, and at every moment the same
 -- counters can pass, alone and in pairs
-pub record AreAlike (start : Fields) (history : List Attempt) (other : Fields) (since : List Attempt) : Type 0 where
+pub record AreAlike (start : TokenFields) (history : List Attempt) (other : TokenFields) (since : List Attempt) : Type 0 where
   pub settings : settings_of start ≡ settings_of other
   pub failures : failures_after start history ≡ failures_after other since
   pub candidates : (moment c : ℕ) → IsMoment moment → IsCandidate start history moment c ↔ IsCandidate other since moment c
   pub pairs : (w : ℕ) → IsPairCandidate start history w ↔ IsPairCandidate other since w
 
 -- a token is where a start and a legal history lead
-pub record IsAfter (start : Fields) (history : List Attempt) (token : Fields) : Type 0 where
+pub record IsAfter (start : TokenFields) (history : List Attempt) (token : TokenFields) : Type 0 where
   pub legal : IsLegal start history
   pub alike : AreAlike start history token []

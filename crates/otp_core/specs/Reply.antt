@@ -6,45 +6,45 @@ use Rattle.otp_core.specs.Window.{IsCandidate, IsPairCandidate}
 use Rattle.otp_core.specs.declared.hash.OtpHash.TheVariants.{Sha1}
 use Rattle.otp_core.specs.declared.token.answer.Reply.{Reply}
 use Rattle.otp_core.specs.declared.token.answer.Reply.TheVariants.{Pass, Fail, Locked}
-use Rattle.otp_core.specs.declared.token.kinds.Fields.{Fields}
-use Rattle.otp_core.specs.declared.token.kinds.Fields.TheVariants.{Hotp, Totp}
+use Rattle.otp_core.specs.declared.token.kinds.TokenFields.{TokenFields}
+use Rattle.otp_core.specs.declared.token.kinds.TokenFields.TheVariants.{Hotp, Totp}
 
 -- the text of a token's code at a counter
-abbrev pub code_text : Fields → ℕ → List ℕ
+abbrev pub code_text : TokenFields → ℕ → List ℕ
 code_text (Hotp t) c = hotp_text_by Sha1 t.digits t.secret c
 code_text (Totp t) c = hotp_text_by t.hash t.digits t.secret c
 
 -- the number of failures that locks the token
-abbrev pub limit_of : Fields → ℕ
+abbrev pub limit_of : TokenFields → ℕ
 limit_of (Hotp t) = t.limit
 limit_of (Totp t) = t.limit
 
 -- the failures that a token starts with
-abbrev pub failures_of : Fields → ℕ
+abbrev pub failures_of : TokenFields → ℕ
 failures_of (Hotp t) = t.failures
 failures_of (Totp t) = t.failures
 
 -- the failures after a reply
-abbrev pub failures_by : Reply → ℕ → ℕ
-failures_by (Pass c) before = 0
-failures_by Fail before = before + 1
-failures_by Locked before = before
+abbrev pub failures_after_reply : Reply → ℕ → ℕ
+failures_after_reply (Pass c) before = 0
+failures_after_reply Fail before = before + 1
+failures_after_reply Locked before = before
 
 -- the failures after a history: those since the last pass; without a pass, all of them and the start's
-abbrev pub failures_after : Fields → List Attempt → ℕ
+abbrev pub failures_after : TokenFields → List Attempt → ℕ
 failures_after start [] = failures_of start
-failures_after start (a ∷ before) = failures_by a.reply (failures_after start before)
+failures_after start (a ∷ before) = failures_after_reply a.reply (failures_after start before)
 
 -- the text that was sent is the code of a counter that can pass; or the texts are the codes of a counter and the one
 -- after it, which is the one that passes
-abbrev pub IsFitting : Fields → List Attempt → ℕ → CodeTexts → ℕ → Type 0
+abbrev pub IsFitting : TokenFields → List Attempt → ℕ → CodeTexts → ℕ → Type 0
 IsFitting start history moment (CodeTexts.OneText text) c = IsCandidate start history moment c × (code_text start c ≡ text)
 IsFitting start history moment (CodeTexts.TwoTexts first second) c =
     (w : ℕ) × (c ≡ w + 1) × IsPairCandidate start history w × (code_text start w ≡ first) × (code_text start (w + 1) ≡ second)
 
 -- the reply that is due: Locked where the failures have reached the limit, else Pass of the least
 -- counter that fits, else Fail
-abbrev pub IsDueReply : Fields → List Attempt → ℕ → CodeTexts → Reply → Type 0
+abbrev pub IsDueReply : TokenFields → List Attempt → ℕ → CodeTexts → Reply → Type 0
 IsDueReply start history moment sent Locked = limit_of start ≤ failures_after start history
 IsDueReply start history moment sent (Pass c) =
     (failures_after start history < limit_of start)

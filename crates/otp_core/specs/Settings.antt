@@ -5,11 +5,12 @@ use Rattle.otp_core.specs.Ranges.{most_counter, most_look_ahead, most_sync_ahead
 use Rattle.otp_core.specs.declared.fault.OtpFault.{OtpFault}
 use Rattle.otp_core.specs.declared.fault.OtpFault.TheVariants as fault
 use Rattle.otp_core.specs.declared.fault.Setting.{Setting}
-use Rattle.otp_core.specs.declared.fault.Setting.TheVariants.{Next, LookAhead, SyncAhead, Step, Back, Ahead, MaxDrift, Last, Drift, Limit, Failures}
+use Rattle.otp_core.specs.declared.fault.Setting.TheVariants.{Next, LookAhead, SyncAhead, Step, Back, Ahead, MaxDrift, Last, Drift, Limit}
+use Rattle.otp_core.specs.declared.fault.Setting.TheVariants.{Failures}
 use Rattle.otp_core.specs.declared.token.kinds.HotpFields.{HotpFields}
 use Rattle.otp_core.specs.declared.token.kinds.TotpFields.{TotpFields}
-use Rattle.otp_core.specs.declared.token.kinds.Fields.{Fields}
-use Rattle.otp_core.specs.declared.token.kinds.Fields.TheVariants.{Hotp, Totp}
+use Rattle.otp_core.specs.declared.token.kinds.TokenFields.{TokenFields}
+use Rattle.otp_core.specs.declared.token.kinds.TokenFields.TheVariants.{Hotp, Totp}
 
 -- a setting that has a range, and that it is in it
 pub record Ranged : Type 1 where
@@ -62,7 +63,7 @@ abbrev pub IsTotpInRange : TotpFields → Type 0
 IsTotpInRange t = AreInRange (totp_ranges t)
 
 -- the fields of a token are in their ranges
-abbrev pub IsInRange : Fields → Type 0
+abbrev pub IsInRange : TokenFields → Type 0
 IsInRange (Hotp t) = IsHotpInRange t
 IsInRange (Totp t) = IsTotpInRange t
 
@@ -71,6 +72,6 @@ abbrev pub IsRefusalOf : List Ranged → OtpFault → Type 0
 IsRefusalOf ranges refusal = (setting : Setting) × (refusal ≡ fault.Setting setting) × IsFirstOutside ranges setting
 
 -- the token with no failures
-abbrev pub unlocked : Fields → Fields
+abbrev pub unlocked : TokenFields → TokenFields
 unlocked (Hotp t) = Hotp (record t { failures = 0 })
 unlocked (Totp t) = Totp (record t { failures = 0 })

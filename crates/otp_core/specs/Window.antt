@@ -8,8 +8,8 @@ use Rattle.otp_core.specs.Attempt.{Attempt, used_in}
 use Rattle.otp_core.specs.declared.token.answer.Reply.{Reply}
 use Rattle.otp_core.specs.declared.token.answer.Reply.TheVariants.{Pass, Fail, Locked}
 use Rattle.otp_core.specs.declared.token.kinds.TotpFields.{TotpFields}
-use Rattle.otp_core.specs.declared.token.kinds.Fields.{Fields}
-use Rattle.otp_core.specs.declared.token.kinds.Fields.TheVariants.{Hotp, Totp}
+use Rattle.otp_core.specs.declared.token.kinds.TokenFields.{TokenFields}
+use Rattle.otp_core.specs.declared.token.kinds.TokenFields.TheVariants.{Hotp, Totp}
 
 -- the greatest of some counters
 abbrev pub greatest : List ℕ → Option ℕ
@@ -31,15 +31,15 @@ abbrev pub step_at : TotpFields → ℕ → ℕ
 step_at t moment = steps_from t.t0 t.step moment
 
 -- the drift after a reply: by how many steps the code that passed was ahead of the present one
-abbrev pub drift_by : Reply → ℤ → ℤ → ℤ
-drift_by (Pass w) now before = pos w -ℤ now
-drift_by Fail now before = before
-drift_by Locked now before = before
+abbrev pub drift_after_reply : Reply → ℤ → ℤ → ℤ
+drift_after_reply (Pass w) now before = pos w -ℤ now
+drift_after_reply Fail now before = before
+drift_after_reply Locked now before = before
 
 -- the drift after a history: that of the last pass, or the start's where there is none
 abbrev pub drift_after : TotpFields → List Attempt → ℤ
 drift_after t [] = t.drift
-drift_after t (a ∷ before) = drift_by a.reply (pos (step_at t a.moment)) (drift_after t before)
+drift_after t (a ∷ before) = drift_after_reply a.reply (pos (step_at t a.moment)) (drift_after t before)
 
 -- a step of TOTP's window (RFC 6238, sections 5.2 and 6): the present step moved by the drift, from
 -- `back` steps before it to `ahead` steps after it, and at most max_drift from the present step
@@ -55,13 +55,13 @@ IsAbove counters w = AllByRecursion (λ c. c < w) counters
 
 -- two codes in a row can pass, the first of them that of this counter: HOTP looks further ahead for them than for one
 -- (RFC 4226, section 7.4)
-abbrev pub IsPairCandidate : Fields → List Attempt → ℕ → Type 0
+abbrev pub IsPairCandidate : TokenFields → List Attempt → ℕ → Type 0
 IsPairCandidate (Hotp t) history w = IsInWindow (first_in_window t.next (used_in history)) t.sync_ahead w × (w + 1 ≤ most_counter)
 IsPairCandidate (Totp t) history w = ⊥
 
 -- the counter can pass at a moment, after a history from a start. A step of TOTP passes once, and
 -- after it no earlier one (RFC 6238, section 5.2).
-abbrev pub IsCandidate : Fields → List Attempt → ℕ → ℕ → Type 0
+abbrev pub IsCandidate : TokenFields → List Attempt → ℕ → ℕ → Type 0
 IsCandidate (Hotp t) history moment c = IsInWindow (first_in_window t.next (used_in history)) t.look_ahead c
 IsCandidate (Totp t) history moment w =
     (t.t0 ≤ moment)

@@ -1,6 +1,7 @@
 //! Laws of histories of attempts, for crates that use tokens. Each is the contract of a function
 //! that does nothing.
-ghost use Rattle.otp_core.specs.Laws.{BeginsWithItself, CandidatesAreNew, UsedStaysUsed, HistoriesJoin, LegalHistoriesJoin, OnlyOneReplyIsDue, SomeReplyIsDue};
+ghost use Rattle.otp_core.specs.Laws.{BeginsWithItself, CandidatesAreNew, UsedStaysUsed, HistoriesJoin, LegalHistoriesJoin};
+ghost use Rattle.otp_core.specs.Laws.{OnlyOneReplyIsDue, SomeReplyIsDue};
 
 /// Each token is where it and the empty history lead, so a run may begin with any token.
 pub fn begins_with_itself()

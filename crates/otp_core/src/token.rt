@@ -8,8 +8,8 @@ ghost use Rattle.otp_core.specs.Reply.{IsDueReply};
 ghost use Rattle.otp_core.specs.History.{IsAfter};
 ghost use Rattle.otp_core.specs.Sent.{texts_of};
 ghost use Rattle.otp_core.specs.State.{advanced};
-ghost use Rattle.otp_core.specs.declared.token.kinds.Fields.{Fields as TheFields};
-ghost use Rattle.otp_core.specs.declared.token.kinds.Fields.TheVariants.{Hotp, Totp};
+ghost use Rattle.otp_core.specs.declared.token.kinds.TokenFields.{TokenFields as TheTokenFields};
+ghost use Rattle.otp_core.specs.declared.token.kinds.TokenFields.TheVariants.{Hotp, Totp};
 
 mod answer;
 mod kinds;
@@ -21,22 +21,22 @@ use crate::sent::Sent;
 pub use answer::Reply;
 use answer::{answer, answer_pair};
 pub use kinds::{
-    Fields, HotpFields, LONGEST_STEP, MOST_COUNTER, MOST_DRIFT, MOST_LIMIT, MOST_LOOK_AHEAD,
-    MOST_STEPS, MOST_SYNC_AHEAD, TotpFields,
+    HotpFields, LONGEST_STEP, MOST_COUNTER, MOST_DRIFT, MOST_LIMIT, MOST_LOOK_AHEAD, MOST_STEPS,
+    MOST_SYNC_AHEAD, TokenFields, TotpFields,
 };
 use std::marker::Model;
 
 /// A token: settings and state of one kind, each within its range. Contracts see it as its
-/// `Fields`.
+/// `TokenFields`.
 #[derive(Drop)]
 pub struct Token {
-    fields: Fields,
+    fields: TokenFields,
 }
 
 impl Model for Token {
-    ghost use Rattle.otp_core.specs.declared.token.kinds.Fields.{Fields};
+    ghost use Rattle.otp_core.specs.declared.token.kinds.TokenFields.{TokenFields};
 
-    ghost Value = { Fields };
+    ghost Value = { TokenFields };
 
     ghost use Rattle.otp_core.specs.Settings.{IsInRange};
 
@@ -56,7 +56,7 @@ impl Token {
         match fields.first_outside() {
             Some(setting) => Err(OtpFault::Setting(setting)),
             None => Ok(Token {
-                fields: Fields::Hotp(fields),
+                fields: TokenFields::Hotp(fields),
             }),
         }
     }
@@ -71,13 +71,13 @@ impl Token {
         match fields.first_outside() {
             Some(setting) => Err(OtpFault::Setting(setting)),
             None => Ok(Token {
-                fields: Fields::Totp(fields),
+                fields: TokenFields::Totp(fields),
             }),
         }
     }
 
     /// The token's settings and state.
-    pub fn fields(&self) -> &Fields
+    pub fn fields(&self) -> &TokenFields
         ensures value { result.now ≡ self.now }
         ensures range { IsInRange self.now }
     {
@@ -89,8 +89,8 @@ impl Token {
         ensures { result ≡ self.now }
     {
         let fields = match &self.fields {
-            Fields::Hotp(fields) => Fields::Hotp(fields.copy()),
-            Fields::Totp(fields) => Fields::Totp(fields.copy()),
+            TokenFields::Hotp(fields) => TokenFields::Hotp(fields.copy()),
+            TokenFields::Totp(fields) => TokenFields::Totp(fields.copy()),
         };
         Token { fields }
     }
@@ -106,9 +106,9 @@ impl Token {
     /// present one; both set the failures to 0. `Fail` adds one to the failures; `Locked` changes
     /// nothing. A counter that passes is at most 2^63 - 2.
     pub fn attempt(&mut self, moment: Moment, text: &[u8]) -> Reply
-        ensures due { (start : TheFields) (history : List Attempt)
+        ensures due { (start : TheTokenFields) (history : List Attempt)
             → IsAfter start history self.old → IsDueReply start history moment (OneText text.now) result }
-        ensures after { (start : TheFields) (history : List Attempt)
+        ensures after { (start : TheTokenFields) (history : List Attempt)
             → IsAfter start history self.old
             → IsAfter start (attempt_of moment (OneText text.now) result ∷ history) self.new }
         ensures state { self.new ≡ advanced self.old moment result }
@@ -127,9 +127,9 @@ impl Token {
     /// The fields change as by `attempt`, and a counter that passes is at most 2^63 - 2. At most two codes more than
     /// `sync_ahead` are made, which no clause says.
     pub fn sync(&mut self, moment: Moment, first: &[u8], second: &[u8]) -> Reply
-        ensures due { (start : TheFields) (history : List Attempt) → IsAfter start history self.old
+        ensures due { (start : TheTokenFields) (history : List Attempt) → IsAfter start history self.old
             → IsDueReply start history moment (TwoTexts first.now second.now) result }
-        ensures after { (start : TheFields) (history : List Attempt) → IsAfter start history self.old
+        ensures after { (start : TheTokenFields) (history : List Attempt) → IsAfter start history self.old
             → IsAfter start (attempt_of moment (TwoTexts first.now second.now) result ∷ history) self.new }
         ensures state { self.new ≡ advanced self.old moment result }
         ensures counter { (c : ℕ) → result ≡ Reply.Pass c → c ≤ most_counter }
@@ -139,9 +139,9 @@ impl Token {
 
     /// Judges what was sent at `moment`: one text as `attempt` does, and two as `sync` does.
     pub fn judge(&mut self, moment: Moment, sent: Sent<'_>) -> Reply
-        ensures due { (start : TheFields) (history : List Attempt)
+        ensures due { (start : TheTokenFields) (history : List Attempt)
             → IsAfter start history self.old → IsDueReply start history moment (texts_of sent.entry) result }
-        ensures after { (start : TheFields) (history : List Attempt)
+        ensures after { (start : TheTokenFields) (history : List Attempt)
             → IsAfter start history self.old
             → IsAfter start (attempt_of moment (texts_of sent.entry) result ∷ history) self.new }
         ensures state { self.new ≡ advanced self.old moment result }
@@ -159,8 +159,8 @@ impl Token {
         ensures { self.new ≡ unlocked self.old }
     {
         match &mut self.fields {
-            Fields::Hotp(fields) => fields.failures = 0,
-            Fields::Totp(fields) => fields.failures = 0,
+            TokenFields::Hotp(fields) => fields.failures = 0,
+            TokenFields::Totp(fields) => fields.failures = 0,
         }
     }
 }

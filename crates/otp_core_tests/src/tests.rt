@@ -2,8 +2,8 @@
 //! few other counters are from Python's hmac.
 use mac_core::{HSha1, HSha256, HSha512, HashFn, Prepared, Tag};
 use otp_core::{
-    Code, Digits, Fields, HotpFields, Moment, OtpFault, OtpHash, Reply, Secret, Sent, Setting,
-    Token, TotpFields, hotp, hotp_with, step, truncate,
+    Code, Digits, HotpFields, Moment, OtpFault, OtpHash, Reply, Secret, Sent, Setting, Token,
+    TokenFields, TotpFields, hotp, hotp_with, step, truncate,
 };
 use std::process::Abort;
 use std::test::Fail;
@@ -297,7 +297,7 @@ fn unlock_sets_failures_alone(rt: HostRuntime) {
     let mut token = token.ok().expect(&rt, "a token");
     token.unlock();
     match token.copy().fields() {
-        Fields::Hotp(fields) => {
+        TokenFields::Hotp(fields) => {
             let state = (
                 fields.next,
                 fields.look_ahead,
@@ -307,7 +307,7 @@ fn unlock_sets_failures_alone(rt: HostRuntime) {
             );
             assert_eq!(rt; state, (5, 3, 7, 3, 0));
         }
-        Fields::Totp(_) => panic!(rt; "a token of the other kind"),
+        TokenFields::Totp(_) => panic!(rt; "a token of the other kind"),
     }
 }
 

@@ -2,25 +2,25 @@
 use Rattle.std.specs.Prelude.{ℕ, ◌≡◌, ◌+◌, ◌⊎◌, true, false, Bool, List, [], ◌∷◌, ◌++◌, reverse, length, filter}
 use Rattle.book_format.specs.Book.{BookFields}
 use Rattle.book_format.specs.Trees.{IsBookText}
-use Rattle.account_book.specs.Saves.{needs_save, WasSaved}
+use Rattle.account_book.specs.SavedBooks.{needs_save, WasSaved}
 use Rattle.account_book.specs.Store.{StoreFacts}
 use Rattle.log_grammar.specs.Books.{accounts_in}
 use Rattle.log_grammar.specs.Lines.{LogLine, said, heard, replies, halt, asking, log_bytes}
-use Rattle.log_grammar.specs.Told.{Told}
+use Rattle.log_grammar.specs.LoggedReply.{LoggedReply}
 use Rattle.log_grammar.specs.Places.{Place, between, waits_code, halted}
 use Rattle.log_grammar.specs.Demands.{Accounts, demands}
-use Rattle.log_grammar.specs.Clean.{Begins}
+use Rattle.log_grammar.specs.Begins.{Begins}
 use Rattle.sasl_desk.specs.Events.{ClientEvent}
 use Rattle.sasl_desk.specs.Keeper.{IsAttemptJudged}
 use Rattle.sasl_desk.specs.Runs.{Asked, hears, Call, call_of, run_lines, own_part, wire_bytes, IsRun}
-use Rattle.sasl_desk.specs.Sessions.{StandsAt, CanBeWritten}
+use Rattle.sasl_desk.specs.Sessions.{IsSessionAt, CanBeWritten}
 use Rattle.sasl_desk.specs.Spent.{AreSpent, spent_by}
 use Rattle.sasl_desk.specs.declared.session.Session.{Session}
 use Rattle.sasl_desk.specs.declared.session.Session.TheVariants.{Offered, WaitsFirst, WaitsFinal, WaitsCode}
 use Rattle.sasl_desk.specs.declared.keeper.Keeper.{Keeper}
-use Rattle.sasl_desk.specs.declared.turn.Left.{Left}
-use Rattle.sasl_desk.specs.declared.turn.Left.TheVariants.{Going, Over}
-use Rattle.sasl_desk.specs.declared.turn.Left.TheVariants as left
+use Rattle.sasl_desk.specs.declared.turn.AfterTurn.{AfterTurn}
+use Rattle.sasl_desk.specs.declared.turn.AfterTurn.TheVariants.{Going, Over}
+use Rattle.sasl_desk.specs.declared.turn.AfterTurn.TheVariants as left
 use Rattle.sasl_desk.specs.declared.desk.Desk.{Desk}
 use Rattle.sasl_desk.specs.declared.desk.state.State.{State}
 use Rattle.sasl_desk.specs.declared.desk.state.State.TheVariants.{Closed, Open, Halted}
@@ -43,7 +43,7 @@ phase_of Halted = phase.Halted
 -- the state of a desk whose log stands at this place. A desk that has halted may stand at any.
 abbrev pub IsStateAt : Accounts → (own : List ℕ) → Place → State → Type 0
 IsStateAt accounts own at Closed = at ≡ between
-IsStateAt accounts own at (Open going kept) = StandsAt accounts at going × (kept ≡ own)
+IsStateAt accounts own at (Open going kept) = IsSessionAt accounts at going × (kept ≡ own)
 IsStateAt accounts own at Halted = Unit {0}
 
 -- the store has not failed, and holds the text of the book, of which this holds
@@ -54,7 +54,7 @@ pub record HoldsBook (IsStored : List ℕ → Type 0) (book : BookFields) (store
 
 -- the attempt of a call: of the account whose client waits for a code at this place, at the moment that was handed in, with
 -- what the client sent
-pub record IsAttemptOf (asked : Asked) (at : Place) (lines : List LogLine) (t : Told) : Type 0 where
+pub record IsAttemptOf (asked : Asked) (at : Place) (lines : List LogLine) (t : LoggedReply) : Type 0 where
   pub event : ClientEvent
   pub answer : LogLine
   pub is_asked : asked ≡ hears event t.moment
@@ -63,15 +63,16 @@ pub record IsAttemptOf (asked : Asked) (at : Place) (lines : List LogLine) (t : 
   pub is_saved : needs_save t.reply ≡ true
 
 -- the latest call judged this attempt
-abbrev pub IsLatestAttempt : Accounts → List Call → Told → Type 0
+abbrev pub IsLatestAttempt : Accounts → List Call → LoggedReply → Type 0
 IsLatestAttempt accounts [] t = ⊥
 IsLatestAttempt accounts (c ∷ before) t = (at : Place) × IsRun accounts before at × IsAttemptOf c.asked at c.lines t
 
 -- the store has failed as it saved the book with the attempt of the latest call: it holds the text of the book from before
 -- it, which was saved, or that of the book with it
-pub record IsLostAfter (IsStored : List ℕ → Type 0) (accounts : Accounts) (calls : List Call) (book : BookFields) (store : StoreFacts) : Type 0 where
+pub record IsLostAfter (IsStored : List ℕ → Type 0) (accounts : Accounts) (calls : List Call)
+    (book : BookFields) (store : StoreFacts) : Type 0 where
   pub failed : store.failed ≡ true
-  pub t : Told
+  pub t : LoggedReply
   pub next : BookFields
   pub is_latest : IsLatestAttempt accounts calls t
   pub is_told : IsAttemptJudged book t next
@@ -85,21 +86,21 @@ IsStoredAt IsStored accounts calls halted book store = IsLostAfter IsStored acco
 IsStoredAt IsStored accounts calls at book store = HoldsBook IsStored book store
 
 -- the book after what was told, the latest first: each attempt was judged by the book before it
-abbrev pub IsBookWith : BookFields → List Told → BookFields → Type 0
+abbrev pub IsBookWith : BookFields → List LoggedReply → BookFields → Type 0
 IsBookWith start [] book = book ≡ start
 IsBookWith start (t ∷ before) book = (old : BookFields) × IsBookWith start before old × IsAttemptJudged old t book
 
 -- the counters that replies use, with their accounts, the latest first
-abbrev pub all_spent : List Told → List (List ℕ × ℕ)
+abbrev pub all_spent : List LoggedReply → List (List ℕ × ℕ)
 all_spent [] = []
 all_spent (t ∷ before) = spent_by t ++ all_spent before
 
 -- a desk that began with a book has answered these calls, the latest of which comes first
-pub record Stands {S : Type 0} (facts : S → StoreFacts) (IsStored : List ℕ → Type 0) (start : BookFields) (calls : List Call)
+pub record IsDeskAfter {S : Type 0} (facts : S → StoreFacts) (IsStored : List ℕ → Type 0) (start : BookFields) (calls : List Call)
     (desk : Desk S) : Type 0 where
   -- where the log stands, and the replies that were told
   pub place : Place
-  pub told : List Told
+  pub told : List LoggedReply
   -- what was asked is recorded and answered
   pub is_run : IsRun (accounts_in start) calls place
   -- a clean log may begin with the log's lines, and they can be written
@@ -124,7 +125,7 @@ pub record IsSame {S : Type 0} (old new : Desk S) : Type 0 where
   pub state : new.state ≡ old.state
 
 -- the state of a desk whose session was left so
-abbrev pub state_after : Left → (own : List ℕ) → State
+abbrev pub state_after : AfterTurn → (own : List ℕ) → State
 state_after (Going going) own = Open going own
 state_after Over own = Closed
 state_after (left.Halted going) own = Halted
@@ -136,18 +137,18 @@ is_saving (said halt) = true
 is_saving line = false
 
 -- what a call did: it added lines, and the desk that had answered some calls has answered this one, too
-pub record Answers {S : Type 0} (facts : S → StoreFacts) (IsStored : List ℕ → Type 0) (old : Desk S) (asked : Asked) (wire wire' log log' : List ℕ)
-    (new : Desk S) : Type 0 where
+pub record Answers {S : Type 0} (facts : S → StoreFacts) (IsStored : List ℕ → Type 0) (old : Desk S) (asked : Asked)
+    (wire wire' log log' : List ℕ) (new : Desk S) : Type 0 where
   pub lines : List LogLine
   pub logged : log' ≡ log ++ log_bytes lines
   pub sent : wire' ≡ wire ++ wire_bytes lines
-  pub stands : (start : BookFields) (calls : List Call) → Stands facts IsStored start calls old
-      → Stands facts IsStored start (call_of asked lines ∷ calls) new
-  pub saves : (start : BookFields) (calls : List Call) → Stands facts IsStored start calls old
+  pub stands : (start : BookFields) (calls : List Call) → IsDeskAfter facts IsStored start calls old
+      → IsDeskAfter facts IsStored start (call_of asked lines ∷ calls) new
+  pub saves : (start : BookFields) (calls : List Call) → IsDeskAfter facts IsStored start calls old
       → (facts new.keeper.store).saves ≡ (facts old.keeper.store).saves + length (filter is_saving lines)
   -- what the store was given to save is the text of the book with the attempt of this call
-  pub asks : (start : BookFields) (calls : List Call) (s : Stands facts IsStored start calls old) → (filter is_saving lines ≡ [] → ⊥)
-      → (t : Told) × (next : BookFields) × IsAttemptOf asked s.place lines t × IsAttemptJudged old.keeper.book t next
+  pub asks : (start : BookFields) (calls : List Call) (s : IsDeskAfter facts IsStored start calls old) → (filter is_saving lines ≡ [] → ⊥)
+      → (t : LoggedReply) × (next : BookFields) × IsAttemptOf asked s.place lines t × IsAttemptJudged old.keeper.book t next
       × IsBookText (facts new.keeper.store).asked next
   -- a call without such a line leaves the book and the store as they are
   pub quiet : filter is_saving lines ≡ [] → (new.keeper.book ≡ old.keeper.book) × (facts new.keeper.store ≡ facts old.keeper.store)

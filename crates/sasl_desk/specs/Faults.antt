@@ -19,10 +19,3 @@ serve_number serve.Unwritable = 73
 serve_number serve.NoMemory = 99
 serve_number serve.WriteFault = 74
 serve_number serve.LogFault = 75
-
--- a desk's fault, as one in serving. No call of a desk answers that no number is left.
-abbrev pub fault_of : DeskFault → ServeFault
-fault_of Halted = serve.Halted
-fault_of Unwritable = serve.Unwritable
-fault_of NoNumber = serve.Unwritable
-fault_of NoMemory = serve.NoMemory

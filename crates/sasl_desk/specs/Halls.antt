@@ -1,5 +1,6 @@
 -- What a hall stands for: the book with which it began, and the run since, of all its sessions.
-use Rattle.std.specs.Prelude.{ℕ, ◌≡◌, ◌≢◌, ◌⊎◌, ◌↔◌, ◌+◌, ◌<◌, ◌≤◌, if◌then◌else◌, true, false, Bool, List, [], ◌∷◌, ◌++◌, map, reverse, length, filter, count_by}
+use Rattle.std.specs.Prelude.{ℕ, ◌≡◌, ◌≢◌, ◌⊎◌, ◌↔◌, ◌+◌, ◌<◌, ◌≤◌, true, false, Bool, List, [], ◌∷◌, ◌++◌}
+use Rattle.std.specs.Prelude.{map, reverse, length, filter, count_by}
 use Rattle.std.specs.List.{AllByRecursion, find}
 use Rattle.std.specs.List.Sorted.{IsPermutation}
 use Rattle.std.specs.declared.option.Option.{Option}
@@ -10,18 +11,17 @@ use Rattle.account_book.specs.Store.{StoreFacts}
 use Rattle.log_grammar.specs.Books.{accounts_in}
 use Rattle.log_grammar.specs.Bytes.{ended_by_lf}
 use Rattle.log_grammar.specs.Lines.{LogLine, second_header, said, ended, busy, log_bytes}
-use Rattle.log_grammar.specs.Told.{Told}
-use Rattle.log_grammar.specs.Places.{Place, between, offered, waits_first, waits_final, waits_code}
+use Rattle.log_grammar.specs.LoggedReply.{LoggedReply}
+use Rattle.log_grammar.specs.Places.{Place, between, offered, waits_first, waits_final, waits_code, open_at}
 use Rattle.log_grammar.specs.Demands.{Accounts, demands}
 use Rattle.log_grammar.specs.Numbered.{Numbered, numbered, of_number, begun, closed_in, SpellsNumbered}
 use Rattle.log_grammar.specs.Versions.{most_open}
 use Rattle.log_grammar.specs.NumberedLines.{numbered_text, IsNumberedWritable, last_session_number}
-use Rattle.log_grammar.specs.state_machine.OpenNumbers.{is_closed}
 use Rattle.sasl_desk.specs.Desks.{session_phase, IsStoredAt, HoldsBook, IsBookWith, IsAttemptOf, all_spent, is_saving}
 use Rattle.sasl_desk.specs.Guests.{is_of}
 use Rattle.sasl_desk.specs.Keeper.{IsAttemptJudged}
 use Rattle.sasl_desk.specs.Runs.{Asked, greets, Call, call_of, own_part, wire_bytes, IsRun}
-use Rattle.sasl_desk.specs.Sessions.{StandsAt}
+use Rattle.sasl_desk.specs.Sessions.{IsSessionAt}
 use Rattle.sasl_desk.specs.Spent.{AreSpent}
 use Rattle.sasl_desk.specs.declared.keeper.Keeper.{Keeper}
 use Rattle.sasl_desk.specs.declared.hall.Hall.{Hall}
@@ -68,14 +68,10 @@ abbrev pub IsStay : Accounts → List Call → Place → Type 0
 IsStay accounts calls at =
     IsRun accounts calls at ⊎ ((own : List ℕ) × (calls ≡ call_of (greets own) busy_lines ∷ []) × (at ≡ between))
 
--- the guests of a number are one where its session is open, and none where it is not
-abbrev pub open_at : Place → ℕ
-open_at place = if is_closed place then 0 else 1
-
 -- a guest's session stands at the place of its number, with the server's part of the nonce with which it was greeted
 abbrev pub IsSeated : Accounts → List (Numbered Call) → (ℕ → Place) → Guest → Type 0
 IsSeated accounts calls places guest =
-    StandsAt accounts (places guest.number) guest.session × (guest.own ≡ own_part (of_number guest.number calls))
+    IsSessionAt accounts (places guest.number) guest.session × (guest.own ≡ own_part (of_number guest.number calls))
 
 -- what the store holds after these calls: where the latest was answered by `S HALT`, its save has failed; else the book
 abbrev pub IsStoredAfter : (IsStored : List ℕ → Type 0) → Accounts → List (Numbered Call) → (ℕ → Place) → BookFields → StoreFacts → Type 0
@@ -84,11 +80,12 @@ IsStoredAfter IsStored accounts (c ∷ before) places book store =
     IsStoredAt IsStored accounts (of_number c.number (c ∷ before)) (places c.number) book store
 
 -- a hall that began with a book has answered these calls, the latest of which comes first, each of the session of its number
-pub record StandsHall {S : Type 0} (facts : S → StoreFacts) (IsStored : List ℕ → Type 0) (start : BookFields) (calls : List (Numbered Call))
+pub record IsHallAfter {S : Type 0} (facts : S → StoreFacts) (IsStored : List ℕ → Type 0) (start : BookFields)
+    (calls : List (Numbered Call))
     (hall : HallFields S) : Type 0 where
   -- where the session of each number stands, and the replies that were told, in the order of the whole log
   pub places : ℕ → Place
-  pub told : List Told
+  pub told : List LoggedReply
   -- what each session was asked is recorded and answered; nothing was asked of a number that was not given
   pub stays : (n : ℕ) → IsStay (accounts_in start) (of_number n calls) (places n)
   pub fresh : (n : ℕ) → begun (hall_lines calls) < n → of_number n calls ≡ []
@@ -116,7 +113,8 @@ IsPhaseOf at phase.Closed = at ≡ between
 IsPhaseOf at phase.WaitAuth = at ≡ offered
 IsPhaseOf at phase.WaitFirst = (mechanism : List ℕ) × (at ≡ waits_first mechanism)
 IsPhaseOf at phase.WaitFinal =
-    (mechanism : List ℕ) × (account : List ℕ) × (first : List ℕ) × (challenge : List ℕ) × (at ≡ waits_final mechanism account first challenge)
+    (mechanism : List ℕ) × (account : List ℕ) × (first : List ℕ) × (challenge : List ℕ)
+    × (at ≡ waits_final mechanism account first challenge)
 IsPhaseOf at phase.WaitCode = (account : List ℕ) × (at ≡ waits_code account)
 IsPhaseOf at phase.Halted = Unit {0}
 
@@ -145,15 +143,16 @@ pub record AnswersIn {S : Type 0} (facts : S → StoreFacts) (IsStored : List �
   pub logged : log' ≡ log ++ numbered_bytes (map (numbered n) lines)
   pub sent : wire' ≡ wire ++ wire_bytes lines
   -- and the phase that is answered is that of the place where the session then stands
-  pub stands : (start : BookFields) (calls : List (Numbered Call)) → StandsHall facts IsStored start calls old
-      → (after : StandsHall facts IsStored start (numbered n (call_of asked lines) ∷ calls) new) × IsPhaseOf (after.places n) answered
+  pub stands : (start : BookFields) (calls : List (Numbered Call)) → IsHallAfter facts IsStored start calls old
+      → (after : IsHallAfter facts IsStored start (numbered n (call_of asked lines) ∷ calls) new) × IsPhaseOf (after.places n) answered
   -- which is Halted exactly where the hall has halted
   pub tells : (answered ≡ phase.Halted) ↔ (new.is_halted ≡ true)
-  pub saves : (start : BookFields) (calls : List (Numbered Call)) → StandsHall facts IsStored start calls old
+  pub saves : (start : BookFields) (calls : List (Numbered Call)) → IsHallAfter facts IsStored start calls old
       → (facts new.keeper.store).saves ≡ (facts old.keeper.store).saves + length (filter is_saving lines)
   -- what the store was given to save is the text of the book with the attempt of this call
-  pub asks : (start : BookFields) (calls : List (Numbered Call)) (s : StandsHall facts IsStored start calls old) → (filter is_saving lines ≡ [] → ⊥)
-      → (t : Told) × (next : BookFields) × IsAttemptOf asked (s.places n) lines t × IsAttemptJudged old.keeper.book t next
+  pub asks : (start : BookFields) (calls : List (Numbered Call)) (s : IsHallAfter facts IsStored start calls old)
+      → (filter is_saving lines ≡ [] → ⊥)
+      → (t : LoggedReply) × (next : BookFields) × IsAttemptOf asked (s.places n) lines t × IsAttemptJudged old.keeper.book t next
       × IsBookText (facts new.keeper.store).asked next
   -- a call without such a line leaves the book and the store as they are
   pub quiet : filter is_saving lines ≡ [] → (new.keeper.book ≡ old.keeper.book) × (facts new.keeper.store ≡ facts old.keeper.store)

@@ -1,13 +1,11 @@
 -- What is read of a client in a turn.
-use Rattle.std.specs.Prelude.{ℕ, ◌≡◌, ◌+◌, ◌⊎◌, true, false, List, [], ◌∷◌, ◌++◌, length}
-use Rattle.std.specs.Str.{byte}
-use Rattle.std.specs.Io.KnownBytes.{IsAtEnd}
+use Rattle.std.specs.Prelude.{ℕ, ◌≡◌, ◌⊎◌, List, [], ◌∷◌}
 use Rattle.sasl_log.specs.Source.{SourceFacts}
-use Rattle.sasl_log.specs.TextRead.{IsTaken}
+use Rattle.sasl_log.specs.TextRead.{IsReadToLf, IsReadToEnd, IsReadTooFar, IsReadToFault}
 use Rattle.log_grammar.specs.Lines.{longest_line}
 use Rattle.sasl_desk.specs.Events.{ClientEvent, sends, goes_away}
-use Rattle.sasl_desk.specs.declared.serving.line.LineEnd.{LineEnd}
-use Rattle.sasl_desk.specs.declared.serving.line.LineEnd.TheVariants.{ByLf, TooLong, Over}
+use Rattle.sasl_desk.specs.declared.serving.line.ClientLineEnd.{ClientLineEnd}
+use Rattle.sasl_desk.specs.declared.serving.line.ClientLineEnd.TheVariants.{ByLf, TooLong, Over}
 
 -- a line, without its LF; more bytes than a line may have, with no LF among them; or what was left before the input ended
 -- or a read failed
@@ -17,7 +15,7 @@ pub data LineRead : Type 0 where
   over : (rest : List ℕ) → LineRead
 
 -- what was read, by its bytes and how they end
-abbrev pub line_read : List ℕ → LineEnd → LineRead
+abbrev pub line_read : List ℕ → ClientLineEnd → LineRead
 line_read text ByLf = line text
 line_read text TooLong = too_long text
 line_read text Over = over text
@@ -25,9 +23,9 @@ line_read text Over = over text
 -- this was read of a source, and nothing after it: a line that is not too long, and its LF; one byte more than a line may have,
 -- without an LF; or no more bytes than a line may have, without an LF, after which the input ended or a read failed
 abbrev pub ReadsLine : SourceFacts → LineRead → SourceFacts → Type 0
-ReadsLine old (line text) new = IsTaken old text (text ++ byte "\n" ∷ []) longest_line new × (new.failed ≡ false)
-ReadsLine old (too_long text) new = IsTaken old text text (longest_line + 1) new × (new.failed ≡ false) × (length text ≡ longest_line + 1)
-ReadsLine old (over rest) new = IsTaken old rest rest longest_line new × (IsAtEnd new.left ⊎ (new.failed ≡ true))
+ReadsLine old (line text) new = IsReadToLf longest_line old text new
+ReadsLine old (too_long text) new = IsReadTooFar longest_line old text new
+ReadsLine old (over rest) new = IsReadToEnd longest_line old rest new ⊎ IsReadToFault longest_line old rest new
 
 -- what the client did: it sent the bytes, also where they are too many, or it has gone away
 abbrev pub event_read : LineRead → ClientEvent

@@ -7,7 +7,7 @@ pub mod Guests
 pub mod Halls
 pub mod Inputs
 pub mod Keeper
-pub mod Left
+pub mod TurnResults
 pub mod Prefix
 pub mod Outputs
 pub mod Records

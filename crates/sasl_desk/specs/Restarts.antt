@@ -7,16 +7,16 @@ use Rattle.account_book.specs.Accounts.{account_at, IsAdded}
 use Rattle.account_book.specs.Store.{StoreFacts}
 use Rattle.account_book.specs.Tokens.{IsUnlocked}
 use Rattle.log_grammar.specs.Books.{accounts_in}
-use Rattle.log_grammar.specs.Told.{Told}
+use Rattle.log_grammar.specs.LoggedReply.{LoggedReply}
 use Rattle.log_grammar.specs.Places.{Place}
 use Rattle.log_grammar.specs.Demands.{demands}
-use Rattle.log_grammar.specs.Clean.{Begins}
+use Rattle.log_grammar.specs.Begins.{Begins}
 use Rattle.log_grammar.specs.Numbered.{Numbered, SpellsNumbered}
 use Rattle.log_grammar.specs.Versions.{most_open}
 use Rattle.sasl_desk.specs.Keeper.{IsAttemptJudged}
 use Rattle.sasl_desk.specs.Runs.{Call, run_lines}
-use Rattle.sasl_desk.specs.Desks.{Stands, all_spent}
-use Rattle.sasl_desk.specs.Halls.{HallFields, hall_lines, StandsHall}
+use Rattle.sasl_desk.specs.Desks.{IsDeskAfter, all_spent}
+use Rattle.sasl_desk.specs.Halls.{HallFields, hall_lines, IsHallAfter}
 use Rattle.sasl_desk.specs.Spent.{spent_by}
 use Rattle.sasl_desk.specs.declared.desk.Desk.{Desk}
 
@@ -25,7 +25,7 @@ pub record Run : Type 0 where
   pub start : BookFields
   pub calls : List Call
   pub place : Place
-  pub told : List Told
+  pub told : List LoggedReply
   pub left : BookFields
 
 -- a desk that began with the book has answered the calls, and its log tells this. Where it stops, between two calls or in
@@ -33,25 +33,37 @@ pub record Run : Type 0 where
 -- with one more attempt. A stop within `begin` leaves the text from before, or that of the same book, and is no run.
 pub record IsDeskRunOf {S : Type 0} (facts : S → StoreFacts) (IsStored : List ℕ → Type 0) (r : Run) : Type 0 where
   pub desk : Desk S
-  pub stands : Stands facts IsStored r.start r.calls desk
+  pub stands : IsDeskAfter facts IsStored r.start r.calls desk
   pub begins : Begins (demands (accounts_in r.start)) (run_lines r.calls) r.place r.told
-  pub leaves : (r.left ≡ desk.keeper.book) ⊎ ((t : Told) × IsAttemptJudged desk.keeper.book t r.left)
+  pub leaves : (r.left ≡ desk.keeper.book) ⊎ ((t : LoggedReply) × IsAttemptJudged desk.keeper.book t r.left)
 
 -- the calls that a hall has answered, and what its log tells
 pub record HallRun : Type 0 where
   pub start : BookFields
   pub calls : List (Numbered Call)
   pub places : ℕ → Place
-  pub told : List Told
+  pub told : List LoggedReply
   pub left : BookFields
 
 -- a hall that began with the book has answered the calls, and its log tells this. Where it stops, it leaves a book as a desk
 -- does.
 pub record IsHallRunOf {S : Type 0} (facts : S → StoreFacts) (IsStored : List ℕ → Type 0) (r : HallRun) : Type 0 where
   pub hall : HallFields S
-  pub stands : StandsHall facts IsStored r.start r.calls hall
+  pub stands : IsHallAfter facts IsStored r.start r.calls hall
   pub spelled : SpellsNumbered most_open (demands (accounts_in r.start)) (hall_lines r.calls) r.places r.told
-  pub leaves : (r.left ≡ hall.keeper.book) ⊎ ((t : Told) × IsAttemptJudged hall.keeper.book t r.left)
+  pub leaves : (r.left ≡ hall.keeper.book) ⊎ ((t : LoggedReply) × IsAttemptJudged hall.keeper.book t r.left)
+
+-- a desk that began with the book has answered the calls, and leaves this book where it stops
+abbrev pub IsRunLeaving : {S : Type 0} → (S → StoreFacts) → (IsStored : List ℕ → Type 0) → (start : BookFields) → List Call
+    → (left : BookFields) → Type 0
+IsRunLeaving facts IsStored start calls left =
+    (r : Run) × IsDeskRunOf facts IsStored r × (r.start ≡ start) × (r.calls ≡ calls) × (r.left ≡ left)
+
+-- a hall that began with the book has answered the calls, and leaves this book where it stops
+abbrev pub IsHallRunLeaving : {S : Type 0} → (S → StoreFacts) → (IsStored : List ℕ → Type 0) → (start : BookFields) → List (Numbered Call)
+    → (left : BookFields) → Type 0
+IsHallRunLeaving facts IsStored start calls left =
+    (r : HallRun) × IsHallRunOf facts IsStored r × (r.start ≡ start) × (r.calls ≡ calls) × (r.left ≡ left)
 
 -- what happens to a book: a desk or a hall runs with it, from the text that the store held when the run began to the one that
 -- it holds when the run has stopped; its token judges an attempt of an account, without a desk; the token of an account is
@@ -59,7 +71,7 @@ pub record IsHallRunOf {S : Type 0} (facts : S → StoreFacts) (IsStored : List 
 pub data Change : Type 0 where
   desk_ran : (r : Run) → Change
   hall_ran : (r : HallRun) → Change
-  judged : (t : Told) → Change
+  judged : (t : LoggedReply) → Change
   unlocked : (name : List ℕ) → Change
   added : (name : List ℕ) (account : AccountFields) → Change
 

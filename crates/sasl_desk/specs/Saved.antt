@@ -1,19 +1,19 @@
 -- What was saved of a log's replies: the book in which each of them is judged.
 use Rattle.std.specs.Prelude.{ℕ, ◌≡◌, List, reverse}
 use Rattle.book_format.specs.Book.{BookFields}
-use Rattle.account_book.specs.Saves.{WasSaved}
+use Rattle.account_book.specs.SavedBooks.{WasSaved}
 use Rattle.log_grammar.specs.Books.{accounts_in}
-use Rattle.log_grammar.specs.Clean.{Begins}
+use Rattle.log_grammar.specs.Begins.{Begins}
 use Rattle.log_grammar.specs.Demands.{demands}
 use Rattle.log_grammar.specs.Lines.{LogLine, log_bytes}
 use Rattle.log_grammar.specs.Numbered.{Numbered, SpellsNumbered}
 use Rattle.log_grammar.specs.Places.{Place}
-use Rattle.log_grammar.specs.Told.{Told}
+use Rattle.log_grammar.specs.LoggedReply.{LoggedReply}
 use Rattle.log_grammar.specs.Versions.{most_open}
 use Rattle.sasl_desk.specs.Desks.{IsBookWith}
 
 -- the book after what was told was saved
-pub record IsToldSaved (IsStored : List ℕ → Type 0) (start : BookFields) (told : List Told) : Type 0 where
+pub record IsToldSaved (IsStored : List ℕ → Type 0) (start : BookFields) (told : List LoggedReply) : Type 0 where
   pub last : BookFields
   pub is_last : IsBookWith start (reverse told) last
   pub saved : WasSaved IsStored last
@@ -22,7 +22,7 @@ pub record IsToldSaved (IsStored : List ℕ → Type 0) (start : BookFields) (to
 pub record IsLogSaved (IsStored : List ℕ → Type 0) (start : BookFields) (log : List ℕ) : Type 0 where
   pub lines : List LogLine
   pub place : Place
-  pub told : List Told
+  pub told : List LoggedReply
   pub are_lines : log ≡ log_bytes lines
   pub begins : Begins (demands (accounts_in start)) lines place told
   pub saved : IsToldSaved IsStored start told
@@ -30,6 +30,6 @@ pub record IsLogSaved (IsStored : List ℕ → Type 0) (start : BookFields) (log
 -- the book after what the lines of a log of version 2 tell was saved
 pub record AreLinesSaved (IsStored : List ℕ → Type 0) (start : BookFields) (lines : List (Numbered LogLine)) : Type 0 where
   pub places : ℕ → Place
-  pub told : List Told
+  pub told : List LoggedReply
   pub spelled : SpellsNumbered most_open (demands (accounts_in start)) lines places told
   pub saved : IsToldSaved IsStored start told

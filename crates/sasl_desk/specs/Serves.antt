@@ -14,7 +14,7 @@ use Rattle.sasl_desk.specs.Events.{sends, goes_away}
 use Rattle.sasl_desk.specs.Inputs.{LineRead, ReadsLine, ReadsLines, event_read}
 use Rattle.sasl_desk.specs.Sessions.{IsRecord}
 use Rattle.sasl_desk.specs.Runs.{Asked, greets, hears, Call, call_of}
-use Rattle.sasl_desk.specs.Desks.{Stands, IsSame, phase_of, is_saving}
+use Rattle.sasl_desk.specs.Desks.{IsDeskAfter, IsSame, phase_of, is_saving}
 use Rattle.sasl_desk.specs.Outputs.{AreWritten}
 use Rattle.sasl_desk.specs.declared.desk.Desk.{Desk}
 use Rattle.sasl_desk.specs.declared.desk.state.Phase.TheVariants as phase
@@ -29,8 +29,9 @@ call_lines (c ∷ before) = call_lines before ++ c.lines
 -- a desk that had answered some calls has answered these, too
 pub record AnswersAll {S : Type 0} (facts : S → StoreFacts) (IsStored : List ℕ → Type 0) (old : Desk S) (calls : List Call)
     (new : Desk S) : Type 0 where
-  pub stands : (start : BookFields) (before : List Call) → Stands facts IsStored start before old → Stands facts IsStored start (calls ++ before) new
-  pub saves : (start : BookFields) (before : List Call) → Stands facts IsStored start before old
+  pub stands : (start : BookFields) (before : List Call) → IsDeskAfter facts IsStored start before old
+      → IsDeskAfter facts IsStored start (calls ++ before) new
+  pub saves : (start : BookFields) (before : List Call) → IsDeskAfter facts IsStored start before old
       → (facts new.keeper.store).saves ≡ (facts old.keeper.store).saves + length (filter is_saving (call_lines calls))
 
 -- the desk has not halted, but for a store that has failed
@@ -65,8 +66,8 @@ pub record IsUnlogged {S : Type 0} (facts : S → StoreFacts) (IsStored : List �
 
 -- why what a desk was asked is not done, and what stands then. Where the desk had halted, and where memory ran out, the desk
 -- has answered nothing, and nothing was written.
-abbrev pub IsUndone : {S : Type 0} → (S → StoreFacts) → (IsStored : List ℕ → Type 0) → Asked → (old new : Desk S) → (wire wire' log log' : SinkFacts)
-    → ServeFault → Type 0
+abbrev pub IsUndone : {S : Type 0} → (S → StoreFacts) → (IsStored : List ℕ → Type 0) → Asked → (old new : Desk S)
+    → (wire wire' log log' : SinkFacts) → ServeFault → Type 0
 IsUndone facts IsStored asked old new wire wire' log log' Halted = IsSame old new × (wire' ≡ wire) × (log' ≡ log)
 IsUndone facts IsStored asked old new wire wire' log log' NoMemory = IsSame old new × (wire' ≡ wire) × (log' ≡ log)
 IsUndone facts IsStored asked old new wire wire' log log' Unwritable = ⊥
@@ -92,7 +93,8 @@ pub record IsTurnServed {S : Type 0} (facts : S → StoreFacts) (IsStored : List
 
 -- why a turn is not served. Where the desk had halted, nothing was read; else one line was, and it is lost where memory ran
 -- out.
-abbrev pub IsTurnFault : {S : Type 0} → (S → StoreFacts) → (IsStored : List ℕ → Type 0) → (moment : ℕ) → (old new : Service S) → ServeFault → Type 0
+abbrev pub IsTurnFault : {S : Type 0} → (S → StoreFacts) → (IsStored : List ℕ → Type 0) → (moment : ℕ) → (old new : Service S)
+    → ServeFault → Type 0
 IsTurnFault facts IsStored moment old new Halted = new ≡ old
 IsTurnFault facts IsStored moment old new fault =
     (read : LineRead) × ReadsLine old.input read new.input
@@ -155,8 +157,8 @@ pub record IsCutOff {S : Type 0} (facts : S → StoreFacts) (IsStored : List ℕ
   pub done : IsDone facts IsStored (hears goes_away moment) middle.desk new.desk middle.wire new.wire middle.log new.log
 
 -- a session that was served
-abbrev pub IsServed : {S : Type 0} → (S → StoreFacts) → (IsStored : List ℕ → Type 0) → (IsNow : ℕ → Type 0) → (own : List ℕ) → (old new : Service S)
-    → Type 0
+abbrev pub IsServed : {S : Type 0} → (S → StoreFacts) → (IsStored : List ℕ → Type 0) → (IsNow : ℕ → Type 0) → (own : List ℕ)
+    → (old new : Service S) → Type 0
 IsServed facts IsStored IsNow own old new = IsServedToEnd facts IsStored IsNow own old new ⊎ IsCutOff facts IsStored IsNow own old new
 
 -- the client was not greeted, for this reason
@@ -166,8 +168,8 @@ pub record FailsInGreeting {S : Type 0} (facts : S → StoreFacts) (IsStored : L
   pub undone : IsUndone facts IsStored (greets own) old.desk new.desk old.wire new.wire old.log new.log fault
 
 -- a turn was not served, for this reason. All turns before it were.
-pub record FailsInTurn {S : Type 0} (facts : S → StoreFacts) (IsStored : List ℕ → Type 0) (IsNow : ℕ → Type 0) (own : List ℕ) (old new : Service S)
-    (fault : ServeFault) : Type 0 where
+pub record FailsInTurn {S : Type 0} (facts : S → StoreFacts) (IsStored : List ℕ → Type 0) (IsNow : ℕ → Type 0) (own : List ℕ)
+    (old new : Service S) (fault : ServeFault) : Type 0 where
   pub middle : Service S
   pub turns : List ServedTurn
   pub few : length turns < most_turns
@@ -177,8 +179,8 @@ pub record FailsInTurn {S : Type 0} (facts : S → StoreFacts) (IsStored : List 
   pub undone : IsTurnFault facts IsStored moment middle new fault
 
 -- the turns were used up, and the client could not be taken for gone, for this reason
-pub record FailsAtEnd {S : Type 0} (facts : S → StoreFacts) (IsStored : List ℕ → Type 0) (IsNow : ℕ → Type 0) (own : List ℕ) (old new : Service S)
-    (fault : ServeFault) : Type 0 where
+pub record FailsAtEnd {S : Type 0} (facts : S → StoreFacts) (IsStored : List ℕ → Type 0) (IsNow : ℕ → Type 0) (own : List ℕ)
+    (old new : Service S) (fault : ServeFault) : Type 0 where
   pub middle : Service S
   pub used_up : HasUsedAllTurns facts IsStored IsNow own old middle new
   pub moment : ℕ

@@ -2,23 +2,23 @@
 use Rattle.std.specs.Prelude.{ℕ, ◌≡◌, ◌≢◌, ◌<◌, ◌⊎◌, List, [], ◌∷◌, ◌++◌, Option}
 use Rattle.std.specs.List.{AllByRecursion}
 use Rattle.std.specs.declared.option.Option.TheVariants.{None, Some}
-use Rattle.otp_core.specs.Attempt.{Attempt, CodeTexts, used_by}
+use Rattle.otp_core.specs.Attempt.{Attempt, CodeTexts, used_in_reply}
 use Rattle.otp_core.specs.Ranges.{IsMoment}
 use Rattle.otp_core.specs.Window.{IsCandidate, IsPairCandidate}
 use Rattle.otp_core.specs.History.{IsLegal}
 use Rattle.otp_core.specs.declared.token.answer.Reply.{Reply}
-use Rattle.otp_core.specs.declared.token.kinds.Fields.{Fields}
+use Rattle.otp_core.specs.declared.token.kinds.TokenFields.{TokenFields}
 use Rattle.book_format.specs.Book.{BookFields}
 use Rattle.account_book.specs.Tokens.{token_at}
 use Rattle.log_grammar.specs.Books.{accounts_in}
-use Rattle.log_grammar.specs.Told.{Told}
-use Rattle.log_grammar.specs.Demands.{IsReplyDue}
+use Rattle.log_grammar.specs.LoggedReply.{LoggedReply}
+use Rattle.log_grammar.specs.Demands.{IsToldDue}
 use Rattle.sasl_log.specs.Tokens.{IsBookAfter}
 
 -- the account has a token, and this counter is below each that can pass with it, alone or as the first of a pair, at
 -- every moment and after every legal history
-pub record IsSpent (book : BookFields) (name : List ℕ) (counter : ℕ) : Type 0 where
-  pub token : Fields
+pub record IsCounterSpent (book : BookFields) (name : List ℕ) (counter : ℕ) : Type 0 where
+  pub token : TokenFields
   pub has : token_at book name ≡ Some token
   pub below : (history : List Attempt) (moment c : ℕ) → IsMoment moment → IsLegal token history
       → (IsCandidate token history moment c ⊎ IsPairCandidate token history c) → counter < c
@@ -31,12 +31,12 @@ AreDifferent (p ∷ ps) = AllByRecursion (λ q. p ≢ q) ps × AreDifferent ps
 -- counters, each with its account, that are different and all spent
 pub record AreSpent (ps : List (List ℕ × ℕ)) (book : BookFields) : Type 0 where
   pub different : AreDifferent ps
-  pub spent : AllByRecursion (λ p. IsSpent book p.0 p.1) ps
+  pub spent : AllByRecursion (λ p. IsCounterSpent book p.0 p.1) ps
 
 -- the counters that an answer to a code uses: of two codes in a row both, and none where there is no reply
 abbrev pub used_by_answer : CodeTexts → Option Reply → List ℕ
 used_by_answer sent None = []
-used_by_answer sent (Some reply) = used_by sent reply
+used_by_answer sent (Some reply) = used_in_reply sent reply
 
 -- counters, each with this account
 abbrev pub of_account : List ℕ → List ℕ → List (List ℕ × ℕ)
@@ -44,12 +44,12 @@ of_account name [] = []
 of_account name (c ∷ counters) = (name, c) ∷ of_account name counters
 
 -- the counters that what was told uses, with the account
-abbrev pub spent_by : Told → List (List ℕ × ℕ)
+abbrev pub spent_by : LoggedReply → List (List ℕ × ℕ)
 spent_by t = of_account t.account (used_by_answer t.sent t.reply)
 
 -- what was spent stays spent, and the counters that a reply uses are others and are spent then, too: so over any number
 -- of replies, of any number of runs that go on from one another's books, no counter of an account passes twice
 abbrev pub SpentStaysSpent : Type 0
-SpentStaysSpent = (old new : BookFields) (t : Told) (ps : List (List ℕ × ℕ)) → IsMoment t.moment
-    → IsReplyDue (accounts_in old) [] t → IsBookAfter (accounts_in old) (t ∷ []) new
+SpentStaysSpent = (old new : BookFields) (t : LoggedReply) (ps : List (List ℕ × ℕ)) → IsMoment t.moment
+    → IsToldDue (accounts_in old) [] t → IsBookAfter (accounts_in old) (t ∷ []) new
     → AreSpent ps old → AreSpent (spent_by t ++ ps) new

@@ -3,9 +3,10 @@
 use Rattle.std.specs.Prelude.{ℕ, ◌≡◌, ◌↔◌, Bool, true, false, ◌||◌, List, [], ◌∷◌}
 use Rattle.otp_core.specs.Attempt.{CodeTexts, OneText, TwoTexts}
 use Rattle.log_grammar.specs.Lines.{LogLine, heard, bad, gone, ClientLine, auth, auth_with, resp, abort, code, sync}
-use Rattle.log_grammar.specs.Places.{Place, offered, asks_bare, waits_first, got_first, waits_final, got_final, waits_code, got_code, leaving, over}
+use Rattle.log_grammar.specs.Places.{Place, offered, asks_bare, waits_first, got_first}
+use Rattle.log_grammar.specs.Places.{waits_final, got_final, waits_code, got_code, leaving, over}
 use Rattle.log_grammar.specs.Demands.{Accounts, Demands, demands}
-use Rattle.log_grammar.specs.state_machine.Steps.{Goes}
+use Rattle.log_grammar.specs.state_machine.Steps.{IsTransition}
 
 -- AUTH is due: after `S MECHS`
 abbrev pub is_auth_due : Place → Bool
@@ -72,19 +73,19 @@ BearsMessage line = ⊥
 -- lines that may stand one after the other, from a place to the one after the last of them
 abbrev pub IsPath : Demands → Place → List LogLine → Place → Type 0
 IsPath d at [] next = next ≡ at
-IsPath d at (line ∷ lines) next = (middle : Place) × Goes d at line middle × IsPath d middle lines next
+IsPath d at (line ∷ lines) next = (middle : Place) × IsTransition d at line middle × IsPath d middle lines next
 
 -- a line of the client may stand exactly where it is due, and leads to the place after it
 abbrev pub DueLinesStand : Type 0
 DueLinesStand = (accounts : Accounts) (at : Place) (line : ClientLine) (next : Place)
-    → Goes (demands accounts) at (heard line) next ↔ ((is_due at line ≡ true) × (next ≡ record_place at (heard line)))
+    → IsTransition (demands accounts) at (heard line) next ↔ ((is_due at line ≡ true) × (next ≡ record_place at (heard line)))
 
 -- `C BAD` may stand exactly where it is the client's turn
 abbrev pub BadLinesStand : Type 0
 BadLinesStand = (accounts : Accounts) (at next : Place)
-    → Goes (demands accounts) at bad next ↔ ((is_client_turn at ≡ true) × (next ≡ record_place at bad))
+    → IsTransition (demands accounts) at bad next ↔ ((is_client_turn at ≡ true) × (next ≡ record_place at bad))
 
 -- `C GONE` may stand exactly where it is the client's turn
 abbrev pub GoneClientsStand : Type 0
 GoneClientsStand = (accounts : Accounts) (at next : Place)
-    → Goes (demands accounts) at gone next ↔ ((is_client_turn at ≡ true) × (next ≡ record_place at gone))
+    → IsTransition (demands accounts) at gone next ↔ ((is_client_turn at ≡ true) × (next ≡ record_place at gone))

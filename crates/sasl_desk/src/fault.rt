@@ -1,6 +1,6 @@
 //! Why a desk does not do what it was asked, and why a client is not served.
 ghost use Rattle.std.specs.Prelude.{◌≡◌, ◌≢◌};
-ghost use Rattle.sasl_desk.specs.Faults.{desk_number, serve_number, fault_of};
+ghost use Rattle.sasl_desk.specs.Faults.{desk_number, serve_number};
 
 use thiserror::Error;
 
@@ -11,7 +11,7 @@ pub enum DeskFault {
     #[error("the desk has halted")]
     Halted,
 
-    /// 73: the message that is due cannot be written. No call of a desk answers it.
+    /// 73: the message that is due cannot be written. No call of a desk or a hall answers it.
     #[error("a message that is due cannot be written")]
     Unwritable,
 
@@ -45,7 +45,7 @@ pub enum ServeFault {
     #[error("the desk has halted")]
     Halted,
 
-    /// 73: the message that is due cannot be written.
+    /// 73: the message that is due cannot be written. No call that serves answers it.
     #[error("a message that is due cannot be written")]
     Unwritable,
 
@@ -76,10 +76,10 @@ impl ServeFault {
         }
     }
 
-    /// A fault of the desk.
+    /// The fault in serving that has the number of this one of a desk.
     pub(crate) fn of_desk(fault: DeskFault) -> ServeFault
         requires { fault ≢ DeskFault.NoNumber }
-        ensures { result ≡ fault_of fault }
+        ensures { serve_number result ≡ desk_number fault }
     {
         match fault {
             DeskFault::Halted => ServeFault::Halted,

@@ -1,7 +1,6 @@
 //! The keeper of a book: it judges codes by the book's tokens, and saves each change before it is told.
-ghost use Rattle.std.specs.Prelude.{◌≡◌, ◌≢◌, IfErr, IfOk, OnErr};
-ghost use Rattle.std.specs.Bool.{OnTrue, OnFalse};
-ghost use Rattle.account_book.specs.Saves.{SavesBook};
+ghost use Rattle.std.specs.Prelude.{◌≡◌, IfErr, IfOk, OnErr};
+ghost use Rattle.account_book.specs.SavedBooks.{SavesBook};
 ghost use Rattle.otp_core.specs.Ranges.{IsMoment};
 ghost use Rattle.otp_core.specs.Sent.{texts_of};
 ghost use Rattle.sasl_desk.specs.Keeper.{IsNotBegun, IsJudged, IsJudgedInRange, IsToBeSaved};
@@ -87,7 +86,7 @@ impl<S: BookStore> Keeper<S> {
         };
         let before = token.copy();
         let reply = token.judge(moment, sent);
-        if is_locked(reply) {
+        if reply == Reply::Locked {
             return Ok(CodeJudged::Replied(Some(reply)));
         }
         self.book.put_token(name, token);
@@ -113,12 +112,4 @@ pub(crate) fn moment_is_in_range(moment: Moment)
     ensures { IsMoment moment }
 {
     moment.seconds();
-}
-
-// Whether the reply is LOCKED, which changes nothing.
-fn is_locked(reply: Reply) -> bool
-    ensures locked { OnTrue result (reply ≡ Reply.Locked) }
-    ensures open { OnFalse result (reply ≢ Reply.Locked) }
-{
-    matches!(reply, Reply::Locked)
 }

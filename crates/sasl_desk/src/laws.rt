@@ -5,11 +5,11 @@ ghost use Rattle.book_format.specs.Trees.{IsBookText};
 ghost use Rattle.log_grammar.specs.Books.{accounts_in};
 ghost use Rattle.log_grammar.specs.Versions.{IsFront, IsClean};
 ghost use Rattle.log_grammar.specs.Lines.{LogLine, said, halt, log_bytes};
-ghost use Rattle.log_grammar.specs.Told.{Told};
-ghost use Rattle.sasl_desk.specs.Desks.{Stands, phase_of, all_spent};
+ghost use Rattle.log_grammar.specs.LoggedReply.{LoggedReply};
+ghost use Rattle.sasl_desk.specs.Desks.{IsDeskAfter, phase_of, all_spent};
 ghost use Rattle.sasl_desk.specs.Keeper.{IsAttemptJudged};
 ghost use Rattle.sasl_desk.specs.Records.{HasItsRecords};
-ghost use Rattle.sasl_desk.specs.Restarts.{Run, IsDeskRunOf, Change, AreChanges, spent_in};
+ghost use Rattle.sasl_desk.specs.Restarts.{IsRunLeaving, Change, AreChanges, spent_in};
 ghost use Rattle.sasl_desk.specs.Runs.{Call, run_lines, wire_bytes};
 ghost use Rattle.sasl_desk.specs.Saved.{IsLogSaved};
 ghost use Rattle.sasl_desk.specs.Serves.{LongTextsAreBad};
@@ -44,16 +44,16 @@ pub fn records_may_stand()
 
 /// Whatever a desk was asked, its log is a front for the book with which it began: a clean log may begin with it.
 pub fn log_is_a_front<S: BookStore>()
-    ensures { (start : BookFields) (calls : List Call) (desk : Desk S) → Stands S.facts S.IsStored start calls desk
+    ensures { (start : BookFields) (calls : List Call) (desk : Desk S) → IsDeskAfter S.facts S.IsStored start calls desk
         → IsFront (accounts_in start) (log_bytes (run_lines calls)) }
 {}
 
 /// A desk's log is clean where no session is open, where the store has failed, and where it ends with `S HALT`.
 pub fn log_is_clean<S: BookStore>()
-    ensures closed { (start : BookFields) (calls : List Call) (desk : Desk S) → Stands S.facts S.IsStored start calls desk
+    ensures closed { (start : BookFields) (calls : List Call) (desk : Desk S) → IsDeskAfter S.facts S.IsStored start calls desk
         → (phase_of desk.state ≡ phase.Closed) ⊎ ((S.facts desk.keeper.store).failed ≡ true)
         → IsClean (accounts_in start) (log_bytes (run_lines calls)) }
-    ensures halted { (start : BookFields) (calls : List Call) (desk : Desk S) → Stands S.facts S.IsStored start calls desk
+    ensures halted { (start : BookFields) (calls : List Call) (desk : Desk S) → IsDeskAfter S.facts S.IsStored start calls desk
         → (lines : List LogLine) → run_lines calls ≡ lines ++ said halt ∷ [] → IsClean (accounts_in start) (log_bytes (run_lines calls)) }
 {
     goes_on_by_no_other();
@@ -62,46 +62,50 @@ pub fn log_is_clean<S: BookStore>()
 /// A desk's log offers mechanisms once for each client that was greeted, and records what its clients did, each as is due where
 /// it was done, in its order: nothing is left out, and nothing is invented.
 pub fn log_has_its_records<S: BookStore>()
-    ensures { (start : BookFields) (calls : List Call) (desk : Desk S) → Stands S.facts S.IsStored start calls desk
+    ensures { (start : BookFields) (calls : List Call) (desk : Desk S) → IsDeskAfter S.facts S.IsStored start calls desk
         → HasItsRecords (accounts_in start) calls }
 {}
 
 /// The bytes of a run are those of its calls, one after another: in its log after the first line, and to its clients.
 pub fn bytes_are_those_of_calls()
     ensures log { (c : Call) (before : List Call) → log_bytes (run_lines (c ∷ before)) ≡ log_bytes (run_lines before) ++ log_bytes c.lines }
-    ensures wire { (c : Call) (before : List Call) → wire_bytes (run_lines (c ∷ before)) ≡ wire_bytes (run_lines before) ++ wire_bytes c.lines }
+    ensures wire { (c : Call) (before : List Call)
+        → wire_bytes (run_lines (c ∷ before)) ≡ wire_bytes (run_lines before) ++ wire_bytes c.lines }
     ensures begun { wire_bytes (run_lines []) ≡ [] }
 {}
 
 /// Whenever a call has ended, the store holds the text of a book that the run leaves: the desk's own, or, where a save failed,
 /// perhaps that with one more attempt.
 pub fn store_holds_a_book<S: BookStore>()
-    ensures { (start : BookFields) (calls : List Call) (desk : Desk S) → Stands S.facts S.IsStored start calls desk
-        → (r : Run) × IsDeskRunOf S.facts S.IsStored r × (r.start ≡ start) × (r.calls ≡ calls) × IsBookText (S.facts desk.keeper.store).saved r.left }
+    ensures { (start : BookFields) (calls : List Call) (desk : Desk S) → IsDeskAfter S.facts S.IsStored start calls desk
+        → (left : BookFields) × IsRunLeaving S.facts S.IsStored start calls left × IsBookText (S.facts desk.keeper.store).saved left }
 {}
 
 /// Whenever a call has ended, the book after what the log tells was saved: no client was told of a reply before what the reply
 /// changed was saved.
 pub fn log_is_saved<S: BookStore>()
-    ensures { (start : BookFields) (calls : List Call) (desk : Desk S) → Stands S.facts S.IsStored start calls desk
+    ensures { (start : BookFields) (calls : List Call) (desk : Desk S) → IsDeskAfter S.facts S.IsStored start calls desk
         → IsLogSaved S.IsStored start (log_bytes (run_lines calls)) }
 {}
 
 /// A stop within a call, as the store puts the new text in the place of the old, leaves what a run leaves: the desk's book with
 /// the attempt that is judged.
 pub fn stops_leave_runs<S: BookStore>()
-    ensures { (start : BookFields) (calls : List Call) (desk : Desk S) (t : Told) (next : BookFields) → Stands S.facts S.IsStored start calls desk
-        → IsAttemptJudged desk.keeper.book t next → (r : Run) × IsDeskRunOf S.facts S.IsStored r × (r.start ≡ start) × (r.calls ≡ calls) × (r.left ≡ next) }
+    ensures { (start : BookFields) (calls : List Call) (desk : Desk S) (t : LoggedReply) (next : BookFields)
+        → IsDeskAfter S.facts S.IsStored start calls desk → IsAttemptJudged desk.keeper.book t next
+        → IsRunLeaving S.facts S.IsStored start calls next }
 {}
 
 /// At every moment of a run the store holds a book in which each counter that a client was told has passed is spent, and each that
 /// was spent before the run: after a call, and where the run stops within one, as the store puts the text with the attempt that is
 /// judged in the place of the old one.
 pub fn told_counters_are_saved<S: BookStore>()
-    ensures ended { (start : BookFields) (calls : List Call) (desk : Desk S) (s : Stands S.facts S.IsStored start calls desk) (ps : List (List ℕ × ℕ)) → AreSpent ps start
+    ensures ended { (start : BookFields) (calls : List Call) (desk : Desk S) (s : IsDeskAfter S.facts S.IsStored start calls desk)
+        (ps : List (List ℕ × ℕ)) → AreSpent ps start
         → (saved : BookFields) × IsBookText (S.facts desk.keeper.store).saved saved × AreSpent (all_spent (reverse s.told) ++ ps) saved }
-    ensures within { (start : BookFields) (calls : List Call) (desk : Desk S) (s : Stands S.facts S.IsStored start calls desk) (ps : List (List ℕ × ℕ)) (t : Told)
-        (next : BookFields) → AreSpent ps start → IsAttemptJudged desk.keeper.book t next → AreSpent (all_spent (reverse s.told) ++ ps) next }
+    ensures within { (start : BookFields) (calls : List Call) (desk : Desk S) (s : IsDeskAfter S.facts S.IsStored start calls desk)
+        (ps : List (List ℕ × ℕ)) (t : LoggedReply) (next : BookFields) → AreSpent ps start → IsAttemptJudged desk.keeper.book t next
+        → AreSpent (all_spent (reverse s.told) ++ ps) next }
 {
     begins_with_itself();
     spent_stays_spent();
@@ -111,8 +115,9 @@ pub fn told_counters_are_saved<S: BookStore>()
 /// and between them attempts that the book's tokens judge without a desk, unlocked tokens and added accounts. The counters that
 /// the replies use are different from each other and from those that were spent before, and all are spent in the book that is left.
 pub fn no_counter_passes_twice<S: BookStore>()
-    ensures { (first : BookFields) (changes : List Change) (last : BookFields) (ps : List (List ℕ × ℕ)) → AreChanges S.facts S.IsStored first changes last
-        → AreSpent ps first → AreSpent (spent_in changes ++ ps) last }
+    ensures { (first : BookFields) (changes : List Change) (last : BookFields) (ps : List (List ℕ × ℕ))
+        → AreChanges S.facts S.IsStored first changes last → AreSpent ps first
+        → AreSpent (spent_in changes ++ ps) last }
 {
     begins_with_itself();
     candidates_are_new();

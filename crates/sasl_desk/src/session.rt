@@ -12,7 +12,8 @@ ghost use Rattle.sasl_log.specs.Shown.{client_shown};
 ghost use Rattle.sasl_log.specs.Texts.{CanBeLine};
 ghost use Rattle.sasl_desk.specs.Events.{event_shown};
 ghost use Rattle.sasl_desk.specs.Turns.{BearsMessage};
-ghost use Rattle.sasl_desk.specs.Sessions.{StandsAt, IsLineOf, heard_lines, CanBeWritten, ComesOfEvent, ComesOfLine, IsOfCode, AsksFor, AsksForEvent};
+ghost use Rattle.sasl_desk.specs.Sessions.{IsSessionAt, IsLineOf, heard_lines, CanBeWritten};
+ghost use Rattle.sasl_desk.specs.Sessions.{ComesOfEvent, ComesOfLine, IsOfCode, AsksFor, AsksForEvent};
 
 mod answer;
 mod first;
@@ -63,7 +64,7 @@ impl Session {
     ) -> Result<Heard<'a>, Session>
         requires { message.old.items ≡ [] }
         // Where the session stands at a place, the event is recorded and answered as is due there.
-        ensures heard { (accounts : Accounts) (at : Place) → KeepsEntries accounts book.now → StandsAt accounts at self
+        ensures heard { (accounts : Accounts) (at : Place) → KeepsEntries accounts book.now → IsSessionAt accounts at self
             → IfOk result (λ heard. ComesOfEvent accounts own.now (event_shown event.entry) at heard message.new.items) }
         // All lines of it can be written.
         ensures lines { IfOk result (λ heard. CanBeWritten (heard_lines heard message.new.items)) }
@@ -95,7 +96,7 @@ impl Session {
     ) -> Result<Heard<'a>, Session>
         requires empty { message.old.items ≡ [] }
         requires line { CanBeLine (from_client (client_shown line)) }
-        ensures heard { (accounts : Accounts) (at : Place) → KeepsEntries accounts book.now → StandsAt accounts at self
+        ensures heard { (accounts : Accounts) (at : Place) → KeepsEntries accounts book.now → IsSessionAt accounts at self
             → IfOk result (λ heard. ComesOfLine accounts own.now (client_shown line.entry) at heard message.new.items) }
         ensures lines { IfOk result (λ heard. CanBeWritten (heard_lines heard message.new.items)) }
         ensures asks { IfOk result (λ heard. IsOfCode heard self) }

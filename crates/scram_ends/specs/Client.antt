@@ -2,7 +2,8 @@
 use Rattle.std.specs.Prelude.{ℕ, ◌≡◌, ◌≢◌, ◌≤◌, ◌<◌, ◌⊎◌, true, false, List, ◌++◌}
 use Rattle.std.specs.declared.result.Result.{Result}
 use Rattle.std.specs.declared.result.Result.TheVariants.{Ok, Err}
-use Rattle.scram_text.specs.Messages.{ClientFirstParts, header_text, bare_text, ServerFirstParts, IsServerFirst, server_first_mandatory, verified, failed, ServerFinalParts, IsServerFinal, server_final_mandatory}
+use Rattle.scram_text.specs.Messages.{ClientFirstParts, header_text, bare_text, ServerFirstParts, IsServerFirst, server_first_mandatory}
+use Rattle.scram_text.specs.Messages.{verified, failed, ServerFinalParts, IsServerFinal, server_final_mandatory}
 use Rattle.scram_text.specs.Faults.{IsServerFirstFault, IsServerFinalFault}
 use Rattle.scram_text.specs.declared.fault.WriteFault.{WriteFault}
 use Rattle.scram_ends.specs.Stages.{Started, Answered}
@@ -14,7 +15,8 @@ use Rattle.scram_ends.specs.declared.client.ClientTwo.{ClientTwo}
 use Rattle.scram_ends.specs.declared.client.OneRefused.{OneRefused}
 use Rattle.scram_ends.specs.declared.client.OneRefused.TheVariants.{Spent, Back}
 use Rattle.scram_ends.specs.declared.client.ClientFault.{ClientFault}
-use Rattle.scram_ends.specs.declared.client.ClientFault.TheVariants.{Text, Mandatory, NonceNotMine, NonceNotLonger, CountOutside, ServerRefused, WrongSignature}
+use Rattle.scram_ends.specs.declared.client.ClientFault.TheVariants.{Text, Mandatory, NonceNotMine, NonceNotLonger, CountOutside}
+use Rattle.scram_ends.specs.declared.client.ClientFault.TheVariants.{ServerRefused, WrongSignature}
 
 -- the client has sent the first message of this login
 pub record IsStarted (w : ClientOne) (l : Started) : Type 0 where
@@ -49,8 +51,10 @@ IsOutside limits count = (count < limits.least) ⊎ (limits.most < count)
 -- text is no server-first message, with its first fault; it is mandatory; its nonce does not begin with
 -- the client's; it is the client's; its count is outside the limits
 abbrev pub IsChallengeFault : Limits → List ℕ → List ℕ → ClientFault → Type 0
-IsChallengeFault limits own server_first (Text fault) = ((p : ServerFirstParts) → IsServerFirst server_first p → ⊥) × IsServerFirstFault server_first fault
-IsChallengeFault limits own server_first Mandatory = (p : ServerFirstParts) × IsServerFirst server_first p × (server_first_mandatory p ≡ true)
+IsChallengeFault limits own server_first (Text fault) = ((p : ServerFirstParts) → IsServerFirst server_first p → ⊥)
+    × IsServerFirstFault server_first fault
+IsChallengeFault limits own server_first Mandatory = (p : ServerFirstParts) × IsServerFirst server_first p
+    × (server_first_mandatory p ≡ true)
 IsChallengeFault limits own server_first NonceNotMine =
     (p : ServerFirstParts) × IsServerFirst server_first p × (server_first_mandatory p ≡ false)
     × ((more : List ℕ) → p.nonce ≢ own ++ more)
@@ -84,7 +88,8 @@ IfBack (Err (Spent fault)) fact = Unit {0}
 -- holds: the text is no server-final message, with its first fault; it is mandatory; it is an error; its
 -- verifier is another
 abbrev pub IsLastFault : List ℕ → List ℕ → ClientFault → Type 0
-IsLastFault signature server_final (Text fault) = ((p : ServerFinalParts) → IsServerFinal server_final p → ⊥) × IsServerFinalFault server_final fault
+IsLastFault signature server_final (Text fault) = ((p : ServerFinalParts) → IsServerFinal server_final p → ⊥)
+    × IsServerFinalFault server_final fault
 IsLastFault signature server_final Mandatory = (p : ServerFinalParts) × IsServerFinal server_final p × (server_final_mandatory p ≡ true)
 IsLastFault signature server_final ServerRefused =
     (p : ServerFinalParts) × IsServerFinal server_final p × (server_final_mandatory p ≡ false)

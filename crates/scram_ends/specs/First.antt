@@ -6,7 +6,7 @@ use Rattle.scram_text.specs.Faults.{IsClientFirstFault}
 use Rattle.scram_text.specs.Written.{server_first_of}
 use Rattle.scram_ends.specs.Entry.{Entry}
 use Rattle.scram_ends.specs.Opening.{IsNameOf, IsAuthzidOf, IsUnbound, IsTakenUp, Opening, IsOpening}
-use Rattle.scram_ends.specs.declared.first.Taken.{Taken}
+use Rattle.scram_ends.specs.declared.first.AcceptedFirst.{AcceptedFirst}
 use Rattle.scram_ends.specs.declared.first.FirstFault.{FirstFault}
 use Rattle.scram_ends.specs.declared.first.FirstFault.TheVariants.{Text, Mandatory, BindingAsked, OutsideProfile}
 use Rattle.scram_ends.specs.declared.recorded.RecordedFault.{RecordedFault}
@@ -20,14 +20,14 @@ pub record IsChallengeTo (e : Entry) (client_first own server_first : List ℕ) 
   pub is_challenge : IsServerFirst server_first (server_first_of (first.nonce ++ own) e.salt e.count [])
 
 -- what a server takes from a client-first message that it takes up
-pub record ShowsTaken (taken : Taken) (first : ClientFirstParts) : Type 0 where
+pub record ShowsAcceptedFirst (taken : AcceptedFirst) (first : ClientFirstParts) : Type 0 where
   pub header : taken.header.now ≡ header_text first
   pub bare : taken.bare.now ≡ bare_text first
   pub nonce : taken.nonce.now ≡ first.nonce
   pub taken_up : IsTakenUp first taken.name taken.authzid
 
 -- what a server takes, and the nonce that it sends, are those of this opening
-pub record ShowsOpening (taken : Taken) (sent : List ℕ) (o : Opening) : Type 0 where
+pub record ShowsOpening (taken : AcceptedFirst) (sent : List ℕ) (o : Opening) : Type 0 where
   pub header : taken.header.now ≡ header_text o.first
   pub bare : taken.bare.now ≡ bare_text o.first
   pub name : taken.name ≡ o.name
@@ -37,7 +37,8 @@ pub record ShowsOpening (taken : Taken) (sent : List ℕ) (o : Opening) : Type 0
 -- why a server takes up no login, the first reason that holds: the text is no client-first message, with
 -- its first fault; it is mandatory; its flag is "p=" and a name; a name in it is not plain
 abbrev pub IsRefusedWith : List ℕ → FirstFault → Type 0
-IsRefusedWith client_first (Text fault) = ((p : ClientFirstParts) → IsClientFirst client_first p → ⊥) × IsClientFirstFault client_first fault
+IsRefusedWith client_first (Text fault) = ((p : ClientFirstParts) → IsClientFirst client_first p → ⊥)
+    × IsClientFirstFault client_first fault
 IsRefusedWith client_first Mandatory = (p : ClientFirstParts) × IsClientFirst client_first p × (client_first_mandatory p ≡ true)
 IsRefusedWith client_first BindingAsked =
     (p : ClientFirstParts) × IsClientFirst client_first p × (client_first_mandatory p ≡ false)

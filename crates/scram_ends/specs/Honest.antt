@@ -2,7 +2,8 @@
 -- message as the RFC says.
 use Rattle.std.specs.Prelude.{ℕ, ◌≡◌, false, List, [], codes}
 use Rattle.std.specs.declared.option.Option.{Option}
-use Rattle.scram_text.specs.Messages.{ClientFirstParts, header_text, IsClientFirst, client_first_mandatory, ServerFirstParts, IsServerFirst, ClientFinalParts, IsClientFinal}
+use Rattle.scram_text.specs.Messages.{ClientFirstParts, header_text, IsClientFirst, client_first_mandatory, ServerFirstParts, IsServerFirst}
+use Rattle.scram_text.specs.Messages.{ClientFinalParts, IsClientFinal}
 use Rattle.scram_ends.specs.Stages.{Answered}
 use Rattle.scram_ends.specs.Auth.{auth_message, proof_of, signature_of}
 use Rattle.scram_ends.specs.Opening.{IsNameOf, IsAuthzidOf}

@@ -2,7 +2,6 @@ pub mod Entry
 pub mod Stages
 pub mod Auth
 pub mod Opening
-pub mod Rows
 pub mod Verdict
 pub mod Login
 pub mod Standing

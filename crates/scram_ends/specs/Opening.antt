@@ -5,7 +5,8 @@ use Rattle.std.specs.declared.option.Option.{Option}
 use Rattle.std.specs.declared.option.Option.TheVariants.{None, Some}
 use Rattle.scram_text.specs.Class.{IsPlainName}
 use Rattle.scram_text.specs.Name.{SpellsName}
-use Rattle.scram_text.specs.Messages.{ClientFirstParts, IsClientFirst, client_first_mandatory, ServerFirstParts, IsServerFirst, server_first_mandatory}
+use Rattle.scram_text.specs.Messages.{ClientFirstParts, IsClientFirst, client_first_mandatory, ServerFirstParts, IsServerFirst}
+use Rattle.scram_text.specs.Messages.{server_first_mandatory}
 use Rattle.scram_ends.specs.Entry.{Entry}
 
 -- the saslname spells this plain name

@@ -3,16 +3,18 @@
 use Rattle.std.specs.Prelude.{ℕ, ◌≡◌, ◌⊎◌, false, List, [], ◌∷◌, codes}
 use Rattle.std.specs.List.{AllByRecursion}
 use Rattle.std.specs.declared.option.Option.TheVariants.{Some}
-use Rattle.scram_text.specs.Messages.{header_text, ClientFinalParts, IsClientFinal, client_final_mandatory, VerifierOrError, verified, failed, ServerFinalParts, server_final_text}
-use Rattle.scram_ends.specs.Rows.{IsFirstUnmet}
+use Rattle.scram_text.specs.Messages.{header_text, ClientFinalParts, IsClientFinal, client_final_mandatory, VerifierOrError, verified}
+use Rattle.scram_text.specs.Messages.{failed, ServerFinalParts, server_final_text}
+use Rattle.scram_text.specs.Rows.{IsFirstUnmet}
 use Rattle.scram_ends.specs.Entry.{Keys}
 use Rattle.scram_ends.specs.Stages.{Challenged}
 use Rattle.scram_ends.specs.Auth.{auth_message, server_signature, IsProof}
 use Rattle.scram_ends.specs.Opening.{Opening, IsOpening, IsAllowed}
 use Rattle.scram_ends.specs.declared.verdict.Refusal.{Refusal}
-use Rattle.scram_ends.specs.declared.verdict.Refusal.TheVariants.{InvalidEncoding, ExtensionsNotSupported, OtherNonce, Channel, InvalidProof, NotAuthorised}
+use Rattle.scram_ends.specs.declared.verdict.Refusal.TheVariants.{InvalidEncoding, ExtensionsNotSupported, OtherNonce, Channel}
+use Rattle.scram_ends.specs.declared.verdict.Refusal.TheVariants.{InvalidProof, NotAuthorised}
 use Rattle.scram_ends.specs.declared.verdict.Verdict.{Verdict}
-use Rattle.scram_ends.specs.declared.verdict.Verdict.TheVariants as told
+use Rattle.scram_ends.specs.declared.verdict.Verdict.TheVariants as verdict
 use Rattle.scram_ends.specs.declared.verdict.Judged.{Judged}
 use Rattle.scram_ends.specs.declared.verdict.Judged.TheVariants as judged
 
@@ -44,7 +46,8 @@ abbrev pub IsWeighed : Challenged → Opening → ClientFinalParts → Due → T
 IsWeighed l o final (refuse r) = IsFirstUnmet (λ row. Asks row l o final) rows r
 IsWeighed l o final (accept signature) =
     AllByRecursion (λ row. Asks row l o final) rows
-    × ((keys : Keys) × (l.entry.keys ≡ Some keys) × (signature ≡ server_signature l.mechanism keys (auth_message o.first l.server_first final)))
+    × ((keys : Keys) × (l.entry.keys ≡ Some keys)
+    × (signature ≡ server_signature l.mechanism keys (auth_message o.first l.server_first final)))
 
 -- the messages are an opening and a client-final message, and this is the verdict on their parts
 pub record IsDueToParts (l : Challenged) (client_final : List ℕ) (d : Due) : Type 0 where
@@ -85,10 +88,10 @@ due_text d = server_final_text (final_due d)
 
 -- the verdict that the client is sent
 abbrev pub verdict_of : Due → Verdict
-verdict_of (accept signature) = told.Accepted
-verdict_of (refuse r) = told.Refused r
+verdict_of (accept signature) = verdict.Accepted
+verdict_of (refuse r) = verdict.Refused r
 
--- the verdict of a judgement
+-- what is due, by this judgement
 abbrev pub due_of : Judged → Due
 due_of (judged.Accepted signature) = accept signature.items
 due_of (judged.Refused r) = refuse r

@@ -14,8 +14,14 @@ mod start;
 
 use arrayvec::ArrayVec;
 use mac_core::{Mechanism, Tag};
-use scram_text::{MOST_MESSAGE, TextFault, WriteFault};
+use scram_text::{LONGEST_CHANNEL, LONGEST_MESSAGE, LONGEST_NONCE_PART, TextFault, WriteFault};
 use thiserror::Error;
+
+/// The least iteration count that a client usually accepts: what servers should ask for at least (RFC 5802, section 5.1).
+const USUAL_LEAST: u32 = 4096;
+
+/// The most, at which a proof takes a client a second or two.
+const USUAL_MOST: u32 = 1_000_000;
 
 /// A client that has sent nothing yet.
 #[derive(Clone, Copy, Debug, PartialEq, Eq)]
@@ -39,8 +45,8 @@ impl Limits {
         ensures most { result.most ≡ 1000000 }
     {
         Limits {
-            least: 4096,
-            most: 1_000_000,
+            least: USUAL_LEAST,
+            most: USUAL_MOST,
         }
     }
 }
@@ -109,9 +115,9 @@ impl From<TextFault> for ClientFault {
 pub struct ClientOne {
     mechanism: Mechanism,
     limits: Limits,
-    bare: ArrayVec<u8, MOST_MESSAGE>,
-    header: ArrayVec<u8, 1536>,
-    nonce: ArrayVec<u8, 256>,
+    bare: ArrayVec<u8, LONGEST_MESSAGE>,
+    header: ArrayVec<u8, LONGEST_CHANNEL>,
+    nonce: ArrayVec<u8, LONGEST_NONCE_PART>,
 }
 
 /// Why a challenge is not answered.
@@ -130,6 +136,7 @@ pub struct ClientTwo {
     expected: Tag,
 }
 
-/// The proof that the server has the keys of the client's password.
+/// What `finish` answers where the server has shown that it has the keys of the client's password
+/// (RFC 5802, section 3). The value is no proof of it: anyone can make one.
 #[derive(Clone, Copy, Debug, PartialEq, Eq)]
 pub struct Authenticated;

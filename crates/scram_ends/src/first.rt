@@ -6,10 +6,11 @@
 ghost use Rattle.std.specs.Prelude.{◌≡◌, ◌≤◌, ℕ, List, length, codes, IfOk, IfErr, IfSome, IfNone, ◌++◌};
 ghost use Rattle.std.specs.Bool.{OnTrue, OnFalse};
 ghost use Rattle.std.specs.declared.option.Option.{Option};
-ghost use Rattle.scram_text.specs.Messages.{most_bytes, ClientFirstParts, IsClientFirst};
+ghost use Rattle.scram_text.specs.Limits.{longest_message, longest_nonce_part};
+ghost use Rattle.scram_text.specs.Messages.{ClientFirstParts, IsClientFirst};
 ghost use Rattle.scram_text.specs.Shown.{flag_text};
 ghost use Rattle.scram_ends.specs.Opening.{IsNameOf, IsAuthzidOf, IsUnbound, IsTakenUp};
-ghost use Rattle.scram_ends.specs.First.{IsRefusedWith, ShowsTaken};
+ghost use Rattle.scram_ends.specs.First.{IsRefusedWith, ShowsAcceptedFirst};
 ghost use Rattle.scram_ends.specs.Faults.{first_number};
 ghost use Rattle.scram_ends.specs.declared.first.FirstFault.TheVariants.{Text};
 
@@ -71,7 +72,7 @@ pub fn first_name(client_first: &[u8]) -> Result<PlainName, FirstFault>
 
 /// What a server takes from a client-first message. Slices are slices of the message.
 #[derive(Drop)]
-pub(crate) struct Taken<'a> {
+pub(crate) struct AcceptedFirst<'a> {
     pub(crate) header: &'a [u8],
     pub(crate) bare: &'a [u8],
     pub(crate) nonce: &'a [u8],
@@ -80,11 +81,11 @@ pub(crate) struct Taken<'a> {
 }
 
 /// Reads the message, and refuses it as `first_name` does.
-pub(crate) fn take_up(client_first: &[u8]) -> Result<Taken<'_>, FirstFault>
+pub(crate) fn take_up(client_first: &[u8]) -> Result<AcceptedFirst<'_>, FirstFault>
     ensures ok { IfOk result (λ taken. (first : ClientFirstParts) × IsClientFirst client_first.now first
-        × ShowsTaken taken first) }
-    ensures nonce { IfOk result (λ taken. length taken.nonce.now ≤ 256) }
-    ensures header { IfOk result (λ taken. length taken.header.now ≤ most_bytes) }
+        × ShowsAcceptedFirst taken first) }
+    ensures nonce { IfOk result (λ taken. length taken.nonce.now ≤ longest_nonce_part) }
+    ensures header { IfOk result (λ taken. length taken.header.now ≤ longest_message) }
     ensures err { IfErr result (λ fault. IsRefusedWith client_first.now fault) }
 {
     let message = read_client_first(client_first)?;
@@ -97,7 +98,7 @@ pub(crate) fn take_up(client_first: &[u8]) -> Result<Taken<'_>, FirstFault>
     let Some((name, authzid)) = names_of(&message.name, &message.authzid) else {
         return Err(FirstFault::OutsideProfile);
     };
-    Ok(Taken {
+    Ok(AcceptedFirst {
         header: message.header,
         bare: message.bare,
         nonce: message.nonce,

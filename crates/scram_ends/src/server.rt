@@ -12,7 +12,8 @@
 //! has no keys as it refuses a wrong proof.
 ghost use Rattle.std.specs.Prelude.{◌≡◌, ◌≢◌, ◌≤◌, ◌<◌, ◌+◌, ◌↔◌, ℕ, List, ◌++◌, length, IsTrue, IfOk, IfErr, IsErrAnd, Contains};
 ghost use Rattle.std.specs.declared.option.Option.{Option};
-ghost use Rattle.scram_text.specs.Messages.{most_bytes, ClientFirstParts, bare_text, IsClientFirst, ClientFinalParts, IsServerFinal};
+ghost use Rattle.scram_text.specs.Limits.{longest_message, longest_nonce};
+ghost use Rattle.scram_text.specs.Messages.{ClientFirstParts, bare_text, IsClientFirst, ClientFinalParts, IsServerFinal};
 ghost use Rattle.scram_text.specs.Shown.{ShowsClientFinal};
 ghost use Rattle.scram_text.specs.Appended.{UnchangedOnErr, LacksRoom};
 ghost use Rattle.scram_ends.specs.Entry.{entry_of};
@@ -25,7 +26,7 @@ ghost use Rattle.scram_ends.specs.Standing.{IsSigningFor, StandsFor, IsSpent};
 ghost use Rattle.scram_ends.specs.First.{IsRefusedWith, IsChallengeTo, ShowsOpening};
 ghost use Rattle.scram_ends.specs.Faults.{first_refused_number};
 
-use crate::first::{FirstFault, Taken, take_up};
+use crate::first::{AcceptedFirst, FirstFault, take_up};
 use crate::fixed::{are_same, concatenated};
 use crate::keys_view::KeysView;
 use crate::signing::Signing;
@@ -33,7 +34,10 @@ use crate::verdict::{Judged, Refusal, Verdict};
 use crate::written::{write_challenge, write_judgement};
 use arrayvec::ArrayVec;
 use mac_core::{Mechanism, copy_of};
-use scram_text::{ClientFinal, MOST_MESSAGE, NoncePart, PlainName, WriteFault, read_client_final};
+use scram_text::{
+    ClientFinal, LONGEST_MESSAGE, LONGEST_NONCE, NoncePart, PlainName, WriteFault,
+    read_client_final,
+};
 use std::alloc::Allocator;
 use thiserror::Error;
 
@@ -67,8 +71,8 @@ impl FirstRefused {
 /// challenge it stands for. No part of it grows.
 #[derive(Drop)]
 pub struct ServerWait {
-    nonce: ArrayVec<u8, 512>,
-    header: ArrayVec<u8, MOST_MESSAGE>,
+    nonce: ArrayVec<u8, LONGEST_NONCE>,
+    header: ArrayVec<u8, LONGEST_MESSAGE>,
     allowed: bool,
     signing: Option<Signing>,
     spent: Option<WriteFault>,
@@ -105,7 +109,7 @@ pub fn server_first<A: Allocator>(
         Ok(taken) => taken,
         Err(fault) => return Err(FirstRefused::First(fault)),
     };
-    let nonce: ArrayVec<u8, 512> = concatenated(taken.nonce, own.bytes());
+    let nonce: ArrayVec<u8, LONGEST_NONCE> = concatenated(taken.nonce, own.bytes());
     let nonce = nonce.as_slice();
     let start = out.len();
     match write_challenge(nonce, &view.salt, view.count, out) {
@@ -118,12 +122,12 @@ pub fn server_first<A: Allocator>(
 pub(crate) fn wait_for(
     mechanism: Mechanism,
     view: &KeysView<'_>,
-    taken: &Taken<'_>,
+    taken: &AcceptedFirst<'_>,
     nonce: &[u8],
     challenge: &[u8],
 ) -> ServerWait
-    requires nonce { length nonce.now ≤ 512 }
-    requires header { length taken.now.header.now ≤ most_bytes }
+    requires nonce { length nonce.now ≤ longest_nonce }
+    requires header { length taken.now.header.now ≤ longest_message }
     ensures { (client_first : List ℕ) (o : Opening)
         → IsOpening (entry_of view.now) client_first challenge.now o → ShowsOpening taken.now nonce.now o
         → StandsFor result (challenged_login (entry_of view.now) mechanism client_first challenge.now) }
@@ -197,7 +201,7 @@ impl ServerWait {
     }
 
     // The verdict on the parts.
-    #[tactic(auto, using(crate::proofs::RowLemmas::first_found))]
+    #[tactic(auto, using(scram_text::proofs::lemmas::Rows::first_found))]
     fn weigh(&self, last: &ClientFinal<'_>) -> Judged
         ensures { (l : Challenged) (s : StandsFor self.now l) (p : ClientFinalParts)
             → ShowsClientFinal last.now p → IsWeighed l s.opening p (due_of result) }
@@ -251,7 +255,7 @@ impl ServerWait {
         ensures memory { IfErr result (λ r. (l : Challenged) → StandsFor self l
             → r.1 ≡ WriteFault.NoMemory) }
         ensures no_memory { IfErr result (λ r. (l : Challenged) → StandsFor self l
-            → (d : Due) × IsDue l client_final.now d × (length (due_text d) ≤ most_bytes)
+            → (d : Due) × IsDue l client_final.now d × (length (due_text d) ≤ longest_message)
             × LacksRoom out.old (due_text d)) }
     {
         if let Some(fault) = self.spent {

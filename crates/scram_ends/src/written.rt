@@ -1,9 +1,10 @@
 //! The server's two messages as they are written. Their fields are within the limits and base64 has its
 //! usual form, so the only fault is that memory runs out.
 ghost use Rattle.std.specs.Prelude.{◌≡◌, ◌≤◌, ◌<◌, ℕ, List, [], length, OnOk, IsErrOf};
+ghost use Rattle.scram_text.specs.Limits.{longest_message, longest_nonce};
 ghost use Rattle.scram_text.specs.Class.{IsNonce};
 ghost use Rattle.scram_text.specs.Base64Field.{IsField};
-ghost use Rattle.scram_text.specs.Messages.{most_bytes, server_first_text, IsServerFirst, IsServerFinal};
+ghost use Rattle.scram_text.specs.Messages.{server_first_text, IsServerFirst, IsServerFinal};
 ghost use Rattle.scram_text.specs.Written.{server_first_of};
 ghost use Rattle.scram_text.specs.Appended.{IsAppended, LacksRoom};
 ghost use Rattle.scram_ends.specs.Verdict.{accept, refuse, due_of, final_due, due_text};
@@ -20,7 +21,7 @@ pub(crate) fn write_challenge<A: Allocator>(
     count: u32,
     out: &mut Vec<u8, A>,
 ) -> Result<(), WriteFault>
-    requires nonce { IsNonce 512 nonce.now }
+    requires nonce { IsNonce longest_nonce nonce.now }
     requires count { 1 ≤ count }
     ensures appended { IsAppended result out.old out.new (server_first_text (server_first_of nonce.now salt.now count [])) }
     ensures related { let p = server_first_of nonce.now salt.now count [] in
@@ -55,7 +56,7 @@ pub(crate) fn write_judgement<A: Allocator>(
         → (signature : List ℕ) × (due_of judged.now ≡ accept signature) × (length signature ≡ 0) }
     ensures over_limit { IsErrOf result WriteFault.OverLimit → ⊥ }
     ensures no_memory { let text = due_text (due_of judged.now) in IsErrOf result WriteFault.NoMemory
-        → (length text ≤ most_bytes) × LacksRoom out.old text }
+        → (length text ≤ longest_message) × LacksRoom out.old text }
 {
     match judged {
         Judged::Accepted(signature) => write_signature(signature.as_slice(), out),
@@ -71,7 +72,7 @@ fn write_signature<A: Allocator>(signature: &[u8], out: &mut Vec<u8, A>) -> Resu
     ensures unwritable { IsErrOf result WriteFault.Unwritable → length signature.now ≡ 0 }
     ensures over_limit { IsErrOf result WriteFault.OverLimit → ⊥ }
     ensures no_memory { let text = due_text (accept signature.now) in IsErrOf result WriteFault.NoMemory
-        → (length text ≤ most_bytes) × LacksRoom out.old text }
+        → (length text ≤ longest_message) × LacksRoom out.old text }
 {
     write_server_final(FinalResult::Verifier(copy_of(signature)), b"", out)
 }
@@ -83,7 +84,7 @@ fn write_refusal<A: Allocator>(refusal: Refusal, out: &mut Vec<u8, A>) -> Result
     ensures unwritable { IsErrOf result WriteFault.Unwritable → ⊥ }
     ensures over_limit { IsErrOf result WriteFault.OverLimit → ⊥ }
     ensures no_memory { let text = due_text (refuse refusal) in IsErrOf result WriteFault.NoMemory
-        → (length text ≤ most_bytes) × LacksRoom out.old text }
+        → (length text ≤ longest_message) × LacksRoom out.old text }
 {
     let value = refusal.error_value().as_bytes();
     write_server_final(FinalResult::ErrorValue(value), b"", out)

@@ -5,6 +5,7 @@ use Rattle.std.specs.declared.result.Result.TheVariants.{Ok}
 use Rattle.base64.specs.declared.decode.DecodeError.{DecodeError}
 use Rattle.base64.specs.Engines.{standard}
 use Rattle.base64.specs.GeneralPurpose.{encode_of, decode_of, IsBytes}
+use Rattle.scram_text.specs.Limits.{longest_channel}
 use Rattle.scram_text.specs.Name.{LacksComma}
 
 -- the engine's text of these bytes: padded, with unused bits zero. That of "n,," is "biws".
@@ -31,5 +32,5 @@ pub record IsField (most : ℕ) (bytes : List ℕ) : Type 0 where
 -- base64 has its usual form: the text of 1 to 1536 bytes has no comma, is decoded to them, and has
 -- four bytes for each three begun
 abbrev pub HasUsualBase64 : Type 0
-HasUsualBase64 = (bytes : List ℕ) → IsBytes bytes → 1 ≤ length bytes → length bytes ≤ 1536
+HasUsualBase64 = (bytes : List ℕ) → IsBytes bytes → 1 ≤ length bytes → length bytes ≤ longest_channel
     → IsBase64Of (base64 bytes) bytes × (length (base64 bytes) ≡ 4 * ((length bytes + 2) / 3))

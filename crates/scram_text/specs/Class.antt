@@ -3,6 +3,7 @@
 use Rattle.std.specs.Prelude.{ℕ, ◌≤◌, nat_le, ◌==◌, Bool, not, ◌&&◌, ◌||◌, IsTrue, List, length}
 use Rattle.std.specs.List.{list_all}
 use Rattle.std.specs.Str.{IsUtf8, byte}
+use Rattle.scram_text.specs.Limits.{longest_nonce_part}
 
 -- the byte of a comma, which separates the parts of a message
 abbrev pub is_comma : ℕ → Bool
@@ -48,7 +49,7 @@ IsNonce most nonce = IsRunOf is_printable most nonce
 
 -- what one end adds to a nonce: 1 to 256 characters
 abbrev pub IsNoncePart : List ℕ → Type 0
-IsNoncePart nonce = IsNonce 256 nonce
+IsNoncePart nonce = IsNonce longest_nonce_part nonce
 
 -- a salt: 1 to 64 bytes
 pub record IsSalt (salt : List ℕ) : Type 0 where

@@ -1,15 +1,18 @@
 -- What is wrong with a text that is no message: the first fault that it has. A fault is one of the
 -- whole text or of its parts, and the four messages differ only in the places of their parts.
 use Rattle.std.specs.Prelude.{ℕ, ◌≡◌, ◌<◌, ◌≤◌, ◌+◌, ◌-◌, ◌⊎◌, List, [], ◌∷◌, ◌++◌, length, drop, replicate, IfSome, if◌then◌else◌, IsTrue}
+use Rattle.std.specs.List.{zip}
 use Rattle.std.specs.Str.{byte}
 use Rattle.std.specs.declared.option.Option.{Option}
+use Rattle.scram_text.specs.Limits.{longest_channel, longest_message, longest_nonce, longest_nonce_part}
+use Rattle.scram_text.specs.Rows.{IsFirstUnmet}
 use Rattle.scram_text.specs.Class.{IsNonce, IsText}
 use Rattle.scram_text.specs.Name.{IsSaslName}
 use Rattle.scram_text.specs.Parts.{parts, is_headed, is_flag, authzid_text, IsHeaded, IsValue, IsExtension, SpellsCount, SpellsField}
-use Rattle.scram_text.specs.Messages.{most_bytes}
 use Rattle.scram_text.specs.declared.fault.TextFault.{TextFault}
 use Rattle.scram_text.specs.declared.fault.TextWhy.{TextWhy}
-use Rattle.scram_text.specs.declared.fault.TextWhy.TheVariants.{TooLong, NotText, Missing, Flag, Authzid, Mandatory, Name, Nonce, Salt, Count, Channel, Extension, Proof, Verifier, ErrorValue}
+use Rattle.scram_text.specs.declared.fault.TextWhy.TheVariants.{TooLong, NotText, Missing, Flag, Authzid, Mandatory, Name, Nonce, Salt}
+use Rattle.scram_text.specs.declared.fault.TextWhy.TheVariants.{Count, Channel, Extension, Proof, Verifier, ErrorValue}
 use Rattle.scram_text.specs.declared.fault.WriteFault.{WriteFault}
 use Rattle.scram_text.specs.declared.fault.WriteFault.TheVariants.{Unwritable, OverLimit, NoMemory}
 
@@ -58,19 +61,17 @@ Fits most Name part = IsHeaded (byte "n") IsSaslName part
 Fits most Nonce part = IsHeaded (byte "r") (IsNonce most) part
 Fits most Salt part = IsHeaded (byte "s") (SpellsField 64) part
 Fits most Count part = IsHeaded (byte "i") SpellsCount part
-Fits most Channel part = IsHeaded (byte "c") (SpellsField 1536) part
+Fits most Channel part = IsHeaded (byte "c") (SpellsField longest_channel) part
 Fits most Extension part = IsExtension part
 Fits most Proof part = IsHeaded (byte "p") (SpellsField 64) part
 Fits most Verifier part = IsHeaded (byte "v") (SpellsField 64) part
 Fits most ErrorValue part = IsHeaded (byte "e") IsValue part
 
--- from the left, with parts counted from k: the first part that does not fit its place
-unfoldable pub IsFirstMisfit : ℕ → List TextWhy → ℕ → List (List ℕ) → TextFault → Type 0
-IsFirstMisfit most [] k pieces f = ⊥
-IsFirstMisfit most (place ∷ places) k [] f = ⊥
-IsFirstMisfit most (place ∷ places) k (part ∷ pieces) f =
-    ((Fits most place part → ⊥) × (f ≡ fault k place))
-    ⊎ (Fits most place part × IsFirstMisfit most places (k + 1) pieces f)
+-- the fault is of the first part that does not fit its place, with parts counted from k
+pub record IsFirstMisfit (most : ℕ) (places : List TextWhy) (k : ℕ) (pieces : List (List ℕ)) (f : TextFault) : Type 0 where
+  pub part : List ℕ
+  pub first : IsFirstUnmet (λ row. Fits most row.0 row.1) (zip places pieces) (f.why, part)
+  pub number : f.part ≡ k + length first.before
 
 -- the first part that is no extension, where all have to be, with parts counted from k
 abbrev pub IsExtensionMisfit : ℕ → List (List ℕ) → TextFault → Type 0
@@ -91,14 +92,14 @@ IsPartFault most front back pieces f =
 -- the text is over the limit, or is no text
 abbrev pub IsWholeFault : List ℕ → TextFault → Type 0
 IsWholeFault text f =
-    ((most_bytes < length text) × (f ≡ fault 0 TooLong))
-    ⊎ ((length text ≤ most_bytes) × (IsText text → ⊥) × (f ≡ fault 0 NotText))
+    ((longest_message < length text) × (f ≡ fault 0 TooLong))
+    ⊎ ((length text ≤ longest_message) × (IsText text → ⊥) × (f ≡ fault 0 NotText))
 
 -- the first fault of a text that is no message with these fixed places
 abbrev pub IsFault : ℕ → List TextWhy → List TextWhy → List ℕ → TextFault → Type 0
 IsFault most front back text f =
     IsWholeFault text f
-    ⊎ ((length text ≤ most_bytes) × IsText text × IsPartFault most front back (parts text) f)
+    ⊎ ((length text ≤ longest_message) × IsText text × IsPartFault most front back (parts text) f)
 
 -- the first part, or nothing
 abbrev pub first_of : List (List ℕ) → List ℕ
@@ -115,7 +116,7 @@ client_first_places pieces = Flag ∷ Authzid ∷ marked_places (drop 2 pieces) 
 
 -- the first fault of a text that is no client-first message
 abbrev pub IsClientFirstFault : List ℕ → TextFault → Type 0
-IsClientFirstFault text f = IsFault 256 (client_first_places (parts text)) [] text f
+IsClientFirstFault text f = IsFault longest_nonce_part (client_first_places (parts text)) [] text f
 
 -- the places of server-first
 abbrev pub server_first_places : List (List ℕ) → List TextWhy
@@ -123,11 +124,11 @@ server_first_places pieces = marked_places pieces (Nonce ∷ Salt ∷ Count ∷ 
 
 -- the first fault of a text that is no server-first message
 abbrev pub IsServerFirstFault : List ℕ → TextFault → Type 0
-IsServerFirstFault text f = IsFault 512 (server_first_places (parts text)) [] text f
+IsServerFirstFault text f = IsFault longest_nonce (server_first_places (parts text)) [] text f
 
 -- the first fault of a text that is no client-final message
 abbrev pub IsClientFinalFault : List ℕ → TextFault → Type 0
-IsClientFinalFault text f = IsFault 512 (Channel ∷ Nonce ∷ []) (Proof ∷ []) text f
+IsClientFinalFault text f = IsFault longest_nonce (Channel ∷ Nonce ∷ []) (Proof ∷ []) text f
 
 -- the place of a first part of server-final: one that begins with "e=" is an error
 abbrev pub result_place : List ℕ → TextWhy
@@ -139,4 +140,4 @@ server_final_places pieces = result_place (first_of pieces) ∷ []
 
 -- the first fault of a text that is no server-final message
 abbrev pub IsServerFinalFault : List ℕ → TextFault → Type 0
-IsServerFinalFault text f = IsFault 512 (server_final_places (parts text)) [] text f
+IsServerFinalFault text f = IsFault longest_nonce (server_final_places (parts text)) [] text f

@@ -4,15 +4,17 @@ use Rattle.std.specs.Prelude.{ℕ, ◌≡◌, ◌≤◌, ◌⊎◌, List, length
 use Rattle.std.specs.List.{AllByRecursion}
 use Rattle.std.specs.Str.{IsUtf8}
 use Rattle.base64.specs.GeneralPurpose.{IsBytes}
+use Rattle.scram_text.specs.Limits.{longest_channel}
 use Rattle.scram_text.specs.Class.{IsPlainName}
 use Rattle.scram_text.specs.Name.{SpellsName}
 use Rattle.scram_text.specs.Base64Field.{IsField}
 use Rattle.scram_text.specs.Parts.{parts}
-use Rattle.scram_text.specs.Messages.{ClientFirstParts, IsClientFirst, ServerFirstParts, IsServerFirst, ClientFinalParts, IsClientFinal, ServerFinalParts, IsServerFinal}
+use Rattle.scram_text.specs.Messages.{ClientFirstParts, IsClientFirst, ServerFirstParts, IsServerFirst, ClientFinalParts, IsClientFinal}
+use Rattle.scram_text.specs.Messages.{ServerFinalParts, IsServerFinal}
 
 -- bytes within the limits fit a field
 abbrev pub FieldsHoldBytes : Type 0
-FieldsHoldBytes = (most : ℕ) (bytes : List ℕ) → most ≤ 1536 → IsBytes bytes → 1 ≤ length bytes → length bytes ≤ most
+FieldsHoldBytes = (most : ℕ) (bytes : List ℕ) → most ≤ longest_channel → IsBytes bytes → 1 ≤ length bytes → length bytes ≤ most
     → IsField most bytes
 
 -- the parts of a UTF-8 text are UTF-8
@@ -34,7 +36,8 @@ HasOneClientFirst = (text : List ℕ) (p q : ClientFirstParts) → IsClientFirst
 
 -- whether a text is a client-first message is decided
 abbrev pub ClientFirstIsDecided : Type 0
-ClientFirstIsDecided = (text : List ℕ) → ((p : ClientFirstParts) × IsClientFirst text p) ⊎ ((p : ClientFirstParts) → IsClientFirst text p → ⊥)
+ClientFirstIsDecided = (text : List ℕ) → ((p : ClientFirstParts) × IsClientFirst text p)
+    ⊎ ((p : ClientFirstParts) → IsClientFirst text p → ⊥)
 
 -- a text is a server-first message with at most one list of parts
 abbrev pub HasOneServerFirst : Type 0
@@ -42,7 +45,8 @@ HasOneServerFirst = (text : List ℕ) (p q : ServerFirstParts) → IsServerFirst
 
 -- whether a text is a server-first message is decided
 abbrev pub ServerFirstIsDecided : Type 0
-ServerFirstIsDecided = (text : List ℕ) → ((p : ServerFirstParts) × IsServerFirst text p) ⊎ ((p : ServerFirstParts) → IsServerFirst text p → ⊥)
+ServerFirstIsDecided = (text : List ℕ) → ((p : ServerFirstParts) × IsServerFirst text p)
+    ⊎ ((p : ServerFirstParts) → IsServerFirst text p → ⊥)
 
 -- a text is a client-final message with at most one list of parts
 abbrev pub HasOneClientFinal : Type 0
@@ -50,7 +54,8 @@ HasOneClientFinal = (text : List ℕ) (p q : ClientFinalParts) → IsClientFinal
 
 -- whether a text is a client-final message is decided
 abbrev pub ClientFinalIsDecided : Type 0
-ClientFinalIsDecided = (text : List ℕ) → ((p : ClientFinalParts) × IsClientFinal text p) ⊎ ((p : ClientFinalParts) → IsClientFinal text p → ⊥)
+ClientFinalIsDecided = (text : List ℕ) → ((p : ClientFinalParts) × IsClientFinal text p)
+    ⊎ ((p : ClientFinalParts) → IsClientFinal text p → ⊥)
 
 -- a text is a server-final message with at most one list of parts
 abbrev pub HasOneServerFinal : Type 0
@@ -58,4 +63,5 @@ HasOneServerFinal = (text : List ℕ) (p q : ServerFinalParts) → IsServerFinal
 
 -- whether a text is a server-final message is decided
 abbrev pub ServerFinalIsDecided : Type 0
-ServerFinalIsDecided = (text : List ℕ) → ((p : ServerFinalParts) × IsServerFinal text p) ⊎ ((p : ServerFinalParts) → IsServerFinal text p → ⊥)
+ServerFinalIsDecided = (text : List ℕ) → ((p : ServerFinalParts) × IsServerFinal text p)
+    ⊎ ((p : ServerFinalParts) → IsServerFinal text p → ⊥)

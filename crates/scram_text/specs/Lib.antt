@@ -1,8 +1,10 @@
+pub mod Limits
 pub mod Class
 pub mod Name
 pub mod Base64Field
 pub mod Parts
 pub mod Messages
+pub mod Rows
 pub mod Faults
 pub mod Shown
 pub mod Pieces

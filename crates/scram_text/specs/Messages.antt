@@ -4,14 +4,11 @@
 use Rattle.std.specs.Prelude.{ℕ, ◌≡◌, ◌≤◌, Bool, ◌||◌, IsTrue, List, [], ◌∷◌, ◌++◌, length, codes, decimal, IfSome, is_some}
 use Rattle.std.specs.Str.{byte}
 use Rattle.std.specs.declared.option.Option.{Option}
+use Rattle.scram_text.specs.Limits.{longest_channel, longest_message, longest_nonce, longest_nonce_part}
 use Rattle.scram_text.specs.Class.{IsNonce, IsText}
 use Rattle.scram_text.specs.Name.{IsSaslName}
 use Rattle.scram_text.specs.Base64Field.{base64, IsField}
 use Rattle.scram_text.specs.Parts.{joined, is_flag, authzid_text, mext_parts, IsValue, IsCount, AreExtensions, have_mandatory}
-
--- the most bytes of a message
-abbrev pub most_bytes : ℕ
-most_bytes = 2048
 
 -- the parts of client-first
 pub record ClientFirstParts : Type 0 where
@@ -49,10 +46,10 @@ pub record IsClientFirst (text : List ℕ) (p : ClientFirstParts) : Type 0 where
   pub authzid : IfSome p.authzid IsSaslName
   pub mext : IfSome p.mext IsValue
   pub name : IsSaslName p.name
-  pub nonce : IsNonce 256 p.nonce
+  pub nonce : IsNonce longest_nonce_part p.nonce
   pub extensions : AreExtensions p.extensions
   pub is_text : IsText text
-  pub short : length text ≤ most_bytes
+  pub short : length text ≤ longest_message
 
 -- the parts of server-first
 pub record ServerFirstParts : Type 0 where
@@ -77,12 +74,12 @@ server_first_mandatory p = is_some p.mext || have_mandatory p.extensions
 pub record IsServerFirst (text : List ℕ) (p : ServerFirstParts) : Type 0 where
   pub spelled : text ≡ server_first_text p
   pub mext : IfSome p.mext IsValue
-  pub nonce : IsNonce 512 p.nonce
+  pub nonce : IsNonce longest_nonce p.nonce
   pub salt : IsField 64 p.salt
   pub count : IsCount p.count
   pub extensions : AreExtensions p.extensions
   pub is_text : IsText text
-  pub short : length text ≤ most_bytes
+  pub short : length text ≤ longest_message
 
 -- the parts of client-final
 pub record ClientFinalParts : Type 0 where
@@ -107,12 +104,12 @@ client_final_mandatory p = have_mandatory p.extensions
 -- the text is a client-final message with these parts
 pub record IsClientFinal (text : List ℕ) (p : ClientFinalParts) : Type 0 where
   pub spelled : text ≡ client_final_text p
-  pub channel : IsField 1536 p.channel
-  pub nonce : IsNonce 512 p.nonce
+  pub channel : IsField longest_channel p.channel
+  pub nonce : IsNonce longest_nonce p.nonce
   pub extensions : AreExtensions p.extensions
   pub proof : IsField 64 p.proof
   pub is_text : IsText text
-  pub short : length text ≤ most_bytes
+  pub short : length text ≤ longest_message
 
 -- what server-final says: the server's signature, or why the login failed
 pub data VerifierOrError : Type 0 where
@@ -149,4 +146,4 @@ pub record IsServerFinal (text : List ℕ) (p : ServerFinalParts) : Type 0 where
   pub outcome : IsVerifierOrError p.outcome
   pub extensions : AreExtensions p.extensions
   pub is_text : IsText text
-  pub short : length text ≤ most_bytes
+  pub short : length text ≤ longest_message

@@ -4,8 +4,9 @@ use Rattle.std.specs.Str.{byte}
 use Rattle.std.specs.Option.{option_copied}
 use Rattle.scram_text.specs.Class.{IsText, IsNonce}
 use Rattle.scram_text.specs.Name.{IsSaslName}
-use Rattle.scram_text.specs.Messages.{most_bytes, ClientFirstParts, bare_parts, client_first_mandatory}
+use Rattle.scram_text.specs.Messages.{ClientFirstParts, bare_parts, client_first_mandatory}
 use Rattle.std.specs.declared.option.Option.{Option}
+use Rattle.scram_text.specs.Limits.{longest_message, longest_nonce_part}
 use Rattle.scram_text.specs.Parts.{parts, parts_of_some, mext_parts, joined, IsValue, is_headed, AreExtensions}
 use Rattle.scram_text.specs.Faults.{IsFirstMisfit, places, first_of, marked_places}
 use Rattle.scram_text.specs.declared.client_final.Pieces.{Pieces}
@@ -19,14 +20,15 @@ use Rattle.scram_text.specs.declared.fault.TextWhy.TheVariants.{Name, Nonce}
 
 -- the parts of a text that may be client-final
 pub record IsCutFinal (message : List ℕ) (pieces : Pieces) : Type 0 where
-  pub short : length message ≤ most_bytes
+  pub short : length message ≤ longest_message
   pub is_text : IsText message
   pub whole : message ≡ pieces.without_proof.now ++ byte "," ∷ pieces.proof.now
   pub cut : parts pieces.without_proof.now ≡ pieces.channel.now ∷ pieces.nonce.now ∷ parts_of_some (option_copied pieces.rest)
-  pub cut_whole : parts message ≡ pieces.channel.now ∷ pieces.nonce.now ∷ (parts_of_some (option_copied pieces.rest) ++ pieces.proof.now ∷ [])
+  pub cut_whole : parts message ≡ pieces.channel.now ∷ pieces.nonce.now
+      ∷ (parts_of_some (option_copied pieces.rest) ++ pieces.proof.now ∷ [])
   pub count : pieces.count ≡ length (parts message)
   pub few : length (parts message) ≤ 2049
-  pub channel_len : length pieces.channel.now ≤ most_bytes
+  pub channel_len : length pieces.channel.now ≤ longest_message
 
 -- parts are a mandatory extension, where they begin with "m=", and the others
 pub record IsMarked (pieces rest : List (List ℕ)) (mext : Option (List ℕ)) : Type 0 where
@@ -41,17 +43,18 @@ IsMextMisfit k pieces f =
 
 -- the parts of a text that may be server-first
 pub record IsCutServer (message : List ℕ) (pieces : ServerPieces) : Type 0 where
-  pub short : length message ≤ most_bytes
+  pub short : length message ≤ longest_message
   pub is_text : IsText message
   pub mext : Option (List ℕ)
-  pub marked : IsMarked (parts message) (pieces.nonce.now ∷ pieces.salt.now ∷ pieces.count.now ∷ parts_of_some (option_copied pieces.rest)) mext
+  pub marked : IsMarked (parts message) (pieces.nonce.now ∷ pieces.salt.now ∷ pieces.count.now
+      ∷ parts_of_some (option_copied pieces.rest)) mext
   pub is_marked : pieces.marked ≡ is_some mext
   pub index : pieces.index ≡ length (mext_parts mext)
   pub few : length (parts message) ≤ 2049
 
 -- the parts of a text that may be client-first
 pub record IsCutFirst (message : List ℕ) (pieces : FirstPieces) : Type 0 where
-  pub short : length message ≤ most_bytes
+  pub short : length message ≤ longest_message
   pub is_text : IsText message
   pub header : message ≡ pieces.header.now ++ pieces.bare.now
   pub header_parts : pieces.header.now ≡ pieces.flag.now ++ byte "," ∷ (pieces.authzid.now ++ byte "," ∷ [])
@@ -72,7 +75,7 @@ pub record IsBare (pieces : List (List ℕ)) (p : ClientFirstParts) : Type 0 whe
   pub headed : is_headed (byte "m") (first_of pieces) ≡ is_some p.mext
   pub mext : IfSome p.mext IsValue
   pub name : IsSaslName p.name
-  pub nonce : IsNonce 256 p.nonce
+  pub nonce : IsNonce longest_nonce_part p.nonce
   pub extensions : AreExtensions p.extensions
 
 -- what was read of client-first-bare shows these parts
@@ -85,4 +88,4 @@ pub record ShowsBare (m : Bare) (p : ClientFirstParts) : Type 0 where
 -- the first part of client-first-bare that does not fit, with parts counted from 2
 abbrev pub IsBareMisfit : List (List ℕ) → TextFault → Type 0
 IsBareMisfit pieces f =
-    IsFirstMisfit 256 (places (marked_places pieces (Name ∷ Nonce ∷ [])) [] (length pieces)) 2 pieces f
+    IsFirstMisfit longest_nonce_part (places (marked_places pieces (Name ∷ Nonce ∷ [])) [] (length pieces)) 2 pieces f

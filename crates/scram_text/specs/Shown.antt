@@ -1,7 +1,9 @@
 -- What a reader returns shows the parts of the message: slices are the texts of the parts.
 use Rattle.std.specs.Prelude.{◌≡◌, ℕ, List, ◌++◌, codes}
 use Rattle.scram_text.specs.Parts.{joined}
-use Rattle.scram_text.specs.Messages.{ClientFirstParts, header_text, bare_text, client_first_mandatory, ServerFirstParts, server_first_mandatory, ClientFinalParts, client_final_without_proof, client_final_mandatory, VerifierOrError, verified, failed, ServerFinalParts, server_final_mandatory}
+use Rattle.scram_text.specs.Messages.{ClientFirstParts, header_text, bare_text, client_first_mandatory, ServerFirstParts}
+use Rattle.scram_text.specs.Messages.{server_first_mandatory, ClientFinalParts, client_final_without_proof, client_final_mandatory}
+use Rattle.scram_text.specs.Messages.{VerifierOrError, verified, failed, ServerFinalParts, server_final_mandatory}
 use Rattle.scram_text.specs.declared.client_first.Flag.{Flag}
 use Rattle.scram_text.specs.declared.client_first.Flag.TheVariants.{NoBinding, NotOffered, Binding}
 use Rattle.scram_text.specs.declared.client_first.ClientFirst.{ClientFirst}

@@ -3,11 +3,13 @@
 use Rattle.std.specs.Prelude.{ℕ, ◌≡◌, List, [], ◌∷◌, IsTrue, option_map}
 use Rattle.std.specs.declared.option.Option.{Option}
 use Rattle.std.specs.declared.option.Option.TheVariants.{None}
+use Rattle.scram_text.specs.Limits.{longest_channel, longest_nonce}
 use Rattle.scram_text.specs.Class.{IsNonce, IsText}
 use Rattle.scram_text.specs.Name.{name_spelling}
 use Rattle.scram_text.specs.Base64Field.{IsField}
 use Rattle.scram_text.specs.Parts.{parts, is_flag, IsValue, IsCount, AreExtensions}
-use Rattle.scram_text.specs.Messages.{ClientFirstParts, ServerFirstParts, ClientFinalParts, client_final_without_proof, VerifierOrError, verified, failed, ServerFinalParts}
+use Rattle.scram_text.specs.Messages.{ClientFirstParts, ServerFirstParts, ClientFinalParts, client_final_without_proof, VerifierOrError}
+use Rattle.scram_text.specs.Messages.{verified, failed, ServerFinalParts}
 use Rattle.scram_text.specs.Shown.{flag_text}
 use Rattle.scram_text.specs.declared.client_first.Flag.{Flag}
 use Rattle.scram_text.specs.declared.client_final.ClientFinalWithoutProof.{ClientFinalWithoutProof}
@@ -50,7 +52,7 @@ server_first_of nonce salt count extensions = record {
 
 -- the arguments for server-first are in their classes
 pub record CanBeServerFirst (nonce salt : List ℕ) (count : ℕ) (extensions : List ℕ) : Type 0 where
-  pub nonce_class : IsNonce 512 nonce
+  pub nonce_class : IsNonce longest_nonce nonce
   pub salt_class : IsField 64 salt
   pub count_class : IsCount count
   pub extensions_class : IsExtensionText extensions
@@ -66,23 +68,23 @@ client_final_of channel nonce extensions proof = record {
 
 -- the arguments for client-final are in their classes
 pub record CanBeClientFinal (channel nonce extensions proof : List ℕ) : Type 0 where
-  pub channel_class : IsField 1536 channel
-  pub nonce_class : IsNonce 512 nonce
+  pub channel_class : IsField longest_channel channel
+  pub nonce_class : IsNonce longest_nonce nonce
   pub extensions_class : IsExtensionText extensions
   pub proof_class : IsField 64 proof
 
 -- the arguments for client-final without its proof are in their classes
 pub record CanBeWithoutProof (channel nonce extensions : List ℕ) : Type 0 where
-  pub channel_class : IsField 1536 channel
-  pub nonce_class : IsNonce 512 nonce
+  pub channel_class : IsField longest_channel channel
+  pub nonce_class : IsNonce longest_nonce nonce
   pub extensions_class : IsExtensionText extensions
 
 -- the value is the text before the proof of client-final with these parts, which are in their classes. It is so whatever
 -- their proof.
 pub record IsWithoutProof (w : ClientFinalWithoutProof) (p : ClientFinalParts) : Type 0 where
   pub held : w.text.items ≡ client_final_without_proof p
-  pub channel : IsField 1536 p.channel
-  pub nonce : IsNonce 512 p.nonce
+  pub channel : IsField longest_channel p.channel
+  pub nonce : IsNonce longest_nonce p.nonce
   pub extensions : AreExtensions p.extensions
   pub is_text : IsText (client_final_without_proof p)
 

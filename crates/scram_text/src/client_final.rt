@@ -8,9 +8,10 @@
 //! as `c=biws,r=abcdef,p=v0X8v3Bz2T0CJGbJQyF0X+HI4Ts=`. The last part is the proof, even where an
 //! extension is named `p`.
 ghost use Rattle.std.specs.Prelude.{◌≡◌, ◌≤◌, ◌<◌, ◌+◌, ◌↔◌, ℕ, List, [], ◌++◌, length, IsTrue, IfOk, IfErr, OnOk, IsOkAnd, IsErrOf};
+ghost use Rattle.scram_text.specs.Limits.{longest_message};
 ghost use Rattle.scram_text.specs.Class.{IsText};
 ghost use Rattle.scram_text.specs.Base64Field.{IsField};
-ghost use Rattle.scram_text.specs.Messages.{most_bytes, ClientFinalParts, client_final_without_proof, client_final_text, IsClientFinal};
+ghost use Rattle.scram_text.specs.Messages.{ClientFinalParts, client_final_without_proof, client_final_text, IsClientFinal};
 ghost use Rattle.scram_text.specs.Draft.{IsDraftOf};
 ghost use Rattle.scram_text.specs.Written.{client_final_of, CanBeClientFinal, CanBeWithoutProof, IsWithoutProof};
 ghost use Rattle.scram_text.specs.Faults.{IsClientFinalFault};
@@ -20,7 +21,7 @@ ghost use Rattle.scram_text.specs.Appended.{UnchangedOnErr, IsAppended, LacksRoo
 
 use crate::draft::MessageDraft;
 use crate::fault::{TextFault, TextWhy, WriteFault};
-use crate::{MOST_MESSAGE, class, cut, field};
+use crate::{LONGEST_CHANNEL, LONGEST_MESSAGE, LONGEST_NONCE, class, cut, field};
 use arrayvec::ArrayVec;
 use mac_core::Tag;
 use std::alloc::Allocator;
@@ -35,7 +36,7 @@ pub struct ClientFinal<'a> {
     pub mandatory: bool,
 
     /// The bytes of the channel field, 1 to 1536.
-    pub channel: ArrayVec<u8, 1536>,
+    pub channel: ArrayVec<u8, LONGEST_CHANNEL>,
 
     /// The nonce, 1 to 512 printable characters.
     pub nonce: &'a [u8],
@@ -75,7 +76,7 @@ fn read_parts(message: &[u8]) -> Result<ClientFinal<'_>, TextFault>
             why: TextWhy::Channel,
         });
     };
-    let Some(nonce) = field::nonce_of(pieces.nonce, 512) else {
+    let Some(nonce) = field::nonce_of(pieces.nonce, LONGEST_NONCE) else {
         return Err(TextFault {
             part: 1,
             why: TextWhy::Nonce,
@@ -113,7 +114,7 @@ fn pieces_of(message: &[u8]) -> Result<Pieces<'_>, TextFault>
     ensures cut { IfOk result (λ pieces. IsCutFinal message.now pieces) }
     ensures fault { IfErr result (λ f. IsClientFinalFault message.now f) }
 {
-    let count = cut::count_of(message)?;
+    let count = cut::count_parts(message)?;
     if count < 3 {
         return Err(TextFault {
             part: count,
@@ -142,7 +143,7 @@ fn pieces_of(message: &[u8]) -> Result<Pieces<'_>, TextFault>
 /// It does not keep its parts, so its contracts say which ones it stands for.
 #[derive(Drop)]
 pub struct ClientFinalWithoutProof {
-    text: ArrayVec<u8, MOST_MESSAGE>,
+    text: ArrayVec<u8, LONGEST_MESSAGE>,
 }
 
 impl ClientFinalWithoutProof {
@@ -162,7 +163,7 @@ impl ClientFinalWithoutProof {
             → CanBeWithoutProof channel.now nonce.now extensions.now → ⊥ }
         ensures over_limit { IsErrOf result WriteFault.OverLimit
             → CanBeWithoutProof channel.now nonce.now extensions.now
-            × (most_bytes < length (client_final_without_proof (client_final_of channel.now nonce.now extensions.now []))) }
+            × (longest_message < length (client_final_without_proof (client_final_of channel.now nonce.now extensions.now []))) }
         ensures no_memory { IsErrOf result WriteFault.NoMemory → ⊥ }
     {
         if !is_writable(channel, nonce, extensions) {
@@ -199,7 +200,7 @@ impl ClientFinalWithoutProof {
         ensures unwritable { IsErrOf result WriteFault.Unwritable → IsField 64 proof.now.items → ⊥ }
         ensures over_limit { IsErrOf result WriteFault.OverLimit → IsField 64 proof.now.items
             × ((p : ClientFinalParts) → IsWithoutProof self p → p.proof ≡ proof.now.items
-            → most_bytes < length (client_final_text p)) }
+            → longest_message < length (client_final_text p)) }
         ensures no_memory { IsErrOf result WriteFault.NoMemory
             → (p : ClientFinalParts) → IsWithoutProof self p → p.proof ≡ proof.now.items
             → IsClientFinal (client_final_text p) p
@@ -217,7 +218,7 @@ impl ClientFinalWithoutProof {
         ensures draft { (p : ClientFinalParts) → IsWithoutProof self p → p.proof ≡ proof.now
             → IsDraftOf result (client_final_text p) }
         ensures related { (p : ClientFinalParts) → IsWithoutProof self p → p.proof ≡ proof.now
-            → length (client_final_text p) ≤ most_bytes → IsClientFinal (client_final_text p) p }
+            → length (client_final_text p) ≤ longest_message → IsClientFinal (client_final_text p) p }
     {
         let mut draft = MessageDraft::of(self.text);
         draft.add(b",p=");
@@ -229,7 +230,9 @@ impl ClientFinalWithoutProof {
 fn is_writable(channel: &[u8], nonce: &[u8], extensions: &[u8]) -> bool
     ensures { IsTrue result ↔ CanBeWithoutProof channel.now nonce.now extensions.now }
 {
-    field::is_field(channel, 1536) && class::is_nonce(nonce, 512) && cut::are_extensions(extensions)
+    field::is_field(channel, LONGEST_CHANNEL)
+        && class::is_nonce(nonce, LONGEST_NONCE)
+        && cut::are_extensions(extensions)
 }
 
 fn draft_of(channel: &[u8], nonce: &[u8], extensions: &[u8]) -> MessageDraft
@@ -253,7 +256,7 @@ fn draft_of(channel: &[u8], nonce: &[u8], extensions: &[u8]) -> MessageDraft
 /// between them or empty, and the proof of 1 to 64 bytes. Answers 16 Unwritable where an argument is
 /// outside its class, else 17 OverLimit where the message would have more than 2048 bytes, else 99
 /// NoMemory, only where `out` had no room reserved for the message; `out` is then unchanged.
-#[tactic(auto, using(crate::proofs::ComposeLemmas::with_proof_longer))]
+#[tactic(auto, using(crate::proofs::lemmas::Composed::with_proof_longer))]
 pub fn write_client_final<A: Allocator>(
     channel: &[u8],
     nonce: &[u8],
@@ -269,7 +272,7 @@ pub fn write_client_final<A: Allocator>(
         → CanBeClientFinal channel.now nonce.now extensions.now proof.now.items → ⊥ }
     ensures over_limit { IsErrOf result WriteFault.OverLimit
         → CanBeClientFinal channel.now nonce.now extensions.now proof.now.items
-        × (most_bytes < length (client_final_text (client_final_of channel.now nonce.now extensions.now proof.now.items))) }
+        × (longest_message < length (client_final_text (client_final_of channel.now nonce.now extensions.now proof.now.items))) }
     ensures no_memory { let p = client_final_of channel.now nonce.now extensions.now proof.now.items in
         IsErrOf result WriteFault.NoMemory → IsClientFinal (client_final_text p) p
         × LacksRoom out.old (client_final_text p) }

@@ -7,11 +7,13 @@
 //! ```
 //!
 //! as `n,,n=user,r=abc`.
-ghost use Rattle.std.specs.Prelude.{◌≡◌, ◌≤◌, ◌<◌, ◌+◌, [], length, IfOk, IfErr, IfSome, OnOk, IsTrue, IsOkAnd, IsErrOf, false, MatchOption};
+ghost use Rattle.std.specs.Prelude.{◌≡◌, ◌≤◌, ◌<◌, ◌+◌, [], length, IfOk, IfErr, IfSome, OnOk, IsTrue, IsOkAnd, IsErrOf, false};
+ghost use Rattle.std.specs.Prelude.{MatchOption};
 ghost use Rattle.std.specs.Option.{option_copied};
+ghost use Rattle.scram_text.specs.Limits.{longest_message};
 ghost use Rattle.scram_text.specs.Name.{IsSaslName};
 ghost use Rattle.scram_text.specs.Parts.{parts, is_flag, authzid_text};
-ghost use Rattle.scram_text.specs.Messages.{most_bytes, ClientFirstParts, client_first_text, IsClientFirst};
+ghost use Rattle.scram_text.specs.Messages.{ClientFirstParts, client_first_text, IsClientFirst};
 ghost use Rattle.scram_text.specs.Faults.{IsClientFirstFault, IsAuthzid, fault, marked_places};
 ghost use Rattle.scram_text.specs.Shown.{ShowsClientFirst, flag_text};
 ghost use Rattle.scram_text.specs.Draft.{IsDraftOf};
@@ -23,7 +25,7 @@ use crate::draft::MessageDraft;
 use crate::fault::{TextFault, TextWhy, WriteFault};
 use crate::name::{PlainName, SaslText};
 use crate::secret::NoncePart;
-use crate::{class, cut, field};
+use crate::{LONGEST_NONCE_PART, class, cut, field};
 use std::alloc::Allocator;
 
 /// The flag of a gs2-header: whether the client binds a channel.
@@ -123,7 +125,7 @@ fn pieces_of(message: &[u8]) -> Result<Pieces<'_>, TextFault>
     ensures cut { IfOk result (λ pieces. IsCutFirst message.now pieces) }
     ensures fault { IfErr result (λ f. IsClientFirstFault message.now f) }
 {
-    let count = cut::count_of(message)?;
+    let count = cut::count_parts(message)?;
     if count < 3 {
         return Err(TextFault {
             part: count,
@@ -200,7 +202,7 @@ fn read_bare(bare: &[u8]) -> Result<Bare<'_>, TextFault>
             why: TextWhy::Name,
         });
     };
-    let Some(nonce) = field::nonce_of(pieces.nonce, 256) else {
+    let Some(nonce) = field::nonce_of(pieces.nonce, LONGEST_NONCE_PART) else {
         return Err(TextFault {
             part: pieces.index + 1,
             why: TextWhy::Nonce,
@@ -262,7 +264,7 @@ pub fn write_client_first<A: Allocator>(
         → CanBeClientFirst flag.entry extensions.now → ⊥ }
     ensures over_limit { IsErrOf result WriteFault.OverLimit
         → CanBeClientFirst flag.entry extensions.now
-        × (most_bytes < length (client_first_text
+        × (longest_message < length (client_first_text
         (client_first_of flag.entry (option_copied authzid.entry) name.now nonce.now extensions.now))) }
     ensures no_memory { let p = client_first_of flag.entry (option_copied authzid.entry) name.now nonce.now extensions.now in
         IsErrOf result WriteFault.NoMemory → IsClientFirst (client_first_text p) p
@@ -294,7 +296,7 @@ fn draft_of(
     ensures draft { IsDraftOf result (client_first_text
         (client_first_of flag.now (option_copied authzid.entry) name.now nonce.now extensions.now)) }
     ensures related { let p = client_first_of flag.now (option_copied authzid.entry) name.now nonce.now extensions.now in
-        length (client_first_text p) ≤ most_bytes → IsClientFirst (client_first_text p) p }
+        length (client_first_text p) ≤ longest_message → IsClientFirst (client_first_text p) p }
 {
     let mut draft = flagged(flag);
     draft.add(b",");

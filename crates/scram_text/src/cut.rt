@@ -1,10 +1,11 @@
 //! Cuts a message at its commas into parts, and a part into its letter and its value.
-ghost use Rattle.std.specs.Prelude.{◌≡◌, ◌≤◌, ◌<◌, ◌+◌, ℕ, [], ◌∷◌, ◌++◌, length, position, count_by, List, ◌↔◌, IsTrue, IfOk, IfSome, is_some, OnOk, IfErr, MatchOption, true, false};
+ghost use Rattle.std.specs.Prelude.{◌≡◌, ◌≤◌, ◌<◌, ◌+◌, ℕ, [], ◌∷◌, ◌++◌, length, position, count_by, List, ◌↔◌, IsTrue, IfOk, IfSome};
+ghost use Rattle.std.specs.Prelude.{is_some, OnOk, IfErr, MatchOption, true, false};
 ghost use Rattle.std.specs.Str.{byte};
 ghost use Rattle.std.specs.Option.{option_copied};
 ghost use Rattle.std.specs.declared.option.Option.{Option};
+ghost use Rattle.scram_text.specs.Limits.{longest_message};
 ghost use Rattle.scram_text.specs.Class.{is_comma, IsText};
-ghost use Rattle.scram_text.specs.Messages.{most_bytes};
 ghost use Rattle.scram_text.specs.Name.{LacksComma};
 ghost use Rattle.scram_text.specs.Parts.{parts, parts_of_some, joined, is_headed, is_attribute, AreExtensions, have_mandatory};
 ghost use Rattle.scram_text.specs.Parts.{mext_parts};
@@ -13,17 +14,17 @@ ghost use Rattle.scram_text.specs.Written.{IsExtensionText};
 ghost use Rattle.scram_text.specs.Pieces.{IsMarked, IsMextMisfit};
 
 use crate::fault::{TextFault, TextWhy};
-use crate::{MOST_MESSAGE, class, field};
+use crate::{LONGEST_MESSAGE, class, field};
 
 /// The number of parts of a message. TooLong where it has over 2048 bytes, NotText where it is no text.
-pub(crate) fn count_of(message: &[u8]) -> Result<usize, TextFault>
-    ensures short { IfOk result (λ _. length message.now ≤ most_bytes) }
+pub(crate) fn count_parts(message: &[u8]) -> Result<usize, TextFault>
+    ensures short { IfOk result (λ _. length message.now ≤ longest_message) }
     ensures is_text { IfOk result (λ _. IsText message.now) }
     ensures count { IfOk result (λ count. count ≡ length (parts message.now)) }
     ensures few { OnOk result (length (parts message.now) ≤ 2049) }
     ensures fault { IfErr result (λ f. IsWholeFault message.now f) }
 {
-    if message.len() > MOST_MESSAGE {
+    if message.len() > LONGEST_MESSAGE {
         return Err(TextFault {
             part: 0,
             why: TextWhy::TooLong,
@@ -38,9 +39,9 @@ pub(crate) fn count_of(message: &[u8]) -> Result<usize, TextFault>
     Ok(part_count(message))
 }
 
-#[tactic(auto, using(crate::proofs::PartLemmas::parts_count))]
+#[tactic(auto, using(crate::proofs::lemmas::Parts::parts_count))]
 fn part_count(text: &[u8]) -> usize
-    requires { length text.now ≤ most_bytes }
+    requires { length text.now ≤ longest_message }
     ensures count { result ≡ length (parts text.now) }
     ensures few { result ≤ length text.now + 1 }
 {

@@ -2,15 +2,15 @@
 ghost use Rattle.std.specs.Prelude.{◌≡◌, ◌≤◌, ℕ, List, ◌∷◌, ◌++◌, length, take, decimal, codes, IfNone, IfSome, IsTrue, ◌↔◌};
 ghost use Rattle.std.specs.Str.{byte};
 ghost use Rattle.base64.specs.Decode.{decoded_estimate};
+ghost use Rattle.scram_text.specs.Limits.{longest_channel, longest_message};
 ghost use Rattle.scram_text.specs.Class.{IsNonce};
 ghost use Rattle.scram_text.specs.Name.{IsSaslName, LacksComma};
 ghost use Rattle.scram_text.specs.Base64Field.{base64, IsField};
-ghost use Rattle.scram_text.specs.Messages.{most_bytes};
 ghost use Rattle.scram_text.specs.Parts.{IsHeaded, IsValue, IsCount, SpellsCount, SpellsField};
 
 use crate::name::SaslText;
 use crate::secret::Salt;
-use crate::{class, cut, name};
+use crate::{LONGEST_CHANNEL, class, cut, name};
 use arrayvec::ArrayVec;
 use base64::engine::general_purpose::STANDARD;
 use itoa::Buffer;
@@ -101,11 +101,11 @@ fn is_decimal(digits: &[u8], number: u32) -> bool
 }
 
 /// The bytes of a part that is `c=` and the base64 of 1 to 1536 bytes.
-pub(crate) fn channel_of(part: &[u8]) -> Option<ArrayVec<u8, 1536>>
-    requires { length part.now ≤ most_bytes }
-    ensures none { IfNone result (IsHeaded (byte "c") (SpellsField 1536) part.now → ⊥) }
+pub(crate) fn channel_of(part: &[u8]) -> Option<ArrayVec<u8, LONGEST_CHANNEL>>
+    requires { length part.now ≤ longest_message }
+    ensures none { IfNone result (IsHeaded (byte "c") (SpellsField longest_channel) part.now → ⊥) }
     ensures spelled { IfSome result (λ channel. part.now ≡ codes "c=" ++ base64 channel.items) }
-    ensures class { IfSome result (λ channel. IsField 1536 channel.items) }
+    ensures class { IfSome result (λ channel. IsField longest_channel channel.items) }
 {
     let text = cut::headed(part, b'c')?;
     long_field(text)
@@ -131,19 +131,19 @@ pub(crate) fn salt_of(part: &[u8]) -> Option<Salt>
     Salt::new(bytes.as_slice())
 }
 
-fn long_field(text: &[u8]) -> Option<ArrayVec<u8, 1536>>
-    requires { length text.now ≤ most_bytes }
-    ensures none { IfNone result (SpellsField 1536 text.now → ⊥) }
+fn long_field(text: &[u8]) -> Option<ArrayVec<u8, LONGEST_CHANNEL>>
+    requires { length text.now ≤ longest_message }
+    ensures none { IfNone result (SpellsField longest_channel text.now → ⊥) }
     ensures spelled { IfSome result (λ field. text.now ≡ base64 field.items) }
-    ensures class { IfSome result (λ field. IsField 1536 field.items) }
+    ensures class { IfSome result (λ field. IsField longest_channel field.items) }
 {
-    let mut buffer = [0; 1536];
+    let mut buffer = [0; LONGEST_CHANNEL];
     let size = decode(text, &mut buffer)?;
     Some(copy_of(&buffer[..size]))
 }
 
 // A text of more than 88 characters is the base64 of no field of 64 bytes.
-#[tactic(auto, using(crate::proofs::Base64Lemmas::short_text))]
+#[tactic(auto, using(crate::proofs::lemmas::Base64::short_text))]
 fn short_field(text: &[u8]) -> Option<Tag>
     ensures none { IfNone result (SpellsField 64 text.now → ⊥) }
     ensures spelled { IfSome result (λ field. text.now ≡ base64 field.items) }

@@ -1,7 +1,9 @@
 //! Laws of the grammar, for proofs that rest on this crate: each is the promise of a function that
 //! does nothing.
 ghost use Rattle.scram_text.specs.Base64Field.{HasUsualBase64};
-ghost use Rattle.scram_text.specs.Laws.{FieldsHoldBytes, PartsAreUtf8, SpellsOneName, NameIsDecided, HasOneClientFirst, ClientFirstIsDecided, HasOneServerFirst, ServerFirstIsDecided, HasOneClientFinal, ClientFinalIsDecided, HasOneServerFinal, ServerFinalIsDecided};
+ghost use Rattle.scram_text.specs.Laws.{FieldsHoldBytes, PartsAreUtf8, SpellsOneName, NameIsDecided, HasOneClientFirst};
+ghost use Rattle.scram_text.specs.Laws.{ClientFirstIsDecided, HasOneServerFirst, ServerFirstIsDecided, HasOneClientFinal};
+ghost use Rattle.scram_text.specs.Laws.{ClientFinalIsDecided, HasOneServerFinal, ServerFinalIsDecided};
 
 /// Base64 (RFC 4648, section 4) has its usual form: the text of 1 to 1536 bytes has no comma, is
 /// decoded to them, and has four bytes for each three begun.

@@ -46,4 +46,13 @@ pub use server_final::{FinalResult, ServerFinal, read_server_final, write_server
 pub use server_first::{ServerFirst, read_server_first, write_server_first};
 
 /// The most bytes of a message.
-pub const MOST_MESSAGE: usize = 2048;
+pub const LONGEST_MESSAGE: usize = 2048;
+
+/// The most characters that one end adds to the nonce.
+pub const LONGEST_NONCE_PART: usize = 256;
+
+/// The most characters of a nonce, to which both ends added their part.
+pub const LONGEST_NONCE: usize = 512;
+
+/// The most bytes that a channel field holds, decoded: the base64 of more is longer than a message.
+pub const LONGEST_CHANNEL: usize = 1536;

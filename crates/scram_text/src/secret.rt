@@ -3,7 +3,7 @@ ghost use Rattle.std.specs.Prelude.{◌≡◌, ℕ, List};
 ghost use Rattle.std.specs.Option.{SomeIff};
 ghost use Rattle.scram_text.specs.Class.{IsPassword, IsNoncePart, IsSalt};
 
-use crate::class;
+use crate::{LONGEST_NONCE_PART, class};
 use arrayvec::ArrayVec;
 use mac_core::copy_of;
 use std::marker::Model;
@@ -49,7 +49,7 @@ impl Password {
 /// the bytes 21 to 7E hex except the comma. Contracts see it as its bytes.
 #[derive(Drop)]
 pub struct NoncePart {
-    bytes: ArrayVec<u8, 256>,
+    bytes: ArrayVec<u8, LONGEST_NONCE_PART>,
 }
 
 impl Model for NoncePart {
@@ -65,7 +65,7 @@ impl NoncePart {
     pub fn new(bytes: &[u8]) -> Option<NoncePart>
         ensures { SomeIff result (IsNoncePart bytes.now) bytes.now }
     {
-        if !class::is_nonce(bytes, 256) {
+        if !class::is_nonce(bytes, LONGEST_NONCE_PART) {
             return None;
         }
         Some(NoncePart {

@@ -7,11 +7,12 @@
 //! as `v=rmF9pqV8S7suAoZWja4dJRkFsKQ=` or `e=invalid-proof`.
 ghost use Rattle.std.specs.Prelude.{◌≡◌, ◌≤◌, ◌<◌, ◌+◌, ◌↔◌, ◌++◌, length, codes, IsTrue, IfOk, IfErr, OnOk, IsOkAnd, IsErrOf};
 ghost use Rattle.std.specs.Str.{byte};
+ghost use Rattle.scram_text.specs.Limits.{longest_message, longest_nonce};
 ghost use Rattle.scram_text.specs.Class.{IsText};
 ghost use Rattle.scram_text.specs.Name.{LacksComma};
 ghost use Rattle.scram_text.specs.Base64Field.{base64};
 ghost use Rattle.scram_text.specs.Parts.{is_headed};
-ghost use Rattle.scram_text.specs.Messages.{most_bytes, ServerFinalParts, IsServerFinal, IsVerifierOrError, verifier_or_error_text, server_final_text};
+ghost use Rattle.scram_text.specs.Messages.{ServerFinalParts, IsServerFinal, IsVerifierOrError, verifier_or_error_text, server_final_text};
 ghost use Rattle.scram_text.specs.Faults.{IsServerFinalFault, Fits, fault, result_place};
 ghost use Rattle.scram_text.specs.Shown.{ShowsServerFinal, verifier_or_error_of};
 ghost use Rattle.scram_text.specs.Draft.{IsDraftOf};
@@ -69,7 +70,7 @@ fn read_parts(message: &[u8]) -> Result<ServerFinal<'_>, TextFault>
         × ShowsServerFinal m p) }
     ensures fault { IfErr result (λ f. IsServerFinalFault message.now f) }
 {
-    cut::count_of(message)?;
+    cut::count_parts(message)?;
     let (first, rest) = cut::cut(message);
     let result = result_of(first)?;
     let extensions = cut::extensions_of(rest, 1)?;
@@ -85,7 +86,7 @@ fn result_of(part: &[u8]) -> Result<FinalResult<'_>, TextFault>
     requires { LacksComma part.now }
     ensures spelled { IfOk result (λ r. part.now ≡ verifier_or_error_text (verifier_or_error_of r)) }
     ensures class { IfOk result (λ r. IsVerifierOrError (verifier_or_error_of r)) }
-    ensures fault { IfErr result (λ f. (Fits 512 (result_place part.now) part.now → ⊥) × (f
+    ensures fault { IfErr result (λ f. (Fits longest_nonce (result_place part.now) part.now → ⊥) × (f
         ≡ fault 0 (result_place part.now))) }
 {
     if is_error(part) {
@@ -131,7 +132,7 @@ pub fn write_server_final<A: Allocator>(
         → CanBeServerFinal (verifier_or_error_of outcome.entry) extensions.now → ⊥ }
     ensures over_limit { IsErrOf result WriteFault.OverLimit
         → CanBeServerFinal (verifier_or_error_of outcome.entry) extensions.now
-        × (most_bytes < length (server_final_text (server_final_of (verifier_or_error_of outcome.entry) extensions.now))) }
+        × (longest_message < length (server_final_text (server_final_of (verifier_or_error_of outcome.entry) extensions.now))) }
     ensures no_memory { let p = server_final_of (verifier_or_error_of outcome.entry) extensions.now in
         IsErrOf result WriteFault.NoMemory → IsServerFinal (server_final_text p) p
         × LacksRoom out.old (server_final_text p) }
@@ -155,7 +156,7 @@ fn draft_of(outcome: &FinalResult<'_>, extensions: &[u8]) -> MessageDraft
     requires { CanBeServerFinal (verifier_or_error_of outcome.now) extensions.now }
     ensures draft { IsDraftOf result (server_final_text (server_final_of (verifier_or_error_of outcome.now) extensions.now)) }
     ensures related { let p = server_final_of (verifier_or_error_of outcome.now) extensions.now in
-        length (server_final_text p) ≤ most_bytes → IsServerFinal (server_final_text p) p }
+        length (server_final_text p) ≤ longest_message → IsServerFinal (server_final_text p) p }
 {
     let mut draft = told(outcome);
     draft.add_extensions(extensions);

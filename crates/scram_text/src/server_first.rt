@@ -6,7 +6,8 @@
 //!
 //! as `r=abcdef,s=QSXCR+Q6sek8bf92,i=4096`.
 ghost use Rattle.std.specs.Prelude.{◌≤◌, ◌<◌, ◌+◌, ◌↔◌, length, IsTrue, IfOk, IfErr, OnOk, IsOkAnd, IsErrOf};
-ghost use Rattle.scram_text.specs.Messages.{most_bytes, ServerFirstParts, server_first_text, IsServerFirst};
+ghost use Rattle.scram_text.specs.Limits.{longest_message};
+ghost use Rattle.scram_text.specs.Messages.{ServerFirstParts, server_first_text, IsServerFirst};
 ghost use Rattle.scram_text.specs.Draft.{IsDraftOf};
 ghost use Rattle.scram_text.specs.Written.{server_first_of, CanBeServerFirst};
 ghost use Rattle.scram_text.specs.Faults.{IsServerFirstFault};
@@ -17,7 +18,7 @@ ghost use Rattle.scram_text.specs.Appended.{IsAppended, LacksRoom};
 use crate::draft::MessageDraft;
 use crate::fault::{TextFault, TextWhy, WriteFault};
 use crate::secret::Salt;
-use crate::{class, cut, field};
+use crate::{LONGEST_NONCE, class, cut, field};
 use std::alloc::Allocator;
 
 /// A server-first message that was read. Slices are slices of the message.
@@ -61,7 +62,7 @@ fn read_parts(message: &[u8]) -> Result<ServerFirst<'_>, TextFault>
     ensures fault { IfErr result (λ f. IsServerFirstFault message.now f) }
 {
     let pieces = pieces_of(message)?;
-    let Some(nonce) = field::nonce_of(pieces.nonce, 512) else {
+    let Some(nonce) = field::nonce_of(pieces.nonce, LONGEST_NONCE) else {
         return Err(TextFault {
             part: pieces.index,
             why: TextWhy::Nonce,
@@ -104,7 +105,7 @@ fn pieces_of(message: &[u8]) -> Result<Pieces<'_>, TextFault>
     ensures cut { IfOk result (λ pieces. IsCutServer message.now pieces) }
     ensures fault { IfErr result (λ f. IsServerFirstFault message.now f) }
 {
-    let count = cut::count_of(message)?;
+    let count = cut::count_parts(message)?;
     if count < cut::least_of(message, 3) {
         return Err(TextFault {
             part: count,
@@ -145,7 +146,7 @@ pub fn write_server_first<A: Allocator>(
         → CanBeServerFirst nonce.now salt.now count extensions.now → ⊥ }
     ensures over_limit { IsErrOf result WriteFault.OverLimit
         → CanBeServerFirst nonce.now salt.now count extensions.now
-        × (most_bytes < length (server_first_text (server_first_of nonce.now salt.now count extensions.now))) }
+        × (longest_message < length (server_first_text (server_first_of nonce.now salt.now count extensions.now))) }
     ensures no_memory { let p = server_first_of nonce.now salt.now count extensions.now in
         IsErrOf result WriteFault.NoMemory → IsServerFirst (server_first_text p) p
         × LacksRoom out.old (server_first_text p) }
@@ -160,7 +161,7 @@ pub fn write_server_first<A: Allocator>(
 fn is_writable(nonce: &[u8], salt: &[u8], count: u32, extensions: &[u8]) -> bool
     ensures { IsTrue result ↔ CanBeServerFirst nonce.now salt.now count extensions.now }
 {
-    class::is_nonce(nonce, 512)
+    class::is_nonce(nonce, LONGEST_NONCE)
         && field::is_field(salt, 64)
         && field::is_count(count)
         && cut::are_extensions(extensions)
@@ -170,7 +171,7 @@ fn draft_of(nonce: &[u8], salt: &[u8], count: u32, extensions: &[u8]) -> Message
     requires { CanBeServerFirst nonce.now salt.now count extensions.now }
     ensures draft { IsDraftOf result (server_first_text (server_first_of nonce.now salt.now count extensions.now)) }
     ensures related { let p = server_first_of nonce.now salt.now count extensions.now in
-        length (server_first_text p) ≤ most_bytes → IsServerFirst (server_first_text p) p }
+        length (server_first_text p) ≤ longest_message → IsServerFirst (server_first_text p) p }
 {
     let mut draft = MessageDraft::new();
     draft.add(b"r=");

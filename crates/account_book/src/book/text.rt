@@ -15,7 +15,8 @@ impl Book {
     /// Reads the book that `bytes` are the text of, or answers the first fault (60 to 67): of the
     /// document, of `format`, of the document's keys, then of account after account in byte order of
     /// names. In each table unknown keys come first, and then its keys in the order of the format; of a
-    /// token, `kind` comes before both. 99 NoMemory may come at any place.
+    /// token, `kind` comes before both. 99 NoMemory may come at any place;
+    /// no clause says that it comes only where memory runs out.
     pub fn read(alloc: Global, bytes: &[u8]) -> Result<Book, BookFault>
         ensures found { IfOk result (λ book. IsBookText bytes.now book) }
         ensures only { (book : BookFields) → IsBookText bytes.now book
@@ -30,7 +31,7 @@ impl Book {
 
     /// The book's text, which `Book::read` reads as the same book unless memory runs out. It has every key
     /// that has a value, one table for each account, mechanism and token, and bytes in lower-case
-    /// hexadecimal. `AllocError` comes only where memory runs out.
+    /// hexadecimal. `AllocError` comes only where memory runs out, which no clause says.
     pub fn write(&self, alloc: Global) -> Result<String, AllocError>
         ensures stands { IfOk result (λ text. IsBookText (string_bytes text) self.now) }
         ensures text { IfOk result (λ text. IsDocumentText false (book_tree self.now) (string_bytes text)) }

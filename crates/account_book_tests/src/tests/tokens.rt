@@ -1,7 +1,7 @@
 //! Codes of RFC 4226, appendix D, by the tokens of accounts.
 use crate::tests::{name, two_accounts};
 use account_book::{Book, Reply, Token};
-use otp_core::{Digits, Fields, HotpFields, Moment, OtpFault, Secret, Sent};
+use otp_core::{Digits, HotpFields, Moment, OtpFault, Secret, Sent, TokenFields};
 use scram_text::PlainName;
 use std::process::Abort;
 use std::test::Fail;
@@ -35,8 +35,8 @@ fn two_tokens(rt: &(impl Abort + AllocGlobal)) -> Result<Book, Fail> {
 fn state(book: &Book, name: &PlainName) -> Option<(u64, u64)> {
     let token = book.token(name)?;
     match token.fields() {
-        Fields::Hotp(fields) => Some((fields.next, fields.failures)),
-        Fields::Totp(_) => None,
+        TokenFields::Hotp(fields) => Some((fields.next, fields.failures)),
+        TokenFields::Totp(_) => None,
     }
 }
 

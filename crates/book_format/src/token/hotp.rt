@@ -2,7 +2,7 @@
 ghost use Rattle.std.specs.Prelude.{◌≡◌, IfOk};
 ghost use Rattle.toml.specs.View.{table_view};
 ghost use Rattle.otp_core.specs.Settings.{IsHotpInRange};
-ghost use Rattle.otp_core.specs.declared.token.kinds.Fields.TheVariants.{Hotp};
+ghost use Rattle.otp_core.specs.declared.token.kinds.TokenFields.TheVariants.{Hotp};
 ghost use Rattle.book_format.specs.Rows.{read_table};
 ghost use Rattle.book_format.specs.Tables.{hotp};
 

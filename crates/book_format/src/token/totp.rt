@@ -5,7 +5,7 @@ ghost use Rattle.std.specs.Option.{ForSome};
 ghost use Rattle.toml.specs.View.{table_view};
 ghost use Rattle.otp_core.specs.Ranges.{most_counter};
 ghost use Rattle.otp_core.specs.Settings.{IsTotpInRange};
-ghost use Rattle.otp_core.specs.declared.token.kinds.Fields.TheVariants.{Totp};
+ghost use Rattle.otp_core.specs.declared.token.kinds.TokenFields.TheVariants.{Totp};
 ghost use Rattle.book_format.specs.Keys.{is_among, has_only};
 ghost use Rattle.book_format.specs.ValueTypes.{number, signed, hash};
 ghost use Rattle.book_format.specs.Rows.{demand, read_at, read_some, read_table, table_keys};

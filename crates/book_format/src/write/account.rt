@@ -2,8 +2,6 @@
 ghost use Rattle.std.specs.Prelude.{◌≡◌, ℕ, IfOk, OnOk, codes, option_map};
 ghost use Rattle.std.specs.Option.{ForSome};
 ghost use Rattle.toml.specs.View.{view, table_view};
-ghost use Rattle.mac_core.specs.Mechanism.{length_by};
-ghost use Rattle.mac_core.specs.declared.mechanism.Mechanism.TheVariants.{ScramSha1};
 ghost use Rattle.book_format.specs.Account.{AreKeys, IsAccount};
 ghost use Rattle.book_format.specs.Put.{put_some};
 ghost use Rattle.book_format.specs.ValueTypes.{AreNames, names_tree};
@@ -37,6 +35,7 @@ pub(super) fn account_value(alloc: Global, account: &Account) -> Result<Value, A
     Ok(Value::Table(table))
 }
 
+// Keys of either mechanism are written alike: the table of each length writes the same tree.
 fn put_keys(
     alloc: Global,
     table: &mut Table,
@@ -44,7 +43,7 @@ fn put_keys(
     keys: &Option<MechKeys>,
 ) -> Result<(), AllocError>
     ensures tree { OnOk result (table_view table.new
-        ≡ put_some key.now (option_map (in_table (tables.mech (length_by ScramSha1))).write keys.now) (table_view table.old)) }
+        ≡ put_some key.now (option_map (in_table tables.sha1_keys).write keys.now) (table_view table.old)) }
     ensures itself { OnOk result ((len : ℕ) → ForSome keys.now (AreKeys len)
         → ForSome keys.now (WritesItself (in_table (tables.mech len)))) }
 {
@@ -67,7 +66,7 @@ fn put_token(alloc: Global, table: &mut Table, token: &Option<Token>) -> Result<
 
 #[tactic(auto, unfolding(crate::specs::Rows::written))]
 fn mech_value(alloc: Global, keys: &MechKeys) -> Result<Value, AllocError>
-    ensures tree { IfOk result (λ v. view v ≡ (in_table (tables.mech (length_by ScramSha1))).write keys.now) }
+    ensures tree { IfOk result (λ v. view v ≡ (in_table tables.sha1_keys).write keys.now) }
     ensures itself { OnOk result ((len : ℕ) → AreKeys len keys.now → WritesItself (in_table (tables.mech len)) keys.now) }
 {
     let mut table = Table::new(alloc);

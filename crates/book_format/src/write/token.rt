@@ -10,7 +10,7 @@ ghost use Rattle.book_format.specs.Rows.{WritesItself, in_table, written};
 ghost use Rattle.book_format.specs.Tables as tables;
 
 use super::put::{put_hex, put_number, put_text};
-use otp_core::{Fields, HotpFields, Token, TotpFields};
+use otp_core::{HotpFields, Token, TokenFields, TotpFields};
 use std::alloc::{AllocError, Global};
 use toml::{Table, Value};
 
@@ -20,8 +20,8 @@ pub(super) fn token_value(alloc: Global, token: &Token) -> Result<Value, AllocEr
     ensures itself { OnOk result (WritesItself tables.token token.now) }
 {
     match token.fields() {
-        Fields::Hotp(fields) => hotp_value(alloc, fields),
-        Fields::Totp(fields) => totp_value(alloc, fields),
+        TokenFields::Hotp(fields) => hotp_value(alloc, fields),
+        TokenFields::Totp(fields) => totp_value(alloc, fields),
     }
 }
 

@@ -57,7 +57,7 @@ fn account_with_a_hotp_token(rt: HostRuntime) -> Result<(), Fail> {
     let book = book_of(rt.alloc(), text.as_str())?;
     let (_, account) = only_account(&book).ok_or("one account")?;
     let token = account.token.as_ref().ok_or("its token")?;
-    let Fields::Hotp(fields) = token.fields() else {
+    let TokenFields::Hotp(fields) = token.fields() else {
         return Err("a HOTP token".into());
     };
     check_text(
@@ -86,7 +86,7 @@ fn tokens_with_sync_ahead(rt: HostRuntime) -> Result<(), Fail> {
         let book = book_of(rt.alloc(), text.as_str())?;
         let (_, account) = only_account(&book).ok_or("one account")?;
         let token = account.token.as_ref().ok_or("its token")?;
-        let Fields::Hotp(fields) = token.fields() else {
+        let TokenFields::Hotp(fields) = token.fields() else {
             return Err("a HOTP token".into());
         };
         check(
@@ -110,7 +110,7 @@ fn account_with_a_totp_token(rt: HostRuntime) -> Result<(), Fail> {
     let book = book_of(rt.alloc(), text.as_str())?;
     let (_, account) = only_account(&book).ok_or("one account")?;
     let token = account.token.as_ref().ok_or("its token")?;
-    let Fields::Totp(fields) = token.fields() else {
+    let TokenFields::Totp(fields) = token.fields() else {
         return Err("a TOTP token".into());
     };
     check(&rt, &fields.hash, &OtpHash::Sha1, "the hash");

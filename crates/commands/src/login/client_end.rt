@@ -2,10 +2,12 @@
 ghost use Rattle.std.specs.Prelude.{◌≡◌, ◌≢◌, [], ◌∷◌, ◌++◌, IfOk, IfErr};
 ghost use Rattle.std.specs.Str.{byte};
 ghost use Rattle.log_grammar.specs.Payload.{escaped};
-ghost use Rattle.scram_ends.specs.Client.{IsStarted, IsExpecting};
+ghost use Rattle.scram_ends.specs.Client.{IsStarted, IsAnswerable, IsExpecting};
 ghost use Rattle.scram_ends.specs.Login.{IsAuthentic};
 ghost use Rattle.scram_ends.specs.Stages.{Started, Answered};
-ghost use Rattle.commands.specs.ClientEnd.{IfSays, BeginsLogin, AnswersChallenge, MaySay, ShowsKeys};
+ghost use Rattle.scram_text.specs.Messages.{ServerFirstParts};
+ghost use Rattle.mac_core.specs.declared.mechanism.Mechanism.{Mechanism};
+ghost use Rattle.commands.specs.ClientEnd.{IfSays, IsChosen, BeginsLogin, AnswersChallenge, MaySay, ShowsKeys, HasToLeave};
 
 use command_line::Fault;
 use mac_core::Mechanism;
@@ -25,7 +27,7 @@ pub struct User {
     pub name: PlainName,
 
     /// The name to act as, where it is another.
-    pub act_as: Option<PlainName>,
+    pub authzid: Option<PlainName>,
 }
 
 /// What a client does next.
@@ -88,6 +90,7 @@ impl ClientEnd {
         ensures kept { (self.new.user ≡ self.old.user) × (self.new.nonce ≡ self.old.nonce) × (self.new.password ≡ self.old.password) }
         ensures is_in { IfOk result (λ next. next ≡ Next.IsIn → ShowsKeys self.old.stage line.now) }
         ensures says { IfOk result (λ next. IfSays next (λ said. MaySay self.old self.old.stage line.now said self.new.stage)) }
+        ensures leaves { IfOk result (λ next. next ≡ Next.Leaves → HasToLeave self.old line.now) }
         ensures err { IfErr result (λ fault. fault ≡ Fault.NoMemory) }
     {
         let Ok(Line::FromServer(told)) = read_line(line) else {
@@ -109,16 +112,18 @@ impl ClientEnd {
         ensures kept { (self.new.user ≡ self.old.user) × (self.new.nonce ≡ self.old.nonce) × (self.new.password ≡ self.old.password) }
         ensures not_in { IfOk result (λ next. next ≢ Next.IsIn) }
         ensures says { IfOk result (λ next. IfSays next (λ said. BeginsLogin self.old.user self.old.nonce names.now said self.new.stage)) }
+        ensures leaves { IfOk result (λ next. next ≡ Next.Leaves
+            → (mechanism : Mechanism) → IsChosen self.old.user.mechanism names.now mechanism → ⊥) }
         ensures err { IfErr result (λ fault. fault ≡ Fault.NoMemory) }
     {
         let user = &self.user;
         let Some(mechanism) = user.mechanism.or(Mechanism::choose(names)) else {
             return Ok(Next::Leaves);
         };
-        let (name, act_as, nonce) = (&user.name, user.act_as.as_ref(), &self.nonce);
+        let (name, authzid, nonce) = (&user.name, user.authzid.as_ref(), &self.nonce);
         let mut message = Vec::new(alloc);
         let limits = Limits::usual();
-        let Ok(client) = Client::start(mechanism, name, act_as, nonce, limits, &mut message) else {
+        let Ok(client) = Client::start(mechanism, name, authzid, nonce, limits, &mut message) else {
             return Err(Fault::NoMemory);
         };
         self.stage = Stage::Begun(client);
@@ -132,6 +137,8 @@ impl ClientEnd {
         ensures not_in { IfOk result (λ next. next ≢ Next.IsIn) }
         ensures says { IfOk result (λ next. IfSays next (λ said. (login : Started) → IsStarted client login
             → AnswersChallenge login self.old.password challenge.now said self.new.stage)) }
+        ensures leaves { IfOk result (λ next. next ≡ Next.Leaves → (login : Started) → IsStarted client login
+            → (parts : ServerFirstParts) → IsAnswerable login.limits login.nonce challenge.now parts → ⊥) }
         ensures err { IfErr result (λ fault. fault ≡ Fault.NoMemory) }
     {
         let mut message = Vec::new(alloc);
@@ -148,8 +155,11 @@ impl ClientEnd {
 
 // Whether the client is in, by the message with which the service accepts it.
 fn check(alloc: Global, client: ClientTwo, message: Payload<'_>) -> Result<Next, Fault>
-    ensures is_in { IfOk result (λ next. next ≡ Next.IsIn → (l : Answered) (x : IsExpecting client l) → IsAuthentic message.entry x.signature) }
+    ensures is_in { IfOk result (λ next. next ≡ Next.IsIn
+        → (l : Answered) (x : IsExpecting client l) → IsAuthentic message.entry x.signature) }
     ensures silent { IfOk result (λ next. IfSays next (λ said. ⊥)) }
+    ensures leaves { IfOk result (λ next. next ≡ Next.Leaves
+        → (l : Answered) (x : IsExpecting client l) → IsAuthentic message.entry x.signature → ⊥) }
     ensures err { IfErr result (λ fault. fault ≡ Fault.NoMemory) }
 {
     let Ok(last) = message.bytes(alloc) else {

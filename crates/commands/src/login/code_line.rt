@@ -4,6 +4,7 @@ ghost use Rattle.std.specs.Str.{byte};
 ghost use Rattle.otp_core.specs.Attempt.{CodeTexts};
 ghost use Rattle.commands.specs.Login.{sent_for};
 ghost use Rattle.commands.specs.Sent.{Says};
+ghost use Rattle.commands.specs.declared.login.TheConstants.{MOST_WITH_LF};
 
 use crate::login::MOST_WITH_LF;
 use crate::sent::sent_by;
@@ -23,9 +24,9 @@ pub fn code_line(alloc: Global, line: &[u8]) -> Result<Vec<u8>, Fault>
     }
 }
 
-// The line of this front and the first 6201 bytes of this text, with its LF. Nothing more is ever read.
+// The line of this front and as much of this text as a line and its LF may have, with its LF. Nothing more is ever read.
 fn line_of(alloc: Global, front: &[u8], text: &[u8]) -> Result<Vec<u8>, Fault>
-    ensures ok { IfOk result (λ line. line.items ≡ front.now ++ (take 6201 text.now ++ byte "\n" ∷ [])) }
+    ensures ok { IfOk result (λ line. line.items ≡ front.now ++ (take MOST_WITH_LF text.now ++ byte "\n" ∷ [])) }
     ensures err { IfErr result (λ fault. fault ≡ Fault.NoMemory) }
 {
     let mut line = Vec::new(alloc);
@@ -35,9 +36,9 @@ fn line_of(alloc: Global, front: &[u8], text: &[u8]) -> Result<Vec<u8>, Fault>
     Ok(line)
 }
 
-// The first 6201 bytes of a text, or all of them where it has no more.
+// As many bytes of a text as a line and its LF may have, or all of them where it has no more.
 fn first_bytes(text: &[u8]) -> &[u8]
-    ensures { result.now ≡ take 6201 text.now }
+    ensures { result.now ≡ take MOST_WITH_LF text.now }
 {
     match text.get(..MOST_WITH_LF) {
         Some(front) => front,

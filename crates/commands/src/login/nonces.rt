@@ -1,6 +1,7 @@
 //! The nonces of a login: those that the words give, or fresh random ones.
 ghost use Rattle.std.specs.Prelude.{◌≡◌, ◌⊎◌, Some, IfOk, IfErr, length};
 ghost use Rattle.scram_text.specs.Base64Field.{base64};
+ghost use Rattle.account_commands.specs.File.{IsFileUnread};
 ghost use Rattle.commands.specs.Nonces.{TakesNonce, TakesNonces};
 
 use account_commands::random::Random;
@@ -20,8 +21,9 @@ pub fn both<R: Files + AllocGlobal>(
     service: Option<NoncePart>,
 ) -> Result<(NoncePart, NoncePart), Fault>
     // Both are given, or a file gives the bytes of each that is not, one after the other.
-    ensures { IfOk result (λ nonces. ((client ≡ Some nonces.0) × (service ≡ Some nonces.1))
+    ensures ok { IfOk result (λ nonces. ((client ≡ Some nonces.0) × (service ≡ Some nonces.1))
         ⊎ ((file : R.File) × (after : R.File) × TakesNonces (R.File.remaining file) client service nonces (R.File.remaining after))) }
+    ensures err { IfErr result (IsFileUnread path.now) }
 {
     match (client, service) {
         (Some(client), Some(service)) => Ok((client, service)),
@@ -39,8 +41,9 @@ fn both_from<F: Read + Drop>(
     service: Option<NoncePart>,
     random: &mut Random<'_, F>,
 ) -> Result<(NoncePart, NoncePart), Fault>
-    ensures { IfOk result (λ nonces.
+    ensures ok { IfOk result (λ nonces.
         TakesNonces (F.remaining random.old.file) client service nonces (F.remaining random.new.file)) }
+    ensures err { IfErr result (IsFileUnread random.old.path.now) }
 {
     let client = given_or_random(alloc, client, random)?;
     let service = given_or_random(alloc, service, random)?;
@@ -53,7 +56,9 @@ fn given_or_random<F: Read + Drop>(
     given: Option<NoncePart>,
     random: &mut Random<'_, F>,
 ) -> Result<NoncePart, Fault>
-    ensures { IfOk result (λ nonce. TakesNonce (F.remaining random.old.file) given nonce (F.remaining random.new.file)) }
+    ensures ok { IfOk result (λ nonce. TakesNonce (F.remaining random.old.file) given nonce (F.remaining random.new.file)) }
+    ensures err { IfErr result (IsFileUnread random.old.path.now) }
+    ensures path { random.new.path.now ≡ random.old.path.now }
 {
     match given {
         Some(nonce) => Ok(nonce),

@@ -2,6 +2,8 @@
 //!
 //! No read and no write on it waits. What one end says is written before the other end reads, so a read that would have
 //! to wait means that the other end is a stranger, who came to the socket in between.
+ghost use Rattle.std.specs.Prelude.{◌≡◌, IfErr};
+
 use command_line::Fault;
 use sasl_log::{OverRead, OverWrite};
 use std::fs::{Files, Metadata};
@@ -53,10 +55,10 @@ impl<'a, R: Files> SocketFile<'a, R> {
 #[derive(Drop)]
 pub struct Ends {
     // The client's end.
-    near: UnixStream,
+    of_client: UnixStream,
 
     // The service's.
-    far: UnixStream,
+    of_service: UnixStream,
 }
 
 /// One end of a connection: where it reads, and where it writes.
@@ -83,14 +85,16 @@ impl Ends {
     /// Both ends, to read and to write.
     pub fn wires(&self) -> Wires<OverRead<&UnixStream>, OverWrite<&UnixStream>> {
         Wires {
-            of_client: wire_of(&self.near),
-            of_service: wire_of(&self.far),
+            of_client: wire_of(&self.of_client),
+            of_service: wire_of(&self.of_service),
         }
     }
 
     /// Ends what the client says, so that the service reads to the end of it. The only fault is Socket.
-    pub fn hang_up(&self) -> Result<(), Fault> {
-        match self.near.shutdown(Shutdown::Write) {
+    pub fn hang_up(&self) -> Result<(), Fault>
+        ensures { IfErr result (λ fault. fault ≡ Fault.Socket) }
+    {
+        match self.of_client.shutdown(Shutdown::Write) {
             Ok(()) => Ok(()),
             Err(_) => Err(Fault::Socket),
         }
@@ -109,7 +113,9 @@ fn wire_of(stream: &UnixStream) -> Wire<OverRead<&UnixStream>, OverWrite<&UnixSt
 pub fn open<'a, R: Files + Net>(
     rt: &'a R,
     path: &'a str,
-) -> Result<(Ends, SocketFile<'a, R>), Fault> {
+) -> Result<(Ends, SocketFile<'a, R>), Fault>
+    ensures { IfErr result (λ fault. fault ≡ Fault.Socket) }
+{
     let (listener, file) = bind(rt, path)?;
     match connect(rt, path, &listener) {
         Ok(ends) => Ok((ends, file)),
@@ -122,7 +128,9 @@ pub fn open<'a, R: Files + Net>(
 fn bind<'a, R: Files + Net>(
     rt: &'a R,
     path: &'a str,
-) -> Result<(UnixListener, SocketFile<'a, R>), Fault> {
+) -> Result<(UnixListener, SocketFile<'a, R>), Fault>
+    ensures { IfErr result (λ fault. fault ≡ Fault.Socket) }
+{
     let was_free = is_free(rt, path);
     match UnixListener::bind(rt, path) {
         Ok(listener) => Ok((listener, SocketFile::new(rt, path))),
@@ -143,9 +151,12 @@ fn is_free<R: Files>(rt: &R, path: &str) -> bool {
 // Connects to the socket at `path`, and accepts the connection.
 fn connect<R: Net>(rt: &R, path: &str, listener: &UnixListener) -> io::Result<Ends> {
     listener.set_nonblocking(true)?;
-    let near = UnixStream::connect(rt, path)?;
-    let (far, _) = listener.accept()?;
-    near.set_nonblocking(true)?;
-    far.set_nonblocking(true)?;
-    Ok(Ends { near, far })
+    let of_client = UnixStream::connect(rt, path)?;
+    let (of_service, _) = listener.accept()?;
+    of_client.set_nonblocking(true)?;
+    of_service.set_nonblocking(true)?;
+    Ok(Ends {
+        of_client,
+        of_service,
+    })
 }

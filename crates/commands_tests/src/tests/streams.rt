@@ -1,5 +1,5 @@
 //! Input and faults that are kept in memory, and said to be terminals or not.
-use commands::{Typed, Watched};
+use commands::{TerminalInput, TerminalOutput};
 use std::alloc::Global;
 use std::io;
 use std::io::{BufRead, Read, Write};
@@ -35,8 +35,8 @@ impl<R: BufRead> BufRead for Input<R> {
     }
 }
 
-impl<R: BufRead> Typed for Input<R> {
-    fn is_typed(&self) -> bool {
+impl<R: BufRead> TerminalInput for Input<R> {
+    fn is_terminal(&self) -> bool {
         self.is_typed
     }
 }
@@ -66,8 +66,8 @@ impl Write for Faults {
     }
 }
 
-impl Watched for Faults {
-    fn is_watched(&self) -> bool {
+impl TerminalOutput for Faults {
+    fn is_terminal(&self) -> bool {
         self.is_watched
     }
 }

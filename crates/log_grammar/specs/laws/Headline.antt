@@ -5,13 +5,13 @@ use Rattle.std.specs.List.{AllByRecursion}
 use Rattle.otp_core.specs.Attempt.{CodeTexts}
 use Rattle.log_grammar.specs.Lines.{LogLine, header, said, ended, halt, mechs, log_bytes, EndsWith, IsWritable}
 use Rattle.log_grammar.specs.Bytes.{IsCut}
-use Rattle.log_grammar.specs.Told.{Told}
+use Rattle.log_grammar.specs.LoggedReply.{LoggedReply}
 use Rattle.log_grammar.specs.Places.{got_code}
-use Rattle.log_grammar.specs.Demands.{Accounts, AreFit, IsFirstOf, demands}
+use Rattle.log_grammar.specs.Demands.{Accounts, AllCanBeChallenged, IsFirstOf, demands}
 use Rattle.log_grammar.specs.Sessions.{Session, session_lines, session_told, SessionMeets}
 use Rattle.log_grammar.specs.laws.Histories.{IsHistory}
-use Rattle.log_grammar.specs.Clean.{Begins}
-use Rattle.log_grammar.specs.KindOne.{version_one}
+use Rattle.log_grammar.specs.Begins.{Begins}
+use Rattle.log_grammar.specs.VersionOne.{version_one}
 use Rattle.log_grammar.specs.LogKinds.{IsCleanOf}
 use Rattle.log_grammar.specs.Versions.{IsFront, BeginsClean, IsFirstToBeginNoClean, IsFaultLine}
 use Rattle.log_grammar.specs.laws.Outcomes.{IsSentBy}
@@ -46,12 +46,14 @@ CleanLogsAreThoseOfSessions = (accounts : Accounts) (bytes : List ℕ)
 
 -- whole lines are a front exactly where they begin a clean log
 abbrev pub FrontsAreWhatBeginsCleanLogs : Type 0
-FrontsAreWhatBeginsCleanLogs = (accounts : Accounts) → AreFit accounts → (bytes : List ℕ) (texts : List (List ℕ)) → IsCut bytes texts []
+FrontsAreWhatBeginsCleanLogs = (accounts : Accounts) → AllCanBeChallenged accounts → (bytes : List ℕ) (texts : List (List ℕ))
+    → IsCut bytes texts []
     → IsFront accounts bytes ↔ BeginsClean accounts bytes
 
 -- a line is the fault line exactly where it is the first that begins no clean log
 abbrev pub FaultLinesBeginNoCleanLog : Type 0
-FaultLinesBeginNoCleanLog = (accounts : Accounts) → AreFit accounts → (bytes : List ℕ) (texts : List (List ℕ)) (rest : List ℕ) (k : ℕ)
+FaultLinesBeginNoCleanLog = (accounts : Accounts) → AllCanBeChallenged accounts
+    → (bytes : List ℕ) (texts : List (List ℕ)) (rest : List ℕ) (k : ℕ)
     → IsCut bytes texts rest → IsFaultLine accounts bytes k ↔ IsFirstToBeginNoClean accounts bytes texts k
 
 -- the session begins with `S MECHS` and the lines by which the client sends this first message
@@ -75,5 +77,5 @@ EndsInLoginOf log account = (s : Session) × EndsWith log (session_lines s) × I
 
 -- where the reply to a code is due, the last lines are those of a session whose client-first names the account
 abbrev pub EachCodeHasItsLogin : Type 0
-EachCodeHasItsLogin = (accounts : Accounts) (log : List LogLine) (account : List ℕ) (sent : CodeTexts) (told : List Told)
+EachCodeHasItsLogin = (accounts : Accounts) (log : List LogLine) (account : List ℕ) (sent : CodeTexts) (told : List LoggedReply)
     → Begins (demands accounts) log (got_code account sent) told → EndsInLoginOf log account

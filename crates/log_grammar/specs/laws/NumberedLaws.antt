@@ -3,68 +3,71 @@
 -- due to each number.
 use Rattle.std.specs.Prelude.{ℕ, ◌≡◌, ◌≢◌, ◌≤◌, ◌+◌, ◌↔◌, ◌⊎◌, false, List, [], ◌∷◌, ◌++◌}
 use Rattle.log_grammar.specs.Lines.{LogLine, said, busy}
-use Rattle.log_grammar.specs.Told.{Told}
-use Rattle.log_grammar.specs.Places.{Place}
+use Rattle.log_grammar.specs.LoggedReply.{LoggedReply}
+use Rattle.log_grammar.specs.Places.{Place, is_closed}
 use Rattle.log_grammar.specs.Demands.{Accounts, demands}
 use Rattle.log_grammar.specs.state_machine.Steps.{told_at}
 use Rattle.log_grammar.specs.Why.{LineClass}
 use Rattle.log_grammar.specs.Numbered.{Numbered, numbered, of_number, begun, closed_in, SpellsNumbered}
 use Rattle.log_grammar.specs.NumberedClasses.{IsNumberClassDue}
 use Rattle.log_grammar.specs.state_machine.NumberedDueClasses.{IsNumberDueAt}
-use Rattle.log_grammar.specs.state_machine.OpenNumbers.{is_closed, open_up_to}
-use Rattle.log_grammar.specs.state_machine.NumberedSteps.{put, GoesNumbered, StoodNumbered}
+use Rattle.log_grammar.specs.state_machine.OpenNumbers.{open_up_to}
+use Rattle.log_grammar.specs.state_machine.NumberedSteps.{put, IsNumberedTransition, HasLastNumberedTransition}
 
 -- where a number may have a line, the log goes on with it, and no other number's place changes
 abbrev pub GoesOnByANumberedLine : Type 0
-GoesOnByANumberedLine = (limit : ℕ) (accounts : Accounts) (log : List (Numbered LogLine)) (places : ℕ → Place) (told : List Told)
+GoesOnByANumberedLine = (limit : ℕ) (accounts : Accounts) (log : List (Numbered LogLine)) (places : ℕ → Place) (told : List LoggedReply)
     (n : ℕ) (line : LogLine) (to : Place) → SpellsNumbered limit (demands accounts) log places told
-    → GoesNumbered limit (demands accounts) log places told n line to
+    → IsNumberedTransition limit (demands accounts) log places told n line to
     → SpellsNumbered limit (demands accounts) (log ++ numbered n line ∷ []) (put n to places) (told ++ told_at (places n) line)
 
 -- a log goes on in no other way: before its last line it is one after which this number may have the line
 abbrev pub GoesOnByNoOtherNumberedLine : Type 0
 GoesOnByNoOtherNumberedLine = (limit : ℕ) (accounts : Accounts) (log : List (Numbered LogLine)) (n : ℕ) (line : LogLine)
-    (places : ℕ → Place) (all : List Told) → SpellsNumbered limit (demands accounts) (log ++ numbered n line ∷ []) places all
-    → StoodNumbered limit (demands accounts) log n line places all
+    (places : ℕ → Place) (all : List LoggedReply) → SpellsNumbered limit (demands accounts) (log ++ numbered n line ∷ []) places all
+    → HasLastNumberedTransition limit (demands accounts) log n line places all
 
 -- the place of each number, and what was told in all, follow from the lines
 abbrev pub HasOneNumberedReading : Type 0
-HasOneNumberedReading = (limit : ℕ) (accounts : Accounts) (log : List (Numbered LogLine)) (places others : ℕ → Place) (told also : List Told)
+HasOneNumberedReading = (limit : ℕ) (accounts : Accounts) (log : List (Numbered LogLine)) (places others : ℕ → Place)
+    (told also : List LoggedReply)
     → SpellsNumbered limit (demands accounts) log places told → SpellsNumbered limit (demands accounts) log others also
     → ((n : ℕ) → places n ≡ others n) × (told ≡ also)
 
 -- a log with a line more is a log exactly where this number may have the line; then this number is where the line leads,
 -- each other is where it was, and what was told in all goes on by what the line tells
 abbrev pub NumberedLogsGoOnExactlySo : Type 0
-NumberedLogsGoOnExactlySo = (limit : ℕ) (accounts : Accounts) (log : List (Numbered LogLine)) (places : ℕ → Place) (told : List Told)
-    (n : ℕ) (line : LogLine) (next : ℕ → Place) (all : List Told) → SpellsNumbered limit (demands accounts) log places told
+NumberedLogsGoOnExactlySo = (limit : ℕ) (accounts : Accounts) (log : List (Numbered LogLine)) (places : ℕ → Place) (told : List LoggedReply)
+    (n : ℕ) (line : LogLine) (next : ℕ → Place) (all : List LoggedReply) → SpellsNumbered limit (demands accounts) log places told
     → SpellsNumbered limit (demands accounts) (log ++ numbered n line ∷ []) next all
-    ↔ (GoesNumbered limit (demands accounts) log places told n line (next n) × ((m : ℕ) → m ≢ n → next m ≡ places m)
+    ↔ (IsNumberedTransition limit (demands accounts) log places told n line (next n) × ((m : ℕ) → m ≢ n → next m ≡ places m)
     × (all ≡ told ++ told_at (places n) line))
 
 -- the first lines of such a log are such a log
 abbrev pub FirstNumberedLinesAreLogs : Type 0
-FirstNumberedLinesAreLogs = (limit : ℕ) (accounts : Accounts) (log more : List (Numbered LogLine)) (places : ℕ → Place) (told : List Told)
+FirstNumberedLinesAreLogs = (limit : ℕ) (accounts : Accounts) (log more : List (Numbered LogLine)) (places : ℕ → Place)
+    (told : List LoggedReply)
     → SpellsNumbered limit (demands accounts) (log ++ more) places told
-    → (before : ℕ → Place) × (earlier : List Told) × SpellsNumbered limit (demands accounts) log before earlier
+    → (before : ℕ → Place) × (earlier : List LoggedReply) × SpellsNumbered limit (demands accounts) log before earlier
 
 -- the place of a session follows from its own lines alone, whatever other sessions there are, in whichever log and under
 -- whichever number
 abbrev pub SessionsStandAlone : Type 0
-SessionsStandAlone = (limit : ℕ) (accounts : Accounts) (log other : List (Numbered LogLine)) (places others : ℕ → Place) (told also : List Told)
+SessionsStandAlone = (limit : ℕ) (accounts : Accounts) (log other : List (Numbered LogLine)) (places others : ℕ → Place)
+    (told also : List LoggedReply)
     → SpellsNumbered limit (demands accounts) log places told → SpellsNumbered limit (demands accounts) other others also
     → (n m : ℕ) → of_number n log ≡ of_number m other → places n ≡ others m
 
 -- the sessions that are open and those that are closed are all that began, which have the numbers from 1
 abbrev pub OpenSessionsAreCounted : Type 0
-OpenSessionsAreCounted = (limit : ℕ) (accounts : Accounts) (log : List (Numbered LogLine)) (places : ℕ → Place) (told : List Told)
+OpenSessionsAreCounted = (limit : ℕ) (accounts : Accounts) (log : List (Numbered LogLine)) (places : ℕ → Place) (told : List LoggedReply)
     → SpellsNumbered limit (demands accounts) log places told
     → (open_up_to (begun log) places + closed_in log ≡ begun log)
     × ((n : ℕ) → is_closed (places n) ≡ false → (1 ≤ n) × (n ≤ begun log))
 
 -- at most `limit` are open, or one more where BUSY is the last line: the one that it turns away
 abbrev pub FewSessionsAreOpen : Type 0
-FewSessionsAreOpen = (limit : ℕ) (accounts : Accounts) (log : List (Numbered LogLine)) (places : ℕ → Place) (told : List Told)
+FewSessionsAreOpen = (limit : ℕ) (accounts : Accounts) (log : List (Numbered LogLine)) (places : ℕ → Place) (told : List LoggedReply)
     → SpellsNumbered limit (demands accounts) log places told
     → (open_up_to (begun log) places ≤ limit)
     ⊎ ((before : List (Numbered LogLine)) × (n : ℕ) × (log ≡ before ++ numbered n (said busy) ∷ [])
@@ -73,6 +76,7 @@ FewSessionsAreOpen = (limit : ℕ) (accounts : Accounts) (log : List (Numbered L
 -- the classes due at a number after a log's lines are those of its place, where there is room for them and they may follow
 -- the last line
 abbrev pub NumberClassesFollowThePlace : Type 0
-NumberClassesFollowThePlace = (limit : ℕ) (accounts : Accounts) (log : List (Numbered LogLine)) (places : ℕ → Place) (told : List Told)
+NumberClassesFollowThePlace = (limit : ℕ) (accounts : Accounts) (log : List (Numbered LogLine)) (places : ℕ → Place)
+    (told : List LoggedReply)
     (n : ℕ) (class : LineClass) → SpellsNumbered limit (demands accounts) log places told
     → IsNumberClassDue limit log n class ↔ IsNumberDueAt limit log (places n) n class

@@ -5,12 +5,14 @@ use Rattle.std.specs.Str.{byte}
 use Rattle.log_grammar.specs.Bytes.{LacksLf}
 use Rattle.log_grammar.specs.Lines.{LogLine, log_text, IsLogLine}
 use Rattle.log_grammar.specs.Numbered.{Numbered, numbered}
-use Rattle.log_grammar.specs.NumberedLines.{IsSessionNumber, HasNumber, numbered_text, longest_numbered_line, IsNumberedLine, IsNoNumberedLine}
+use Rattle.log_grammar.specs.NumberedLines.{IsSessionNumber, HasNumber, numbered_text, longest_numbered_line, IsNumberedLine}
+use Rattle.log_grammar.specs.NumberedLines.{IsNoNumberedLine}
 
 -- each text is one numbered line or none
 abbrev pub IsOneNumberedLineOrNone : Type 0
 IsOneNumberedLineOrNone = (text : List ℕ)
-    → ((x : Numbered LogLine) × IsNumberedLine text x × ((other : Numbered LogLine) → IsNumberedLine text other → other ≡ x)) ⊎ IsNoNumberedLine text
+    → ((x : Numbered LogLine) × IsNumberedLine text x × ((other : Numbered LogLine) → IsNumberedLine text other → other ≡ x))
+    ⊎ IsNoNumberedLine text
 
 -- a line of a log without a number is no numbered line
 abbrev pub UnnumberedLinesAreNone : Type 0

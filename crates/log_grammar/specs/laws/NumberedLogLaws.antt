@@ -1,10 +1,10 @@
 -- The laws of whole logs of version 2, as bytes: their fronts, the line at fault, and why.
 use Rattle.std.specs.Prelude.{ℕ, ◌≡◌, ◌⊎◌, List, [], take}
 use Rattle.log_grammar.specs.Bytes.{ended_by_lf, IsCut}
-use Rattle.log_grammar.specs.Demands.{Accounts, AreFit}
+use Rattle.log_grammar.specs.Demands.{Accounts, AllCanBeChallenged}
 use Rattle.log_grammar.specs.Why.{Why}
 use Rattle.log_grammar.specs.LogKinds.{IsFrontOf, IsCleanOf, IsWhyOf, BeginsCleanOf}
-use Rattle.log_grammar.specs.KindTwo.{version_two}
+use Rattle.log_grammar.specs.VersionTwo.{version_two}
 
 -- each list of bytes is a clean log of version 2, or has a line at fault and a reason for it
 abbrev pub EachNumberedLogIsJudged : Type 0
@@ -19,9 +19,10 @@ NumberedLogsHaveOneWhy = (limit : ℕ) (accounts : Accounts) (bytes : List ℕ) 
 -- the first lines of a front are a front
 abbrev pub NumberedFrontsBeginWithFronts : Type 0
 NumberedFrontsBeginWithFronts = (limit : ℕ) (accounts : Accounts) (bytes : List ℕ) (texts : List (List ℕ)) (k : ℕ)
-    → IsFrontOf (version_two limit accounts) bytes → IsCut bytes texts [] → IsFrontOf (version_two limit accounts) (ended_by_lf (take k texts))
+    → IsFrontOf (version_two limit accounts) bytes → IsCut bytes texts []
+    → IsFrontOf (version_two limit accounts) (ended_by_lf (take k texts))
 
 -- each front begins a clean log, where a challenge can be written for each account and decoy
 abbrev pub NumberedFrontsBeginClean : Type 0
-NumberedFrontsBeginClean = (limit : ℕ) (accounts : Accounts) → AreFit accounts → (bytes : List ℕ)
+NumberedFrontsBeginClean = (limit : ℕ) (accounts : Accounts) → AllCanBeChallenged accounts → (bytes : List ℕ)
     → IsFrontOf (version_two limit accounts) bytes → BeginsCleanOf (version_two limit accounts) bytes

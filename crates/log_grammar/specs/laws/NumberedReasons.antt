@@ -3,10 +3,10 @@
 use Rattle.std.specs.Prelude.{ℕ, ◌≡◌, ◌+◌, List, [], ◌∷◌, ◌++◌, length}
 use Rattle.log_grammar.specs.Lines.{LogLine}
 use Rattle.log_grammar.specs.Bytes.{ended_by_lf, IsCut}
-use Rattle.log_grammar.specs.Demands.{Accounts, AreFit}
+use Rattle.log_grammar.specs.Demands.{Accounts, AllCanBeChallenged}
 use Rattle.log_grammar.specs.Why.{Why, other_challenge}
 use Rattle.log_grammar.specs.LogKinds.{IsWhyOf, BeginsCleanOf}
-use Rattle.log_grammar.specs.KindTwo.{version_two}
+use Rattle.log_grammar.specs.VersionTwo.{version_two}
 use Rattle.log_grammar.specs.Numbered.{Numbered, numbered}
 use Rattle.log_grammar.specs.NumberedLines.{numbered_text, IsNumberedLine, IsNumberedWritable}
 use Rattle.log_grammar.specs.laws.Reasons.{SaysWhatIsDue, NamesWhatIsDue}
@@ -28,14 +28,18 @@ pub record IsNumberedMended (limit : ℕ) (accounts : Accounts) (texts : List (L
 
 -- what a reason names as due may stand in the place of the line at fault, under its number
 abbrev pub WhatIsDueMayStandUnderItsNumber : Type 0
-WhatIsDueMayStandUnderItsNumber = (limit : ℕ) (accounts : Accounts) → AreFit accounts → (bytes : List ℕ) (texts : List (List ℕ)) (rest : List ℕ) (k : ℕ) (why : Why)
-    → IsCut bytes texts rest → IsWhyOf (version_two limit accounts) bytes k why → NamesWhatIsDue why → IsNumberedMended limit accounts texts k why
+WhatIsDueMayStandUnderItsNumber = (limit : ℕ) (accounts : Accounts) → AllCanBeChallenged accounts
+    → (bytes : List ℕ) (texts : List (List ℕ)) (rest : List ℕ) (k : ℕ) (why : Why)
+    → IsCut bytes texts rest → IsWhyOf (version_two limit accounts) bytes k why → NamesWhatIsDue why
+    → IsNumberedMended limit accounts texts k why
 
 -- each line that can be written and says what is due may stand there; except a challenge, since the reason names no
 -- text of one
 abbrev pub EachNumberedLineThatIsDueMayStand : Type 0
-EachNumberedLineThatIsDueMayStand = (limit : ℕ) (accounts : Accounts) → AreFit accounts
-    → (bytes : List ℕ) (before : List (List ℕ)) (text : List ℕ) (more : List (List ℕ)) (rest : List ℕ) (why : Why) (at_fault : Numbered LogLine) (line : LogLine)
-    → IsCut bytes (before ++ text ∷ more) rest → IsWhyOf (version_two limit accounts) bytes (length before + 1) why → (why ≡ other_challenge → ⊥)
+EachNumberedLineThatIsDueMayStand = (limit : ℕ) (accounts : Accounts) → AllCanBeChallenged accounts
+    → (bytes : List ℕ) (before : List (List ℕ)) (text : List ℕ) (more : List (List ℕ)) (rest : List ℕ) (why : Why)
+    (at_fault : Numbered LogLine) (line : LogLine)
+    → IsCut bytes (before ++ text ∷ more) rest → IsWhyOf (version_two limit accounts) bytes (length before + 1) why
+    → (why ≡ other_challenge → ⊥)
     → IsNumberedLine text at_fault → SaysWhatIsDue why line → IsNumberedWritable (numbered at_fault.number line)
     → BeginsCleanOf (version_two limit accounts) (ended_by_lf (before ++ numbered_text (numbered at_fault.number line) ∷ []))

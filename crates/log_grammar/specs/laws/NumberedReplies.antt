@@ -3,9 +3,9 @@ use Rattle.std.specs.Prelude.{ℕ, ◌≡◌, ◌<◌, List, [], ◌∷◌, ◌+
 use Rattle.std.specs.declared.option.Option.TheVariants.{Some}
 use Rattle.otp_core.specs.Attempt.{CodeTexts, used_in}
 use Rattle.otp_core.specs.Reply.{IsFitting}
-use Rattle.otp_core.specs.declared.token.kinds.Fields.{Fields}
+use Rattle.otp_core.specs.declared.token.kinds.TokenFields.{TokenFields}
 use Rattle.log_grammar.specs.Lines.{LogLine}
-use Rattle.log_grammar.specs.Told.{Told}
+use Rattle.log_grammar.specs.LoggedReply.{LoggedReply}
 use Rattle.log_grammar.specs.Places.{Place, waits_code, got_code}
 use Rattle.log_grammar.specs.Demands.{Accounts, attempts_of, demands}
 use Rattle.log_grammar.specs.laws.Replies.{passes, AreRising}
@@ -14,12 +14,13 @@ use Rattle.log_grammar.specs.Numbered.{Numbered, numbered, SpellsNumbered}
 -- after these lines a number waits for the reply to a code, or to two in a row, of an account that has a token; the code is
 -- the token's for this counter, which could pass at the moment, after what was told of the account before, under whichever
 -- numbers; or the two are its codes for the counter before this one and for this one, and that one could pass as the first of two
-pub record IsNumberedCodeOf (limit : ℕ) (accounts : Accounts) (log : List (Numbered LogLine)) (n moment counter : ℕ) (next : Place) : Type 0 where
+pub record IsNumberedCodeOf (limit : ℕ) (accounts : Accounts) (log : List (Numbered LogLine)) (n moment counter : ℕ)
+    (next : Place) : Type 0 where
   pub account : List ℕ
   pub sent : CodeTexts
   pub places : ℕ → Place
-  pub told : List Told
-  pub token : Fields
+  pub told : List LoggedReply
+  pub token : TokenFields
   pub after : SpellsNumbered limit (demands accounts) log places told
   pub waits : places n ≡ got_code account sent
   pub has_token : accounts.token account ≡ Some token
@@ -28,19 +29,23 @@ pub record IsNumberedCodeOf (limit : ℕ) (accounts : Accounts) (log : List (Num
 
 -- PASS may stand under a number only after such a code
 abbrev pub EachNumberedPassIsACode : Type 0
-EachNumberedPassIsACode = (limit : ℕ) (accounts : Accounts) (log : List (Numbered LogLine)) (n moment counter : ℕ) (places : ℕ → Place) (told : List Told)
+EachNumberedPassIsACode = (limit : ℕ) (accounts : Accounts) (log : List (Numbered LogLine)) (n moment counter : ℕ) (places : ℕ → Place)
+    (told : List LoggedReply)
     → SpellsNumbered limit (demands accounts) (log ++ numbered n (passes moment counter) ∷ []) places told
     → IsNumberedCodeOf limit accounts log n moment counter (places n)
 
 -- of two passes of one account in a log, under whichever numbers, the later has the greater counter
 abbrev pub NumberedCountersRise : Type 0
-NumberedCountersRise = (limit : ℕ) (accounts : Accounts) (log more : List (Numbered LogLine)) (account : List ℕ) (n moment counter m later greater : ℕ)
-    (places after : ℕ → Place) (told all : List Told)
+NumberedCountersRise = (limit : ℕ) (accounts : Accounts) (log more : List (Numbered LogLine)) (account : List ℕ)
+    (n moment counter m later greater : ℕ)
+    (places after : ℕ → Place) (told all : List LoggedReply)
     → SpellsNumbered limit (demands accounts) (log ++ numbered n (passes moment counter) ∷ []) places told → places n ≡ waits_code account
-    → SpellsNumbered limit (demands accounts) ((log ++ numbered n (passes moment counter) ∷ []) ++ (more ++ numbered m (passes later greater) ∷ [])) after all
+    → SpellsNumbered limit (demands accounts)
+    ((log ++ numbered n (passes moment counter) ∷ []) ++ (more ++ numbered m (passes later greater) ∷ [])) after all
     → after m ≡ waits_code account → counter < greater
 
 -- the counters that an account's codes use in a log, both counters of two codes in a row, rise: none is used twice
 abbrev pub NoNumberedCounterIsUsedTwice : Type 0
-NoNumberedCounterIsUsedTwice = (limit : ℕ) (accounts : Accounts) (log : List (Numbered LogLine)) (places : ℕ → Place) (told : List Told) (account : List ℕ)
+NoNumberedCounterIsUsedTwice = (limit : ℕ) (accounts : Accounts) (log : List (Numbered LogLine)) (places : ℕ → Place)
+    (told : List LoggedReply) (account : List ℕ)
     → SpellsNumbered limit (demands accounts) log places told → AreRising (used_in (attempts_of account (reverse told)))

@@ -8,18 +8,20 @@ use Rattle.otp_core.specs.Attempt.{CodeTexts}
 use Rattle.otp_core.specs.declared.token.answer.Reply.{Reply}
 use Rattle.log_grammar.specs.Words.{offered_names}
 use Rattle.log_grammar.specs.Lines.{LogLine, said, heard, mechs, cont, refuses, replies, halt, auth, auth_with, resp, asking, EndsWith}
-use Rattle.log_grammar.specs.Told.{Told, told_of}
-use Rattle.log_grammar.specs.Places.{Place, between, offered, asks_bare, waits_first, got_first, waits_final, got_final, waits_code, got_code, leaving, over, halted}
-use Rattle.log_grammar.specs.Demands.{Accounts, NamesMechanism, IsFirstOf, IsChallenged, IsVerdict, IsReplyDue, demands}
-use Rattle.log_grammar.specs.Clean.{Begins}
+use Rattle.log_grammar.specs.LoggedReply.{LoggedReply, logged_reply_of}
+use Rattle.log_grammar.specs.Places.{Place, between, offered, asks_bare, waits_first, got_first, waits_final, got_final, waits_code}
+use Rattle.log_grammar.specs.Places.{got_code, leaving, over, halted}
+use Rattle.log_grammar.specs.Demands.{Accounts, NamesMechanism, IsFirstOf, IsChallenged, IsVerdict, IsToldDue, demands}
+use Rattle.log_grammar.specs.Begins.{Begins}
 use Rattle.log_grammar.specs.laws.Logins.{IsLoginTo, exchange_of}
 
 -- the first lines of what a log may begin with are such lines too, and what was told in them comes first: so each
 -- law of a log's last line holds for every line of it
 abbrev pub FirstLinesBeginLogs : Type 0
-FirstLinesBeginLogs = (accounts : Accounts) (lines more : List LogLine) (place : Place) (told : List Told)
+FirstLinesBeginLogs = (accounts : Accounts) (lines more : List LogLine) (place : Place) (told : List LoggedReply)
     → Begins (demands accounts) (lines ++ more) place told
-    → (at : Place) × (before : List Told) × (rest : List Told) × Begins (demands accounts) lines at before × (told ≡ before ++ rest)
+    → (at : Place) × (before : List LoggedReply) × (rest : List LoggedReply) × Begins (demands accounts) lines at before
+    × (told ≡ before ++ rest)
 
 -- the lines by which a client sends its first message: in `C AUTH`, or after an empty challenge
 abbrev pub IsSentBy : (mechanism first : List ℕ) → List LogLine → Type 0
@@ -41,18 +43,18 @@ HasItsMessages place log = Unit {0}
 
 -- the messages that a log's place has are those of its lines
 abbrev pub PlacesHaveTheirMessages : Type 0
-PlacesHaveTheirMessages = (accounts : Accounts) (log : List LogLine) (place : Place) (told : List Told)
+PlacesHaveTheirMessages = (accounts : Accounts) (log : List LogLine) (place : Place) (told : List LoggedReply)
     → Begins (demands accounts) log place told → HasItsMessages place log
 
 -- `S MECHS` may stand exactly where a session may begin, with the two names
 abbrev pub EachOfferIsDue : Type 0
-EachOfferIsDue = (accounts : Accounts) (log : List LogLine) (names : List ℕ) (next : Place) (told : List Told)
+EachOfferIsDue = (accounts : Accounts) (log : List LogLine) (names : List ℕ) (next : Place) (told : List LoggedReply)
     → Begins (demands accounts) (log ++ said (mechs names) ∷ []) next told
     ↔ (Begins (demands accounts) log between told × (names ≡ offered_names) × (next ≡ offered))
 
 -- the empty challenge, after a mechanism that is offered; or a challenge to the client-first message, for the
 -- account that it names
-abbrev pub IsChallengeDue : Accounts → List LogLine → List ℕ → Place → List Told → Type 0
+abbrev pub IsChallengeDue : Accounts → List LogLine → List ℕ → Place → List LoggedReply → Type 0
 IsChallengeDue accounts log text next told =
     ((mechanism : List ℕ) × Begins (demands accounts) log (asks_bare mechanism) told
     × ((m : Mechanism) × NamesMechanism mechanism m) × (text ≡ []) × (next ≡ waits_first mechanism))
@@ -61,12 +63,12 @@ IsChallengeDue accounts log text next told =
 
 -- `S CONT` may stand exactly where it is one of these challenges
 abbrev pub EachChallengeIsDue : Type 0
-EachChallengeIsDue = (accounts : Accounts) (log : List LogLine) (text : List ℕ) (next : Place) (told : List Told)
+EachChallengeIsDue = (accounts : Accounts) (log : List LogLine) (text : List ℕ) (next : Place) (told : List LoggedReply)
     → Begins (demands accounts) (log ++ said (cont text) ∷ []) next told ↔ IsChallengeDue accounts log text next told
 
 -- the refusal that is due: a bare one of a mechanism that is not offered, of a client-first message that no server
 -- takes up, or to a client that ends its session; or the verdict on three messages that no fourth makes a login
-abbrev pub IsRefusalDue : Accounts → List LogLine → List ℕ → List Told → Type 0
+abbrev pub IsRefusalDue : Accounts → List LogLine → List ℕ → List LoggedReply → Type 0
 IsRefusalDue accounts log text told =
     ((mechanism : List ℕ) × Begins (demands accounts) log (asks_bare mechanism) told
     × ((m : Mechanism) → NamesMechanism mechanism m → ⊥) × (text ≡ []))
@@ -74,32 +76,34 @@ IsRefusalDue accounts log text told =
     × ((name : List ℕ) → IsFirstOf mechanism first name → ⊥) × (text ≡ []))
     ⊎ (((mechanism : List ℕ) × (name : List ℕ) × (client_first : List ℕ) × (server_first : List ℕ) × (client_final : List ℕ)
     × Begins (demands accounts) log (got_final mechanism name client_first server_first client_final) told
-    × ((why : Refusal) × IsVerdict accounts mechanism name client_first server_first client_final (refuse why) × (text ≡ due_text (refuse why)))
+    × ((why : Refusal) × IsVerdict accounts mechanism name client_first server_first client_final (refuse why)
+    × (text ≡ due_text (refuse why)))
     × ((server_final : List ℕ) → IsLoginTo accounts mechanism name (exchange_of client_first server_first client_final server_final) → ⊥))
     ⊎ (Begins (demands accounts) log leaving told × (text ≡ []))))
 
 -- `S NO` may stand exactly where it is the refusal that is due
 abbrev pub EachRefusalIsDue : Type 0
-EachRefusalIsDue = (accounts : Accounts) (log : List LogLine) (text : List ℕ) (next : Place) (told : List Told)
+EachRefusalIsDue = (accounts : Accounts) (log : List LogLine) (text : List ℕ) (next : Place) (told : List LoggedReply)
     → Begins (demands accounts) (log ++ said (refuses text) ∷ []) next told ↔ (IsRefusalDue accounts log text told × (next ≡ over))
 
 -- the reply that is due to a code, or to two in a row, after what was told of its account before
-pub record IsReplied (accounts : Accounts) (log : List LogLine) (moment : ℕ) (reply : Option Reply) (next : Place) (all : List Told) : Type 0 where
+pub record IsReplied (accounts : Accounts) (log : List LogLine) (moment : ℕ) (reply : Option Reply) (next : Place)
+    (all : List LoggedReply) : Type 0 where
   pub account : List ℕ
   pub sent : CodeTexts
-  pub told : List Told
+  pub told : List LoggedReply
   pub after : Begins (demands accounts) log (got_code account sent) told
-  pub due : IsReplyDue accounts (reverse told) (told_of account moment sent reply)
-  pub tells : all ≡ told ++ told_of account moment sent reply ∷ []
+  pub due : IsToldDue accounts (reverse told) (logged_reply_of account moment sent reply)
+  pub tells : all ≡ told ++ logged_reply_of account moment sent reply ∷ []
   pub is_next : next ≡ waits_code account
 
 -- PASS, FAIL, LOCKED and NOCODE may stand exactly where they are that reply
 abbrev pub EachReplyIsDue : Type 0
-EachReplyIsDue = (accounts : Accounts) (log : List LogLine) (moment : ℕ) (reply : Option Reply) (next : Place) (all : List Told)
+EachReplyIsDue = (accounts : Accounts) (log : List LogLine) (moment : ℕ) (reply : Option Reply) (next : Place) (all : List LoggedReply)
     → Begins (demands accounts) (log ++ said (replies moment reply) ∷ []) next all ↔ IsReplied accounts log moment reply next all
 
 -- `S HALT` may stand exactly after a code, or two in a row, whatever they are
 abbrev pub EachHaltEndsACode : Type 0
-EachHaltEndsACode = (accounts : Accounts) (log : List LogLine) (next : Place) (told : List Told)
+EachHaltEndsACode = (accounts : Accounts) (log : List LogLine) (next : Place) (told : List LoggedReply)
     → Begins (demands accounts) (log ++ said halt ∷ []) next told
     ↔ ((account : List ℕ) × (sent : CodeTexts) × Begins (demands accounts) log (got_code account sent) told × (next ≡ halted))

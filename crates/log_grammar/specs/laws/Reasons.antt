@@ -8,14 +8,15 @@ use Rattle.otp_core.specs.Attempt.{Attempt, CodeTexts}
 use Rattle.otp_core.specs.Ranges.{IsMoment}
 use Rattle.otp_core.specs.Settings.{IsInRange}
 use Rattle.otp_core.specs.declared.token.answer.Reply.{Reply}
-use Rattle.otp_core.specs.declared.token.kinds.Fields.{Fields}
+use Rattle.otp_core.specs.declared.token.kinds.TokenFields.{TokenFields}
 use Rattle.log_grammar.specs.Words.{offered_names}
 use Rattle.log_grammar.specs.Lines.{LogLine, said, mechs, cont, accepts, refuses, replies, log_text, IsReplyInRange, IsWritable}
 use Rattle.log_grammar.specs.Bytes.{ended_by_lf, IsCut}
-use Rattle.log_grammar.specs.Demands.{Accounts, AreFit, IsReplyBy}
-use Rattle.log_grammar.specs.Why.{Why, is_cut, no_line, out_of_order, other_mechs, other_challenge, other_outcome, other_reply, accepted, refused_with}
+use Rattle.log_grammar.specs.Demands.{Accounts, AllCanBeChallenged, IsReplyOfToken}
+use Rattle.log_grammar.specs.Why.{Why, is_cut, no_line, out_of_order, other_mechs, other_challenge, other_outcome, other_reply, accepted}
+use Rattle.log_grammar.specs.Why.{refused_with}
 use Rattle.log_grammar.specs.LogKinds.{IsWhyOf}
-use Rattle.log_grammar.specs.KindOne.{version_one}
+use Rattle.log_grammar.specs.VersionOne.{version_one}
 use Rattle.log_grammar.specs.Versions.{IsWhy, BeginsClean}
 
 -- the line says what a reason names as due: the names of the two mechanisms; a challenge; an `S OK` with the signature,
@@ -42,8 +43,8 @@ NamesWhatIsDue (other_reply moment due) = IsReplyInRange due
 
 -- the reply that is due to a token in its ranges has a counter in its own range
 abbrev pub DueRepliesCanBeWritten : Type 0
-DueRepliesCanBeWritten = (token : Fields) (attempts : List Attempt) (moment : ℕ) (sent : CodeTexts) (due : Option Reply)
-    → IsInRange token → IsMoment moment → IsReplyBy (Some token) attempts moment sent due → IsReplyInRange due
+DueRepliesCanBeWritten = (token : TokenFields) (attempts : List Attempt) (moment : ℕ) (sent : CodeTexts) (due : Option Reply)
+    → IsInRange token → IsMoment moment → IsReplyOfToken (Some token) attempts moment sent due → IsReplyInRange due
 
 -- line k is one of the texts; and a line that says what the reason names as due, in its place, makes the first k lines
 -- begin a clean log
@@ -60,13 +61,14 @@ pub record IsMended (accounts : Accounts) (texts : List (List ℕ)) (k : ℕ) (w
 
 -- what a reason names as due may stand in the place of the line at fault, in a log of version 1
 abbrev pub WhatIsDueMayStand : Type 0
-WhatIsDueMayStand = (accounts : Accounts) → AreFit accounts → (bytes : List ℕ) (texts : List (List ℕ)) (rest : List ℕ) (k : ℕ) (why : Why)
+WhatIsDueMayStand = (accounts : Accounts) → AllCanBeChallenged accounts
+    → (bytes : List ℕ) (texts : List (List ℕ)) (rest : List ℕ) (k : ℕ) (why : Why)
     → IsCut bytes texts rest → IsWhyOf (version_one accounts) bytes k why → NamesWhatIsDue why → IsMended accounts texts k why
 
 -- each line that can be written and says what is due may stand there; except a challenge, since the reason names no
 -- text of one
 abbrev pub EachLineThatIsDueMayStand : Type 0
-EachLineThatIsDueMayStand = (accounts : Accounts) → AreFit accounts
+EachLineThatIsDueMayStand = (accounts : Accounts) → AllCanBeChallenged accounts
     → (bytes : List ℕ) (before : List (List ℕ)) (text : List ℕ) (more : List (List ℕ)) (rest : List ℕ) (why : Why) (line : LogLine)
     → IsCut bytes (before ++ text ∷ more) rest → IsWhyOf (version_one accounts) bytes (length before + 1) why → (why ≡ other_challenge → ⊥)
     → SaysWhatIsDue why line → IsWritable line → BeginsClean accounts (ended_by_lf (before ++ log_text line ∷ []))

@@ -7,15 +7,15 @@ use Rattle.otp_core.specs.Ranges.{IsDigitCount, IsMoment}
 use Rattle.otp_core.specs.Window.{IsAbove}
 use Rattle.otp_core.specs.Reply.{code_text, IsFitting}
 use Rattle.otp_core.specs.declared.token.answer.Reply.TheVariants.{Pass}
-use Rattle.otp_core.specs.declared.token.kinds.Fields.{Fields}
-use Rattle.otp_core.specs.declared.token.kinds.Fields.TheVariants.{Hotp}
+use Rattle.otp_core.specs.declared.token.kinds.TokenFields.{TokenFields}
+use Rattle.otp_core.specs.declared.token.kinds.TokenFields.TheVariants.{Hotp}
 use Rattle.otp_core.specs.declared.token.kinds.HotpFields.{HotpFields}
 use Rattle.log_grammar.specs.Words.{IsCounter}
 use Rattle.log_grammar.specs.Lines.{LogLine, said, heard, gone, ended, replies, code, sync}
-use Rattle.log_grammar.specs.Told.{Told}
+use Rattle.log_grammar.specs.LoggedReply.{LoggedReply}
 use Rattle.log_grammar.specs.Places.{Place, waits_code, got_code}
 use Rattle.log_grammar.specs.Demands.{Accounts, attempts_of, demands}
-use Rattle.log_grammar.specs.Clean.{Begins}
+use Rattle.log_grammar.specs.Begins.{Begins}
 use Rattle.log_grammar.specs.Versions.{IsClean}
 use Rattle.log_grammar.specs.Upgrades.{original_text}
 use Rattle.log_grammar.specs.laws.Logins.{Exchange, IsLoginTo, login_session}
@@ -30,8 +30,8 @@ passes moment counter = said (replies moment (Some (Pass counter)))
 pub record IsCodeOf (accounts : Accounts) (log : List LogLine) (moment counter : ℕ) (next : Place) : Type 0 where
   pub account : List ℕ
   pub sent : CodeTexts
-  pub told : List Told
-  pub token : Fields
+  pub told : List LoggedReply
+  pub token : TokenFields
   pub after : Begins (demands accounts) log (got_code account sent) told
   pub has_token : accounts.token account ≡ Some token
   pub fits : IsFitting token (attempts_of account (reverse told)) moment sent counter
@@ -39,12 +39,13 @@ pub record IsCodeOf (accounts : Accounts) (log : List LogLine) (moment counter :
 
 -- PASS may stand only after such a code
 abbrev pub EachPassIsACode : Type 0
-EachPassIsACode = (accounts : Accounts) (log : List LogLine) (moment counter : ℕ) (next : Place) (told : List Told)
+EachPassIsACode = (accounts : Accounts) (log : List LogLine) (moment counter : ℕ) (next : Place) (told : List LoggedReply)
     → Begins (demands accounts) (log ++ passes moment counter ∷ []) next told → IsCodeOf accounts log moment counter next
 
 -- of two passes of one account in a log, in whichever sessions, the later has the greater counter
 abbrev pub CountersRise : Type 0
-CountersRise = (accounts : Accounts) (log more : List LogLine) (account : List ℕ) (moment counter later greater : ℕ) (told all : List Told)
+CountersRise = (accounts : Accounts) (log more : List LogLine) (account : List ℕ) (moment counter later greater : ℕ)
+    (told all : List LoggedReply)
     → Begins (demands accounts) (log ++ passes moment counter ∷ []) (waits_code account) told
     → Begins (demands accounts) ((log ++ passes moment counter ∷ []) ++ (more ++ passes later greater ∷ [])) (waits_code account) all
     → counter < greater
@@ -56,7 +57,7 @@ AreRising (c ∷ before) = IsAbove before c × AreRising before
 
 -- the counters that an account's codes use in a log, both counters of two codes in a row, rise: none is used twice
 abbrev pub NoCounterIsUsedTwice : Type 0
-NoCounterIsUsedTwice = (accounts : Accounts) (log : List LogLine) (place : Place) (told : List Told) (account : List ℕ)
+NoCounterIsUsedTwice = (accounts : Accounts) (log : List LogLine) (place : Place) (told : List LoggedReply) (account : List ℕ)
     → Begins (demands accounts) log place told → AreRising (used_in (attempts_of account (reverse told)))
 
 -- after a valid login, the code of the next counter of an account's HOTP token passes, where failures do not lock it

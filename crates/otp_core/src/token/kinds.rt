@@ -193,7 +193,7 @@ impl TotpFields {
 
 /// The settings and the state of a token of either kind.
 #[derive(Drop)]
-pub enum Fields {
+pub enum TokenFields {
     /// The settings and the state of a HOTP token.
     Hotp(HotpFields),
 

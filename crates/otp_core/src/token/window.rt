@@ -7,7 +7,7 @@ ghost use Rattle.otp_core.specs.Ranges.{IsMoment, last_moment, most_counter, mos
 
 use crate::code::step;
 use crate::moment::Moment;
-use crate::token::kinds::{Fields, HotpFields, MOST_COUNTER, TotpFields};
+use crate::token::kinds::{HotpFields, MOST_COUNTER, TokenFields, TotpFields};
 
 // The counters from `first` up to but not including `end`.
 #[derive(Clone, Copy)]
@@ -17,14 +17,14 @@ pub(crate) struct Counters {
 }
 
 /// The counters that can pass at a moment.
-pub(crate) fn window(token: &Fields, moment: Moment) -> Counters
+pub(crate) fn window(token: &TokenFields, moment: Moment) -> Counters
     requires range { IsInRange token.now }
     requires moment { IsMoment moment }
     ensures { (c : ℕ) → IsCandidate token.now [] moment c ↔ ((result.first ≤ c) × (c < result.end)) }
 {
     match token {
-        Fields::Hotp(token) => counters_due(token),
-        Fields::Totp(token) => match step(moment, token.t0, token.step) {
+        TokenFields::Hotp(token) => counters_due(token),
+        TokenFields::Totp(token) => match step(moment, token.t0, token.step) {
             Some(now) => steps_due(token, now),
             None => Counters { first: 0, end: 0 },
         },

@@ -1,12 +1,12 @@
 //! Where a desk stands.
 use crate::session::Session;
-use crate::turn::Left;
+use crate::turn::AfterTurn;
 use scram_text::NoncePart;
 
-/// What may come next at a desk.
+/// Where a session stands, and what may come next.
 #[derive(Clone, Copy, Debug, PartialEq, Eq)]
 pub enum Phase {
-    /// No session is open: the next client can be greeted.
+    /// The session is over; at a desk none is open, and the next client can be greeted.
     Closed,
 
     /// The mechanisms were offered: AUTH is due.
@@ -21,7 +21,7 @@ pub enum Phase {
     /// The login was accepted: the client may send codes.
     WaitCode,
 
-    /// The desk has halted: every `greet` and `client` answers 72.
+    /// The desk or hall has halted: every `greet` and `client` answers 72.
     Halted,
 }
 
@@ -60,13 +60,13 @@ impl State {
     ghost use Rattle.sasl_desk.specs.Desks.{phase_of, state_after};
 
     /// The state after a turn, in which the session was left so. `own` is the server's part of its nonce.
-    pub(crate) fn after(left: Left, own: NoncePart) -> State
+    pub(crate) fn after(left: AfterTurn, own: NoncePart) -> State
         ensures { result ≡ state_after left own }
     {
         match left {
-            Left::Going(session) => State::Open(session, own),
-            Left::Over => State::Closed,
-            Left::Halted(_) => State::Halted,
+            AfterTurn::Going(session) => State::Open(session, own),
+            AfterTurn::Over => State::Closed,
+            AfterTurn::Halted(_) => State::Halted,
         }
     }
 

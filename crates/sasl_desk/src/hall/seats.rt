@@ -1,5 +1,6 @@
 //! The seats of a hall, one for each session that is open.
-ghost use Rattle.std.specs.Prelude.{◌≡◌, ◌<◌, ◌≤◌, ◌+◌, [], ◌∷◌, ◌++◌, List, length, vec_capacity, vec_len, IfOk, IfSome, IfNone, None, Some};
+ghost use Rattle.std.specs.Prelude.{◌≡◌, ◌<◌, ◌≤◌, ◌+◌, [], ◌∷◌, ◌++◌, List, length};
+ghost use Rattle.std.specs.Prelude.{vec_capacity, vec_len, IfOk, IfSome, IfNone, None, Some};
 ghost use Rattle.log_grammar.specs.Versions.{most_open};
 ghost use Rattle.sasl_desk.specs.declared.hall.guest.Guest.{Guest};
 
@@ -57,7 +58,8 @@ impl Seats {
 
     /// The session of this number, or None where none is open.
     pub(crate) fn session(&self, number: u64) -> Option<&Session>
-        ensures some { IfSome result (λ session. (guest : Guest) × (find (is_of number) self.now ≡ Some guest) × (session.now ≡ guest.session)) }
+        ensures some { IfSome result (λ session.
+            (guest : Guest) × (find (is_of number) self.now ≡ Some guest) × (session.now ≡ guest.session)) }
         ensures none { IfNone result (find (is_of number) self.now ≡ None) }
     {
         match self.index_of(number) {
@@ -68,7 +70,8 @@ impl Seats {
 
     /// Lets the guest of this number leave its seat, or answers None where there is none.
     pub(crate) fn leave(&mut self, number: u64) -> Option<Guest>
-        ensures some { IfSome result (λ guest. IsPermutation self.old (guest ∷ self.new) × (guest.number ≡ number) × (length self.new < most_open)) }
+        ensures some { IfSome result (λ guest.
+            IsPermutation self.old (guest ∷ self.new) × (guest.number ≡ number) × (length self.new < most_open)) }
         ensures none { IfNone result ((find (is_of number) self.old ≡ None) × (self.new ≡ self.old)) }
     {
         match self.index_of(number) {

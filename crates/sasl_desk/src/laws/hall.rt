@@ -5,14 +5,14 @@ ghost use Rattle.book_format.specs.Trees.{IsBookText};
 ghost use Rattle.log_grammar.specs.Books.{accounts_in};
 ghost use Rattle.log_grammar.specs.Lines.{LogLine, said, halt};
 ghost use Rattle.log_grammar.specs.Numbered.{Numbered, numbered, of_number};
-ghost use Rattle.log_grammar.specs.Told.{Told};
+ghost use Rattle.log_grammar.specs.LoggedReply.{LoggedReply};
 ghost use Rattle.log_grammar.specs.Versions.{IsFront, IsClean};
 ghost use Rattle.sasl_desk.specs.Alone.{HaveSameRequests, HaveSameEntries, up_to_acceptance};
 ghost use Rattle.sasl_desk.specs.Desks.{all_spent};
-ghost use Rattle.sasl_desk.specs.Halls.{HallFields, busy_lines, hall_lines, hall_bytes, numbered_bytes, phase_in, IsPhaseIn, StandsHall};
+ghost use Rattle.sasl_desk.specs.Halls.{HallFields, busy_lines, hall_lines, hall_bytes, numbered_bytes, phase_in, IsPhaseIn, IsHallAfter};
 ghost use Rattle.sasl_desk.specs.Keeper.{IsAttemptJudged};
 ghost use Rattle.sasl_desk.specs.Records.{HasSessionRecords};
-ghost use Rattle.sasl_desk.specs.Restarts.{HallRun, IsHallRunOf};
+ghost use Rattle.sasl_desk.specs.Restarts.{IsHallRunLeaving};
 ghost use Rattle.sasl_desk.specs.Runs.{Call, wire_bytes};
 ghost use Rattle.sasl_desk.specs.Saved.{AreLinesSaved};
 ghost use Rattle.sasl_desk.specs.Serves.{call_lines};
@@ -27,17 +27,20 @@ use scram_text::laws::{has_one_client_first, has_one_server_final, spells_one_na
 
 /// Whatever a hall was asked, its log is a front of version 2 for the book with which it began: a clean log may begin with it.
 pub fn log_is_a_front<S: BookStore>()
-    ensures { (start : BookFields) (calls : List (Numbered Call)) (hall : HallFields S) → StandsHall S.facts S.IsStored start calls hall
+    ensures { (start : BookFields) (calls : List (Numbered Call)) (hall : HallFields S) → IsHallAfter S.facts S.IsStored start calls hall
         → IsFront (accounts_in start) (hall_bytes calls) }
 {}
 
 /// A hall's log is clean where no session is open, where the store has failed, and where it ends with `S HALT`.
 pub fn log_is_clean<S: BookStore>()
-    ensures closed { (start : BookFields) (calls : List (Numbered Call)) (hall : HallFields S) → StandsHall S.facts S.IsStored start calls hall
+    ensures closed { (start : BookFields) (calls : List (Numbered Call)) (hall : HallFields S)
+        → IsHallAfter S.facts S.IsStored start calls hall
         → ((n : ℕ) → phase_in hall n ≡ None) → IsClean (accounts_in start) (hall_bytes calls) }
-    ensures failed { (start : BookFields) (calls : List (Numbered Call)) (hall : HallFields S) → StandsHall S.facts S.IsStored start calls hall
+    ensures failed { (start : BookFields) (calls : List (Numbered Call)) (hall : HallFields S)
+        → IsHallAfter S.facts S.IsStored start calls hall
         → (S.facts hall.keeper.store).failed ≡ true → IsClean (accounts_in start) (hall_bytes calls) }
-    ensures halted { (start : BookFields) (calls : List (Numbered Call)) (hall : HallFields S) → StandsHall S.facts S.IsStored start calls hall
+    ensures halted { (start : BookFields) (calls : List (Numbered Call)) (hall : HallFields S)
+        → IsHallAfter S.facts S.IsStored start calls hall
         → (lines : List (Numbered LogLine)) (n : ℕ) → hall_lines calls ≡ lines ++ numbered n (said halt) ∷ []
         → IsClean (accounts_in start) (hall_bytes calls) }
 {}
@@ -45,14 +48,14 @@ pub fn log_is_clean<S: BookStore>()
 /// The phase of a session is that of the place where its lines have led, and there is none exactly where no session of the number
 /// is open.
 pub fn phases_are_those_of_places<S: BookStore>()
-    ensures { (start : BookFields) (calls : List (Numbered Call)) (hall : HallFields S) (s : StandsHall S.facts S.IsStored start calls hall) (n : ℕ)
-        → IsPhaseIn (s.places n) (phase_in hall n) }
+    ensures { (start : BookFields) (calls : List (Numbered Call)) (hall : HallFields S)
+        (s : IsHallAfter S.facts S.IsStored start calls hall) (n : ℕ) → IsPhaseIn (s.places n) (phase_in hall n) }
 {}
 
 /// Each session's log offers mechanisms for its greeting, and records what its client did, each as is due where it was done, in
 /// its order: nothing is left out, and nothing is invented; or it was turned away.
 pub fn sessions_have_their_records<S: BookStore>()
-    ensures { (start : BookFields) (calls : List (Numbered Call)) (hall : HallFields S) → StandsHall S.facts S.IsStored start calls hall
+    ensures { (start : BookFields) (calls : List (Numbered Call)) (hall : HallFields S) → IsHallAfter S.facts S.IsStored start calls hall
         → (n : ℕ) → HasSessionRecords (accounts_in start) (of_number n calls) }
 {}
 
@@ -62,39 +65,42 @@ pub fn bytes_are_those_of_calls()
     ensures log { (c : Numbered Call) (before : List (Numbered Call))
         → hall_bytes (c ∷ before) ≡ hall_bytes before ++ numbered_bytes (map (numbered c.number) c.value.lines) }
     ensures lines { (n : ℕ) (calls : List (Numbered Call)) → of_number n (hall_lines calls) ≡ call_lines (of_number n calls) }
-    ensures wire { (c : Call) (before : List Call) → wire_bytes (call_lines (c ∷ before)) ≡ wire_bytes (call_lines before) ++ wire_bytes c.lines }
+    ensures wire { (c : Call) (before : List Call)
+        → wire_bytes (call_lines (c ∷ before)) ≡ wire_bytes (call_lines before) ++ wire_bytes c.lines }
 {}
 
 /// Whenever a call has ended, the store holds the text of a book that the run leaves: the hall's own, or, where a save failed,
 /// perhaps that with one more attempt.
 pub fn store_holds_a_book<S: BookStore>()
-    ensures { (start : BookFields) (calls : List (Numbered Call)) (hall : HallFields S) → StandsHall S.facts S.IsStored start calls hall
-        → (r : HallRun) × IsHallRunOf S.facts S.IsStored r × (r.start ≡ start) × (r.calls ≡ calls) × IsBookText (S.facts hall.keeper.store).saved r.left }
+    ensures { (start : BookFields) (calls : List (Numbered Call)) (hall : HallFields S) → IsHallAfter S.facts S.IsStored start calls hall
+        → (left : BookFields) × IsHallRunLeaving S.facts S.IsStored start calls left
+        × IsBookText (S.facts hall.keeper.store).saved left }
 {}
 
 /// Whenever a call has ended, the book after what the log tells was saved: no client was told of a reply before what the reply
 /// changed was saved.
 pub fn log_is_saved<S: BookStore>()
-    ensures { (start : BookFields) (calls : List (Numbered Call)) (hall : HallFields S) → StandsHall S.facts S.IsStored start calls hall
+    ensures { (start : BookFields) (calls : List (Numbered Call)) (hall : HallFields S) → IsHallAfter S.facts S.IsStored start calls hall
         → AreLinesSaved S.IsStored start (hall_lines calls) }
 {}
 
 /// A stop within a call, as the store puts the new text in the place of the old, leaves what a run leaves: the hall's book with
 /// the attempt that is judged.
 pub fn stops_leave_runs<S: BookStore>()
-    ensures { (start : BookFields) (calls : List (Numbered Call)) (hall : HallFields S) (t : Told) (next : BookFields) → StandsHall S.facts S.IsStored start calls hall
-        → IsAttemptJudged hall.keeper.book t next → (r : HallRun) × IsHallRunOf S.facts S.IsStored r × (r.start ≡ start) × (r.calls ≡ calls) × (r.left ≡ next) }
+    ensures { (start : BookFields) (calls : List (Numbered Call)) (hall : HallFields S) (t : LoggedReply) (next : BookFields)
+        → IsHallAfter S.facts S.IsStored start calls hall → IsAttemptJudged hall.keeper.book t next
+        → IsHallRunLeaving S.facts S.IsStored start calls next }
 {}
 
 /// At every moment of a run the store holds a book in which each counter that a client was told has passed is spent, and each that
 /// was spent before the run: after a call, and where the run stops within one.
 pub fn told_counters_are_saved<S: BookStore>()
-    ensures ended { (start : BookFields) (calls : List (Numbered Call)) (hall : HallFields S) (s : StandsHall S.facts S.IsStored start calls hall)
-        (ps : List (List ℕ × ℕ)) → AreSpent ps start
+    ensures ended { (start : BookFields) (calls : List (Numbered Call)) (hall : HallFields S)
+        (s : IsHallAfter S.facts S.IsStored start calls hall) (ps : List (List ℕ × ℕ)) → AreSpent ps start
         → (saved : BookFields) × IsBookText (S.facts hall.keeper.store).saved saved × AreSpent (all_spent (reverse s.told) ++ ps) saved }
-    ensures within { (start : BookFields) (calls : List (Numbered Call)) (hall : HallFields S) (s : StandsHall S.facts S.IsStored start calls hall)
-        (ps : List (List ℕ × ℕ)) (t : Told) (next : BookFields) → AreSpent ps start → IsAttemptJudged hall.keeper.book t next
-        → AreSpent (all_spent (reverse s.told) ++ ps) next }
+    ensures within { (start : BookFields) (calls : List (Numbered Call)) (hall : HallFields S)
+        (s : IsHallAfter S.facts S.IsStored start calls hall) (ps : List (List ℕ × ℕ)) (t : LoggedReply) (next : BookFields)
+        → AreSpent ps start → IsAttemptJudged hall.keeper.book t next → AreSpent (all_spent (reverse s.told) ++ ps) next }
 {
     begins_with_itself();
     spent_stays_spent();
@@ -105,9 +111,10 @@ pub fn told_counters_are_saved<S: BookStore>()
 /// So neither the lines of other sessions enter, nor their order, nor the moments, nor a token.
 pub fn sessions_are_told_alone<S: BookStore>()
     ensures { (start begun : BookFields) (calls others : List (Numbered Call)) (hall other : HallFields S) (n m : ℕ)
-        → StandsHall S.facts S.IsStored start calls hall → StandsHall S.facts S.IsStored begun others other
+        → IsHallAfter S.facts S.IsStored start calls hall → IsHallAfter S.facts S.IsStored begun others other
         → HaveSameEntries (accounts_in start) (accounts_in begun)
-        → of_number n (hall_lines calls) ≢ busy_lines → of_number m (hall_lines others) ≢ busy_lines → HaveSameRequests (of_number n calls) (of_number m others)
+        → of_number n (hall_lines calls) ≢ busy_lines → of_number m (hall_lines others) ≢ busy_lines
+        → HaveSameRequests (of_number n calls) (of_number m others)
         → up_to_acceptance (of_number n (hall_lines calls)) ≡ up_to_acceptance (of_number m (hall_lines others)) }
 {
     has_one_client_first();

@@ -2,7 +2,7 @@
 ghost use Rattle.std.specs.Prelude.{◌≡◌, ℕ, List, []};
 ghost use Rattle.log_grammar.specs.Places.{Place, asks_bare, over};
 ghost use Rattle.log_grammar.specs.Demands.{Accounts};
-ghost use Rattle.sasl_desk.specs.Sessions.{lines_of_answer, verdict_answer, CanBeWritten, IsTurnedAway, IsAnswer};
+ghost use Rattle.sasl_desk.specs.Sessions.{lines_of_answer, verdict_answer, CanBeWritten, IsBareNoDue, IsAnswer};
 
 use crate::session::Session;
 use crate::session::turn::{Answer, Saying};
@@ -12,7 +12,7 @@ use scram_text::PlainName;
 
 /// A bare `S NO`, after which the session is over.
 pub(crate) fn refusal() -> Answer
-    ensures due { (accounts : Accounts) (own : List ℕ) (at : Place) → IsTurnedAway at → IsAnswer accounts own at result [] }
+    ensures due { (accounts : Accounts) (own : List ℕ) (at : Place) → IsBareNoDue at → IsAnswer accounts own at result [] }
     ensures lines { CanBeWritten (lines_of_answer result []) }
 {
     Answer {

@@ -10,7 +10,8 @@ ghost use Rattle.sasl_log.specs.Shown.{client_shown};
 ghost use Rattle.sasl_log.specs.Texts.{CanBeLine};
 ghost use Rattle.sasl_desk.specs.Events.{ClientEvent};
 ghost use Rattle.sasl_desk.specs.Turns.{is_client_turn, is_due, BearsMessage};
-ghost use Rattle.sasl_desk.specs.Sessions.{IsWaitingAt, IsRecord, turn_lines, heard_lines, CanBeWritten, IsTurnOnEvent, IsTurnOnLine, ComesOfLine, IsOfCode, AsksFor};
+ghost use Rattle.sasl_desk.specs.Sessions.{IsWaitingAt, IsRecord, turn_lines, heard_lines, CanBeWritten};
+ghost use Rattle.sasl_desk.specs.Sessions.{IsTurnOnEvent, IsTurnOnLine, ComesOfLine, IsOfCode, AsksFor};
 
 use crate::session::Session;
 use crate::session::answer::{departure, invitation, refusal};

@@ -1,5 +1,5 @@
 //! A login that was challenged, and the answer to its client-final message.
-ghost use Rattle.std.specs.Prelude.{◌≡◌, ◌<◌, ◌+◌, ℕ, List, [], IfOk, IfErr, vec_len, vec_capacity};
+ghost use Rattle.std.specs.Prelude.{◌≡◌, ℕ, List, [], IfOk, IfErr};
 ghost use Rattle.mac_core.specs.Mechanism.{name_of};
 ghost use Rattle.scram_ends.specs.Standing.{StandsFor};
 ghost use Rattle.log_grammar.specs.Places.{got_final};
@@ -69,8 +69,7 @@ impl Waiting {
         }
     }
 
-    // The answer to the bytes of the client-final message. The error comes only where `message` had no room reserved for
-    // 2048 bytes.
+    // The answer to the bytes of the client-final message.
     fn finish<A: Allocator>(
         self,
         client_final: &[u8],
@@ -83,7 +82,6 @@ impl Waiting {
             (got_final (name_of self.mechanism) self.name client_first server_first client_final.now) answer message.new.items) }
         ensures lines { IfOk result (λ answer. CanBeWritten (lines_of_answer answer message.new.items)) }
         ensures err { IfErr result (λ back. (back ≡ self) × (message.new.items ≡ [])) }
-        ensures full { IfErr result (λ back. vec_capacity message.old < vec_len message.old + 2048) }
     {
         match self.wait.finish(client_final, message) {
             Ok(verdict) => Ok(outcome(verdict, self.name)),

@@ -1,4 +1,4 @@
-use Rattle.account_book.proofs.MapLemmas.{added_is_apart}
+use Rattle.account_book.proofs.lemmas.Maps.{added_is_apart}
 use Rattle.account_book.proofs.laws.added_is_apart.Goals as goal
 
 pub returns : goal.returns

@@ -1,4 +1,4 @@
-use Rattle.account_book.proofs.TokenLemmas.{tokens_stay}
+use Rattle.account_book.proofs.lemmas.Tokens.{tokens_stay}
 use Rattle.account_book.proofs.laws.tokens_stay.Goals as goal
 
 pub returns : goal.returns

@@ -1,24 +1,30 @@
-use Rattle.std.proofs.lemmas.Result.{on_ok_weaker}
+use Rattle.std.proofs.lemmas.Result.{err_from_is_err_and, on_ok_weaker}
+use Rattle.account_commands.proofs.lemmas.EnrolFaults.{not_enrolled}
 use Rattle.account_commands.proofs.enrol.enrol.Goals as goal
 
 pub returns-clause-ok : goal.returns-clause-ok
 returns-clause-ok g c =
     on_ok_weaker c.print_done.result
     (λ printed. record {
-      password = c.in_ok-asked.asked.password;
+      account = c.in_ok-asked.asked;
+      is_name = c.in_ok-asked.ensures.name;
       is_first = c.in_ok-asked.ensures.password.0;
       is_password = c.in_ok-asked.ensures.password.1;
-      count = c.in_ok-asked.asked.count;
       is_count = c.in_ok-asked.ensures.count;
       file = c.in_ok-random.random.file;
       there = g.R.File.Read.remaining c.seen_or_new.new.random.file;
       after = c.two_salts.new.random.file;
       book = c.in_ok-book.book;
-      is_book = c.in_ok-book.ensures;
-      salt1 = c.in_ok-salts.salts.sha1;
-      salt256 = c.in_ok-salts.salts.sha256;
-      takes_salts = c.in_ok-salts.ensures;
-      is_saved = rw c.in_ok-asked.ensures.name at c.in_ok-save.ensures;
-      printed = rw (c.text.ensures.value, c.in_ok-asked.ensures.name) at printed;
+      is_book = c.in_ok-book.ensures.book;
+      salts = c.in_ok-salts.salts;
+      takes_salts = c.in_ok-salts.ensures.salts;
+      is_saved = c.in_ok-save.ensures.saved;
+      printed = rw c.text.ensures.value at printed;
     })
     c.print_done.ensures.printed
+
+pub returns-in_err-save-clause-why : goal.returns-in_err-save-clause-why
+returns-in_err-save-clause-why g c =
+    let e = err_from_is_err_and c.from_residual-in_err-save.result c.from_residual-in_err-save.ensures.1 in
+    rw (e.1, e.2) (not_enrolled _ _ _ _ _ _ _ _ _ c.given-path.ensures c.in_ok-asked.ensures.name c.in_ok-book.ensures.book
+    c.in_err-save.ensures.err)

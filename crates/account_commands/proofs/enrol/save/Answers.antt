@@ -1,11 +1,12 @@
 use Rattle.std.proofs.Common.{inl, inr, refl, sym}
-use Rattle.std.proofs.lemmas.Result.{on_ok_weaker}
-use Rattle.account_commands.proofs.Results.{on_ok_both}
+use Rattle.std.proofs.lemmas.Result.{err_from_is_err_and, on_ok_weaker, IfErr-weaker}
+use Rattle.account_commands.proofs.lemmas.EnrolFaults.{not_added, not_saved}
+use Rattle.account_commands.proofs.lemmas.Results.{on_ok_both}
 use Rattle.account_commands.proofs.enrol.save.Goals as goal
 
 -- the book of the file has changed, and the account is added to the one that is there now
-pub returns-in_ok-held-in-Some-found : goal.returns-in_ok-held-in-Some-found
-returns-in_ok-held-in-Some-found g c =
+pub returns-in_ok-held-in-Some-found-clause-saved : goal.returns-in_ok-held-in-Some-found-clause-saved
+returns-in_ok-held-in-Some-found-clause-saved g c =
     let read = rw c.in-Some-found.is at c.in_ok-file.ensures.read in
     let saved = rw (sym c.in_ok-held-in-Some-found.ensures.saved) at read in
     on_ok_both c.enrol.result c.enrol.ensures.added c.enrol.ensures.saved
@@ -17,8 +18,8 @@ returns-in_ok-held-in-Some-found g c =
       is_saved = (done.text, done.is_text, done.stored);
     })
 
-pub returns-in_default : goal.returns-in_default
-returns-in_default g c =
+pub returns-in_default-clause-saved : goal.returns-in_default-clause-saved
+returns-in_default-clause-saved g c =
     on_ok_weaker c.save.result
     (λ saved. record {
       first = c.args.book;
@@ -28,3 +29,17 @@ returns-in_default g c =
       is_saved = let done = rw c.new-in_default.ensures.book at saved in (done.text, done.is_text, done.stored);
     })
     c.save.ensures.saved
+
+pub returns-in_ok-held-in-Some-found-clause-err : goal.returns-in_ok-held-in-Some-found-clause-err
+returns-in_ok-held-in-Some-found-clause-err g c =
+    let read = rw c.in-Some-found.is at c.in_ok-file.ensures.read in
+    let saved = rw (sym c.in_ok-held-in-Some-found.ensures.saved) at read in
+    IfErr-weaker c.enrol.result _ _
+    (λ fault other. not_saved _ _ _ _ _ _ _ (record { is_text = c.in_ok-held-in-Some-found.ensures.text; is_read = saved })
+    (rw c.in_ok-held-in-Some-found.ensures.path at other))
+    c.enrol.ensures.err
+
+pub returns-in_err-add-clause-err : goal.returns-in_err-add-clause-err
+returns-in_err-add-clause-err g c =
+    let e = err_from_is_err_and c.from_residual.result c.from_residual.ensures.1 in
+    rw (e.1, e.2) (not_added _ _ _ _ _ c.in_err-add.ensures.err)

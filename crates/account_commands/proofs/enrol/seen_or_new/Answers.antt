@@ -2,5 +2,5 @@ use Rattle.std.proofs.Common.{inl, refl}
 use Rattle.account_commands.proofs.enrol.seen_or_new.Goals as goal
 
 -- the book that was read, and no random byte
-pub returns-in-Some : goal.returns-in-Some
-returns-in-Some g c = inl (_, rw c.in-Some.is at c.requires, refl)
+pub returns-in-Some-clause-book : goal.returns-in-Some-clause-book
+returns-in-Some-clause-book g c = inl (_, rw c.in-Some.is at c.requires, refl)

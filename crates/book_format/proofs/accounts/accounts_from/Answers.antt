@@ -10,10 +10,10 @@ use Rattle.toml.proofs.Views.{Entry}
 use Rattle.book_format.specs.Reading.{accounts_from, named_account_of}
 use Rattle.book_format.specs.Rows.{◌>>=◌}
 use Rattle.book_format.specs.declared.fault.BookFault.{BookFault}
-use Rattle.book_format.proofs.Binds.{on_ok}
-use Rattle.book_format.proofs.Entries.{Named, HaveKeys-last, inserted_last}
-use Rattle.book_format.proofs.TableLemmas.{entry_name}
-use Rattle.book_format.proofs.Lists.{moved}
+use Rattle.book_format.proofs.lemmas.Steps.{on_ok}
+use Rattle.book_format.proofs.lemmas.InOrder.{Named, HaveKeys-last, inserted_last}
+use Rattle.book_format.proofs.lemmas.Tables.{entry_name}
+use Rattle.book_format.proofs.lemmas.Lists.{moved}
 use Rattle.book_format.proofs.accounts.accounts_from.Goals as goal
 
 -- one more account moves from those that are left to those that were read
@@ -33,10 +33,13 @@ loop-key-preserved c =
     let all : c.args.table.now.entries ≡ done ++ e ∷ left = l.invariant.1 ∙ ap (λ es. done ++ es) c.in-Some.ensures.steps in
     let read : named_account_of (string_bytes e.0) (view e.1) ≡ Ok entry = rw (← c.as_str.ensures.value) c.in-Ok.ensures in
     let named : entry.0 ≡ string_bytes e.0 = entry_name (string_bytes e.0) (view e.1) entry read in
-    let last = inserted_last l.accounts.entries done e left entry.1 (subst (λ es. IsStrictlySortedBy string_cmp (keys_of es)) all c.iter-key-items.ensures.ordered) l.invariant.2 in
+    let last = inserted_last l.accounts.entries done e left entry.1
+    (subst (λ es. IsStrictlySortedBy string_cmp (keys_of es)) all c.iter-key-items.ensures.ordered) l.invariant.2 in
     let put : c.insert.new.self.entries ≡ l.accounts.entries ++ entry ∷ [] =
-    on_ok (c.insert.new.self.entries ≡ insert_entry (slice_cmp nat_cmp) l.accounts.entries entry.0 entry.1) c.insert.result (sym c.if-is_err.ensures.value) c.insert.ensures.entries
-    ∙ subst (λ key. insert_entry (slice_cmp nat_cmp) l.accounts.entries key entry.1 ≡ l.accounts.entries ++ (key, entry.1) ∷ []) (sym named) last in
+    on_ok (c.insert.new.self.entries ≡ insert_entry (slice_cmp nat_cmp) l.accounts.entries entry.0 entry.1) c.insert.result
+    (sym c.if-is_err.ensures.value) c.insert.ensures.entries
+    ∙ subst (λ key. insert_entry (slice_cmp nat_cmp) l.accounts.entries key entry.1 ≡ l.accounts.entries ++ (key, entry.1) ∷ [])
+    (sym named) last in
     let count = rw c.in-Some.ensures.steps at l.invariant.4 in (
       done ++ e ∷ [],
       all ∙ sym (append_assoc done (e ∷ []) left),

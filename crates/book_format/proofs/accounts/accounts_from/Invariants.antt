@@ -3,7 +3,7 @@ use Rattle.toml.specs.View.{members_view}
 use Rattle.toml.proofs.Views.{Entry}
 use Rattle.book_format.specs.Reading.{accounts_from}
 use Rattle.book_format.specs.Rows.{◌>>=◌}
-use Rattle.book_format.proofs.Entries.{HaveKeys}
+use Rattle.book_format.proofs.lemmas.InOrder.{HaveKeys}
 use Rattle.book_format.proofs.accounts.accounts_from.Given as goal
 
 -- the accounts so far, and those that are left

@@ -1,6 +1,6 @@
 use Rattle.std.proofs.Common.{inr, arith, sym}
 use Rattle.toml.specs.View.{items_view}
-use Rattle.book_format.proofs.Lists.{item_count-view, names_of-untyped, names_of-many, names_of-few}
+use Rattle.book_format.proofs.lemmas.Lists.{item_count-view, names_of-untyped, names_of-many, names_of-few}
 use Rattle.book_format.proofs.accounts.names_of.Goals as goal
 
 pub returns-then-not-are_texts : goal.returns-then-not-are_texts
@@ -14,4 +14,5 @@ returns-then-list-gt-MOST_NAMES c =
 pub returns : goal.returns
 returns c =
     let count = item_count-view c.args.list.now in
-    rw (names_of-few (items_view c.args.list.now) (sym c.if-not-are_texts.ensures) (omega (arith, count, c.if-list-gt-MOST_NAMES.false))) c.names_in.ensures
+    rw (names_of-few (items_view c.args.list.now) (sym c.if-not-are_texts.ensures)
+    (omega (arith, count, c.if-list-gt-MOST_NAMES.false))) c.names_in.ensures

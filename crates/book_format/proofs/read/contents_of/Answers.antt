@@ -1,7 +1,7 @@
 use Rattle.std.proofs.Common.{inl, inr, option_map}
 use Rattle.toml.specs.View.{table_view}
 use Rattle.book_format.specs.Tables.{TopFields}
-use Rattle.book_format.proofs.Whole.{no_tree, no_top, no_accounts, whole, text_in_range}
+use Rattle.book_format.proofs.lemmas.BookTexts.{no_tree, no_top, no_accounts, whole, text_in_range}
 use Rattle.book_format.proofs.read.contents_of.Goals as goal
 
 pub returns-in-Err : goal.returns-in-Err
@@ -11,24 +11,37 @@ returns-in-Err c = elim c.in-Err.ensures [
 ]
 
 pub returns-in-Err-top_of : goal.returns-in-Err-top_of
-returns-in-Err-top_of c = inr (rw c.at_top-in-Err-top_of.ensures (no_top c.args.bytes.now _ c.in-Err-top_of.why c.in-Ok.ensures c.in-Err-top_of.ensures))
+returns-in-Err-top_of c = inr (rw c.at_top-in-Err-top_of.ensures
+    (no_top c.args.bytes.now _ c.in-Err-top_of.why c.in-Ok.ensures c.in-Err-top_of.ensures))
 
 pub invariant_of-result : goal.invariant_of-result
 invariant_of-result c =
     let top = c.in-Ok-top_of.top in
-    let seen : TopFields = record { decoy_key = top.decoy_key; decoy_count = top.decoy_count; accounts = option_map (λ m. table_view m.now) top.accounts } in
+    let seen : TopFields = record {
+      decoy_key = top.decoy_key;
+      decoy_count = top.decoy_count;
+      accounts = option_map (λ m. table_view m.now) top.accounts;
+    } in
     text_in_range c.args.bytes.now _ (whole c.args.bytes.now _ seen c.in-Ok-accounts_of_table.accounts.entries c.in-Ok.ensures c.in-Ok-top_of.ensures c.in-Ok-accounts_of_table.ensures)
 
 pub returns-in-Ok-accounts_of_table : goal.returns-in-Ok-accounts_of_table
 returns-in-Ok-accounts_of_table c =
     let top = c.in-Ok-top_of.top in
-    let seen : TopFields = record { decoy_key = top.decoy_key; decoy_count = top.decoy_count; accounts = option_map (λ m. table_view m.now) top.accounts } in
+    let seen : TopFields = record {
+      decoy_key = top.decoy_key;
+      decoy_count = top.decoy_count;
+      accounts = option_map (λ m. table_view m.now) top.accounts;
+    } in
     whole c.args.bytes.now _ seen c.in-Ok-accounts_of_table.accounts.entries c.in-Ok.ensures c.in-Ok-top_of.ensures c.in-Ok-accounts_of_table.ensures
 
 pub returns : goal.returns
 returns c =
     let top = c.in-Ok-top_of.top in
-    let seen : TopFields = record { decoy_key = top.decoy_key; decoy_count = top.decoy_count; accounts = option_map (λ m. table_view m.now) top.accounts } in
+    let seen : TopFields = record {
+      decoy_key = top.decoy_key;
+      decoy_count = top.decoy_count;
+      accounts = option_map (λ m. table_view m.now) top.accounts;
+    } in
     elim c.in-Err-accounts_of_table.ensures [
       | inl memory ↦ inl memory
       | inr read ↦ inr (no_accounts c.args.bytes.now _ seen c.in-Err-accounts_of_table.fault c.in-Ok.ensures c.in-Ok-top_of.ensures read)

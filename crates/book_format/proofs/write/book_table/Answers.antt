@@ -1,7 +1,7 @@
 use Rattle.std.proofs.Common.{subst}
 use Rattle.book_format.specs.Trees.{IsBookTree}
 use Rattle.book_format.specs.Written.{book_tree}
-use Rattle.book_format.proofs.WritesItself.{book_writes_itself}
+use Rattle.book_format.proofs.lemmas.WritesItself.{book_writes_itself}
 use Rattle.book_format.proofs.write.book_table.Goals as goal
 
 pub returns-clause-stands : goal.returns-clause-stands

@@ -1,6 +1,6 @@
 use Rattle.std.proofs.Common.{◌≡◌, true, false, sym, ◌∙◌}
 use Rattle.command_line.specs.Number.{IsPlainNumber}
-use Rattle.command_line.proofs.Decimals.{plain_decimal, decimal_from_bare, no_decimal_from_err}
+use Rattle.command_line.proofs.lemmas.Decimals.{plain_decimal, decimal_from_bare, no_decimal_from_err}
 use Rattle.command_line.proofs.value.number.Goals as goal
 
 pub returns-then-is_bare-clause-some : goal.returns-then-is_bare-clause-some

@@ -1,10 +1,10 @@
 use Rattle.std.proofs.Common.{rules, [], ap, codes}
 use Rattle.std.proofs.lemmas.Result.{IfOk-weaker}
-use Rattle.command_words.specs.Commands.{optional, required, HasOptions}
+use Rattle.command_words.specs.Commands.{with_default, required, HasOptions}
 use Rattle.clap.specs.Simple.{app_of_fields}
 use Rattle.clap.specs.declared.builder.command.Command.{Command}
 use Rattle.clap.specs.declared.builder.command.Command.TheOpen.{Command-F}
-use Rattle.command_words.proofs.Adding.{new_command, with_option}
+use Rattle.command_words.proofs.lemmas.Adding.{new_command, with_option}
 use Rattle.command_words.proofs.commands.enrol.Goals as goal
 
 pub returns : goal.returns
@@ -14,5 +14,7 @@ returns c =
     (ap app_of_fields c.after_help.ensures) (ap (λ (f : Command-F Command). f.has_globals) c.after_help.ensures) in
     let one = with_option _ _ (required (codes "book")) _ _ _ c.in_ok-arg.ensures (search rules) c.book.ensures.local none in
     let two = with_option _ _ (required (codes "name")) _ _ _ c.in_ok-arg-2.ensures (search rules) c.name.ensures.local one in
-    let three = with_option _ _ (optional (codes "count") (codes "4096")) _ _ _ c.in_ok-arg-3.ensures (search rules) c.with_default.ensures.local two in
-    IfOk-weaker c.arg-4.result _ _ (λ command added. with_option _ _ (optional (codes "random") (codes "/dev/urandom")) _ _ _ added (search rules) c.random.ensures.local three) c.arg-4.ensures
+    let three = with_option _ _ (with_default (codes "count") (codes "4096")) _ _ _ c.in_ok-arg-3.ensures
+    (search rules) c.with_default.ensures.local two in
+    IfOk-weaker c.arg-4.result _ _ (λ command added. with_option _ _ (with_default (codes "random") (codes "/dev/urandom")) _ _ _ added
+    (search rules) c.random.ensures.local three) c.arg-4.ensures

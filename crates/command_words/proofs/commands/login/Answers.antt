@@ -1,10 +1,10 @@
 use Rattle.std.proofs.Common.{rules, [], ap, codes}
 use Rattle.std.proofs.lemmas.Result.{IfOk-weaker}
-use Rattle.command_words.specs.Commands.{option, optional, required, HasOptions}
+use Rattle.command_words.specs.Commands.{option, with_default, required, HasOptions}
 use Rattle.clap.specs.Simple.{app_of_fields}
 use Rattle.clap.specs.declared.builder.command.Command.{Command}
 use Rattle.clap.specs.declared.builder.command.Command.TheOpen.{Command-F}
-use Rattle.command_words.proofs.Adding.{new_command, with_option}
+use Rattle.command_words.proofs.lemmas.Adding.{new_command, with_option}
 use Rattle.command_words.proofs.commands.login.Goals as goal
 
 pub returns : goal.returns
@@ -17,7 +17,9 @@ returns c =
     let three = with_option _ _ (option (codes "mechanism")) _ _ _ c.in_ok-arg-3.ensures (search rules) c.option.ensures.local two in
     let four = with_option _ _ (option (codes "as")) _ _ _ c.in_ok-arg-4.ensures (search rules) c.option-2.ensures.local three in
     let five = with_option _ _ (required (codes "socket")) _ _ _ c.in_ok-arg-5.ensures (search rules) c.required.ensures.local four in
-    let six = with_option _ _ (optional (codes "random") (codes "/dev/urandom")) _ _ _ c.in_ok-arg-6.ensures (search rules) c.random.ensures.local five in
+    let six = with_option _ _ (with_default (codes "random") (codes "/dev/urandom")) _ _ _ c.in_ok-arg-6.ensures
+    (search rules) c.random.ensures.local five in
     let seven = with_option _ _ (option (codes "client-nonce")) _ _ _ c.in_ok-arg-7.ensures (search rules) c.option-3.ensures.local six in
     let eight = with_option _ _ (option (codes "server-nonce")) _ _ _ c.in_ok-arg-8.ensures (search rules) c.option-4.ensures.local seven in
-    IfOk-weaker c.arg-9.result _ _ (λ command added. with_option _ _ (option (codes "moment")) _ _ _ added (search rules) c.option-5.ensures.local eight) c.arg-9.ensures
+    IfOk-weaker c.arg-9.result _ _ (λ command added. with_option _ _ (option (codes "moment")) _ _ _ added
+    (search rules) c.option-5.ensures.local eight) c.arg-9.ensures

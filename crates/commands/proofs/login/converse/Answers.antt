@@ -1,16 +1,17 @@
-use Rattle.std.proofs.Common.{inl}
-use Rattle.commands.specs.Login.{IsLogAfterFault}
+use Rattle.std.proofs.Common.{inl, refl}
+use Rattle.commands.specs.Login.{IsLogAfterFaultWith}
 use Rattle.commands.specs.Talked.{talked_in}
-use Rattle.commands.proofs.Faults.{handed_on}
-use Rattle.commands.proofs.LoginLemmas.{stays_twice, fails_then}
+use Rattle.commands.proofs.lemmas.Faults.{handed_on}
+use Rattle.commands.proofs.lemmas.Logins.{stays_twice, fails_with}
 use Rattle.commands.proofs.login.converse.Goals as goal
 
 pub returns-in_err-hang_up-clause-after_fault : goal.returns-in_err-hang_up-clause-after_fault
 returns-in_err-hang_up-clause-after_fault g c =
     handed_on c.from_residual-in_err-hang_up.result _
-    (IsLogAfterFault g.S.BookStore.facts g.S.BookStore.IsStored c.args.talk.now.desk (g.L.Sink.facts c.args.talk.now.log) c.hang_up.new.talk.desk (g.L.Sink.facts c.hang_up.new.talk.log))
+    (IsLogAfterFaultWith g.S.BookStore.facts g.S.BookStore.IsStored g.C.Clock.IsNow c.args.own c.args.talk.now.desk
+    (g.L.Sink.facts c.args.talk.now.log) c.hang_up.new.talk.desk (g.L.Sink.facts c.hang_up.new.talk.log))
     c.from_residual-in_err-hang_up.ensures.1
-    (fails_then g.S.BookStore.facts g.S.BookStore.IsStored _ _ _ _ _ _ _ c.in_ok-passed.ensures.log c.in_err-hang_up.ensures.after_fault)
+    (fails_with g.S.BookStore.facts g.S.BookStore.IsStored g.C.Clock.IsNow _ _ _ _ _ _ _ _ c.in_ok-passed.ensures.log c.in_err-hang_up.ensures.after_fault)
 
 -- where the client was let in and each code passed, it is told nothing more
 pub returns-clause-passes : goal.returns-clause-passes
@@ -23,9 +24,10 @@ returns-clause-passes g c = λ is. record {
 -- no session is open, so the log is clean
 pub returns-clause-clean : goal.returns-clause-clean
 returns-clause-clean g c = λ start before l.
-    let desk = stays_twice g.S.BookStore.facts g.S.BookStore.IsStored _ _ _ _ _ _ c.in_ok-passed.ensures.log c.in_ok-hang_up.ensures.log start before l in (
+    let desk = stays_twice g.S.BookStore.facts g.S.BookStore.IsStored g.C.Clock.IsNow _ _ _ _ _ _ _ c.in_ok-passed.ensures.log c.in_ok-hang_up.ensures.log start before l in (
       _,
       c.log_is_clean.ensures.closed start desk.calls c.hang_up.new.talk.desk desk.stands (inl c.in_ok-hang_up.ensures.closed),
+      record { calls = desk.calls; place = desk.stands.place; is_run = desk.stands.is_run; asked = desk.asked; is_log = refl },
       desk.logged,
       c.log_is_saved.ensures start desk.calls c.hang_up.new.talk.desk desk.stands,
     )

@@ -1,24 +1,33 @@
-use Rattle.std.proofs.Common.{ap, ◌∙◌}
-use Rattle.std.proofs.lemmas.Result.{IfErr-weaker}
+use Rattle.std.proofs.Common.{[], ap, ◌∙◌}
+use Rattle.std.proofs.lemmas.Result.{IfErr-weaker, on_ok_weaker}
 use Rattle.sasl_log.specs.Sink.{SinkFacts}
 use Rattle.commands.specs.declared.printed_log.PrintedLog.{PrintedLog}
-use Rattle.commands.proofs.Faults.{fails_to_begin}
-use Rattle.commands.proofs.LoginLemmas.{passes_printed, stops_after}
+use Rattle.commands.proofs.lemmas.Faults.{fails_to_begin}
+use Rattle.commands.proofs.lemmas.Logins.{passes_printed, printed_clean, stops_after}
 use Rattle.commands.proofs.login.talk_over.Goals as goal
+
+pub returns-in-Ok-clause-ok : goal.returns-in-Ok-clause-ok
+returns-in-Ok-clause-ok g c =
+    let before = ap (λ (f : SinkFacts). f.given) c.new.ensures in
+    let after = c.into_output.ensures ∙ ap (λ (l : PrintedLog _). g.O.Write.contents l.output) c.into_log.ensures in
+    on_ok_weaker c.converse-passed.result
+    (printed_clean g.S.BookStore.facts g.S.BookStore.IsStored _ _ c.args.login.own _ _ _ _ _ _ before after
+    (c.in-Ok.ensures.log c.args.login.own))
+    c.converse-passed.ensures.clean
 
 pub returns-in-Ok-clause-err : goal.returns-in-Ok-clause-err
 returns-in-Ok-clause-err g c =
     let before = ap (λ (f : SinkFacts). f.given) c.new.ensures in
     let after = c.into_output.ensures ∙ ap (λ (l : PrintedLog _). g.O.Write.contents l.output) c.into_log.ensures in
     IfErr-weaker c.converse-passed.result _ _
-    (λ fault. stops_after g.S.BookStore.facts g.S.BookStore.IsStored _ _ _ _ _ _ _ _ fault c.log_is_a_front.ensures c.log_is_saved.ensures before after c.in-Ok.ensures.log)
+    (λ fault. stops_after g.S.BookStore.facts g.S.BookStore.IsStored _ _ _ _ _ _ _ _ _ _ fault c.log_is_a_front.ensures c.log_is_saved.ensures before after (c.in-Ok.ensures.log _))
     c.converse-passed.ensures.after_fault
 
 pub returns-in-Ok-clause-passes : goal.returns-in-Ok-clause-passes
 returns-in-Ok-clause-passes g c = λ is.
     let before = ap (λ (f : SinkFacts). f.given) c.new.ensures in
     let after = c.into_output.ensures ∙ ap (λ (l : PrintedLog _). g.O.Write.contents l.output) c.into_log.ensures in
-    passes_printed _ _ _ _ _ _ _ _ _ _ _ (c.converse-passed.ensures.passes is) before c.in-Ok.ensures.log.logged after
+    passes_printed _ _ _ _ _ _ _ _ _ _ (c.converse-passed.ensures.passes is) before (c.in-Ok.ensures.log []).logged after
 
 pub returns-in-Err-clause-err : goal.returns-in-Err-clause-err
 returns-in-Err-clause-err g c =

@@ -1,25 +1,34 @@
 use Rattle.std.proofs.Common.{inl, inr, map, refl}
-use Rattle.std.proofs.lemmas.Result.{IfErr-at_err, IfOk-at_ok}
 use Rattle.clap.specs.declared.error.kind.ErrorKind.TheVariants.{OutOfMemory}
-use Rattle.commands.proofs.Runs.{error_of, found_by, has_ended, has_stopped, understood}
+use Rattle.commands.proofs.lemmas.Runs.{error_of, found_by, has_ended, names_one, understood}
 use Rattle.commands.proofs.program.run.Goals as goal
 
 pub returns-in_default-clause-ends : goal.returns-in_default-clause-ends
 returns-in_default-clause-ends g c = inr (OutOfMemory, inl refl, (c.report.ensures, refl))
 
+pub dispatch-ended-requires : goal.dispatch-ended-requires
+dispatch-ended-requires g c =
+    let parsed = c.in-Ok-try_get_matches_from.ensures in
+    names_one _ (map g.S.AsStr.text c.args.words.now) _ c.in-Ok.ensures parsed.matches parsed.kinds
+
 pub returns-in-Ok-ended-clause-ends : goal.returns-in-Ok-ended-clause-ends
 returns-in-Ok-ended-clause-ends g c =
     let line = map g.S.AsStr.text c.args.words.now in
     let parsed = c.in-Ok-try_get_matches_from.ensures in
-    has_ended _ _ _ line _ _ _ _ (found_by _ line _ c.in-Ok.ensures parsed.matches) (understood _ line c.in-Ok.ensures parsed.kinds)
-    (IfOk-at_ok _ c.in-Ok-ended.is c.dispatch-ended.ensures.ok)
+    has_ended _ _ _ line _ _ _ _ _ (found_by _ line _ c.in-Ok.ensures parsed.matches) (understood _ line c.in-Ok.ensures parsed.kinds)
+    (rw c.in-Ok-ended.is refl) c.dispatch-ended.ensures.ends
 
 pub returns-in-Ok-try_get_matches_from-clause-ends : goal.returns-in-Ok-try_get_matches_from-clause-ends
 returns-in-Ok-try_get_matches_from-clause-ends g c =
     let line = map g.S.AsStr.text c.args.words.now in
     let parsed = c.in-Ok-try_get_matches_from.ensures in
-    has_stopped _ _ _ line _ _ _ _ _ (found_by _ line _ c.in-Ok.ensures parsed.matches) (understood _ line c.in-Ok.ensures parsed.kinds)
-    c.report-in-Err-ended.ensures (IfErr-at_err _ c.in-Err-ended.is c.dispatch-ended.ensures.err)
+    has_ended _ _ _ line _ _ _ _ _ (found_by _ line _ c.in-Ok.ensures parsed.matches) (understood _ line c.in-Ok.ensures parsed.kinds)
+    (rw c.in-Err-ended.is c.report-in-Err-ended.ensures) c.dispatch-ended.ensures.ends
 
 pub returns-clause-ends : goal.returns-clause-ends
-returns-clause-ends g c = inr (_, error_of _ (map g.S.AsStr.text c.args.words.now) c.in-Err.error c.in-Ok.ensures c.in-Err.ensures.kinds, c.explain.ensures)
+returns-clause-ends g c = inr (
+  _,
+  error_of _
+      (map g.S.AsStr.text c.args.words.now) c.in-Err.error c.in-Ok.ensures c.in-Err.ensures.kinds,
+  c.explain.ensures,
+)

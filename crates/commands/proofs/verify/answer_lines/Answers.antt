@@ -1,14 +1,15 @@
 use Rattle.std.proofs.Common.{inl, inr, refl, ◌∙◌}
 use Rattle.commands.specs.Verify.{run_of, AnswersLine}
-use Rattle.commands.proofs.Faults.{handed_on}
-use Rattle.account_commands.proofs.LinesInTurn.{after_line, at_end, before_line, at_line}
+use Rattle.commands.proofs.lemmas.Faults.{handed_on}
+use Rattle.account_commands.proofs.lemmas.LinesInTurn.{after_line, at_end, before_line, at_line}
 use Rattle.commands.proofs.verify.answer_lines.Goals as goal
 
 pub returns-in_err-line-clause-err : goal.returns-in_err-line-clause-err
 returns-in_err-line-clause-err g c =
     let stop =
     before_line (AnswersLine g.S.BookStore.IsStored c.args.name.now c.args.moment) (g.I.Read.remaining c.args.input.now)
-    (run_of g.S.BookStore.facts c.args.held.now (g.O.Write.contents c.args.output.now)) c.loop-line.all_passed (g.I.Read.remaining c.loop-line.lines.input.now)
+    (run_of g.S.BookStore.facts c.args.held.now (g.O.Write.contents c.args.output.now)) c.loop-line.all_passed
+    (g.I.Read.remaining c.loop-line.lines.input.now)
     (run_of g.S.BookStore.facts c.loop-line.held (g.O.Write.contents c.loop-line.output)) c.loop-line.invariant.0 in
     handed_on c.from_residual.result _ _ c.from_residual.ensures.1 (inl (stop.0, c.loop-line.all_passed, stop.1, c.in_err-line.ensures.err))
 
@@ -19,7 +20,8 @@ returns-in_err-reply-clause-err g c =
     let there = run_of g.S.BookStore.facts c.loop-line.held (g.O.Write.contents c.loop-line.output) in
     let stop =
     at_line (AnswersLine g.S.BookStore.IsStored c.args.name.now c.args.moment) (g.I.Read.remaining c.args.input.now)
-    (run_of g.S.BookStore.facts c.args.held.now (g.O.Write.contents c.args.output.now)) c.loop-line.all_passed (g.I.Read.remaining c.loop-line.lines.input.now)
+    (run_of g.S.BookStore.facts c.args.held.now (g.O.Write.contents c.args.output.now)) c.loop-line.all_passed
+    (g.I.Read.remaining c.loop-line.lines.input.now)
     there c.in-Some.line.items has_lf (g.I.Read.remaining c.next.new.self.input.now) c.loop-line.invariant.0 takes some in
     handed_on c.from_residual-in_err-reply.result _ _ c.from_residual-in_err-reply.ensures.1
     (inr (c.in-Some.line.items, stop.0, c.loop-line.all_passed, there, stop.1, fault))
@@ -30,10 +32,12 @@ loop-line-preserved g c =
     let answered = rw c.as_slice.ensures.value at c.in_ok-reply.ensures.ok in (
       rw c.and_reply_passed-all_passed.ensures
           (after_line (AnswersLine g.S.BookStore.IsStored c.args.name.now c.args.moment) (g.I.Read.remaining c.args.input.now)
-          (run_of g.S.BookStore.facts c.args.held.now (g.O.Write.contents c.args.output.now)) c.loop-line.all_passed (g.I.Read.remaining c.loop-line.lines.input.now)
+          (run_of g.S.BookStore.facts c.args.held.now (g.O.Write.contents c.args.output.now)) c.loop-line.all_passed
+          (g.I.Read.remaining c.loop-line.lines.input.now)
           (run_of g.S.BookStore.facts c.loop-line.held (g.O.Write.contents c.loop-line.output))
           c.in-Some.line.items has_lf (g.I.Read.remaining c.next.new.self.input.now) _
-          (run_of g.S.BookStore.facts c.answer_line.new.held (g.O.Write.contents c.answer_line.new.output)) c.loop-line.invariant.0 takes some
+          (run_of g.S.BookStore.facts c.answer_line.new.held
+          (g.O.Write.contents c.answer_line.new.output)) c.loop-line.invariant.0 takes some
           (c.in_ok-reply.reply, answered, refl)),
       c.in_ok-reply.ensures.path ∙ c.loop-line.invariant.1,
     )
@@ -42,6 +46,7 @@ pub returns-clause-ok : goal.returns-clause-ok
 returns-clause-ok g c =
     let end = rw c.in_default.is at c.in_ok-line.ensures.end in
     at_end (AnswersLine g.S.BookStore.IsStored c.args.name.now c.args.moment) (g.I.Read.remaining c.args.input.now)
-    (run_of g.S.BookStore.facts c.args.held.now (g.O.Write.contents c.args.output.now)) c.loop-line.all_passed (g.I.Read.remaining c.loop-line.lines.input.now)
+    (run_of g.S.BookStore.facts c.args.held.now (g.O.Write.contents c.args.output.now)) c.loop-line.all_passed
+    (g.I.Read.remaining c.loop-line.lines.input.now)
     (run_of g.S.BookStore.facts c.loop-line.held (g.O.Write.contents c.loop-line.output))
     c.loop-line.invariant.0 end

@@ -9,7 +9,11 @@ returns-clause-ok g c =
       moment = c.in_ok-moment.moment;
       first = _;
       last = _;
-      begins = record { is_moment = sym c.given-2.ensures ∙ c.in_ok-moment.ensures.ok; is_book = c.in_ok-held.ensures.read; is_printed = refl };
+      begins = record {
+        is_moment = sym c.given-2.ensures ∙ c.in_ok-moment.ensures.ok;
+        is_book = c.in_ok-held.ensures.read;
+        is_printed = refl;
+      };
       answers = rw (c.in_ok-name.ensures.ok, c.given.ensures) at answers;
       printed = refl;
     })
@@ -22,7 +26,11 @@ returns-clause-err g c =
       moment = c.in_ok-moment.moment;
       first = _;
       last = _;
-      begins = record { is_moment = sym c.given-2.ensures ∙ c.in_ok-moment.ensures.ok; is_book = c.in_ok-held.ensures.read; is_printed = refl };
+      begins = record {
+        is_moment = sym c.given-2.ensures ∙ c.in_ok-moment.ensures.ok;
+        is_book = c.in_ok-held.ensures.read;
+        is_printed = refl;
+      };
       answers = rw (c.in_ok-name.ensures.ok, c.given.ensures, c.in_ok-held.ensures.path, c.given-3.ensures) at answers;
       printed = refl;
     }))

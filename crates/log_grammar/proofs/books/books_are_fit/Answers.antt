@@ -1,4 +1,4 @@
-use Rattle.log_grammar.proofs.demands.FitBooks.{book_fits}
+use Rattle.log_grammar.proofs.lemmas.demands.FitBooks.{book_fits}
 use Rattle.log_grammar.proofs.books.books_are_fit.Goals as goal
 
 pub returns : goal.returns

@@ -1,27 +1,31 @@
 use Rattle.std.proofs.Common.{◌≡◌, List, ◌++◌, [], ◌∷◌, reverse, sym, subst}
 use Rattle.log_grammar.specs.Lines.{LogLine}
-use Rattle.log_grammar.specs.Told.{Told}
+use Rattle.log_grammar.specs.LoggedReply.{LoggedReply}
 use Rattle.log_grammar.specs.Places.{Place}
 use Rattle.log_grammar.specs.Demands.{Accounts, demands, AreReplies}
-use Rattle.log_grammar.specs.state_machine.Steps.{Goes, told_at}
-use Rattle.log_grammar.specs.Clean.{Begins}
-use Rattle.log_grammar.specs.laws.LogLaws.{GoesOnByALine, StoodBefore}
+use Rattle.log_grammar.specs.state_machine.Steps.{IsTransition, told_at}
+use Rattle.log_grammar.specs.Begins.{Begins}
+use Rattle.log_grammar.specs.laws.LogLaws.{GoesOnByALine, HasLastTransition}
 use Rattle.log_grammar.proofs.consequences.logs_go_on_exactly_so.Goals as goal
 
-abbrev Stands : Accounts → Place → List Told → LogLine → Place → List Told → Type 0
+abbrev Stands : Accounts → Place → List LoggedReply → LogLine → Place → List LoggedReply → Type 0
 Stands accounts place told line next all =
-    Goes (demands accounts) place line next × AreReplies (demands accounts) (reverse told) (told_at place line) × (all ≡ told ++ told_at place line)
+    IsTransition (demands accounts) place line next × AreReplies (demands accounts) (reverse told) (told_at place line)
+    × (all ≡ told ++ told_at place line)
 
-there : (accounts : Accounts) (log : List LogLine) (place : Place) (told : List Told) (line : LogLine) (next : Place) (all : List Told)
-    → (s : StoodBefore accounts log line next all) → s.place ≡ place → s.told ≡ told → Stands accounts place told line next all
+there : (accounts : Accounts) (log : List LogLine) (place : Place) (told : List LoggedReply) (line : LogLine) (next : Place)
+    (all : List LoggedReply)
+    → (s : HasLastTransition accounts log line next all) → s.place ≡ place → s.told ≡ told → Stands accounts place told line next all
 there accounts log place told line next all s at also =
-    subst (λ (t : List Told). Stands accounts place t line next all) also
+    subst (λ (t : List LoggedReply). Stands accounts place t line next all) also
     (subst (λ (p : Place). Stands accounts p s.told line next all) at (s.goes, s.due, s.tells))
 
-back : GoesOnByALine → (accounts : Accounts) (log : List LogLine) (place : Place) (told : List Told) (line : LogLine) (next : Place) (all : List Told)
-    → Begins (demands accounts) log place told → Stands accounts place told line next all → Begins (demands accounts) (log ++ line ∷ []) next all
+back : GoesOnByALine → (accounts : Accounts) (log : List LogLine) (place : Place) (told : List LoggedReply) (line : LogLine) (next : Place)
+    (all : List LoggedReply)
+    → Begins (demands accounts) log place told → Stands accounts place told line next all
+    → Begins (demands accounts) (log ++ line ∷ []) next all
 back on accounts log place told line next all begins stands =
-    subst (λ (t : List Told). Begins (demands accounts) (log ++ line ∷ []) next t) (sym stands.2)
+    subst (λ (t : List LoggedReply). Begins (demands accounts) (log ++ line ∷ []) next t) (sym stands.2)
     (on accounts log place told line next begins stands.0 stands.1)
 
 pub returns : goal.returns

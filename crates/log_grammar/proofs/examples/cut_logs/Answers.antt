@@ -1,4 +1,6 @@
-use Rattle.log_grammar.proofs.small_logs.LineByLine.{empty_is_cut, offer_is_cut, abort_is_cut, no_is_cut, gone_is_cut, auth_is_cut, invited_is_cut, bad_is_cut, bad_no_is_cut, plain_is_cut, plain_no_is_cut, refused_is_cut, refused_no_is_cut, left_is_cut}
+use Rattle.log_grammar.proofs.lemmas.small_logs.SmallLogs.{empty_is_cut, offer_is_cut, abort_is_cut, no_is_cut, gone_is_cut, auth_is_cut}
+use Rattle.log_grammar.proofs.lemmas.small_logs.SmallLogs.{invited_is_cut, bad_is_cut, bad_no_is_cut, plain_is_cut, plain_no_is_cut}
+use Rattle.log_grammar.proofs.lemmas.small_logs.SmallLogs.{refused_is_cut, refused_no_is_cut, left_is_cut}
 use Rattle.log_grammar.proofs.examples.cut_logs.Goals as goal
 
 pub returns-clause-empty : goal.returns-clause-empty

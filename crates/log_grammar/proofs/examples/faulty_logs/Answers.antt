@@ -1,4 +1,6 @@
-use Rattle.log_grammar.proofs.small_logs.LineByLine.{end_is_no_line, end_is_missing, abort_is_early, halt_is_early, other_offer_why, invited_why, turned_away_why, header_again, accepted_why, message_why, not_first_why}
+use Rattle.log_grammar.proofs.lemmas.small_logs.SmallLogs.{end_is_no_line, end_is_missing, abort_is_early, halt_is_early, other_offer_why}
+use Rattle.log_grammar.proofs.lemmas.small_logs.SmallLogs.{invited_why, turned_away_why, header_again, accepted_why, message_why}
+use Rattle.log_grammar.proofs.lemmas.small_logs.SmallLogs.{not_first_why}
 use Rattle.log_grammar.proofs.examples.faulty_logs.Goals as goal
 
 pub returns-clause-first : goal.returns-clause-first

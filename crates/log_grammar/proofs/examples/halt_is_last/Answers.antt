@@ -1,4 +1,4 @@
-use Rattle.log_grammar.proofs.small_logs.Edges.{halted_is_clean, none_after_halt, more_after_halt}
+use Rattle.log_grammar.proofs.lemmas.small_logs.Edges.{halted_is_clean, none_after_halt, more_after_halt}
 use Rattle.log_grammar.proofs.examples.halt_is_last.Goals as goal
 
 pub returns-clause-clean : goal.returns-clause-clean

@@ -1,4 +1,4 @@
-use Rattle.log_grammar.proofs.small_logs.Edges.{short_is_cut, long_is_no_line}
+use Rattle.log_grammar.proofs.lemmas.small_logs.Edges.{short_is_cut, long_is_no_line}
 use Rattle.log_grammar.proofs.examples.lines_end_with_lf.Goals as goal
 
 pub returns-clause-short : goal.returns-clause-short

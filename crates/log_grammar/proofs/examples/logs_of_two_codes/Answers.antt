@@ -1,4 +1,4 @@
-use Rattle.log_grammar.proofs.small_logs.TwoCodes.{first_counter_why, totp_why}
+use Rattle.log_grammar.proofs.lemmas.small_logs.TwoCodes.{first_counter_why, totp_why}
 use Rattle.log_grammar.proofs.examples.logs_of_two_codes.Goals as goal
 
 pub returns-clause-passes : goal.returns-clause-passes

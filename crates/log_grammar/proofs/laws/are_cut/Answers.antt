@@ -1,4 +1,4 @@
-use Rattle.log_grammar.proofs.lines.Cuts.{cut_somehow}
+use Rattle.log_grammar.proofs.lemmas.lines.Cuts.{cut_somehow}
 use Rattle.log_grammar.proofs.laws.are_cut.Goals as goal
 
 pub returns : goal.returns

@@ -1,4 +1,4 @@
-use Rattle.log_grammar.proofs.lines.Cuts.{cut_one_way}
+use Rattle.log_grammar.proofs.lemmas.lines.Cuts.{cut_one_way}
 use Rattle.log_grammar.proofs.laws.are_cut_one_way.Goals as goal
 
 pub returns : goal.returns

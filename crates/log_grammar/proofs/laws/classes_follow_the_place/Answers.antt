@@ -1,4 +1,4 @@
-use Rattle.log_grammar.proofs.state_machine.DueClasses.{classes_due}
+use Rattle.log_grammar.proofs.lemmas.state_machine.DueClasses.{classes_due}
 use Rattle.log_grammar.proofs.laws.classes_follow_the_place.Goals as goal
 
 pub returns : goal.returns

@@ -1,4 +1,4 @@
-use Rattle.log_grammar.proofs.demands.EachAccount.{each_account}
+use Rattle.log_grammar.proofs.lemmas.demands.EachAccount.{each_account}
 use Rattle.log_grammar.proofs.laws.each_account_has_its_history.Goals as goal
 
 pub returns : goal.returns

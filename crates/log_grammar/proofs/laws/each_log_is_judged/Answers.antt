@@ -1,6 +1,6 @@
 use Rattle.log_grammar.specs.Versions.{any_version}
-use Rattle.log_grammar.proofs.kinds.Judged.{each_judged}
-use Rattle.log_grammar.proofs.kinds.AllVersions.{sound_both}
+use Rattle.log_grammar.proofs.lemmas.kinds.Judged.{each_judged}
+use Rattle.log_grammar.proofs.lemmas.kinds.AllVersions.{sound_both}
 use Rattle.log_grammar.proofs.laws.each_log_is_judged.Goals as goal
 
 pub returns : goal.returns

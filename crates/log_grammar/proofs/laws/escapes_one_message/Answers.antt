@@ -1,4 +1,4 @@
-use Rattle.log_grammar.proofs.lines.Payloads.{escaped_once}
+use Rattle.log_grammar.proofs.lemmas.lines.Payloads.{escaped_once}
 use Rattle.log_grammar.proofs.laws.escapes_one_message.Goals as goal
 
 pub returns : goal.returns

@@ -1,4 +1,4 @@
-use Rattle.log_grammar.proofs.kinds.AllVersions.{completes_both}
+use Rattle.log_grammar.proofs.lemmas.kinds.AllVersions.{completes_both}
 use Rattle.log_grammar.proofs.laws.fronts_begin_clean.Goals as goal
 
 pub returns : goal.returns

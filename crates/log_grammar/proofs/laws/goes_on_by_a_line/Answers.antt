@@ -1,5 +1,5 @@
 use Rattle.log_grammar.specs.Demands.{demands}
-use Rattle.log_grammar.proofs.state_machine.LogSteps.{goes_on}
+use Rattle.log_grammar.proofs.lemmas.state_machine.LogSteps.{goes_on}
 use Rattle.log_grammar.proofs.laws.goes_on_by_a_line.Goals as goal
 
 pub returns : goal.returns

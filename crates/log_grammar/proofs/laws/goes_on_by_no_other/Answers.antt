@@ -1,4 +1,4 @@
-use Rattle.log_grammar.proofs.state_machine.PlaceBefore.{stood_before}
+use Rattle.log_grammar.proofs.lemmas.state_machine.PlaceBefore.{stood_before}
 use Rattle.log_grammar.proofs.laws.goes_on_by_no_other.Goals as goal
 
 pub returns : goal.returns

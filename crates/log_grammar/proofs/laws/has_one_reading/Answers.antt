@@ -1,4 +1,4 @@
-use Rattle.log_grammar.proofs.state_machine.PlaceBefore.{one_reading}
+use Rattle.log_grammar.proofs.lemmas.state_machine.PlaceBefore.{one_reading}
 use Rattle.log_grammar.proofs.laws.has_one_reading.Goals as goal
 
 pub returns : goal.returns

@@ -1,6 +1,6 @@
 use Rattle.log_grammar.specs.Versions.{any_version}
-use Rattle.log_grammar.proofs.kinds.Judged.{why_once}
-use Rattle.log_grammar.proofs.kinds.AllVersions.{wrong_once_both}
+use Rattle.log_grammar.proofs.lemmas.kinds.Judged.{why_once}
+use Rattle.log_grammar.proofs.lemmas.kinds.AllVersions.{wrong_once_both}
 use Rattle.log_grammar.proofs.laws.has_one_why.Goals as goal
 
 pub returns : goal.returns

@@ -1,4 +1,4 @@
-use Rattle.log_grammar.proofs.lines.ReadBack.{one_line}
+use Rattle.log_grammar.proofs.lemmas.lines.ReadBack.{one_line}
 use Rattle.log_grammar.proofs.laws.is_one_line.Goals as goal
 
 pub returns : goal.returns

@@ -1,4 +1,4 @@
-use Rattle.log_grammar.proofs.lines.Decided.{line_decided}
+use Rattle.log_grammar.proofs.lemmas.lines.LinesDecided.{line_decided}
 use Rattle.log_grammar.proofs.laws.line_is_decided.Goals as goal
 
 pub returns : goal.returns

@@ -1,4 +1,4 @@
-use Rattle.log_grammar.proofs.lines.Decided.{log_line_decided}
+use Rattle.log_grammar.proofs.lemmas.lines.LinesDecided.{log_line_decided}
 use Rattle.log_grammar.proofs.laws.log_line_is_decided.Goals as goal
 
 pub returns : goal.returns

@@ -1,4 +1,4 @@
-use Rattle.log_grammar.proofs.login_laws.ValidLogins.{each_ok_ends_a_login}
+use Rattle.log_grammar.proofs.lemmas.login_laws.ValidLogins.{each_ok_ends_a_login}
 use Rattle.log_grammar.proofs.logins.each_ok_ends_a_login.Goals as goal
 
 pub returns : goal.returns

@@ -1,4 +1,4 @@
-use Rattle.log_grammar.proofs.login_laws.OtherAnswers.{refused_logins, other_replies}
+use Rattle.log_grammar.proofs.lemmas.login_laws.OtherAnswers.{refused_logins, other_replies}
 use Rattle.log_grammar.proofs.logins.other_answers_to_logins_are_at_fault.Goals as goal
 
 pub returns-clause-refused : goal.returns-clause-refused

@@ -2,7 +2,7 @@ use Rattle.std.proofs.Common.{◌≡◌, ◌⊎◌, inl, inr, ℕ, ◌+◌, ◌�
 use Rattle.log_grammar.specs.Lines.{LogLine, said, busy}
 use Rattle.log_grammar.specs.Demands.{demands}
 use Rattle.log_grammar.specs.Numbered.{Numbered, numbered, begun, closed_in}
-use Rattle.log_grammar.proofs.many_sessions.OpenCounts.{Few, few_are_open}
+use Rattle.log_grammar.proofs.lemmas.many_sessions.OpenCounts.{Few, few_are_open}
 use Rattle.log_grammar.proofs.numbered.few_sessions_are_open.Goals as goal
 
 counted : (limit opens : ℕ) (log : List (Numbered LogLine)) → opens + closed_in log ≡ begun log → Few limit log

@@ -1,5 +1,5 @@
 use Rattle.log_grammar.specs.Demands.{demands}
-use Rattle.log_grammar.proofs.many_sessions.LogSteps.{numbered_on}
+use Rattle.log_grammar.proofs.lemmas.many_sessions.LogSteps.{numbered_on}
 use Rattle.log_grammar.proofs.numbered.goes_on_by_a_numbered_line.Goals as goal
 
 pub returns : goal.returns

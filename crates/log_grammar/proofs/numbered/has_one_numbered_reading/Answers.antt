@@ -1,7 +1,7 @@
 use Rattle.std.proofs.Common.{length, arith}
 use Rattle.log_grammar.specs.Demands.{demands}
-use Rattle.log_grammar.proofs.state_machine.PlaceBefore.{one_account}
-use Rattle.log_grammar.proofs.many_sessions.OneReading.{numbered_once}
+use Rattle.log_grammar.proofs.lemmas.state_machine.PlaceBefore.{one_account}
+use Rattle.log_grammar.proofs.lemmas.many_sessions.OneReading.{numbered_once}
 use Rattle.log_grammar.proofs.numbered.has_one_numbered_reading.Goals as goal
 
 pub returns : goal.returns

@@ -1,4 +1,4 @@
-use Rattle.log_grammar.proofs.many_sessions.DueClasses.{number_classes_due}
+use Rattle.log_grammar.proofs.lemmas.many_sessions.DueClasses.{number_classes_due}
 use Rattle.log_grammar.proofs.numbered.number_classes_follow_the_place.Goals as goal
 
 pub returns : goal.returns

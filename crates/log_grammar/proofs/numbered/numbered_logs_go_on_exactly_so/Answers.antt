@@ -1,38 +1,44 @@
 use Rattle.std.proofs.Common.{◌≡◌, ℕ, List, ◌++◌, [], ◌∷◌, sym, ◌∙◌, ap, subst}
 use Rattle.log_grammar.specs.Lines.{LogLine}
-use Rattle.log_grammar.specs.Told.{Told}
+use Rattle.log_grammar.specs.LoggedReply.{LoggedReply}
 use Rattle.log_grammar.specs.Places.{Place}
 use Rattle.log_grammar.specs.Demands.{Accounts, Demands, demands}
 use Rattle.log_grammar.specs.state_machine.Steps.{told_at}
 use Rattle.log_grammar.specs.Numbered.{Numbered, numbered, SpellsNumbered}
-use Rattle.log_grammar.specs.state_machine.NumberedSteps.{put, GoesNumbered, StoodNumbered}
+use Rattle.log_grammar.specs.state_machine.NumberedSteps.{put, IsNumberedTransition, HasLastNumberedTransition}
 use Rattle.log_grammar.specs.laws.NumberedLaws.{GoesOnByANumberedLine}
-use Rattle.log_grammar.proofs.many_sessions.OneReading.{goes_moved}
-use Rattle.log_grammar.proofs.many_sessions.LinesOfNumber.{at_each, put_here, put_other}
+use Rattle.log_grammar.proofs.lemmas.many_sessions.OneReading.{goes_moved}
+use Rattle.log_grammar.proofs.lemmas.many_sessions.LinesOfNumber.{at_each, put_here, put_other}
 use Rattle.log_grammar.proofs.numbered.numbered_logs_go_on_exactly_so.Goals as goal
-use Rattle.log_grammar.proofs.many_sessions.LogSteps.{with_places}
+use Rattle.log_grammar.proofs.lemmas.many_sessions.LogSteps.{with_places}
 
-abbrev Stands : ℕ → Demands → List (Numbered LogLine) → (ℕ → Place) → List Told → ℕ → LogLine → (ℕ → Place) → List Told → Type 0
+abbrev Stands : ℕ → Demands → List (Numbered LogLine) → (ℕ → Place) → List LoggedReply → ℕ → LogLine → (ℕ → Place) → List LoggedReply
+    → Type 0
 Stands limit d log places told n line next all =
-    GoesNumbered limit d log places told n line (next n) × ((m : ℕ) → (m ≡ n → ⊥) → next m ≡ places m) × (all ≡ told ++ told_at (places n) line)
+    IsNumberedTransition limit d log places told n line (next n) × ((m : ℕ) → (m ≡ n → ⊥) → next m ≡ places m)
+    × (all ≡ told ++ told_at (places n) line)
 
-there : (limit : ℕ) (d : Demands) (log : List (Numbered LogLine)) (places : ℕ → Place) (told : List Told) (n : ℕ) (line : LogLine) (next : ℕ → Place) (all : List Told)
-    → (s : StoodNumbered limit d log n line next all) → ((m : ℕ) → s.before m ≡ places m) → s.told ≡ told → Stands limit d log places told n line next all
+there : (limit : ℕ) (d : Demands) (log : List (Numbered LogLine)) (places : ℕ → Place) (told : List LoggedReply) (n : ℕ) (line : LogLine)
+    (next : ℕ → Place) (all : List LoggedReply)
+    → (s : HasLastNumberedTransition limit d log n line next all) → ((m : ℕ) → s.before m ≡ places m) → s.told ≡ told
+    → Stands limit d log places told n line next all
 there limit d log places told n line next all s same also = (
   goes_moved limit d log s.before places s.told told n line (next n) s.goes (same n) also,
   λ m other. s.others m (λ e. other (sym e)) ∙ same m,
-  s.tells ∙ ap (λ (t : List Told). t ++ told_at (s.before n) line) also ∙ ap (λ (p : Place). told ++ told_at p line) (same n),
+  s.tells ∙ ap (λ (t : List LoggedReply). t ++ told_at (s.before n) line) also ∙ ap (λ (p : Place). told ++ told_at p line) (same n),
 )
 
-back : GoesOnByANumberedLine → (limit : ℕ) (accounts : Accounts) (log : List (Numbered LogLine)) (places : ℕ → Place) (told : List Told) (n : ℕ) (line : LogLine)
-    (next : ℕ → Place) (all : List Told) → SpellsNumbered limit (demands accounts) log places told → Stands limit (demands accounts) log places told n line next all
+back : GoesOnByANumberedLine → (limit : ℕ) (accounts : Accounts) (log : List (Numbered LogLine)) (places : ℕ → Place)
+    (told : List LoggedReply) (n : ℕ) (line : LogLine)
+    (next : ℕ → Place) (all : List LoggedReply) → SpellsNumbered limit (demands accounts) log places told
+    → Stands limit (demands accounts) log places told n line next all
     → SpellsNumbered limit (demands accounts) (log ++ numbered n line ∷ []) next all
 back on limit accounts log places told n line next all s stands =
     let more = log ++ numbered n line ∷ [] in
     let longer = on limit accounts log places told n line (next n) s stands.0 in
     let same = at_each (λ (m : ℕ). put n (next n) places m ≡ next m) n (put_here n (next n) places)
     (λ m other. put_other n (next n) places m other ∙ sym (stands.1 m (λ e. other (sym e)))) in
-    subst (λ (t : List Told). SpellsNumbered limit (demands accounts) more next t) (sym stands.2)
+    subst (λ (t : List LoggedReply). SpellsNumbered limit (demands accounts) more next t) (sym stands.2)
     (with_places limit (demands accounts) more (put n (next n) places) next (told ++ told_at (places n) line) same longer)
 
 pub returns : goal.returns

@@ -1,6 +1,6 @@
 use Rattle.std.proofs.Common.{length, arith}
 use Rattle.log_grammar.specs.Demands.{demands}
-use Rattle.log_grammar.proofs.many_sessions.OpenCounts.{open_counted, open_was_begun}
+use Rattle.log_grammar.proofs.lemmas.many_sessions.OpenCounts.{open_counted, open_was_begun}
 use Rattle.log_grammar.proofs.numbered.open_sessions_are_counted.Goals as goal
 
 pub returns : goal.returns

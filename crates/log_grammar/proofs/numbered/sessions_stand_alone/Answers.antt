@@ -1,6 +1,6 @@
 use Rattle.log_grammar.specs.Demands.{demands}
-use Rattle.log_grammar.proofs.state_machine.PlaceBefore.{one_account}
-use Rattle.log_grammar.proofs.many_sessions.OwnPlaces.{own_place}
+use Rattle.log_grammar.proofs.lemmas.state_machine.PlaceBefore.{one_account}
+use Rattle.log_grammar.proofs.lemmas.many_sessions.OwnPlaces.{own_place}
 use Rattle.log_grammar.proofs.numbered.sessions_stand_alone.Goals as goal
 
 pub returns : goal.returns

@@ -1,4 +1,4 @@
-use Rattle.log_grammar.proofs.small_logs.TwoSessions.{whole_for_two, no_third, no_gap, no_early_busy, no_line_before_end}
+use Rattle.log_grammar.proofs.lemmas.small_logs.TwoSessions.{whole_for_two, no_third, no_gap, no_early_busy, no_line_before_end}
 use Rattle.log_grammar.proofs.numbered.two_sessions_at_once.Goals as goal
 
 pub returns-clause-whole : goal.returns-clause-whole

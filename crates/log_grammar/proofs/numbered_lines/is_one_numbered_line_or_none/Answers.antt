@@ -1,5 +1,5 @@
 use Rattle.std.proofs.Common.{inl, inr}
-use Rattle.log_grammar.proofs.lines.NumberedReadBack.{one_numbered_line, numbered_line_decided}
+use Rattle.log_grammar.proofs.lemmas.lines.NumberedReadBack.{one_numbered_line, numbered_line_decided}
 use Rattle.log_grammar.proofs.numbered_lines.is_one_numbered_line_or_none.Goals as goal
 
 pub returns : goal.returns

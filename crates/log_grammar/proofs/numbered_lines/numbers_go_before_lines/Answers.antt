@@ -1,4 +1,4 @@
-use Rattle.log_grammar.proofs.lines.NumberedReadBack.{number_before, number_is}
+use Rattle.log_grammar.proofs.lemmas.lines.NumberedReadBack.{number_before, number_is}
 use Rattle.log_grammar.proofs.numbered_lines.numbers_go_before_lines.Goals as goal
 
 pub returns : goal.returns

@@ -1,6 +1,6 @@
 use Rattle.std.proofs.Common.{sym, subst}
 use Rattle.log_grammar.specs.NumberedLines.{IsNoNumberedLine}
-use Rattle.log_grammar.proofs.lines.NumberedReadBack.{unnumbered_is_none}
+use Rattle.log_grammar.proofs.lemmas.lines.NumberedReadBack.{unnumbered_is_none}
 use Rattle.log_grammar.proofs.numbered_lines.unnumbered_lines_are_none.Goals as goal
 
 pub returns : goal.returns

@@ -1,5 +1,5 @@
 use Rattle.log_grammar.specs.NumberedLines.{numbered_text}
-use Rattle.log_grammar.proofs.lines.NumberedReadBack.{one_numbered_line, numbered_lacks, numbered_short, numbered_written}
+use Rattle.log_grammar.proofs.lemmas.lines.NumberedReadBack.{one_numbered_line, numbered_lacks, numbered_short, numbered_written}
 use Rattle.log_grammar.proofs.numbered_lines.written_numbered_lines_are_read.Goals as goal
 
 pub returns : goal.returns

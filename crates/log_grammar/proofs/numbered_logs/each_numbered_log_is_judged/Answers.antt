@@ -1,6 +1,6 @@
-use Rattle.log_grammar.specs.KindTwo.{version_two}
-use Rattle.log_grammar.proofs.kinds.Judged.{each_judged}
-use Rattle.log_grammar.proofs.kinds.VersionTwo.{sound_two}
+use Rattle.log_grammar.specs.VersionTwo.{version_two}
+use Rattle.log_grammar.proofs.lemmas.kinds.Judged.{each_judged}
+use Rattle.log_grammar.proofs.lemmas.kinds.VersionTwo.{sound_two}
 use Rattle.log_grammar.proofs.numbered_logs.each_numbered_log_is_judged.Goals as goal
 
 pub returns : goal.returns

@@ -1,4 +1,4 @@
-use Rattle.log_grammar.proofs.completions.NumberedFronts.{fronts_complete_two}
+use Rattle.log_grammar.proofs.lemmas.completions.NumberedFronts.{fronts_complete_two}
 use Rattle.log_grammar.proofs.numbered_logs.numbered_fronts_begin_clean.Goals as goal
 
 pub returns : goal.returns

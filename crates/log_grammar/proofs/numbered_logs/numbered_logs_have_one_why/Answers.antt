@@ -1,8 +1,8 @@
 use Rattle.std.proofs.Common.{sym, subst}
 use Rattle.log_grammar.specs.LogKinds.{IsWhyOf}
-use Rattle.log_grammar.specs.KindTwo.{version_two}
-use Rattle.log_grammar.proofs.kinds.Judged.{fault_once, why_once}
-use Rattle.log_grammar.proofs.kinds.VersionTwo.{wrong_once_two}
+use Rattle.log_grammar.specs.VersionTwo.{version_two}
+use Rattle.log_grammar.proofs.lemmas.kinds.Judged.{fault_once, why_once}
+use Rattle.log_grammar.proofs.lemmas.kinds.VersionTwo.{wrong_once_two}
 use Rattle.log_grammar.proofs.numbered_logs.numbered_logs_have_one_why.Goals as goal
 
 pub returns : goal.returns

@@ -1,4 +1,4 @@
-use Rattle.log_grammar.proofs.reason_laws.NumberedMended.{numbered_what_is_due, each_numbered_line}
+use Rattle.log_grammar.proofs.lemmas.reason_laws.NumberedMended.{numbered_what_is_due, each_numbered_line}
 use Rattle.log_grammar.proofs.numbered_reasons.what_is_due_may_stand_under_its_number.Goals as goal
 
 pub returns-clause-some : goal.returns-clause-some

@@ -1,4 +1,4 @@
-use Rattle.log_grammar.proofs.reply_laws.NumberedPassed.{each_numbered_pass}
+use Rattle.log_grammar.proofs.lemmas.reply_laws.NumberedPassed.{each_numbered_pass}
 use Rattle.log_grammar.proofs.numbered_replies.each_numbered_pass_is_a_code.Goals as goal
 
 pub returns : goal.returns

@@ -1,4 +1,4 @@
-use Rattle.log_grammar.proofs.reply_laws.NumberedPassed.{numbered_rise}
+use Rattle.log_grammar.proofs.lemmas.reply_laws.NumberedPassed.{numbered_rise}
 use Rattle.log_grammar.proofs.numbered_replies.numbered_counters_rise.Goals as goal
 
 pub returns : goal.returns

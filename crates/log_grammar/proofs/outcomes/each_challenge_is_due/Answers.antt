@@ -1,4 +1,4 @@
-use Rattle.log_grammar.proofs.reply_laws.ServerLines.{each_challenge}
+use Rattle.log_grammar.proofs.lemmas.reply_laws.ServerLines.{each_challenge}
 use Rattle.log_grammar.proofs.outcomes.each_challenge_is_due.Goals as goal
 
 pub returns : goal.returns

@@ -1,4 +1,4 @@
-use Rattle.log_grammar.proofs.demands.CounterRanges.{due_in_range}
+use Rattle.log_grammar.proofs.lemmas.demands.CounterRanges.{due_in_range}
 use Rattle.log_grammar.proofs.reasons.due_replies_can_be_written.Goals as goal
 
 pub returns : goal.returns

@@ -1,5 +1,5 @@
-use Rattle.log_grammar.proofs.reason_laws.DueLines.{each_line}
-use Rattle.log_grammar.proofs.reason_laws.Mended.{what_is_due}
+use Rattle.log_grammar.proofs.lemmas.reason_laws.DueLines.{each_line}
+use Rattle.log_grammar.proofs.lemmas.reason_laws.Mended.{what_is_due}
 use Rattle.log_grammar.proofs.reasons.what_is_due_may_stand.Goals as goal
 
 pub returns-clause-some : goal.returns-clause-some

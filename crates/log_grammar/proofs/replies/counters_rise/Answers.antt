@@ -1,4 +1,4 @@
-use Rattle.log_grammar.proofs.reply_laws.Passed.{counters_rise}
+use Rattle.log_grammar.proofs.lemmas.reply_laws.Passed.{counters_rise}
 use Rattle.log_grammar.proofs.replies.counters_rise.Goals as goal
 
 pub returns : goal.returns

@@ -1,4 +1,4 @@
-use Rattle.log_grammar.proofs.reply_laws.Passed.{each_pass}
+use Rattle.log_grammar.proofs.lemmas.reply_laws.Passed.{each_pass}
 use Rattle.log_grammar.proofs.replies.each_pass_is_a_code.Goals as goal
 
 pub returns : goal.returns

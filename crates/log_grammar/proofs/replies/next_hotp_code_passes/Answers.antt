@@ -1,4 +1,4 @@
-use Rattle.log_grammar.proofs.reply_laws.Passed.{next_hotp_code_passes}
+use Rattle.log_grammar.proofs.lemmas.reply_laws.Passed.{next_hotp_code_passes}
 use Rattle.log_grammar.proofs.replies.next_hotp_code_passes.Goals as goal
 
 pub returns : goal.returns

@@ -1,4 +1,4 @@
-use Rattle.log_grammar.proofs.reply_laws.Passed.{next_two_hotp_codes_pass}
+use Rattle.log_grammar.proofs.lemmas.reply_laws.Passed.{next_two_hotp_codes_pass}
 use Rattle.log_grammar.proofs.replies.next_two_hotp_codes_pass.Goals as goal
 
 pub returns : goal.returns

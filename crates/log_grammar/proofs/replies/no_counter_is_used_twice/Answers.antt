@@ -1,4 +1,4 @@
-use Rattle.log_grammar.proofs.reply_laws.UsedCounters.{none_used_twice}
+use Rattle.log_grammar.proofs.lemmas.reply_laws.UsedCounters.{none_used_twice}
 use Rattle.log_grammar.proofs.replies.no_counter_is_used_twice.Goals as goal
 
 pub returns : goal.returns

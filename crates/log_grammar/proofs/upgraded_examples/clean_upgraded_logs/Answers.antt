@@ -1,4 +1,5 @@
-use Rattle.log_grammar.proofs.small_logs.Upgraded.{first_upgraded, aborted_upgraded, bad_upgraded, gone_upgraded, not_offered_upgraded, refused_upgraded, invited_upgraded, two_upgraded}
+use Rattle.log_grammar.proofs.lemmas.small_logs.Upgraded.{first_upgraded, aborted_upgraded, bad_upgraded, gone_upgraded}
+use Rattle.log_grammar.proofs.lemmas.small_logs.Upgraded.{not_offered_upgraded, refused_upgraded, invited_upgraded, two_upgraded}
 use Rattle.log_grammar.proofs.upgraded_examples.clean_upgraded_logs.Goals as goal
 
 pub returns-clause-first : goal.returns-clause-first

@@ -1,4 +1,7 @@
-use Rattle.log_grammar.proofs.small_logs.Upgraded.{offer_is_cut_too, abort_is_cut_too, no_is_cut_too, gone_is_cut_too, auth_is_cut_too, invited_is_cut_too, bad_is_cut_too, bad_no_is_cut_too, plain_is_cut_too, plain_no_is_cut_too, refused_is_cut_too, refused_no_is_cut_too, left_is_cut_too}
+use Rattle.log_grammar.proofs.lemmas.small_logs.Upgraded.{offer_is_cut_too, abort_is_cut_too, no_is_cut_too, gone_is_cut_too}
+use Rattle.log_grammar.proofs.lemmas.small_logs.Upgraded.{auth_is_cut_too, invited_is_cut_too, bad_is_cut_too, bad_no_is_cut_too}
+use Rattle.log_grammar.proofs.lemmas.small_logs.Upgraded.{plain_is_cut_too, plain_no_is_cut_too, refused_is_cut_too, refused_no_is_cut_too}
+use Rattle.log_grammar.proofs.lemmas.small_logs.Upgraded.{left_is_cut_too}
 use Rattle.log_grammar.proofs.upgraded_examples.cut_upgraded_logs.Goals as goal
 
 pub returns-clause-offer : goal.returns-clause-offer

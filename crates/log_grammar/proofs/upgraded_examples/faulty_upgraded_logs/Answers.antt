@@ -1,4 +1,7 @@
-use Rattle.log_grammar.proofs.small_logs.Upgraded.{abort_is_early_upgraded, end_is_missing_upgraded, halt_is_early_upgraded, other_offer_why_upgraded, invited_why_upgraded, turned_away_why_upgraded, accepted_why_upgraded, message_why_upgraded, not_first_why_upgraded, second_again, first_after_second, abort_unnumbered, header_numbered}
+use Rattle.log_grammar.proofs.lemmas.small_logs.Upgraded.{abort_is_early_upgraded, end_is_missing_upgraded, halt_is_early_upgraded}
+use Rattle.log_grammar.proofs.lemmas.small_logs.Upgraded.{other_offer_why_upgraded, invited_why_upgraded, turned_away_why_upgraded}
+use Rattle.log_grammar.proofs.lemmas.small_logs.Upgraded.{accepted_why_upgraded, message_why_upgraded, not_first_why_upgraded, second_again}
+use Rattle.log_grammar.proofs.lemmas.small_logs.Upgraded.{first_after_second, abort_unnumbered, header_numbered}
 use Rattle.log_grammar.proofs.upgraded_examples.faulty_upgraded_logs.Goals as goal
 
 pub returns-clause-order : goal.returns-clause-order

@@ -1,4 +1,4 @@
-use Rattle.log_grammar.proofs.login_laws.Upgraded.{upgraded_refusals, upgraded_replies}
+use Rattle.log_grammar.proofs.lemmas.login_laws.Upgraded.{upgraded_refusals, upgraded_replies}
 use Rattle.log_grammar.proofs.upgraded_logins.other_answers_to_upgraded_logins_are_at_fault.Goals as goal
 
 pub returns-clause-refused : goal.returns-clause-refused

@@ -1,4 +1,4 @@
-use Rattle.log_grammar.proofs.login_laws.Upgraded.{upgraded_logins, upgraded_halts, upgraded_answers}
+use Rattle.log_grammar.proofs.lemmas.login_laws.Upgraded.{upgraded_logins, upgraded_halts, upgraded_answers}
 use Rattle.log_grammar.proofs.upgraded_logins.upgraded_logins_are_clean.Goals as goal
 
 pub returns-clause-gone : goal.returns-clause-gone

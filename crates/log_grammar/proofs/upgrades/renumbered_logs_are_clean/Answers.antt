@@ -1,5 +1,5 @@
 use Rattle.log_grammar.specs.Demands.{demands}
-use Rattle.log_grammar.proofs.upgraded_logs.GoesOnAlike.{renumbered_clean}
+use Rattle.log_grammar.proofs.lemmas.upgraded_logs.GoesOnAlike.{renumbered_clean}
 use Rattle.log_grammar.proofs.upgrades.renumbered_logs_are_clean.Goals as goal
 
 pub returns : goal.returns

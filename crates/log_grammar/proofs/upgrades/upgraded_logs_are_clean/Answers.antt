@@ -1,4 +1,4 @@
-use Rattle.log_grammar.proofs.upgraded_logs.SameFault.{upgraded_clean}
+use Rattle.log_grammar.proofs.lemmas.upgraded_logs.SameFault.{upgraded_clean}
 use Rattle.log_grammar.proofs.upgrades.upgraded_logs_are_clean.Goals as goal
 
 pub returns : goal.returns

@@ -1,4 +1,4 @@
-use Rattle.log_grammar.proofs.upgraded_logs.Texts.{same_counts}
+use Rattle.log_grammar.proofs.lemmas.upgraded_logs.Texts.{same_counts}
 use Rattle.log_grammar.proofs.upgrades.upgraded_logs_have_the_same_counts.Goals as goal
 
 pub returns : goal.returns

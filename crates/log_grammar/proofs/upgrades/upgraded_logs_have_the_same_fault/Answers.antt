@@ -1,4 +1,4 @@
-use Rattle.log_grammar.proofs.upgraded_logs.SameFault.{same_fault, fault_back}
+use Rattle.log_grammar.proofs.lemmas.upgraded_logs.SameFault.{same_fault, fault_back}
 use Rattle.log_grammar.proofs.upgrades.upgraded_logs_have_the_same_fault.Goals as goal
 
 pub returns : goal.returns

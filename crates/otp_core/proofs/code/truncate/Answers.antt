@@ -1,7 +1,7 @@
 use Rattle.std.proofs.Common.{◌≤◌, ◌^◌, arith, lit≤}
 use Rattle.std.proofs.Math.Nat.{one-le-pow}
 use Rattle.otp_core.specs.Ranges.{IsDigitCount}
-use Rattle.otp_core.proofs.DigitsLemmas.{IsCodeText-last_digits}
+use Rattle.otp_core.proofs.lemmas.Digits.{IsCodeText-last_digits}
 use Rattle.otp_core.proofs.code.truncate.Goals as goal
 
 pub nonzero_rem-number : goal.nonzero_rem-number

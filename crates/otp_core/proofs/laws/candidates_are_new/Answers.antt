@@ -1,4 +1,4 @@
-use Rattle.otp_core.proofs.Used.{candidates-are_new}
+use Rattle.otp_core.proofs.lemmas.Used.{candidates-are_new}
 use Rattle.otp_core.proofs.laws.candidates_are_new.Goals as goal
 
 pub returns : goal.returns

@@ -1,4 +1,4 @@
-use Rattle.otp_core.proofs.Joins.{histories-join}
+use Rattle.otp_core.proofs.lemmas.Joins.{histories-join}
 use Rattle.otp_core.proofs.laws.histories_join.Goals as goal
 
 pub returns : goal.returns

@@ -1,4 +1,4 @@
-use Rattle.otp_core.proofs.Joins.{legal_histories-join}
+use Rattle.otp_core.proofs.lemmas.Joins.{legal_histories-join}
 use Rattle.otp_core.proofs.laws.legal_histories_join.Goals as goal
 
 pub returns : goal.returns

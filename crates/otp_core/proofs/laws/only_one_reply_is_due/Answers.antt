@@ -1,4 +1,4 @@
-use Rattle.otp_core.proofs.Joins.{only-one_reply_is_due}
+use Rattle.otp_core.proofs.lemmas.OneReply.{only-one_reply_is_due}
 use Rattle.otp_core.proofs.laws.only_one_reply_is_due.Goals as goal
 
 pub returns : goal.returns

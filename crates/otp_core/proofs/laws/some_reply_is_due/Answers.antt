@@ -1,4 +1,4 @@
-use Rattle.otp_core.proofs.OneReply.{some-reply_is_due}
+use Rattle.otp_core.proofs.lemmas.SomeReply.{some-reply_is_due}
 use Rattle.otp_core.proofs.laws.some_reply_is_due.Goals as goal
 
 pub returns : goal.returns

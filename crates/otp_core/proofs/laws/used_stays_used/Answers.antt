@@ -1,4 +1,4 @@
-use Rattle.otp_core.proofs.Used.{used-stays_used}
+use Rattle.otp_core.proofs.lemmas.Used.{used-stays_used}
 use Rattle.otp_core.proofs.laws.used_stays_used.Goals as goal
 
 pub returns : goal.returns

@@ -1,4 +1,4 @@
-use Rattle.sasl_desk.proofs.runs.Restarts.{log_is_clean, halted_is_clean}
+use Rattle.sasl_desk.proofs.lemmas.runs.Restarts.{log_is_clean, halted_is_clean}
 use Rattle.sasl_desk.proofs.laws.log_is_clean.Goals as goal
 
 pub returns-clause-closed : goal.returns-clause-closed

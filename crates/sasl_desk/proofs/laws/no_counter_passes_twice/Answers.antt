@@ -1,4 +1,4 @@
-use Rattle.sasl_desk.proofs.runs.Restarts.{spent_over_changes}
+use Rattle.sasl_desk.proofs.lemmas.runs.Restarts.{spent_over_changes}
 use Rattle.sasl_desk.proofs.laws.no_counter_passes_twice.Goals as goal
 
 pub returns : goal.returns

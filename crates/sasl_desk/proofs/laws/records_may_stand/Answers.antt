@@ -1,4 +1,4 @@
-use Rattle.sasl_desk.proofs.turns.DueRecords.{due_lines_stand, bad_lines_stand, gone_clients_stand}
+use Rattle.sasl_desk.proofs.lemmas.turns.DueRecords.{due_lines_stand, bad_lines_stand, gone_clients_stand}
 use Rattle.sasl_desk.proofs.laws.records_may_stand.Goals as goal
 
 pub returns-clause-due : goal.returns-clause-due

@@ -1,4 +1,4 @@
-use Rattle.sasl_desk.proofs.runs.Spent.{spent_stays_spent}
+use Rattle.sasl_desk.proofs.lemmas.runs.Spent.{spent_stays_spent}
 use Rattle.sasl_desk.proofs.laws.spent_stays_spent.Goals as goal
 
 pub returns : goal.returns

@@ -1,4 +1,4 @@
-use Rattle.sasl_desk.proofs.runs.Restarts.{saved_spent, stopped_spent}
+use Rattle.sasl_desk.proofs.lemmas.runs.Restarts.{saved_spent, stopped_spent}
 use Rattle.sasl_desk.proofs.laws.told_counters_are_saved.Goals as goal
 
 pub returns-clause-ended : goal.returns-clause-ended

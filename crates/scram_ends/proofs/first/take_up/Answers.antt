@@ -1,4 +1,5 @@
 use Rattle.std.proofs.Common.{◌≡◌, ◌≤◌, ℕ, List, length, false, sym, ◌∙◌, subst, ap, arith, length-append}
+use Rattle.scram_text.specs.Limits.{longest_message}
 use Rattle.scram_text.specs.Messages.{ClientFirstParts, header_text, bare_text, client_first_text, client_first_mandatory, IsClientFirst}
 use Rattle.scram_ends.specs.Opening.{IsUnbound}
 use Rattle.scram_ends.proofs.first.take_up.Goals as goal
@@ -17,9 +18,11 @@ returns-in_default-clause-err c =
     )
 
 -- the header is a front of the message
-header_short : (client_first : List ℕ) (p : ClientFirstParts) (header : List ℕ) → IsClientFirst client_first p → header ≡ header_text p → length header ≤ 2048
+header_short : (client_first : List ℕ) (p : ClientFirstParts) (header : List ℕ) → IsClientFirst client_first p → header ≡ header_text p
+    → length header ≤ longest_message
 unfolding client_first_text
-header_short client_first p header is same = omega (arith, ap length is.spelled, ap length same, length-append (header_text p) (bare_text p), is.short)
+header_short client_first p header is same = omega
+    (arith, ap length is.spelled, ap length same, length-append (header_text p) (bare_text p), is.short)
 
 pub returns-clause-header : goal.returns-clause-header
 returns-clause-header c =

@@ -1,4 +1,4 @@
-use Rattle.scram_ends.proofs.HonestLemmas.{honest_logs_in}
+use Rattle.scram_ends.proofs.lemmas.HonestLogins.{honest_logs_in}
 use Rattle.scram_ends.proofs.honest.honest_login.Goals as goal
 
 pub returns : goal.returns

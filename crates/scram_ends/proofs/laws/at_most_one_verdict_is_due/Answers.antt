@@ -1,4 +1,4 @@
-use Rattle.scram_ends.proofs.VerdictLemmas.{at_most_one}
+use Rattle.scram_ends.proofs.lemmas.Verdicts.{at_most_one}
 use Rattle.scram_ends.proofs.laws.at_most_one_verdict_is_due.Goals as goal
 
 pub returns : goal.returns

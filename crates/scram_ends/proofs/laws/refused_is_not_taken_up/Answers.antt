@@ -1,4 +1,4 @@
-use Rattle.scram_ends.proofs.OpeningLemmas.{not_taken_up}
+use Rattle.scram_ends.proofs.lemmas.Opening.{not_taken_up}
 use Rattle.scram_ends.proofs.laws.refused_is_not_taken_up.Goals as goal
 
 pub returns : goal.returns

@@ -1,4 +1,4 @@
-use Rattle.scram_ends.proofs.DecisionLemmas.{some_is_due}
+use Rattle.scram_ends.proofs.lemmas.Decided.{some_is_due}
 use Rattle.scram_ends.proofs.laws.some_verdict_is_due.Goals as goal
 
 pub returns : goal.returns

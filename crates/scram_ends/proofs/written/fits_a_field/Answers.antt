@@ -1,5 +1,5 @@
 use Rattle.std.proofs.Common.{arith}
-use Rattle.scram_text.proofs.Base64Lemmas.{field_of_bytes}
+use Rattle.scram_text.proofs.lemmas.Base64.{field_of_bytes}
 use Rattle.scram_ends.proofs.written.fits_a_field.Goals as goal
 
 pub returns : goal.returns

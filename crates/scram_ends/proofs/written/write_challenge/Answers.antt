@@ -1,6 +1,6 @@
 use Rattle.std.proofs.Common.{◌<◌, ◌^◌, arith}
 use Rattle.scram_text.specs.Base64Field.{IsField}
-use Rattle.scram_ends.proofs.WrittenLemmas.{can_be_challenge, challenge_fits}
+use Rattle.scram_ends.proofs.lemmas.Written.{can_be_challenge, challenge_fits}
 use Rattle.scram_ends.proofs.written.write_challenge.Goals as goal
 
 pub returns-clause-unwritable : goal.returns-clause-unwritable

@@ -1,5 +1,5 @@
 use Rattle.std.proofs.Common.{length, ap, arith}
-use Rattle.scram_text.proofs.PartLemmas.{parts_last}
+use Rattle.scram_text.proofs.lemmas.Parts.{parts_last}
 use Rattle.scram_text.proofs.client_final.pieces_of.Goals as goal
 
 pub unreachable-requires-in_default-rest : goal.unreachable-requires-in_default-rest

@@ -1,4 +1,4 @@
-use Rattle.scram_text.proofs.ClientFinalLemmas.{client_final_only}
+use Rattle.scram_text.proofs.lemmas.ClientFinal.{client_final_only}
 use Rattle.scram_text.proofs.client_final.read_client_final.Goals as goal
 
 pub returns-clause-only : goal.returns-clause-only

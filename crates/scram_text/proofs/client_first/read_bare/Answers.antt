@@ -4,7 +4,7 @@ use Rattle.std.specs.declared.option.Option.TheVariants.{None}
 use Rattle.std.proofs.lemmas.Result.{err_from_is_err_and}
 use Rattle.scram_text.specs.Parts.{parts, parts_of_some}
 use Rattle.scram_text.specs.Messages.{ClientFirstParts}
-use Rattle.scram_text.proofs.ClientFirstLemmas.{name_misfit, nonce_misfit, extension_misfit, bare_cut}
+use Rattle.scram_text.proofs.lemmas.ClientFirst.{name_misfit, nonce_misfit, extension_misfit, bare_cut}
 use Rattle.scram_text.proofs.client_first.read_bare.Goals as goal
 
 pub returns-in_default-clause-fault : goal.returns-in_default-clause-fault

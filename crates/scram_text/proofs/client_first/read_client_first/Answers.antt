@@ -1,4 +1,4 @@
-use Rattle.scram_text.proofs.ClientFirstLemmas.{client_first_only}
+use Rattle.scram_text.proofs.lemmas.ClientFirst.{client_first_only}
 use Rattle.scram_text.proofs.client_first.read_client_first.Goals as goal
 
 pub returns-clause-only : goal.returns-clause-only

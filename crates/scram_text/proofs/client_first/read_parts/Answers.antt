@@ -1,7 +1,7 @@
 use Rattle.std.proofs.Common.{refl}
 use Rattle.std.proofs.lemmas.Result.{err_from_is_err_and}
 use Rattle.scram_text.specs.Messages.{ClientFirstParts}
-use Rattle.scram_text.proofs.ClientFirstLemmas.{flag_fault, authzid_fault, bare_fault, client_first_spelled}
+use Rattle.scram_text.proofs.lemmas.ClientFirst.{flag_fault, authzid_fault, bare_fault, client_first_spelled}
 use Rattle.scram_text.proofs.client_first.read_parts.Goals as goal
 
 pub returns-in_default-clause-fault : goal.returns-in_default-clause-fault

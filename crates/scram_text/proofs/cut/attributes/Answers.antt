@@ -1,6 +1,6 @@
 use Rattle.std.proofs.Common.{sym, ◌∙◌}
 use Rattle.std.proofs.lemmas.Bool.{both_ways}
-use Rattle.scram_text.proofs.ExtensionLemmas.{Leads-next, Leads-misfit}
+use Rattle.scram_text.proofs.lemmas.Extensions.{Leads-next, Leads-misfit}
 use Rattle.scram_text.proofs.cut.attributes.Goals as goal
 
 pub returns-then-not-is_attribute-clause-fault : goal.returns-then-not-is_attribute-clause-fault

@@ -1,7 +1,7 @@
 use Rattle.std.proofs.Common.{length}
 use Rattle.std.specs.Option.{option_copied}
 use Rattle.scram_text.specs.Parts.{parts, parts_of_some}
-use Rattle.scram_text.proofs.ExtensionLemmas.{Leads}
+use Rattle.scram_text.proofs.lemmas.Extensions.{Leads}
 use Rattle.scram_text.proofs.cut.attributes.Given as goal
 
 abbrev pub invariant-loop-left : goal.invariant-loop-left

@@ -1,6 +1,6 @@
 use Rattle.std.proofs.Common.{◌≡◌, ℕ, List, length, drop, ap, arith}
 use Rattle.scram_text.specs.Name.{LacksComma}
-use Rattle.scram_text.proofs.PartLemmas.{parts_whole}
+use Rattle.scram_text.proofs.lemmas.Parts.{parts_whole}
 use Rattle.scram_text.proofs.cut.cut_last.Goals as goal
 
 whole_lacks : (text : List ℕ) (at : ℕ) → at ≡ 0 → LacksComma (drop at text) → LacksComma text

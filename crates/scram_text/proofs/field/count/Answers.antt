@@ -40,6 +40,7 @@ returns-else-count-gt0-clause-none c = λ spells.
     let parsed = count_parsed c.args.digits.now c.in-Ok.text.now c.parse.result c.in-Ok.ensures.cases.0 c.parse.ensures.value.0 spells in
     let same : parsed.0 ≡ c.in-Ok-parse.count = cc (parsed.3, c.in-Ok-parse.is) in
     elim c.else-count-gt0.branch [
-      | else-count-gt0-via-then-count-gt0+else-is_decimal w ↦ both_ways _ w.if-is_decimal.false (w.is_decimal.ensures.1 (rw same at parsed.1))
+      | else-count-gt0-via-then-count-gt0+else-is_decimal w ↦ both_ways _ w.if-is_decimal.false
+          (w.is_decimal.ensures.1 (rw same at parsed.1))
       | else-count-gt0-via-else-count-gt0 w ↦ absurd (omega (arith, parsed.2.at_least, same))
     ]

@@ -1,6 +1,6 @@
 use Rattle.std.proofs.Common.{◌≡◌, ◌≤◌, ℕ, List, length, take, arith, length-take}
 use Rattle.base64.specs.GeneralPurpose.{IsBytes}
-use Rattle.scram_text.proofs.Base64Lemmas.{read_field, field_read, field_error}
+use Rattle.scram_text.proofs.lemmas.Base64.{read_field, field_read, field_error}
 use Rattle.scram_text.proofs.field.decode.Goals as goal
 
 -- the bytes at the front of a buffer that is long enough
@@ -17,14 +17,16 @@ returns-in-Ok-clause-field c =
     let size : length (take c.in-Ok.size c.decode_slice_unchecked.new.output) ≡ c.in-Ok.size =
     front_length c.in-Ok.size c.decode_slice_unchecked.new.output (omega (arith, c.in-Ok.ensures.ok.2)) in
     let fits : IsBytes c.args.text.now = λ i. omega (arith, c.type_inv.text i) in
-    (read_field (length c.args.buffer.now) c.args.text.now _ fits c.in-Ok.ensures.ok.0 (omega arith) (omega (arith, c.in-Ok.ensures.ok.2))).0
+    (read_field (length c.args.buffer.now) c.args.text.now _ fits c.in-Ok.ensures.ok.0 (omega arith)
+    (omega (arith, c.in-Ok.ensures.ok.2))).0
 
 pub returns-in-Ok-clause-text : goal.returns-in-Ok-clause-text
 returns-in-Ok-clause-text c =
     let size : length (take c.in-Ok.size c.decode_slice_unchecked.new.output) ≡ c.in-Ok.size =
     front_length c.in-Ok.size c.decode_slice_unchecked.new.output (omega (arith, c.in-Ok.ensures.ok.2)) in
     let fits : IsBytes c.args.text.now = λ i. omega (arith, c.type_inv.text i) in
-    (read_field (length c.args.buffer.now) c.args.text.now _ fits c.in-Ok.ensures.ok.0 (omega arith) (omega (arith, c.in-Ok.ensures.ok.2))).1
+    (read_field (length c.args.buffer.now) c.args.text.now _ fits c.in-Ok.ensures.ok.0 (omega arith)
+    (omega (arith, c.in-Ok.ensures.ok.2))).1
 
 pub returns-in-Err-clause-none : goal.returns-in-Err-clause-none
 returns-in-Err-clause-none c = field_error _ c.args.text.now c.in-Err.field-0 c.in-Err.ensures.err

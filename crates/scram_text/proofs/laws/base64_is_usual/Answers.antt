@@ -1,4 +1,4 @@
-use Rattle.scram_text.proofs.Base64Lemmas.{usual_base64_lem}
+use Rattle.scram_text.proofs.lemmas.Base64.{usual_base64_lem}
 use Rattle.scram_text.proofs.laws.base64_is_usual.Goals as goal
 
 pub returns : goal.returns

@@ -1,4 +1,4 @@
-use Rattle.scram_text.proofs.GrammarLemmas.{client_first_law}
+use Rattle.scram_text.proofs.lemmas.MessagesDecided.{client_first_law}
 use Rattle.scram_text.proofs.laws.client_first_is_decided.Goals as goal
 
 pub returns : goal.returns

@@ -1,4 +1,4 @@
-use Rattle.scram_text.proofs.Base64Lemmas.{field_of_bytes}
+use Rattle.scram_text.proofs.lemmas.Base64.{field_of_bytes}
 use Rattle.scram_text.proofs.laws.fields_hold_bytes.Goals as goal
 
 pub returns : goal.returns

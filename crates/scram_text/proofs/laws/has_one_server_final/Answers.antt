@@ -1,4 +1,4 @@
-use Rattle.scram_text.proofs.ServerFinalLemmas.{server_final_once}
+use Rattle.scram_text.proofs.lemmas.ServerFinal.{server_final_once}
 use Rattle.scram_text.proofs.laws.has_one_server_final.Goals as goal
 
 pub returns : goal.returns

@@ -1,4 +1,4 @@
-use Rattle.scram_text.proofs.ServerFirstLemmas.{server_first_once}
+use Rattle.scram_text.proofs.lemmas.ServerFirst.{server_first_once}
 use Rattle.scram_text.proofs.laws.has_one_server_first.Goals as goal
 
 pub returns : goal.returns

@@ -1,4 +1,4 @@
-use Rattle.scram_text.proofs.LawLemmas.{name_decided}
+use Rattle.scram_text.proofs.lemmas.Laws.{name_decided}
 use Rattle.scram_text.proofs.laws.name_is_decided.Goals as goal
 
 pub returns : goal.returns

@@ -1,4 +1,4 @@
-use Rattle.scram_text.proofs.GrammarLemmas.{server_first_law}
+use Rattle.scram_text.proofs.lemmas.MessagesDecided.{server_first_law}
 use Rattle.scram_text.proofs.laws.server_first_is_decided.Goals as goal
 
 pub returns : goal.returns

@@ -1,6 +1,6 @@
 use Rattle.std.proofs.Common.{◌≡◌, ℕ, ◌≤◌, List, [], ◌∷◌, ◌++◌, length, sym, ◌∙◌, arith, length-append, rules}
 use Rattle.scram_text.specs.Name.{escape, name_spelling}
-use Rattle.scram_text.proofs.NameLemmas.{escape_nonempty, spelling_rest}
+use Rattle.scram_text.proofs.lemmas.Names.{escape_nonempty, spelling_rest}
 use Rattle.scram_text.proofs.name.unescaped.Goals as goal
 
 -- a name of at most 255 bytes has no byte after its first 255

@@ -4,7 +4,7 @@ use Rattle.std.specs.declared.result.Result.{Result}
 use Rattle.std.specs.declared.result.Result.TheVariants.{Ok, Err}
 use Rattle.scram_text.specs.declared.fault.WriteFault.{WriteFault}
 use Rattle.scram_text.specs.declared.fault.WriteFault.TheVariants.{Unwritable, OverLimit, NoMemory}
-use Rattle.scram_text.proofs.NameLemmas.{length-spelling, spelling_saslname}
+use Rattle.scram_text.proofs.lemmas.Names.{length-spelling, spelling_saslname}
 use Rattle.scram_text.proofs.name.write_name.Goals as goal
 
 pub returns-clause-related : goal.returns-clause-related
@@ -22,5 +22,6 @@ pub returns-clause-no_memory : goal.returns-clause-no_memory
 returns-clause-no_memory g c =
     let is = c.add_name.ensures.draft _ c.new-draft.ensures in
     memory_alone c.append_to.result _ c.append_to.ensures.unwritable
-    (λ e. let long = c.append_to.ensures.over_limit e _ is in omega (arith, long, length-spelling c.args.name.now, c.add_name.ensures.plain.at_most))
+    (λ e. let long = c.append_to.ensures.over_limit e _ is in omega
+    (arith, long, length-spelling c.args.name.now, c.add_name.ensures.plain.at_most))
     (λ e. (c.append_to.ensures.no_memory e _ is).1)

@@ -1,7 +1,7 @@
 use Rattle.std.proofs.Common.{ℕ, List, subst}
 use Rattle.scram_text.specs.Shown.{verifier_or_error_of}
 use Rattle.scram_text.specs.Draft.{IsDraftOf}
-use Rattle.scram_text.proofs.ComposeLemmas.{server_final_composed, server_final_related}
+use Rattle.scram_text.proofs.lemmas.Composed.{server_final_composed, server_final_related}
 use Rattle.scram_text.proofs.server_final.draft_of.Goals as goal
 
 pub returns-clause-draft : goal.returns-clause-draft

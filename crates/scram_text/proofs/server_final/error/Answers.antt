@@ -1,4 +1,4 @@
-use Rattle.scram_text.proofs.ComposeLemmas.{error_text}
+use Rattle.scram_text.proofs.lemmas.Composed.{error_text}
 use Rattle.scram_text.proofs.server_final.error.Goals as goal
 
 pub returns-clause-is_text : goal.returns-clause-is_text

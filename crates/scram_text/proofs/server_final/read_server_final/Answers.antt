@@ -1,4 +1,4 @@
-use Rattle.scram_text.proofs.ServerFinalLemmas.{server_final_only}
+use Rattle.scram_text.proofs.lemmas.ServerFinal.{server_final_only}
 use Rattle.scram_text.proofs.server_final.read_server_final.Goals as goal
 
 pub returns-clause-only : goal.returns-clause-only

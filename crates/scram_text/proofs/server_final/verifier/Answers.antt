@@ -1,6 +1,6 @@
 use Rattle.std.proofs.Common.{arith}
 use Rattle.base64.specs.GeneralPurpose.{IsBytes}
-use Rattle.scram_text.proofs.ComposeLemmas.{signature_text}
+use Rattle.scram_text.proofs.lemmas.Composed.{signature_text}
 use Rattle.scram_text.proofs.server_final.verifier.Goals as goal
 
 pub returns-clause-is_text : goal.returns-clause-is_text

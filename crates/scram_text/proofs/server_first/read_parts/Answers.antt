@@ -3,8 +3,8 @@ use Rattle.std.specs.Option.{option_copied}
 use Rattle.std.proofs.lemmas.Result.{err_from_is_err_and}
 use Rattle.scram_text.specs.Parts.{parts_of_some}
 use Rattle.scram_text.specs.Messages.{ServerFirstParts}
-use Rattle.scram_text.proofs.PlaceLemmas.{field_fits}
-use Rattle.scram_text.proofs.ServerFirstLemmas.{nonce_fault, salt_fault, count_fault, extension_fault, server_first_spelled}
+use Rattle.scram_text.proofs.lemmas.Places.{field_fits}
+use Rattle.scram_text.proofs.lemmas.ServerFirst.{nonce_fault, salt_fault, count_fault, extension_fault, server_first_spelled}
 use Rattle.scram_text.proofs.server_first.read_parts.Goals as goal
 
 pub returns-in_default-clause-fault : goal.returns-in_default-clause-fault

@@ -1,4 +1,4 @@
-use Rattle.scram_text.proofs.ServerFirstLemmas.{server_first_only}
+use Rattle.scram_text.proofs.lemmas.ServerFirst.{server_first_only}
 use Rattle.scram_text.proofs.server_first.read_server_first.Goals as goal
 
 pub returns-clause-only : goal.returns-clause-only

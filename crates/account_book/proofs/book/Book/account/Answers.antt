@@ -1,4 +1,4 @@
-use Rattle.account_book.proofs.RangeLemmas.{found, shown}
+use Rattle.account_book.proofs.lemmas.Ranges.{found, shown}
 use Rattle.account_book.proofs.book.Book.account.Goals as goal
 
 pub returns-clause-range : goal.returns-clause-range

@@ -1,8 +1,8 @@
 use Rattle.std.proofs.Common.{rules, sym, subst, IfSome}
 use Rattle.book_format.specs.Account.{IsAccount}
 use Rattle.book_format.specs.Book.{AreAccounts}
-use Rattle.account_book.proofs.RangeLemmas.{token_put, all_set, found}
-use Rattle.account_book.proofs.MapLemmas.{is_changed}
+use Rattle.account_book.proofs.lemmas.Ranges.{token_put, all_set, found}
+use Rattle.account_book.proofs.lemmas.Maps.{is_changed}
 use Rattle.account_book.proofs.book.Book.put_token.Goals as goal
 
 pub invariant_of-self-inside : goal.invariant_of-self-inside

@@ -1,7 +1,7 @@
 use Rattle.std.proofs.Common.{ap, ◌∙◌, sym, subst}
 use Rattle.book_format.specs.Book.{AreAccounts}
-use Rattle.account_book.proofs.RangeLemmas.{all_removed}
-use Rattle.account_book.proofs.MapLemmas.{is_removed}
+use Rattle.account_book.proofs.lemmas.Ranges.{all_removed}
+use Rattle.account_book.proofs.lemmas.Maps.{is_removed}
 use Rattle.account_book.proofs.book.Book.remove.Goals as goal
 
 pub invariant_of-self-inside : goal.invariant_of-self-inside

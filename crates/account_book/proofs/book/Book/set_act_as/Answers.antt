@@ -1,8 +1,8 @@
 use Rattle.std.proofs.Common.{rules, sym, subst, IfSome}
 use Rattle.book_format.specs.Account.{IsAccount}
 use Rattle.book_format.specs.Book.{AreAccounts}
-use Rattle.account_book.proofs.RangeLemmas.{act_as_set, all_set, found}
-use Rattle.account_book.proofs.MapLemmas.{is_changed}
+use Rattle.account_book.proofs.lemmas.Ranges.{act_as_set, all_set, found}
+use Rattle.account_book.proofs.lemmas.Maps.{is_changed}
 use Rattle.account_book.proofs.book.Book.set_act_as.Goals as goal
 
 pub invariant_of-self-inside : goal.invariant_of-self-inside

@@ -5,14 +5,16 @@ use Rattle.book_format.specs.Reading.{book_in, IsReadOrFault}
 use Rattle.book_format.specs.Trees.{IsBookText}
 use Rattle.book_format.specs.declared.fault.BookFault.{BookFault}
 use Rattle.book_format.specs.declared.fault.BookWhy.TheVariants.{NoMemory}
-use Rattle.book_format.proofs.Whole.{text_found, text_held}
+use Rattle.book_format.proofs.lemmas.BookTexts.{text_found, text_held}
 use Rattle.book_format.proofs.contents.Contents.read.Goals as goal
 
-found : (bytes : List ℕ) (r : Result BookFields BookFault) → IsReadOrFault (λ b. b) r (book_in bytes) → IfOk r (λ book. IsBookText bytes book)
+found : (bytes : List ℕ) (r : Result BookFields BookFault) → IsReadOrFault (λ b. b) r (book_in bytes)
+    → IfOk r (λ book. IsBookText bytes book)
 found bytes (Ok book) h = text_found bytes book h
 found bytes (Err fault) h = tt
 
-only : (bytes : List ℕ) (r : Result BookFields BookFault) → IsReadOrFault (λ b. b) r (book_in bytes) → (book : BookFields) → IsBookText bytes book
+only : (bytes : List ℕ) (r : Result BookFields BookFault) → IsReadOrFault (λ b. b) r (book_in bytes) → (book : BookFields)
+    → IsBookText bytes book
     → (r ≡ Ok book) ⊎ IsErrAnd r (λ f. f.why ≡ NoMemory)
 only bytes (Ok other) h book text = inl (sym h ∙ text_held bytes book text)
 only bytes (Err fault) (inl memory) book text = inr memory

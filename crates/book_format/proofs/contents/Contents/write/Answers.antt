@@ -4,7 +4,7 @@ use Rattle.std.proofs.lemmas.Bool.{false≢true}
 use Rattle.toml.specs.Data.{members_depth, members_have_valid_dates}
 use Rattle.toml.specs.Parse.{parse_document}
 use Rattle.book_format.specs.Written.{book_tree}
-use Rattle.book_format.proofs.Printable.{book_flat}
+use Rattle.book_format.proofs.lemmas.Depths.{book_flat}
 use Rattle.book_format.proofs.contents.Contents.write.Goals as goal
 
 pub returns-in-Ok-clause-stands : goal.returns-in-Ok-clause-stands

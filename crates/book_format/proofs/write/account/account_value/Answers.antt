@@ -1,13 +1,16 @@
 use Rattle.std.proofs.Common.{subst}
+use Rattle.mac_core.specs.Mechanism.{length_by}
+use Rattle.mac_core.specs.declared.mechanism.Mechanism.TheVariants.{ScramSha1, ScramSha256}
 use Rattle.book_format.specs.Account.{IsAccount}
 use Rattle.book_format.specs.ValueTypes.{AreNames}
 use Rattle.book_format.specs.Rows.{WritesItself, in_table}
 use Rattle.book_format.specs.Tables.{account}
-use Rattle.book_format.proofs.WritesItself.{account_writes_itself}
+use Rattle.book_format.proofs.lemmas.WritesItself.{account_writes_itself}
 use Rattle.book_format.proofs.write.account.account_value.Goals as goal
 
 pub returns-clause-itself : goal.returns-clause-itself
 returns-clause-itself c =
     subst (λ a. IsAccount a → WritesItself (in_table account) a) c.account.view_is (λ fits.
-    account_writes_itself _ fits (subst AreNames c.as_slice.ensures.value c.in_ok-names_value.ensures.plain) (c.in_ok-put_keys.ensures.itself 20 fits.sha1)
-    (c.in_ok-put_keys-2.ensures.itself 32 fits.sha256) c.in_ok-put_token.ensures.itself)
+    account_writes_itself _ fits (subst AreNames c.as_slice.ensures.value c.in_ok-names_value.ensures.plain)
+    (c.in_ok-put_keys.ensures.itself (length_by ScramSha1) fits.sha1)
+    (c.in_ok-put_keys-2.ensures.itself (length_by ScramSha256) fits.sha256) c.in_ok-put_token.ensures.itself)

@@ -1,7 +1,7 @@
 use Rattle.std.proofs.Common.{ap, ◌∙◌}
 use Rattle.toml.specs.View.{view, members_view, table_view}
 use Rattle.book_format.specs.Put.{put_member}
-use Rattle.book_format.proofs.PutLemmas.{members_view-insert_entry}
+use Rattle.book_format.proofs.lemmas.Put.{members_view-insert_entry}
 use Rattle.book_format.proofs.write.put.put.Goals as goal
 
 pub returns : goal.returns

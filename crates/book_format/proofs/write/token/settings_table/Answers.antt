@@ -1,6 +1,6 @@
 use Rattle.std.proofs.Common.{subst}
-use Rattle.book_format.proofs.ValueTypeLemmas.{ComesBack}
-use Rattle.book_format.proofs.WritesItself.{totp_writes_itself}
+use Rattle.book_format.proofs.lemmas.ValueTypes.{ComesBack}
+use Rattle.book_format.proofs.lemmas.WritesItself.{totp_writes_itself}
 use Rattle.book_format.proofs.write.token.settings_table.Goals as goal
 
 pub returns-clause-itself : goal.returns-clause-itself

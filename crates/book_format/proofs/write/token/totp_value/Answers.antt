@@ -3,7 +3,7 @@ use Rattle.std.specs.Prelude.{option_map, codes, pos}
 use Rattle.toml.specs.Data.{table, integer}
 use Rattle.toml.proofs.Views.{view-Table}
 use Rattle.book_format.specs.Put.{put_some}
-use Rattle.book_format.proofs.WritesItself.{last_put_last}
+use Rattle.book_format.proofs.lemmas.WritesItself.{last_put_last}
 use Rattle.book_format.proofs.write.token.totp_value.Goals as goal
 
 pub returns-clause-tree : goal.returns-clause-tree

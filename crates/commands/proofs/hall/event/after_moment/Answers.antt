@@ -2,8 +2,8 @@ use Rattle.std.proofs.Common.{◌≢◌, ◌∷◌, ◌++◌, ℕ, List}
 use Rattle.std.specs.Prelude.{decimal}
 use Rattle.std.specs.Str.{byte}
 use Rattle.otp_core.specs.Ranges.{IsMoment}
-use Rattle.sasl_log.proofs.texts.WithSpaces.{none_by}
-use Rattle.commands.proofs.EventWords.{moment_alone, moment_first}
+use Rattle.sasl_log.proofs.lemmas.texts.WithSpaces.{none_by}
+use Rattle.commands.proofs.lemmas.EventWords.{moment_alone, moment_first}
 use Rattle.commands.proofs.hall.event.after_moment.Goals as goal
 
 pub returns-in_err-seconds-clause-none : goal.returns-in_err-seconds-clause-none

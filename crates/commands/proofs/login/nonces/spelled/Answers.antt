@@ -1,7 +1,7 @@
 use Rattle.std.proofs.Common.{◌≡◌, ◌∙◌, sym, subst, rules, arith, List, ℕ}
 use Rattle.scram_text.specs.Class.{IsNoncePart}
 use Rattle.scram_text.specs.Base64Field.{base64}
-use Rattle.commands.proofs.NonceLemmas.{is_nonce_part}
+use Rattle.commands.proofs.lemmas.Nonces.{is_nonce_part}
 use Rattle.commands.proofs.login.nonces.spelled.Goals as goal
 
 pub unreachable-requires : goal.unreachable-requires

@@ -1,4 +1,4 @@
-use Rattle.otp_core.proofs.DigitsLemmas.{IsUtf8-from_digits}
+use Rattle.otp_core.proofs.lemmas.Digits.{IsUtf8-from_digits}
 use Rattle.otp_core.proofs.code.Code.text.Goals as goal
 use Rattle.std.specs.Str.{IsUtf8}
 

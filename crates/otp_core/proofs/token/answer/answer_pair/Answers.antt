@@ -1,4 +1,4 @@
-use Rattle.otp_core.proofs.Pairs.{found_moves, found_due}
+use Rattle.otp_core.proofs.lemmas.Pairs.{found_moves, found_due}
 use Rattle.otp_core.proofs.token.answer.answer_pair.Goals as goal
 
 pub reply_by-requires-clause-counter : goal.reply_by-requires-clause-counter

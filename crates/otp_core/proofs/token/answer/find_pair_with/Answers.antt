@@ -2,13 +2,15 @@ use Rattle.std.proofs.Common.{◌≡◌, ◌+◌, inl, inr, ℕ, true, refl, sym
 use Rattle.std.proofs.lemmas.Bool.{both_ways, cases_lt}
 use Rattle.otp_core.specs.Code.{hotp_text_by}
 use Rattle.otp_core.specs.declared.hash.OtpHash.TheVariants.{Sha1}
-use Rattle.otp_core.proofs.token.answer.find_pair_with.Goals.{else-follows_first-via-then-follows_first+else-is_text, else-follows_first-via-else-follows_first}
+use Rattle.otp_core.proofs.token.answer.find_pair_with.Goals.{else-follows_first-via-then-follows_first+else-is_text}
+use Rattle.otp_core.proofs.token.answer.find_pair_with.Goals.{else-follows_first-via-else-follows_first}
 use Rattle.otp_core.proofs.token.answer.find_pair_with.Goals as goal
 
 pub returns-then-is_text-clause-some : goal.returns-then-is_text-clause-some
 returns-then-is_text-clause-some c =
     let text_of = λ (k : ℕ). hotp_text_by Sha1 c.args.token.now.digits c.args.token.now.secret k in
-    let code : c.hotp_with-code.result ≡ text_of c.loop-counter.counter = rw (c.bytes.ensures.value) at (c.hotp_with-code.ensures _ c.new-prepared.ensures) in
+    let code : c.hotp_with-code.result ≡ text_of c.loop-counter.counter = rw (c.bytes.ensures.value) at
+    (c.hotp_with-code.ensures _ c.new-prepared.ensures) in
     let (w, next, from, first) = c.loop-counter.invariant.flag.0 c.if-follows_first.true in
     let here = sym code ∙ c.is_text.ensures.0 c.if-is_text.true in
     (w, next, from, omega (arith, next, c.loop-counter-test.true), first, subst (λ (n : ℕ). text_of n ≡ c.args.second.now) next here)
@@ -23,7 +25,8 @@ pub loop-counter-preserved : goal.loop-counter-preserved
 loop-counter-preserved c =
     let text_of = λ (k : ℕ). hotp_text_by Sha1 c.args.token.now.digits c.args.token.now.secret k in
     let counter = c.loop-counter.counter in
-    let code : c.hotp_with-code.result ≡ text_of counter = rw (c.bytes.ensures.value) at (c.hotp_with-code.ensures _ c.new-prepared.ensures) in
+    let code : c.hotp_with-code.result ≡ text_of counter = rw (c.bytes.ensures.value) at
+    (c.hotp_with-code.ensures _ c.new-prepared.ensures) in
     let old = c.loop-counter.invariant in
     record {
       flag = (
@@ -47,4 +50,5 @@ loop-counter-preserved c =
     }
 
 pub returns-clause-none : goal.returns-clause-none
-returns-clause-none c = λ w from below first second. c.loop-counter.invariant.none w from (omega (arith, below, c.loop-counter-test.false)) first second
+returns-clause-none c = λ w from below first second. c.loop-counter.invariant.none w from
+    (omega (arith, below, c.loop-counter-test.false)) first second

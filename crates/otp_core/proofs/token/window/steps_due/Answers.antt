@@ -1,5 +1,5 @@
 use Rattle.std.proofs.Common.{rules, FitsSigned, w64, to_z-of_z}
-use Rattle.otp_core.proofs.WindowLemmas.{cut_by_last, cut_by_none}
+use Rattle.otp_core.proofs.lemmas.Windows.{cut_by_last, cut_by_none}
 use Rattle.otp_core.proofs.token.window.steps_due.Goals as goal
 
 pub returns-in-Some : goal.returns-in-Some

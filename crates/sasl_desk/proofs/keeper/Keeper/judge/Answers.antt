@@ -1,20 +1,23 @@
-use Rattle.std.proofs.Common.{refl, sym, ◌∙◌}
+use Rattle.std.proofs.Common.{rules, ◌≡◌, ◌≢◌, refl, sym, ◌∙◌}
 use Rattle.std.specs.declared.option.Option.TheVariants.{Some}
-use Rattle.sasl_desk.proofs.turns.Keepers.{reply_in_range, told_by, told_none, told_locked, saved_unless_locked, kept_by, put_back}
+use Rattle.otp_core.specs.declared.token.answer.Reply.TheVariants.{Locked}
+use Rattle.sasl_desk.proofs.lemmas.turns.Keepers.{reply_in_range, told_by, told_none, told_locked, saved_unless_locked, kept_by, put_back}
 use Rattle.sasl_desk.proofs.keeper.Keeper.judge.Goals as goal
 
-pub returns-then-is_locked-clause-ok : goal.returns-then-is_locked-clause-ok
-returns-then-is_locked-clause-ok g c =
+pub returns-then-eq-clause-ok : goal.returns-then-eq-clause-ok
+returns-then-eq-clause-ok g c =
+    let locked : c.judge-reply.result ≡ Locked = search rules in
     told_locked g.S.BookStore.IsStored _ c.args.name.now c.in-Some.token c.judge-reply.new.self c.args.moment _ c.judge-reply.result c.moment_is_in_range.ensures (sym c.token.ensures ∙ c.in-Some.is)
     (record { due = c.judge-reply.ensures.due; after = c.judge-reply.ensures.after; state = c.judge-reply.ensures.state })
-    c.if-is_locked.ensures.locked _
+    locked _
 
-pub returns-then-is_locked-clause-counter : goal.returns-then-is_locked-clause-counter
-returns-then-is_locked-clause-counter g c = reply_in_range c.judge-reply.result c.judge-reply.ensures.counter
+pub returns-then-eq-clause-counter : goal.returns-then-eq-clause-counter
+returns-then-eq-clause-counter g c = reply_in_range c.judge-reply.result c.judge-reply.ensures.counter
 
 pub returns-in-Err-clause-err : goal.returns-in-Err-clause-err
 returns-in-Err-clause-err g c = (
-  put_back _ _ _ c.args.name.now c.in-Some.token c.judge-reply.new.self c.copy-before.result (sym c.token.ensures ∙ c.in-Some.is) c.copy-before.ensures
+  put_back _ _ _ c.args.name.now c.in-Some.token c.judge-reply.new.self c.copy-before.result
+      (sym c.token.ensures ∙ c.in-Some.is) c.copy-before.ensures
       c.put_token.ensures.put c.put_token-in-Err.ensures.put,
   refl,
 )
@@ -23,18 +26,21 @@ pub returns-in-Err-clause-memory : goal.returns-in-Err-clause-memory
 returns-in-Err-clause-memory g c = (
   Some c.judge-reply.result,
   c.put_token.new.self,
-  saved_unless_locked c.judge-reply.result c.if-is_locked.ensures.open,
-  told_by _ _ c.args.name.now c.in-Some.token c.judge-reply.new.self c.args.moment _ c.judge-reply.result c.moment_is_in_range.ensures (sym c.token.ensures ∙ c.in-Some.is)
+  (let apart : c.judge-reply.result ≢ Locked = search rules in saved_unless_locked c.judge-reply.result apart),
+  told_by _ _ c.args.name.now c.in-Some.token c.judge-reply.new.self c.args.moment _ c.judge-reply.result c.moment_is_in_range.ensures
+      (sym c.token.ensures ∙ c.in-Some.is)
       (record { due = c.judge-reply.ensures.due; after = c.judge-reply.ensures.after; state = c.judge-reply.ensures.state })
       c.put_token.ensures.put,
 )
 
 pub returns-in-Ok-saved-clause-ok : goal.returns-in-Ok-saved-clause-ok
-returns-in-Ok-saved-clause-ok g c = (
-  told_by _ _ c.args.name.now c.in-Some.token c.judge-reply.new.self c.args.moment _ c.judge-reply.result c.moment_is_in_range.ensures (sym c.token.ensures ∙ c.in-Some.is)
+returns-in-Ok-saved-clause-ok g c = let apart : c.judge-reply.result ≢ Locked = search rules in (
+  told_by _ _ c.args.name.now c.in-Some.token c.judge-reply.new.self c.args.moment _ c.judge-reply.result c.moment_is_in_range.ensures
+      (sym c.token.ensures ∙ c.in-Some.is)
       (record { due = c.judge-reply.ensures.due; after = c.judge-reply.ensures.after; state = c.judge-reply.ensures.state })
       c.put_token.ensures.put,
-  kept_by g.S.BookStore.IsStored _ _ _ _ c.judge-reply.result c.if-is_locked.ensures.open (record { text = _; is_text = c.in-Ok.ensures.stands; saved = c.in-Ok-saved.ensures.saves; stored = c.in-Ok-saved.ensures.stored }),
+  kept_by g.S.BookStore.IsStored _ _ _ _ c.judge-reply.result apart
+      (record { text = _; is_text = c.in-Ok.ensures.stands; saved = c.in-Ok-saved.ensures.saves; stored = c.in-Ok-saved.ensures.stored }),
 )
 
 pub returns-in-Ok-saved-clause-counter : goal.returns-in-Ok-saved-clause-counter
@@ -42,13 +48,15 @@ returns-in-Ok-saved-clause-counter g c = reply_in_range c.judge-reply.result c.j
 
 pub returns-in-Err-saved-clause-ok : goal.returns-in-Err-saved-clause-ok
 returns-in-Err-saved-clause-ok g c = (
-  put_back _ _ _ c.args.name.now c.in-Some.token c.judge-reply.new.self c.copy-before.result (sym c.token.ensures ∙ c.in-Some.is) c.copy-before.ensures
+  put_back _ _ _ c.args.name.now c.in-Some.token c.judge-reply.new.self c.copy-before.result
+      (sym c.token.ensures ∙ c.in-Some.is) c.copy-before.ensures
       c.put_token.ensures.put c.put_token-in-Err-saved.ensures.put,
   (
     Some c.judge-reply.result,
     c.put_token.new.self,
-    saved_unless_locked c.judge-reply.result c.if-is_locked.ensures.open,
-    told_by _ _ c.args.name.now c.in-Some.token c.judge-reply.new.self c.args.moment _ c.judge-reply.result c.moment_is_in_range.ensures (sym c.token.ensures ∙ c.in-Some.is)
+    (let apart : c.judge-reply.result ≢ Locked = search rules in saved_unless_locked c.judge-reply.result apart),
+    told_by _ _ c.args.name.now c.in-Some.token c.judge-reply.new.self c.args.moment _ c.judge-reply.result c.moment_is_in_range.ensures
+        (sym c.token.ensures ∙ c.in-Some.is)
         (record { due = c.judge-reply.ensures.due; after = c.judge-reply.ensures.after; state = c.judge-reply.ensures.state })
         c.put_token.ensures.put,
     record { text = _; is_text = c.in-Ok.ensures.stands; lost = c.in-Err-saved.ensures.saves },
@@ -56,4 +64,8 @@ returns-in-Err-saved-clause-ok g c = (
 )
 
 pub returns-in_default-clause-ok : goal.returns-in_default-clause-ok
-returns-in_default-clause-ok g c = (told_none _ c.args.name.now c.args.moment _ c.moment_is_in_range.ensures (sym c.token.ensures ∙ c.in_default.is), (refl, refl))
+returns-in_default-clause-ok g c = (
+  told_none _ c.args.name.now c.args.moment _ c.moment_is_in_range.ensures
+      (sym c.token.ensures ∙ c.in_default.is),
+  (refl, refl),
+)

@@ -1,4 +1,4 @@
-use Rattle.sasl_desk.proofs.halls.Laws.{hall_is_front}
+use Rattle.sasl_desk.proofs.lemmas.halls.Laws.{hall_is_front}
 use Rattle.sasl_desk.proofs.laws.hall.log_is_a_front.Goals as goal
 
 pub returns : goal.returns

@@ -1,4 +1,4 @@
-use Rattle.sasl_desk.proofs.halls.Laws.{closed_is_clean, failed_is_clean, halted_is_clean}
+use Rattle.sasl_desk.proofs.lemmas.halls.Laws.{closed_is_clean, failed_is_clean, halted_is_clean}
 use Rattle.sasl_desk.proofs.laws.hall.log_is_clean.Goals as goal
 
 pub returns-clause-closed : goal.returns-clause-closed

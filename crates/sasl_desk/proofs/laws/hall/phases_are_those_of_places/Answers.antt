@@ -1,4 +1,4 @@
-use Rattle.sasl_desk.proofs.halls.Laws.{phases_of_places}
+use Rattle.sasl_desk.proofs.lemmas.halls.Laws.{phases_of_places}
 use Rattle.sasl_desk.proofs.laws.hall.phases_are_those_of_places.Goals as goal
 
 pub returns : goal.returns

@@ -1,4 +1,4 @@
-use Rattle.sasl_desk.proofs.runs.ToldAlone.{sessions_alone}
+use Rattle.sasl_desk.proofs.lemmas.runs.ToldAlone.{sessions_alone}
 use Rattle.sasl_desk.proofs.laws.hall.sessions_are_told_alone.Goals as goal
 
 pub returns : goal.returns

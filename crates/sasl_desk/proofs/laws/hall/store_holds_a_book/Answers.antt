@@ -1,4 +1,4 @@
-use Rattle.sasl_desk.proofs.halls.Laws.{left_by_hall}
+use Rattle.sasl_desk.proofs.lemmas.halls.Laws.{left_by_hall}
 use Rattle.sasl_desk.proofs.laws.hall.store_holds_a_book.Goals as goal
 
 pub returns : goal.returns

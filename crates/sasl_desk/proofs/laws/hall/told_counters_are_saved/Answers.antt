@@ -1,4 +1,4 @@
-use Rattle.sasl_desk.proofs.halls.Laws.{saved_by_hall, stopped_by_hall}
+use Rattle.sasl_desk.proofs.lemmas.halls.Laws.{saved_by_hall, stopped_by_hall}
 use Rattle.sasl_desk.proofs.laws.hall.told_counters_are_saved.Goals as goal
 
 pub returns-clause-ended : goal.returns-clause-ended

@@ -1,16 +1,18 @@
 use Rattle.std.proofs.lemmas.Result.{on_err_weaker}
 use Rattle.sasl_log.specs.Shown.{client_shown}
 use Rattle.sasl_desk.specs.Events.{sends, goes_away}
-use Rattle.sasl_desk.proofs.turns.HeardLines.{all_heard_of_line, no_line_record, all_asks_of_line}
+use Rattle.sasl_desk.proofs.lemmas.turns.HeardLines.{all_heard_of_line, no_line_record, all_asks_of_line}
 use Rattle.sasl_desk.proofs.session.Session.hear.Goals as goal
 
 pub returns-in-Gone-clause-heard : goal.returns-in-Gone-clause-heard
-returns-in-Gone-clause-heard g c = λ accounts at keeps is. rw (c.in-Gone.is, c.requires) (c.departed.ensures.turn accounts c.args.own.now at goes_away tt)
+returns-in-Gone-clause-heard g c = λ accounts at keeps is. rw (c.in-Gone.is, c.requires)
+    (c.departed.ensures.turn accounts c.args.own.now at goes_away tt)
 
 pub returns-in-Some-clause-heard : goal.returns-in-Some-clause-heard
 returns-in-Some-clause-heard g c = λ accounts at keeps is.
     rw c.in-Line.is
-    (all_heard_of_line c.is_one_line.ensures accounts c.args.own.now (sends c.in-Line.text.now) (client_shown c.in-Some.line) at c.hear_line.result
+    (all_heard_of_line c.is_one_line.ensures accounts c.args.own.now (sends c.in-Line.text.now)
+    (client_shown c.in-Some.line) at c.hear_line.result
     c.hear_line.new.message.items c.in-Some.ensures.some (c.hear_line.ensures.heard accounts at keeps is))
 
 pub returns-in-None-clause-heard : goal.returns-in-None-clause-heard
@@ -22,7 +24,8 @@ returns-in-None-clause-heard g c = λ accounts at keeps is.
 pub returns-in-Some-clause-asked : goal.returns-in-Some-clause-asked
 returns-in-Some-clause-asked g c =
     rw c.in-Line.is
-    (all_asks_of_line (sends c.in-Line.text.now) (client_shown c.in-Some.line) c.hear_line.result c.in-Some.ensures.some c.hear_line.ensures.asked)
+    (all_asks_of_line (sends c.in-Line.text.now)
+    (client_shown c.in-Some.line) c.hear_line.result c.in-Some.ensures.some c.hear_line.ensures.asked)
 
 pub returns-in-Some-clause-memory : goal.returns-in-Some-clause-memory
 returns-in-Some-clause-memory g c =

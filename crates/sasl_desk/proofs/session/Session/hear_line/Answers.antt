@@ -7,13 +7,15 @@ use Rattle.sasl_desk.proofs.session.Session.hear_line.Goals as goal
 pub returns-in_ok-hear_offered-in-Offered-clause-heard : goal.returns-in_ok-hear_offered-in-Offered-clause-heard
 returns-in_ok-hear_offered-in-Offered-clause-heard g c = λ accounts at keeps is.
     let here = rw c.in-Offered.is at is in
-    subst (λ (p : Place). IsTurnOnLine accounts c.args.own.now (client_shown c.args.line) p c.in_ok-hear_offered-in-Offered.field-0 c.hear_offered.new.message.items)
+    subst (λ (p : Place). IsTurnOnLine accounts c.args.own.now
+    (client_shown c.args.line) p c.in_ok-hear_offered-in-Offered.field-0 c.hear_offered.new.message.items)
     (sym here) (c.in_ok-hear_offered-in-Offered.ensures.turn accounts keeps)
 
 pub returns-in_ok-hear_first-in-WaitsFirst-clause-heard : goal.returns-in_ok-hear_first-in-WaitsFirst-clause-heard
 returns-in_ok-hear_first-in-WaitsFirst-clause-heard g c = λ accounts at keeps is.
     let here = rw c.in-WaitsFirst.is at is in
-    subst (λ (p : Place). IsTurnOnLine accounts c.args.own.now (client_shown c.args.line) p c.in_ok-hear_first-in-WaitsFirst.field-0 c.hear_first.new.message.items)
+    subst (λ (p : Place). IsTurnOnLine accounts c.args.own.now
+    (client_shown c.args.line) p c.in_ok-hear_first-in-WaitsFirst.field-0 c.hear_first.new.message.items)
     (sym here) (c.in_ok-hear_first-in-WaitsFirst.ensures.turn accounts keeps)
 
 pub returns-in_ok-hear_final-in-WaitsFinal-clause-heard : goal.returns-in_ok-hear_final-in-WaitsFinal-clause-heard

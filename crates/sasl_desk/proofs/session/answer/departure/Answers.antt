@@ -1,4 +1,4 @@
-use Rattle.sasl_desk.proofs.turns.DueAnswers.{departure_due}
+use Rattle.sasl_desk.proofs.lemmas.turns.DueAnswers.{departure_due}
 use Rattle.sasl_desk.proofs.session.answer.departure.Goals as goal
 
 pub returns-clause-due : goal.returns-clause-due

@@ -1,4 +1,4 @@
-use Rattle.sasl_desk.proofs.turns.DueAnswers.{invitation_due}
+use Rattle.sasl_desk.proofs.lemmas.turns.DueAnswers.{invitation_due}
 use Rattle.sasl_desk.proofs.session.answer.invitation.Goals as goal
 
 pub returns-in-Some-clause-due : goal.returns-in-Some-clause-due

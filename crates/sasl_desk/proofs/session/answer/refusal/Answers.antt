@@ -1,4 +1,4 @@
-use Rattle.sasl_desk.proofs.turns.DueAnswers.{bare_no_due}
+use Rattle.sasl_desk.proofs.lemmas.turns.DueAnswers.{bare_no_due}
 use Rattle.sasl_desk.proofs.session.answer.refusal.Goals as goal
 
 pub returns-clause-due : goal.returns-clause-due

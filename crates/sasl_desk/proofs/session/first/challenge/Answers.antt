@@ -3,8 +3,8 @@ use Rattle.scram_ends.specs.Entry.{entry_of}
 use Rattle.log_grammar.specs.Lines.{said, cont}
 use Rattle.log_grammar.specs.Places.{got_first}
 use Rattle.sasl_desk.specs.Sessions.{CanBeWritten}
-use Rattle.sasl_desk.proofs.turns.DueAnswers.{first_of, not_first, challenge_due}
-use Rattle.sasl_desk.proofs.turns.Writable.{challenge_written}
+use Rattle.sasl_desk.proofs.lemmas.turns.DueAnswers.{first_of, not_first, challenge_due}
+use Rattle.sasl_desk.proofs.lemmas.turns.Writable.{challenge_written}
 use Rattle.sasl_desk.proofs.session.first.challenge.Goals as goal
 
 pub new-requires : goal.new-requires
@@ -23,7 +23,8 @@ returns-in-Ok-clause-due g c = λ accounts name keeps named.
     let message : c.server_first.new.out.items ≡ server_first = written ∙ ap (λ (t : List ℕ). t ++ server_first) c.requires.empty in
     rw c.new.ensures
     (challenge_due c.has_one_client_first.ensures c.spells_one_name.ensures accounts c.args.own.now c.in-Ok.wait m name user first server_first
-    c.server_first.new.out.items (entry_of c.view-view.result) entry message named (first_of name first user m parts authzid named is taken) shows stands)
+    c.server_first.new.out.items (entry_of c.view-view.result) entry message named
+    (first_of name first user m parts authzid named is taken) shows stands)
 
 pub returns-in-Ok-clause-lines : goal.returns-in-Ok-clause-lines
 returns-in-Ok-clause-lines g c =
@@ -36,4 +37,5 @@ returns-in-Err-First-clause-due g c = λ accounts name keeps named.
     let first = c.args.client_first.now in
     let refused = c.in-Err-First.ensures.first _ c.in-Err-First.field-0-is in
     rw (c.in-Err-First.ensures.unchanged.0, c.requires.empty)
-    (c.refusal.ensures.due accounts c.args.own.now (got_first name first) (not_first c.refused_is_not_taken_up.ensures name first _ refused))
+    (c.refusal.ensures.due accounts c.args.own.now (got_first name first)
+    (not_first c.refused_is_not_taken_up.ensures name first _ refused))

@@ -1,5 +1,5 @@
 use Rattle.log_grammar.specs.Places.{got_first}
-use Rattle.sasl_desk.proofs.turns.DueAnswers.{not_first}
+use Rattle.sasl_desk.proofs.lemmas.turns.DueAnswers.{not_first}
 use Rattle.sasl_desk.proofs.session.first.taken_up.Goals as goal
 
 pub returns-in-Err-clause-due : goal.returns-in-Err-clause-due

@@ -1,11 +1,14 @@
 use Rattle.std.proofs.Common.{refl}
-use Rattle.sasl_desk.proofs.turns.Writable.{heard_can_be}
+use Rattle.sasl_desk.proofs.lemmas.turns.Writable.{heard_can_be}
 use Rattle.sasl_desk.proofs.session.hear.hear_final.Goals as goal
 
 pub returns-in-Ok-clause-turn : goal.returns-in-Ok-clause-turn
 returns-in-Ok-clause-turn g c = λ accounts own at is.
     let (client_first, server_first, place, stands) = is in
-    rw (c.in-Resp.is, place) (record { is_record = (refl, refl); is_answer = c.in-Ok.ensures.due accounts own client_first server_first stands })
+    rw (c.in-Resp.is, place) (record {
+      is_record = (refl, refl);
+      is_answer = c.in-Ok.ensures.due accounts own client_first server_first stands;
+    })
 
 pub returns-in-Abort-clause-turn : goal.returns-in-Abort-clause-turn
 returns-in-Abort-clause-turn g c = λ accounts own at is.

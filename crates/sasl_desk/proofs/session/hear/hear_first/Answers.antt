@@ -1,7 +1,7 @@
 use Rattle.std.proofs.Common.{refl}
 use Rattle.mac_core.specs.Mechanism.{name_of}
 use Rattle.log_grammar.specs.Places.{waits_first}
-use Rattle.sasl_desk.proofs.turns.Writable.{heard_can_be}
+use Rattle.sasl_desk.proofs.lemmas.turns.Writable.{heard_can_be}
 use Rattle.sasl_desk.proofs.session.hear.hear_first.Goals as goal
 
 pub returns-in-Abort-clause-turn : goal.returns-in-Abort-clause-turn
@@ -9,16 +9,20 @@ returns-in-Abort-clause-turn g c = λ accounts keeps.
     rw (c.in-Abort.is, c.requires.empty) (c.aborted.ensures.line accounts c.args.own.now (waits_first (name_of c.args.mechanism)) refl)
 
 pub returns-in-Auth-clause-turn : goal.returns-in-Auth-clause-turn
-returns-in-Auth-clause-turn g c = λ accounts keeps. rw (c.in-Auth.is, c.requires.empty) (c.spoiled.ensures.line accounts c.args.own.now (waits_first (name_of c.args.mechanism)) _ refl)
+returns-in-Auth-clause-turn g c = λ accounts keeps. rw (c.in-Auth.is, c.requires.empty)
+    (c.spoiled.ensures.line accounts c.args.own.now (waits_first (name_of c.args.mechanism)) _ refl)
 
 pub returns-in-AuthWith-clause-turn : goal.returns-in-AuthWith-clause-turn
-returns-in-AuthWith-clause-turn g c = λ accounts keeps. rw (c.in-AuthWith.is, c.requires.empty) (c.spoiled-in-AuthWith.ensures.line accounts c.args.own.now (waits_first (name_of c.args.mechanism)) _ refl)
+returns-in-AuthWith-clause-turn g c = λ accounts keeps. rw (c.in-AuthWith.is, c.requires.empty)
+    (c.spoiled-in-AuthWith.ensures.line accounts c.args.own.now (waits_first (name_of c.args.mechanism)) _ refl)
 
 pub returns-in-Code-clause-turn : goal.returns-in-Code-clause-turn
-returns-in-Code-clause-turn g c = λ accounts keeps. rw (c.in-Code.is, c.requires.empty) (c.spoiled-in-Code.ensures.line accounts c.args.own.now (waits_first (name_of c.args.mechanism)) _ refl)
+returns-in-Code-clause-turn g c = λ accounts keeps. rw (c.in-Code.is, c.requires.empty)
+    (c.spoiled-in-Code.ensures.line accounts c.args.own.now (waits_first (name_of c.args.mechanism)) _ refl)
 
 pub returns-in-Sync-clause-turn : goal.returns-in-Sync-clause-turn
-returns-in-Sync-clause-turn g c = λ accounts keeps. rw (c.in-Sync.is, c.requires.empty) (c.spoiled-in-Sync.ensures.line accounts c.args.own.now (waits_first (name_of c.args.mechanism)) _ refl)
+returns-in-Sync-clause-turn g c = λ accounts keeps. rw (c.in-Sync.is, c.requires.empty)
+    (c.spoiled-in-Sync.ensures.line accounts c.args.own.now (waits_first (name_of c.args.mechanism)) _ refl)
 
 pub returns-in-Ok-clause-lines : goal.returns-in-Ok-clause-lines
 returns-in-Ok-clause-lines g c = (heard_can_be _ (rw c.in-Resp.is at c.requires.line), c.in-Ok.ensures.lines)

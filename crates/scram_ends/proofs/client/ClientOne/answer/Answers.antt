@@ -1,17 +1,18 @@
 use Rattle.std.proofs.Common.{◌≡◌, ℕ, List, [], sym, ◌∙◌, ap, subst, refl, arith}
 use Rattle.std.specs.declared.result.Result.TheVariants.{Err}
 use Rattle.std.proofs.lemmas.Result.{err_from_is_err_and}
+use Rattle.scram_text.specs.Limits.{longest_nonce}
 use Rattle.scram_text.specs.Class.{IsNonce}
 use Rattle.scram_text.specs.Messages.{ClientFinalParts, client_final_text}
 use Rattle.scram_text.specs.Written.{client_final_of}
 use Rattle.scram_text.specs.declared.fault.WriteFault.{WriteFault}
-use Rattle.scram_text.proofs.Base64Lemmas.{field_of_bytes}
-use Rattle.scram_ends.proofs.HonestLemmas.{length_range}
-use Rattle.scram_ends.proofs.ClientLemmas.{front_fails, answer_fails, header_range, expecting}
+use Rattle.scram_text.proofs.lemmas.Base64.{field_of_bytes}
+use Rattle.scram_ends.proofs.lemmas.HonestLogins.{length_range}
+use Rattle.scram_ends.proofs.lemmas.Clients.{front_fails, answer_fails, header_range, expecting}
 use Rattle.scram_ends.proofs.client.ClientOne.answer.Goals as goal
 
-sent_nonce : (nonce part : List ℕ) → nonce ≡ part → IsNonce 512 part → IsNonce 512 nonce
-sent_nonce nonce part same is = subst (λ (n : List ℕ). IsNonce 512 n) (sym same) is
+sent_nonce : (nonce part : List ℕ) → nonce ≡ part → IsNonce longest_nonce part → IsNonce longest_nonce nonce
+sent_nonce nonce part same is = subst (λ (n : List ℕ). IsNonce longest_nonce n) (sym same) is
 
 pub returns-in_err-without_proof-clause-no_memory : goal.returns-in_err-without_proof-clause-no_memory
 returns-in_err-without_proof-clause-no_memory g c =
@@ -31,19 +32,22 @@ returns-in_err-write_with_proof-clause-no_memory g c =
     let final : ClientFinalParts = client_final_of header c.args.challenge.now.nonce.now [] proof in
     let range = header_range c.args.self.now l header started c.as_slice-header.ensures.value in
     let size = length_range c.args.self.now.mechanism in
-    let field = field_of_bytes 64 proof c.prove-answer.ensures.bytes (omega (arith, c.prove-answer.ensures.len, size.0)) (omega (arith, c.prove-answer.ensures.len, size.1)) in
+    let field = field_of_bytes 64 proof c.prove-answer.ensures.bytes (omega (arith, c.prove-answer.ensures.len, size.0))
+    (omega (arith, c.prove-answer.ensures.len, size.1)) in
     let composed = c.in_ok-without_proof.ensures.ok proof in
     let full = answer_fails c.write_with_proof.result _ c.in_ok-without_proof.without_proof header c.args.challenge.now.nonce.now proof c.in_err-write_with_proof.was
     range.1 (sent_nonce _ p.nonce shows.nonce is.nonce) field composed
     c.write_with_proof.ensures.unwritable c.write_with_proof.ensures.over_limit in
-    let room = c.write_with_proof.ensures.no_memory (c.in_err-write_with_proof.was ∙ ap (λ (x : WriteFault). Err x) full) final composed refl in (
+    let room = c.write_with_proof.ensures.no_memory
+    (c.in_err-write_with_proof.was ∙ ap (λ (x : WriteFault). Err x) full) final composed refl in (
       full,
       (
         client_final_text final,
         (expecting c.args.self.now (record { expected = c.prove-answer.result.expected }) l c.args.server_first.now c.args.password.now
             header c.args.challenge.now.nonce.now c.args.challenge.now.salt c.as_slice.result.now proof c.args.challenge.now.count p started is
             c.as_slice-header.ensures.value shows.nonce shows.salt shows.count (c.as_slice.ensures final composed)
-            (c.prove-answer.ensures.proof started.first started.bare) (c.prove-answer.ensures.expected started.first started.bare) room.0).honest,
+            (c.prove-answer.ensures.proof started.first started.bare)
+            (c.prove-answer.ensures.expected started.first started.bare) room.0).honest,
         room.1,
       ),
     ))

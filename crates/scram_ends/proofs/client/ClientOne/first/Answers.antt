@@ -1,4 +1,4 @@
-use Rattle.scram_ends.proofs.ChallengeLemmas.{not_refused, fault_of}
+use Rattle.scram_ends.proofs.lemmas.Challenges.{not_refused, fault_of}
 use Rattle.scram_ends.proofs.client.ClientOne.first.Goals as goal
 
 pub returns-in-Ok-answer-clause-ok : goal.returns-in-Ok-answer-clause-ok

@@ -2,8 +2,8 @@ use Rattle.std.proofs.Common.{◌≡◌, Err, ap}
 use Rattle.scram_text.specs.declared.fault.WriteFault.{WriteFault}
 use Rattle.scram_text.specs.declared.fault.WriteFault.TheVariants.{NoMemory}
 use Rattle.scram_ends.specs.Verdict.{due_of, due_text}
-use Rattle.scram_ends.proofs.VerdictLemmas.{valid_iff}
-use Rattle.scram_ends.proofs.ServerLemmas.{memory_alone}
+use Rattle.scram_ends.proofs.lemmas.Verdicts.{valid_iff}
+use Rattle.scram_ends.proofs.lemmas.Servers.{memory_alone}
 use Rattle.scram_ends.proofs.server.ServerWait.finish.Goals as goal
 
 pub returns-in-Ok-clause-valid : goal.returns-in-Ok-clause-valid
@@ -17,7 +17,8 @@ returns-in-Ok-clause-valid g c = λ l stands.
 pub returns-in-Err-clause-memory : goal.returns-in-Err-clause-memory
 returns-in-Err-clause-memory g c = λ l stands.
     memory_alone l c.args.client_final.now (due_of c.verdict_on-judged.result) c.in-Err.fault (c.verdict_on-judged.ensures l stands)
-    (λ same. c.in-Err.ensures.unwritable (ap (λ (f : WriteFault). Err f) same)) (λ same. c.in-Err.ensures.over_limit (ap (λ (f : WriteFault). Err f) same))
+    (λ same. c.in-Err.ensures.unwritable (ap (λ (f : WriteFault). Err f) same))
+    (λ same. c.in-Err.ensures.over_limit (ap (λ (f : WriteFault). Err f) same))
 
 pub returns-in-Err-clause-no_memory : goal.returns-in-Err-clause-no_memory
 returns-in-Err-clause-no_memory g c = λ l stands.
@@ -25,6 +26,7 @@ returns-in-Err-clause-no_memory g c = λ l stands.
     let due = c.verdict_on-judged.ensures l stands in
     let memory : c.in-Err.fault ≡ NoMemory =
     memory_alone l c.args.client_final.now d c.in-Err.fault due
-    (λ same. c.in-Err.ensures.unwritable (ap (λ (f : WriteFault). Err f) same)) (λ same. c.in-Err.ensures.over_limit (ap (λ (f : WriteFault). Err f) same)) in
+    (λ same. c.in-Err.ensures.unwritable (ap (λ (f : WriteFault). Err f) same))
+    (λ same. c.in-Err.ensures.over_limit (ap (λ (f : WriteFault). Err f) same)) in
     let room = c.in-Err.ensures.no_memory (ap (λ (f : WriteFault). Err f) memory) in
     (d, due, room.0, room.1)

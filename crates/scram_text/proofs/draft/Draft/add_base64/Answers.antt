@@ -10,6 +10,7 @@ pub returns : goal.returns
 unfolding base64
 returns g c = λ text is.
     let written : take c.in-Ok.size c.encode_slice.new.output ≡ base64 c.args.bytes.now =
-    encoded_prefix (encode_of standard c.args.bytes.now) _ c.encode_slice.new.output (encoded_size_of standard (length c.args.bytes.now)) c.in-Ok.size c.encode_slice.result _
+    encoded_prefix (encode_of standard c.args.bytes.now) _ c.encode_slice.new.output
+    (encoded_size_of standard (length c.args.bytes.now)) c.in-Ok.size c.encode_slice.result _
     (omega arith) c.encode_slice.ensures.fits c.encode_slice.ensures.too_small c.in-Ok.is c.in-Ok.ensures.written in
     subst (λ (t : List ℕ). IsDraftOf c.add.new.self (text ++ t)) written (c.add.ensures text is)

@@ -1,6 +1,6 @@
 use Rattle.std.proofs.Common.{sym, subst}
 use Rattle.std.specs.Str.{IsUtf8}
-use Rattle.scram_text.proofs.TextLemmas.{plain_text}
+use Rattle.scram_text.proofs.lemmas.Texts.{plain_text}
 use Rattle.scram_text.proofs.name.PlainName.text.Goals as goal
 
 pub unreachable-requires : goal.unreachable-requires

@@ -5,13 +5,14 @@ use Rattle.std.specs.declared.option.Option.{Option}
 use Rattle.std.specs.declared.option.Option.TheVariants.{None, Some}
 use Rattle.scram_text.specs.Class.{IsPlainName}
 use Rattle.scram_text.specs.Name.{SpellsName}
-use Rattle.scram_text.proofs.NameLemmas.{name_once}
+use Rattle.scram_text.proofs.lemmas.Names.{name_once}
 use Rattle.scram_text.proofs.name.SaslText.plain.Goals as goal
 
 -- where the one name that is spelled is not plain, no plain name is spelled
 none_plain : (o : Option (List ℕ)) (found spelled : List ℕ) → SpellsName found spelled → SomeIff o (IsPlainName found) found
     → IfNone o ((name : List ℕ) → IsPlainName name → SpellsName name spelled → ⊥)
-none_plain None found spelled spells not_plain = λ name plain also. not_plain (subst IsPlainName (name_once name found (sym also ∙ spells)) plain)
+none_plain None found spelled spells not_plain = λ name plain also. not_plain
+    (subst IsPlainName (name_once name found (sym also ∙ spells)) plain)
 none_plain (Some name) found spelled spells plain = tt
 
 pub returns-clause-none : goal.returns-clause-none

@@ -14,5 +14,10 @@ returns-in-Ok-clause-says c = λ login started.
       answerable = answerable.1;
       client_final = client_final;
       waits = waits;
-      line = subst (λ (text : List ℕ). c.in_ok-line_of-in-Ok.field-0.items ≡ codes "RESP :" ++ (escaped text ++ byte "\n" ∷ [])) message c.in_ok-line_of-in-Ok.ensures.ok;
+      line = subst (λ (text : List ℕ). c.in_ok-line_of-in-Ok.field-0.items ≡ codes "RESP :"
+          ++ (escaped text ++ byte "\n" ∷ [])) message c.in_ok-line_of-in-Ok.ensures.ok;
     }
+
+pub returns-in-Err-Spent-clause-leaves : goal.returns-in-Err-Spent-clause-leaves
+returns-in-Err-Spent-clause-leaves c = λ is login started parts answerable.
+    rw c.in-Err-Spent.field-0-is at (c.in-Err-Spent.ensures.only login parts started answerable)

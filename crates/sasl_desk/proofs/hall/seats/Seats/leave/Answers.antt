@@ -3,14 +3,16 @@ use Rattle.std.proofs.lemmas.Bool.{eqb-true}
 use Rattle.std.proofs.lemmas.List.Quantifiers.{position-Some}
 use Rattle.std.proofs.lemmas.List.Sorted.{IsPermutation-swap_remove}
 use Rattle.sasl_desk.specs.Guests.{is_of}
-use Rattle.sasl_desk.proofs.halls.Guests.{found_nowhere}
+use Rattle.sasl_desk.proofs.lemmas.halls.Guests.{found_nowhere}
 use Rattle.sasl_desk.proofs.hall.seats.Seats.leave.Goals as goal
 
 pub returns-in-Some-clause-some : goal.returns-in-Some-clause-some
 returns-in-Some-clause-some c =
-    let place = position-Some (is_of c.args.number) c.args.self.now c.in-Some.index c.swap_remove.result (sym c.index_of.ensures ∙ c.in-Some.is) in (
+    let place = position-Some (is_of c.args.number) c.args.self.now c.in-Some.index c.swap_remove.result
+    (sym c.index_of.ensures ∙ c.in-Some.is) in (
       rw (← c.self.view_is, c.swap_remove.ensures.items)
-          (IsPermutation-swap_remove c.self.inside.guests.items c.in-Some.index c.swap_remove.result (rw (← c.self.view_is) at place.0) c.swap_remove.ensures.value),
+          (IsPermutation-swap_remove c.self.inside.guests.items c.in-Some.index c.swap_remove.result
+          (rw (← c.self.view_is) at place.0) c.swap_remove.ensures.value),
       eqb-true _ c.args.number (rw (← c.swap_remove.ensures.value) at (rw (← c.self.view_is) at place.1)),
       omega (arith, c.swap_remove.ensures.len, c.self.invariant),
     )

@@ -1,10 +1,10 @@
-use Rattle.std.proofs.Common.{ℕ, List, ◌++◌, sym, ◌∙◌, ap, subst, arith}
+use Rattle.std.proofs.Common.{ℕ, List, ◌++◌, sym, ◌∙◌, ap, subst}
 use Rattle.scram_ends.specs.Stages.{challenged_login}
 use Rattle.scram_ends.specs.Verdict.{due_text, final_due}
 use Rattle.scram_ends.specs.declared.server.ServerWait.{ServerWait}
 use Rattle.sasl_desk.specs.Waiting.{waiting_of, IsChallenging}
-use Rattle.sasl_desk.proofs.turns.DueAnswers.{verdict_due}
-use Rattle.sasl_desk.proofs.turns.Writable.{final_written}
+use Rattle.sasl_desk.proofs.lemmas.turns.DueAnswers.{verdict_due}
+use Rattle.sasl_desk.proofs.lemmas.turns.Writable.{final_written}
 use Rattle.sasl_desk.proofs.session.waiting.Waiting.finish.Goals as goal
 
 pub returns-in-Ok-clause-due : goal.returns-in-Ok-clause-due
@@ -19,7 +19,8 @@ returns-in-Ok-clause-due g c = λ accounts own client_first server_first stands.
 pub returns-in-Ok-clause-lines : goal.returns-in-Ok-clause-lines
 returns-in-Ok-clause-lines g c =
     let (entry, client_first, server_first, stands) = c.self.invariant in
-    let (d, due, says, written, is) = c.in-Ok.ensures.ok (challenged_login entry c.self.inside.mechanism client_first server_first) stands in
+    let (d, due, says, written, is) = c.in-Ok.ensures.ok
+    (challenged_login entry c.self.inside.mechanism client_first server_first) stands in
     let message = written ∙ ap (λ (t : List ℕ). t ++ due_text d) c.requires in
     rw c.outcome.ensures
     (final_written c.in-Ok.verdict c.self.inside.name c.finish.new.out.items (due_text d) (final_due d) message is)
@@ -37,9 +38,3 @@ returns-in-Err-clause-err g c =
       ap (λ (w : ServerWait). waiting_of w c.self.inside.mechanism c.self.inside.name) (c.in-Err.ensures.back memory) ∙ c.self.view_is,
       c.in-Err.ensures.unchanged.0 ∙ c.requires,
     )
-
-pub returns-in-Err-clause-full : goal.returns-in-Err-clause-full
-returns-in-Err-clause-full g c =
-    let (entry, client_first, server_first, stands) = c.self.invariant in
-    let (d, due, short, room) = c.in-Err.ensures.no_memory (challenged_login entry c.self.inside.mechanism client_first server_first) stands in
-    omega (arith, short, room)

@@ -1,0 +1,81 @@
+-- Each account of a book stays in its ranges.
+use Rattle.std.proofs.Common.{◌≡◌, ◌≤◌, cond, length, unwrap_or, ap, sym, subst, Bool, true, false, List, [], ◌∷◌, ℕ, IfSome, OnOk, OnErr}
+use Rattle.std.proofs.Common.{Option, Result, Bor, option_copied}
+use Rattle.std.specs.declared.option.Option.TheVariants.{None, Some}
+use Rattle.std.specs.declared.result.Result.TheVariants.{Ok, Err}
+use Rattle.std.specs.declared.cmp.Ordering.{Ordering}
+use Rattle.std.specs.declared.cmp.Ordering.TheVariants.{Less, Equal, Greater}
+use Rattle.std.specs.BTreeMap.{insert_entry}
+use Rattle.std.specs.Option.{ForSome}
+use Rattle.std.specs.Map.{lookup, remove_entry, set_value}
+use Rattle.std.specs.Ordering.{match_ordering}
+use Rattle.book_format.specs.Account.{AccountFields, IsAccount, most_names}
+use Rattle.otp_core.specs.declared.token.kinds.TokenFields.{TokenFields}
+use Rattle.book_format.specs.Book.{AreAccounts}
+use Rattle.account_book.specs.Accounts.{with_act_as}
+use Rattle.account_book.specs.Tokens.{with_token}
+
+either : (b : Bool) (es fs : List (List ℕ × AccountFields)) → AreAccounts es → AreAccounts fs → AreAccounts (cond b es fs)
+either true es fs h k = h
+either false es fs h k = k
+
+one_of : (o : Ordering) (es fs gs : List (List ℕ × AccountFields)) → AreAccounts es → AreAccounts fs → AreAccounts gs
+    → AreAccounts (match_ordering o es fs gs)
+one_of Less es fs gs h k l = h
+one_of Equal es fs gs h k l = k
+one_of Greater es fs gs h k l = l
+
+some_either : (b : Bool) (account : AccountFields) (o : Option AccountFields) → IsAccount account → IfSome o IsAccount
+    → IfSome (cond b (Some account) o) IsAccount
+some_either true account o h k = h
+some_either false account o h k = k
+
+-- the account that a look-up finds
+pub found : (test : List ℕ → Bool) (es : List (List ℕ × AccountFields)) → AreAccounts es → IfSome (lookup test es) IsAccount
+found test [] h = tt
+found test (e ∷ es) h = some_either (test e.0) e.1 (lookup test es) h.0 (found test es h.1)
+
+-- the account that a reference found by a look-up shows
+pub shown : (r : Option (Bor AccountFields)) (o : Option AccountFields) → option_copied r ≡ o → IfSome o IsAccount
+    → IfSome r (λ account. IsAccount account.now)
+shown None o e h = tt
+shown (Some account) o e h = subst (λ found. IfSome found IsAccount) (sym e) h
+
+-- the accounts without one
+pub all_removed : (test : List ℕ → Bool) (es : List (List ℕ × AccountFields)) → AreAccounts es → AreAccounts (remove_entry test es)
+all_removed test [] h = tt
+all_removed test (e ∷ es) h = either (test e.0) es (e ∷ remove_entry test es) h.1 (h.0, all_removed test es h.1)
+
+-- the accounts, one of them changed
+pub all_set : (test : List ℕ → Bool) (es : List (List ℕ × AccountFields)) (account : AccountFields)
+    → AreAccounts es → IsAccount account → AreAccounts (set_value test es account)
+all_set test [] account h k = tt
+all_set test (e ∷ es) account h k =
+    either (test e.0) ((e.0, account) ∷ es) (e ∷ set_value test es account) (k, h.1) (h.0, all_set test es account h.1 k)
+
+-- the accounts and one more
+pub all_put : (cmp : List ℕ → List ℕ → Ordering) (es : List (List ℕ × AccountFields)) (name : List ℕ) (account : AccountFields)
+    → AreAccounts es → IsAccount account → AreAccounts (insert_entry cmp es name account)
+all_put cmp [] name account h k = (k, tt)
+all_put cmp (e ∷ es) name account h k =
+    one_of (cmp name e.0) ((name, account) ∷ e ∷ es) ((e.0, account) ∷ es) (e ∷ insert_entry cmp es name account)
+    (k, h) (k, h.1) (h.0, all_put cmp es name account h.1 k)
+
+-- the accounts after an insertion, whether there was memory for it or not
+pub all_inserted : {X Y : Type 0} (r : Result X Y) (cmp : List ℕ → List ℕ → Ordering) (es new : List (List ℕ × AccountFields))
+    (name : List ℕ) (account : AccountFields) → OnOk r (new ≡ insert_entry cmp es name account) → OnErr r (new ≡ es)
+    → AreAccounts es → IsAccount account → AreAccounts new
+all_inserted (Ok old) cmp es new name account e f h k = subst AreAccounts (sym e) (all_put cmp es name account h k)
+all_inserted (Err fault) cmp es new name account e f h k = subst AreAccounts (sym f) h
+
+-- an account with another token
+pub token_put : (token : TokenFields) (account : AccountFields) → IsAccount account → IsAccount (with_token token account)
+token_put token account h = record { sha1 = h.sha1; sha256 = h.sha256; names = h.names }
+
+pub act_as_set : (names : List (List ℕ)) (account : AccountFields) → length names ≤ most_names → IsAccount account
+    → IsAccount (with_act_as names account)
+act_as_set names account few h = record { sha1 = h.sha1; sha256 = h.sha256; names = few }
+
+-- a fact of a value is one of the value that an option holds
+pub for_some : {X : Type 0} (P : X → Type 0) (x : X) → P x → ForSome (Some x) P
+for_some P x h y e = subst P (ap (λ o. unwrap_or o x) e) h

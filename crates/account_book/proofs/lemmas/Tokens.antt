@@ -1,0 +1,164 @@
+-- A book in which one account has another token: the tokens and what servers keep, name by name.
+use Rattle.std.proofs.Common.{◌≡◌, inl, inr, ℕ, Bool, true, false, cond, List, [], ◌∷◌, refl, sym, ◌∙◌, ap, subst, IsSome}
+use Rattle.std.specs.Prelude.{option_and_then, option_map, unwrap_or}
+use Rattle.std.specs.Option.{option_map_or}
+use Rattle.std.specs.Map.{lookup, set_value}
+use Rattle.std.specs.Str.{bytes_eq}
+use Rattle.std.specs.declared.option.Option.{Option}
+use Rattle.std.specs.declared.option.Option.TheVariants.{None, Some}
+use Rattle.std.specs.BTreeMap.{is_at}
+use Rattle.std.proofs.lemmas.Bool.{cases_Bool}
+use Rattle.std.proofs.lemmas.Cmp.{eq_by_cmp_equiv, nat_list_cmp_total}
+use Rattle.std.proofs.lemmas.Map.{lookup-set_value}
+use Rattle.std.proofs.lemmas.Map.Steps.{set_value_same}
+use Rattle.std.proofs.lemmas.Map.Text.{is_eq-slice_cmp}
+use Rattle.std.proofs.lemmas.Slice.Eq.{bytes_eq-Decides}
+use Rattle.mac_core.specs.declared.mechanism.Mechanism.{Mechanism}
+use Rattle.mac_core.specs.declared.mechanism.Mechanism.TheVariants.{ScramSha1, ScramSha256}
+use Rattle.otp_core.specs.declared.token.kinds.TokenFields.{TokenFields}
+use Rattle.scram_ends.specs.Entry.{Entry}
+use Rattle.book_format.specs.Account.{AccountFields}
+use Rattle.book_format.specs.Book.{BookFields}
+use Rattle.account_book.specs.Accounts.{name_cmp, account_at, with_changed}
+use Rattle.account_book.specs.View.{mech_keys, keys_entry, decoy_entry, entry_in}
+use Rattle.account_book.specs.Tokens.{token_at, with_token}
+use Rattle.account_book.specs.Laws.{TokensAreApart, EntriesStay, TokensStay, TokensGoBack}
+
+-- the accounts of a book in which one is changed
+changed_at : (old : BookFields) (name : List ℕ) (change : AccountFields → AccountFields) (account : AccountFields)
+    → account_at old name ≡ Some account
+    → (other : List ℕ) → account_at (with_changed old name change) other
+    ≡ cond (bytes_eq name other) (Some (change account)) (account_at old other)
+changed_at old name change account found other =
+    let stepped = lookup-set_value (eq_by_cmp_equiv nat_list_cmp_total) (is_at (name_cmp name))
+    (λ x y at. (eq_by_cmp_equiv nat_list_cmp_total).congr name x y at) other (change account) old.accounts
+    (subst IsSome (sym found) refl) in
+    let whole = subst (λ (o : Option AccountFields).
+    account_at (record old {
+      accounts = option_map_or
+          (λ account. set_value (is_at (name_cmp name)) old.accounts (change account)) o old.accounts;
+    }) other
+    ≡ cond (is_at (name_cmp name) other) (Some (change account)) (account_at old other)) (sym found) stepped in
+    whole ∙ ap (λ (b : Bool). cond b (Some (change account)) (account_at old other)) (is_eq-slice_cmp name other)
+
+-- an account's keys are as before where its token is another
+same_entry : (m : Mechanism) (token : TokenFields) (account : AccountFields) (decoy : Entry)
+    → unwrap_or (option_map (keys_entry (with_token token account).act_as) (mech_keys m (with_token token account))) decoy
+    ≡ unwrap_or (option_map (keys_entry account.act_as) (mech_keys m account)) decoy
+same_entry ScramSha1 token account decoy = refl
+same_entry ScramSha256 token account decoy = refl
+
+-- the entry that a book has for a name, by its account of that name
+abbrev entry_by : Mechanism → Entry → Option AccountFields → Entry
+entry_by m decoy o = unwrap_or (option_and_then (λ account. option_map (keys_entry account.act_as) (mech_keys m account)) o) decoy
+
+-- a token is that of an account
+pub owner : (o : Option AccountFields) (token : TokenFields) → option_and_then (λ account. account.token) o ≡ Some token
+    → (account : AccountFields) × (o ≡ Some account)
+owner None token has = absurd (cc has)
+owner (Some account) token has = (account, refl)
+
+pub entry_kept : (old : BookFields) (name : List ℕ) (token : TokenFields) (account : AccountFields) → account_at old name ≡ Some account
+    → (m : Mechanism) (other : List ℕ) → entry_in (with_changed old name (with_token token)) m other ≡ entry_in old m other
+entry_kept old name token account found m other =
+    let decoy = decoy_entry old m other in
+    let changed = changed_at old name (with_token token) account found other in
+    elim (cases_Bool (bytes_eq name other)) [
+      | inl is ↦
+          let there : account_at (with_changed old name (with_token token)) other ≡ Some (with_token token account) = rw is at changed in
+          let before = subst (λ (n : List ℕ). account_at old n ≡ Some account) ((bytes_eq-Decides name other).0 is) found in
+          ap (entry_by m decoy) there ∙ (same_entry m token account decoy ∙ sym (ap (entry_by m decoy) before))
+      | inr apart ↦ let same : account_at (with_changed old name (with_token token)) other
+          ≡ account_at old other = rw apart at changed in ap (entry_by m decoy) same
+    ]
+
+pub token_there : (old : BookFields) (name : List ℕ) (token : TokenFields) (account : AccountFields) → account_at old name ≡ Some account
+    → (other : List ℕ) → bytes_eq name other ≡ true → token_at (with_changed old name (with_token token)) other ≡ Some token
+token_there old name token account found other is =
+    let changed = changed_at old name (with_token token) account found other in
+    let there : account_at (with_changed old name (with_token token)) other ≡ Some (with_token token account) = rw is at changed in
+    ap (option_and_then (λ account. account.token)) there
+
+pub token_elsewhere : (old : BookFields) (name : List ℕ) (token : TokenFields) (account : AccountFields)
+    → account_at old name ≡ Some account
+    → (other : List ℕ) → bytes_eq name other ≡ false → token_at (with_changed old name (with_token token)) other ≡ token_at old other
+token_elsewhere old name token account found other apart =
+    let changed = changed_at old name (with_token token) account found other in
+    let same : account_at (with_changed old name (with_token token)) other ≡ account_at old other = rw apart at changed in
+    ap (option_and_then (λ account. account.token)) same
+
+-- after another token at one name, each name has the token that it had, and this name the other
+pub tokens_are_apart : TokensAreApart
+tokens_are_apart old name token next has other =
+    let account = owner (account_at old name) token has in
+    elim (cases_Bool (bytes_eq name other)) [
+      | inl is ↦ rw is (token_there old name next account.0 account.1 other is)
+      | inr apart ↦ rw apart (token_elsewhere old name next account.0 account.1 other apart)
+    ]
+
+-- what a server keeps of a name has no token in it
+pub entries_stay : EntriesStay
+entries_stay old name token next has m other =
+    let account = owner (account_at old name) token has in entry_kept old name next account.0 account.1 m other
+
+-- a value that is set twice is the second
+set_twice : {K X : Type 0} (test : K → Bool) (es : List (K × X)) (first second : X)
+    → set_value test (set_value test es first) second ≡ set_value test es second
+set_twice test [] first second = refl
+set_twice test (e ∷ es) first second =
+    elim (cases_Bool (test e.0)) [
+      | inl is ↦ rw is (rw is refl)
+      | inr apart ↦ rw apart (rw apart (ap (λ rest. e ∷ rest) (set_twice test es first second)))
+    ]
+
+-- an account with the token that it has
+same_account : (account : AccountFields) (token : TokenFields) → account.token ≡ Some token → with_token token account ≡ account
+same_account account token has = ap (λ (o : Option TokenFields). record account { token = o }) (sym has)
+
+-- the accounts with this one's token set are those that there were
+set_back : (es : List (List ℕ × AccountFields)) (name : List ℕ) (account : AccountFields) (token : TokenFields)
+    → lookup (is_at (name_cmp name)) es ≡ Some account → account.token ≡ Some token
+    → set_value (is_at (name_cmp name)) es (with_token token account) ≡ es
+set_back es name account token found has =
+    set_value_same (is_at (name_cmp name)) es (with_token token account)
+    (found ∙ ap (λ (a : AccountFields). Some a) (sym (same_account account token has)))
+
+-- a book in which an account that is there is changed
+changed_is : (book : BookFields) (name : List ℕ) (change : AccountFields → AccountFields) (account : AccountFields)
+    → account_at book name ≡ Some account
+    → with_changed book name change ≡ record book { accounts = set_value (is_at (name_cmp name)) book.accounts (change account) }
+changed_is book name change account found =
+    ap (λ (o : Option AccountFields). record book {
+      accounts = option_map_or
+          (λ account. set_value (is_at (name_cmp name)) book.accounts (change account)) o book.accounts;
+    })
+    found
+
+-- the token of an account that is there
+own_token : (o : Option AccountFields) (token : TokenFields) (account : AccountFields)
+    → option_and_then (λ account. account.token) o ≡ Some token
+    → o ≡ Some account → account.token ≡ Some token
+own_token None token account has found = absurd (cc has)
+own_token (Some other) token account has found = cc
+
+-- a token that is put where it stands changes nothing
+pub tokens_stay : TokensStay
+tokens_stay old name token has =
+    let owned = owner (account_at old name) token has in
+    changed_is old name (with_token token) owned.0 owned.1
+    ∙ ap (λ (es : List (List ℕ × AccountFields)). record old { accounts = es })
+    (set_back old.accounts name owned.0 token owned.1 (own_token (account_at old name) token owned.0 has owned.1))
+
+pub tokens_go_back : TokensGoBack
+tokens_go_back old name token next has =
+    let owned = owner (account_at old name) token has in
+    let account = owned.0 in
+    let own : account.token ≡ Some token = own_token (account_at old name) token account has owned.1 in
+    let x = with_token next account in
+    let changed = changed_at old name (with_token next) account owned.1 name in
+    let there : account_at (with_changed old name (with_token next)) name ≡ Some x = rw ((bytes_eq-Decides name name).1 refl) at changed in
+    changed_is (with_changed old name (with_token next)) name (with_token token) x there
+    ∙ ap (λ (b : BookFields). record b { accounts = set_value (is_at (name_cmp name)) b.accounts (with_token token x) })
+    (changed_is old name (with_token next) account owned.1)
+    ∙ ap (λ (es : List (List ℕ × AccountFields)). record old { accounts = es })
+    (set_twice (is_at (name_cmp name)) old.accounts x (with_token token x) ∙ set_back old.accounts name account token owned.1 own)

@@ -1,0 +1,6 @@
+-- Lemmas: what the proofs of this crate and of those above it cite.
+pub mod EnrolFaults
+pub mod HeldFaults
+pub mod InputLines
+pub mod LinesInTurn
+pub mod Results

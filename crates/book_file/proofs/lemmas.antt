@@ -1,0 +1,2 @@
+-- Lemmas: what the proofs of this crate cite.
+pub mod WholeReads

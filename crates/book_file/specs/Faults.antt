@@ -1,0 +1,23 @@
+-- The faults of taking hold of a book.
+use Rattle.std.specs.Prelude.{◌≡◌, Bool, true, false}
+use Rattle.std.specs.IoError.{error_kind}
+use Rattle.std.specs.declared.io.Error.{Error}
+use Rattle.std.specs.declared.io.ErrorKind.TheVariants.{ResourceBusy}
+use Rattle.book_file.specs.declared.fault.HoldFault.{HoldFault}
+use Rattle.book_file.specs.declared.fault.HoldFault.TheVariants.{Unreadable, Missing, Unwritable, OfAnother, Held, InTheWay}
+
+-- a fault of taking hold of a book. Where a missing book is to be made, Missing does not come; where none is made, Unwritable does
+-- not.
+abbrev pub IsHoldFault : (makes : Bool) → HoldFault → Type 0
+IsHoldFault makes (Unreadable error) = Unit {0}
+IsHoldFault makes Missing = makes ≡ false
+IsHoldFault makes (Unwritable error) = makes ≡ true
+IsHoldFault makes OfAnother = Unit {0}
+IsHoldFault makes Held = Unit {0}
+IsHoldFault makes (InTheWay path) = Unit {0}
+
+-- why no next text can be written: the error of the call that failed, where there is one; else the file's name is not free
+abbrev pub IsErrorOf : HoldFault → Error → Type 0
+IsErrorOf (Unreadable error) found = found ≡ error
+IsErrorOf (Unwritable error) found = found ≡ error
+IsErrorOf other found = error_kind found ≡ ResourceBusy

@@ -1,0 +1,12 @@
+-- Lemmas: what the proofs of this crate cite.
+pub mod BookTexts
+pub mod Depths
+pub mod HexTexts
+pub mod InOrder
+pub mod Lists
+pub mod Put
+pub mod Rows
+pub mod Steps
+pub mod Tables
+pub mod ValueTypes
+pub mod WritesItself

@@ -1,0 +1,63 @@
+-- The text of a whole book, from its parts.
+use Rattle.std.proofs.Common.{◌≡◌, ℕ, List, Some, None, Ok, Err, refl, inl, inr}
+use Rattle.std.proofs.lemmas.Str.{IsUtf8-from_is_utf8, is_utf8-from_IsUtf8}
+use Rattle.std.proofs.lemmas.Bool.{cases_Bool}
+use Rattle.std.specs.Str.{IsUtf8, is_utf8}
+use Rattle.toml.specs.Data.{Members}
+use Rattle.toml.specs.Parse.{parse_document}
+use Rattle.book_format.specs.Account.{AccountFields}
+use Rattle.book_format.specs.Book.{BookFields, IsBook}
+use Rattle.book_format.specs.Tables.{TopFields}
+use Rattle.book_format.specs.Reading.{tree_in, top_of, accounts_of_table, book_of, book_in}
+use Rattle.book_format.specs.Trees.{IsBookText}
+use Rattle.book_format.specs.declared.fault.BookFault.{BookFault}
+use Rattle.book_format.specs.declared.fault.BookWhy.{BookWhy}
+use Rattle.book_format.specs.declared.fault.BookWhy.TheVariants.{Toml}
+use Rattle.book_format.proofs.lemmas.Tables.{book_held, book_found, in_range, at_top_ok}
+use Rattle.book_format.proofs.lemmas.Steps.{bind_ok, ok_or_ok}
+
+pub no_tree : (bytes : List ℕ) (why : BookWhy) → tree_in bytes ≡ Err why → book_in bytes ≡ Err (record { why = why; account = None })
+unfolding book_in
+no_tree bytes why h = rw h refl
+
+pub no_top : (bytes : List ℕ) (ms : Members) (why : BookWhy) → tree_in bytes ≡ Ok ms → Err why ≡ top_of ms
+    → book_in bytes ≡ Err (record { why = why; account = None })
+unfolding book_in book_of
+no_top bytes ms why read h = rw (read, ← h) refl
+
+pub no_accounts : (bytes : List ℕ) (ms : Members) (top : TopFields) (fault : BookFault) → tree_in bytes ≡ Ok ms → Ok top ≡ top_of ms
+    → accounts_of_table top.accounts ≡ Err fault → book_in bytes ≡ Err fault
+unfolding book_in book_of
+no_accounts bytes ms top fault read h accounts = rw (read, ← h, accounts) refl
+
+pub whole : (bytes : List ℕ) (ms : Members) (top : TopFields) (entries : List (List ℕ × AccountFields)) → tree_in bytes ≡ Ok ms
+    → Ok top ≡ top_of ms → accounts_of_table top.accounts ≡ Ok entries
+    → book_in bytes ≡ Ok (record { decoy_key = top.decoy_key; decoy_count = top.decoy_count; accounts = entries })
+unfolding book_in book_of
+whole bytes ms top entries read h accounts = rw (read, ← h, accounts) refl
+
+tree_found : (bytes : List ℕ) (ms : Members) → tree_in bytes ≡ Ok ms → IsUtf8 bytes × (parse_document bytes ≡ Some ms)
+unfolding tree_in
+tree_found bytes ms h = elim (cases_Bool (is_utf8 bytes)) [
+  | inl is ↦ (IsUtf8-from_is_utf8 bytes is, ok_or_ok (parse_document bytes) Toml ms (rw is at h))
+  | inr not ↦
+      let none = rw not at h in absurd (cc none)
+]
+
+-- the book that is read from a text is the one that it is the text of
+pub text_found : (bytes : List ℕ) (book : BookFields) → book_in bytes ≡ Ok book → IsBookText bytes book
+unfolding book_in
+text_found bytes book h =
+    let (ms, tree, rest) = bind_ok _ book_of book h in
+    let (utf8, parsed) = tree_found bytes ms (at_top_ok (tree_in bytes) ms tree) in
+    record { tree = ms; utf8 = utf8; parsed = parsed; of_book = book_found ms book rest }
+
+-- the text of a book is read as that book
+pub text_held : (bytes : List ℕ) (book : BookFields) → IsBookText bytes book → book_in bytes ≡ Ok book
+unfolding book_in tree_in
+text_held bytes book h = rw (is_utf8-from_IsUtf8 bytes h.utf8, h.parsed) (book_held h.tree book h.of_book)
+
+pub text_in_range : (bytes : List ℕ) (book : BookFields) → book_in bytes ≡ Ok book → IsBook book
+text_in_range bytes book h =
+    let text = text_found bytes book h in
+    in_range text.tree book text.of_book

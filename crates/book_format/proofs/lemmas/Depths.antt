@@ -1,0 +1,123 @@
+-- A book's tree is no deeper than the parser goes, and has no dates.
+use Rattle.std.proofs.Common.{◌≡◌, ℕ, pos, ◌≤◌, List, [], ◌∷◌, map, true, Less, Equal, Greater, nat_cmp, Option, Some, None, option_map}
+use Rattle.std.proofs.Common.{refl, arith}
+use Rattle.std.proofs.lemmas.Bool.{and_parts}
+use Rattle.std.specs.Cmp.Lexicographic.{slice_cmp}
+use Rattle.std.specs.Ordering.{match_ordering}
+use Rattle.toml.specs.Data.{Data, string, integer, table, Members, no_members, member, depth, items_depth, members_depth, has_valid_dates}
+use Rattle.toml.specs.Data.{items_have_valid_dates, members_have_valid_dates}
+use Rattle.toml.specs.View.{items_of}
+use Rattle.mac_core.specs.Mechanism.{length_by}
+use Rattle.mac_core.specs.declared.mechanism.Mechanism.TheVariants.{ScramSha1, ScramSha256}
+use Rattle.otp_core.specs.declared.token.kinds.TokenFields.{TokenFields}
+use Rattle.otp_core.specs.declared.token.kinds.TokenFields.TheVariants.{Hotp, Totp}
+use Rattle.otp_core.specs.declared.token.kinds.TotpFields.{TotpFields}
+use Rattle.book_format.specs.Account.{AccountFields}
+use Rattle.book_format.specs.Book.{BookFields}
+use Rattle.book_format.specs.Put.{put_member, put_some, put_all}
+use Rattle.book_format.specs.Rows.{entries, in_table, written}
+use Rattle.book_format.specs.Tables.{mech, sha1_keys, sha256_keys, totp, token_tree, token, account}
+use Rattle.book_format.specs.Written.{accounts_tree, book_tree}
+use Rattle.book_format.specs.declared.account.MechKeys.{MechKeys}
+use Rattle.book_format.proofs.lemmas.Put.{Entries}
+
+-- a value of at most so many levels, without dates
+abbrev pub IsFlat : ℕ → Data → Type 0
+IsFlat most d = (depth d ≤ most) × (has_valid_dates d ≡ true)
+
+abbrev pub AreFlat : ℕ → Members → Type 0
+AreFlat most ms = (members_depth ms ≤ most) × (members_have_valid_dates ms ≡ true)
+
+abbrev pub IsFlatSome : ℕ → Option Data → Type 0
+IsFlatSome most None = Unit {0}
+IsFlatSome most (Some d) = IsFlat most d
+
+abbrev pub AllFlat : ℕ → Entries → Type 0
+AllFlat most [] = Unit {0}
+AllFlat most (e ∷ es) = IsFlatSome most e.1 × AllFlat most es
+
+flat_member : (most : ℕ) (key : List ℕ) (d : Data) (rest : Members) → IsFlat most d → AreFlat most rest → AreFlat most (member key d rest)
+flat_member most key d rest here others = (omega (arith, here.0, others.0), rw (here.1, others.1) refl)
+
+flat_first : (most : ℕ) (key : List ℕ) (d : Data) (rest : Members) → AreFlat most (member key d rest) → IsFlat most d × AreFlat most rest
+flat_first most key d rest h =
+    let (here, others) = and_parts (has_valid_dates d) (members_have_valid_dates rest) h.1 in
+    ((omega (arith, h.0), here), (omega (arith, h.0), others))
+
+flat_put : (most : ℕ) (key : List ℕ) (d : Data) (ms : Members) → IsFlat most d → AreFlat most ms → AreFlat most (put_member key d ms)
+flat_put most key d no_members is h = flat_member most key d no_members is h
+flat_put most key d (member k e rest) is h =
+    elim (slice_cmp nat_cmp key k) as (λ o.
+    AreFlat most (match_ordering o (member key d (member k e rest)) (member k d rest) (member k e (put_member key d rest)))) [
+      | Less ↦ flat_member most key d (member k e rest) is h
+      | Equal ↦ flat_member most k d rest is (flat_first most k e rest h).1
+      | Greater ↦ flat_member most k e (put_member key d rest) (flat_first most k e rest h).0
+          (flat_put most key d rest is (flat_first most k e rest h).1)
+    ]
+
+flat_some : (most : ℕ) (key : List ℕ) (o : Option Data) (ms : Members) → IsFlatSome most o → AreFlat most ms
+    → AreFlat most (put_some key o ms)
+flat_some most key None ms is h = h
+flat_some most key (Some d) ms is h = flat_put most key d ms is h
+
+flat_all : (most : ℕ) (es : Entries) (ms : Members) → AllFlat most es → AreFlat most ms → AreFlat most (put_all es ms)
+flat_all most [] ms all h = h
+flat_all most (e ∷ es) ms all h = flat_all most es (put_some e.0 e.1 ms) all.1 (flat_some most e.0 e.1 ms all.0 h)
+
+flat_option : {T : Type 0} (most : ℕ) (write : T → Data) (o : Option T) → ((v : T) → IsFlat most (write v))
+    → IsFlatSome most (option_map write o)
+flat_option most write None each = tt
+flat_option most write (Some v) each = each v
+
+mech_flat : (len : ℕ) (m : MechKeys) → IsFlat 1 (table (written (mech len) m))
+unfolding written
+mech_flat len m = (omega arith, refl)
+
+names_depth : (names : List (List ℕ)) → items_depth (items_of (map string names)) ≡ 0
+names_depth [] = refl
+names_depth (name ∷ names) = rw (names_depth names) refl
+
+names_dates : (names : List (List ℕ)) → items_have_valid_dates (items_of (map string names)) ≡ true
+names_dates [] = refl
+names_dates (name ∷ names) = names_dates names
+
+totp_flat : (t : TotpFields) → AreFlat 0 (written totp t)
+unfolding written
+totp_flat t =
+    let leaf : (0 ≤ 0) × (true ≡ true) = (omega arith, refl) in
+    let last = flat_option 0 (λ n. integer (pos n)) t.last (λ n. leaf) in
+    flat_all 0 (entries totp t) no_members
+    (leaf, (leaf, (leaf, (leaf, (leaf, (leaf, (leaf, (leaf, (leaf, (last, (leaf, (leaf, (leaf, tt))))))))))))) leaf
+
+token_flat : (t : TokenFields) → IsFlat 1 (token_tree t)
+unfolding written
+token_flat (Hotp t) = (omega arith, refl)
+token_flat (Totp t) =
+    let flat = totp_flat t in
+    (omega (arith, flat.0), flat.1)
+
+account_flat : (a : AccountFields) → IsFlat 2 (table (written account a))
+unfolding written
+account_flat a =
+    let flat = flat_all 1 (entries account a) no_members (
+      flat_option 1 (in_table sha1_keys).write a.sha1 (mech_flat (length_by ScramSha1)),
+      (
+        flat_option 1 (in_table sha256_keys).write a.sha256 (mech_flat (length_by ScramSha256)),
+        (
+          (omega (arith, names_depth a.act_as), names_dates a.act_as),
+          (flat_option 1 token.write a.token token_flat, tt),
+        ),
+      ),
+    ) (omega arith, refl) in
+    (omega (arith, flat.0), flat.1)
+
+accounts_flat : (entries : List (List ℕ × AccountFields)) → AreFlat 2 (accounts_tree entries)
+unfolding accounts_tree
+accounts_flat [] = (omega arith, refl)
+accounts_flat (e ∷ entries) = flat_member 2 e.0 (table (written account e.1)) _ (account_flat e.1) (accounts_flat entries)
+
+pub book_flat : (b : BookFields) → AreFlat 3 (book_tree b)
+unfolding book_tree written
+book_flat b =
+    let flat = accounts_flat b.accounts in
+    (omega (arith, flat.0), rw flat.1 refl)

@@ -1,0 +1,32 @@
+-- Bytes of hexadecimal texts.
+use Rattle.std.proofs.Common.{◌≡◌, ◌<◌, ◌*◌, ◌/◌, ◌&&◌, nat_le, ℕ, List, length, false, Ok, Err, refl, arith}
+use Rattle.std.proofs.lemmas.Bool.Decides.{nat_tests}
+use Rattle.hex.specs.Hex.{decode_of}
+use Rattle.hex.proofs.HexLemmas.{decode_of-ok}
+use Rattle.book_format.specs.ValueTypes.{decoded}
+use Rattle.book_format.specs.declared.fault.BookWhy.{BookWhy}
+
+-- a text of another number of digits
+outside : (why : BookWhy) (least most : ℕ) (text : List ℕ)
+    → ((n : ℕ) → length text ≡ 2 * n → (nat_le least n && nat_le n most) ≡ false) → decoded why least most (decode_of text) ≡ Err why
+outside why least most text fails =
+    elim (decode_of text) as (λ r. decode_of text ≡ r → decoded why least most r ≡ Err why) [
+      | Ok bytes ↦ λ is. rw (fails (length bytes) (decode_of-ok text bytes is).2) refl
+      | Err e ↦ λ is. refl
+    ] refl
+
+-- a text of too few digits
+pub decoded-fewer : (why : BookWhy) (least most : ℕ) (text : List ℕ) → length text / 2 < least
+    → decoded why least most (decode_of text) ≡ Err why
+decoded-fewer why least most text h = outside why least most text (λ n twice. few least most n (omega (arith, twice)))
+  where
+    few : (least most n : ℕ) → n < least → (nat_le least n && nat_le n most) ≡ false
+    few least most n h = grind (arith, nat_tests)
+
+-- a text of too many digits
+pub decoded-more : (why : BookWhy) (least most : ℕ) (text : List ℕ) → most < length text / 2
+    → decoded why least most (decode_of text) ≡ Err why
+decoded-more why least most text h = outside why least most text (λ n twice. many least most n (omega (arith, twice)))
+  where
+    many : (least most n : ℕ) → most < n → (nat_le least n && nat_le n most) ≡ false
+    many least most n h = grind (arith, nat_tests)

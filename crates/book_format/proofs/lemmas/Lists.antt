@@ -1,0 +1,38 @@
+-- Lists of texts and of names.
+use Rattle.std.proofs.Common.{◌≡◌, ◌<◌, ◌≤◌, nat_le, le-leb, ℕ, List, [], ◌∷◌, ◌++◌, length, true, false, Result, Ok, Err, refl}
+use Rattle.std.proofs.Common.{append_assoc, arith}
+use Rattle.std.proofs.lemmas.Bool.Decides.{nat_tests}
+use Rattle.toml.specs.Data.{Items}
+use Rattle.toml.specs.View.{items_view}
+use Rattle.toml.specs.declared.value.Value.{Value}
+use Rattle.book_format.specs.Account.{most_names}
+use Rattle.book_format.specs.ValueTypes.{are_texts, item_count, names_in, names_of}
+use Rattle.book_format.specs.Rows.{◌>>=◌}
+use Rattle.book_format.specs.declared.fault.BookWhy.TheVariants.{Key, Name}
+
+pub item_count-view : (vs : List Value) → item_count (items_view vs) ≡ length vs
+item_count-view [] = refl
+item_count-view (v ∷ vs) =
+    let rest = item_count-view vs in
+    omega (arith, rest)
+
+-- one more value moves from what is left to those that were read
+pub moved : {A E : Type 0} (front : List A) (x : A) (rest : Result (List A) E)
+    → ((rest >>= λ xs. Ok (x ∷ xs)) >>= λ xs. Ok (front ++ xs)) ≡ (rest >>= λ xs. Ok ((front ++ x ∷ []) ++ xs))
+moved front x (Ok xs) = rw append_assoc refl
+moved front x (Err e) = refl
+
+pub names_of-untyped : (list : Items) → are_texts list ≡ false → names_of list ≡ Err Key
+unfolding names_of
+names_of-untyped list untyped = rw untyped refl
+
+pub names_of-many : (list : Items) → are_texts list ≡ true → most_names < item_count list → names_of list ≡ Err Name
+unfolding names_of
+names_of-many list typed many = rw (typed, too_many (item_count list) many) refl
+  where
+    too_many : (n : ℕ) → most_names < n → nat_le n most_names ≡ false
+    too_many n h = grind (arith, nat_tests)
+
+pub names_of-few : (list : Items) → are_texts list ≡ true → item_count list ≤ most_names → names_of list ≡ names_in list
+unfolding names_of
+names_of-few list typed few = rw (typed, le-leb (item_count list) most_names few) refl

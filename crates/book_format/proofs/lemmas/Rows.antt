@@ -1,0 +1,167 @@
+-- Of any table: what is read of it is what it is the table of.
+use Rattle.std.proofs.Common.{◌≡◌, ◌⊎◌, ℕ, List, [], ◌∷◌, codes, Option, Some, None, Result, Ok, Err, refl, sym, ap, subst, ◌∙◌, inl, inr}
+use Prim.Native.String.{String}
+use Rattle.toml.specs.Data.{Data, table, Members, get_member}
+use Rattle.book_format.specs.Keys.{is_among, has_only}
+use Rattle.book_format.specs.Rows.{◌>>=◌, demand, ValueType, Row, Table, Maker, table_keys, HasMarks, HasRows, IsTable, read_rows}
+use Rattle.book_format.specs.Rows.{read_table, table_of, table_in, in_table, HasAt, HasSome, read_or, read_some, row, row_to, row_or}
+use Rattle.book_format.specs.Rows.{optional, number_at}
+use Rattle.book_format.specs.declared.fault.BookWhy.{BookWhy}
+use Rattle.book_format.specs.declared.fault.BookWhy.TheVariants.{Key}
+use Rattle.book_format.proofs.lemmas.Steps.{bind_ok, demand_ok, ok_same}
+
+-- the values of all rows
+abbrev pub Values : {T : Type 0} → List (Row T) → Type 0
+Values [] = Unit {0}
+Values (r ∷ rows) = r.V × Values rows
+
+-- the fields of a T, as the values of the rows
+abbrev pub fields_of : {T : Type 0} (rows : List (Row T)) → T → Values rows
+fields_of [] x = tt
+fields_of (r ∷ rows) x = (r.field x, fields_of rows x)
+
+-- what is made of these values
+abbrev pub made : {T X : Type 0} (rows : List (Row T)) → Maker rows X → Values rows → X
+made [] x vs = x
+made (r ∷ rows) make vs = made rows (make vs.0) vs.1
+
+-- each row has its value
+abbrev pub HasValues : {T : Type 0} (rows : List (Row T)) → Members → Values rows → Type 0
+HasValues [] ms vs = Unit {0}
+HasValues (r ∷ rows) ms vs = r.Has ms vs.0 × HasValues rows ms vs.1
+
+-- a row reads exactly the values that it has
+pub record IsSoundRow {T : Type 0} (r : Row T) : Type 0 where
+  pub found : (ms : Members) (v : r.V) → r.read ms ≡ Ok v → r.Has ms v
+  pub held : (ms : Members) (v : r.V) → r.Has ms v → r.read ms ≡ Ok v
+
+abbrev pub AreSound : {T : Type 0} → List (Row T) → Type 0
+AreSound [] = Unit {0}
+AreSound (r ∷ rows) = IsSoundRow r × AreSound rows
+
+-- a table's T is its fields and nothing else, and its rows are sound
+pub record IsSound {T : Type 0} (t : Table T) : Type 0 where
+  pub gives : (vs : Values t.rows) → fields_of t.rows (made t.rows t.make vs) ≡ vs
+  pub keeps : (x : T) → made t.rows t.make (fields_of t.rows x) ≡ x
+  pub rows : AreSound t.rows
+
+read_found : {T X : Type 0} (rows : List (Row T)) (make : Maker rows X) (ms : Members) (x : X) → AreSound rows
+    → read_rows rows make ms ≡ Ok x
+    → (vs : Values rows) × HasValues rows ms vs × (made rows make vs ≡ x)
+read_found [] make ms x sound h = (tt, tt, ok_same make x h)
+read_found (r ∷ rows) make ms x sound h =
+    let (v, read, rest) = bind_ok (r.read ms) (λ v. read_rows rows (make v) ms) x h in
+    let (vs, has, same) = read_found rows (make v) ms x sound.1 rest in
+    ((v, vs), (sound.0.found ms v read, has), same)
+
+read_held : {T X : Type 0} (rows : List (Row T)) (make : Maker rows X) (ms : Members) (vs : Values rows) → AreSound rows
+    → HasValues rows ms vs
+    → read_rows rows make ms ≡ Ok (made rows make vs)
+read_held [] make ms vs sound h = refl
+read_held (r ∷ rows) make ms vs sound h = rw (sound.0.held ms vs.0 h.0) (read_held rows (make vs.0) ms vs.1 sound.1 h.1)
+
+has_rows : {T : Type 0} (rows : List (Row T)) (ms : Members) (x : T) → HasValues rows ms (fields_of rows x) → HasRows rows ms x
+has_rows [] ms x h = tt
+has_rows (r ∷ rows) ms x h = (h.0, has_rows rows ms x h.1)
+
+has_fields : {T : Type 0} (rows : List (Row T)) (ms : Members) (x : T) → HasRows rows ms x → HasValues rows ms (fields_of rows x)
+has_fields [] ms x h = tt
+has_fields (r ∷ rows) ms x h = (h.0, has_fields rows ms x h.1)
+
+-- what is read of a table with its marks is what it is the table of
+pub table_found : {T : Type 0} (t : Table T) → IsSound t → (ms : Members) (x : T) → HasMarks t.marks ms → read_table t ms ≡ Ok x
+    → IsTable t ms x
+unfolding read_table
+table_found t sound ms x marks h =
+    let (u, known, rest) = bind_ok (demand (has_only (is_among (table_keys t)) ms) Key) (λ u. read_rows t.rows t.make ms) x h in
+    let (vs, has, same) = read_found t.rows t.make ms x sound.rows rest in
+    let fields = sym (sound.gives vs) ∙ ap (fields_of t.rows) same in
+    record { marks = marks; known = demand_ok _ Key u known; rows = has_rows t.rows ms x (subst (λ vs. HasValues t.rows ms vs) fields has) }
+
+-- a table is read as what it is the table of
+pub table_held : {T : Type 0} (t : Table T) → IsSound t → (ms : Members) (x : T) → IsTable t ms x → read_table t ms ≡ Ok x
+unfolding read_table
+table_held t sound ms x h =
+    rw h.known (read_held t.rows t.make ms (fields_of t.rows x) sound.rows (has_fields t.rows ms x h.rows) ∙ ap Ok (sound.keeps x))
+
+-- types of values
+
+-- a type reads exactly the values that it is of
+pub record IsSoundType {V : Type 0} (k : ValueType V) : Type 0 where
+  pub found : (d : Data) (v : V) → k.read d ≡ Ok v → k.Is d v
+  pub held : (d : Data) (v : V) → k.Is d v → k.read d ≡ Ok v
+
+pub table_said : (d : Data) (ms : Members) → table_of d ≡ Ok ms → d ≡ table ms
+table_said (table ns) ms h = ap table (ok_same ns ms h)
+table_said d ms h = absurd (cc h)
+
+-- tables without marks
+pub in_table_sound : {T : Type 0} (t : Table T) → IsSound t → ((ms : Members) → HasMarks t.marks ms) → IsSoundType (in_table t)
+unfolding table_in
+in_table_sound t sound marks = record {
+  found = λ d x h.
+      let (ms, is_table, rest) = bind_ok (table_of d) (read_table t) x h in
+      (ms, table_said d ms is_table, table_found t sound ms x (marks ms) rest);
+  held = λ d x h. rw h.1 (table_held t sound h.0 x h.2);
+}
+
+-- rows of each sort
+
+pub at_found : {V : Type 0} (k : ValueType V) → IsSoundType k → (v : V) (o : Option Data) → read_or (Err Key) k.read o ≡ Ok v → (d : Data)
+    × (o ≡ Some d) × k.Is d v
+at_found k sound v None h = absurd (cc h)
+at_found k sound v (Some d) h = (d, refl, sound.found d v h)
+
+pub at_held : {V : Type 0} (k : ValueType V) (missing : Result V BookWhy) → IsSoundType k → (key : List ℕ) (ms : Members) (v : V)
+    → HasAt key k ms v
+    → read_or missing k.read (get_member key ms) ≡ Ok v
+at_held k missing sound key ms v h = rw h.1 (sound.held h.0 v h.2)
+
+pub or_found : {V : Type 0} (k : ValueType V) → IsSoundType k → (other v : V) (o : Option Data) → read_or (Ok other) k.read o ≡ Ok v
+    → ((o ≡ None) × (v ≡ other)) ⊎ ((d : Data) × (o ≡ Some d) × k.Is d v)
+or_found k sound other v None h = inl (refl, sym (ok_same other v h))
+or_found k sound other v (Some d) h = inr (d, refl, sound.found d v h)
+
+some_found : {V : Type 0} (k : ValueType V) → IsSoundType k → (key : List ℕ) (ms : Members) (v : Option V) (o : Option Data)
+    → get_member key ms ≡ o
+    → read_or (Ok None) (λ d. k.read d >>= λ v. Ok (Some v)) o ≡ Ok v → HasSome key k ms v
+some_found k sound key ms None None at h = at
+some_found k sound key ms (Some v) None at h = absurd (cc h)
+some_found k sound key ms v (Some d) at h =
+    let (x, said, same) = bind_ok (k.read d) (λ v. Ok (Some v)) v h in
+    subst (λ o. HasSome key k ms o) (ok_same (Some x) v same) (d, at, sound.found d x said)
+
+some_held : {V : Type 0} (k : ValueType V) → IsSoundType k → (key : List ℕ) (ms : Members) (v : Option V) → HasSome key k ms v
+    → read_some key k ms ≡ Ok v
+some_held k sound key ms None h = rw h refl
+some_held k sound key ms (Some v) h = rw (h.1, sound.held h.0 v h.2) refl
+
+pub row_sound : {T V : Type 0} (name : String) (k : ValueType V) (field : T → V) → IsSoundType k → IsSoundRow (row name k field)
+row_sound name k field sound = record {
+  found = λ ms v h. at_found k sound v (get_member (codes name) ms) h;
+  held = λ ms v h. at_held k (Err Key) sound (codes name) ms v h;
+}
+
+pub row_to_sound : {T V : Type 0} (name : String) (k : ℕ → ValueType V) (bound : String) (field : T → V) → ((n : ℕ) → IsSoundType (k n))
+    → IsSoundRow (row_to name k bound field)
+row_to_sound name k bound field sound = record {
+  found = λ ms v h. at_found (k (number_at (codes bound) ms)) (sound (number_at (codes bound) ms)) v (get_member (codes name) ms) h;
+  held = λ ms v h. at_held (k (number_at (codes bound) ms)) (Err Key) (sound (number_at (codes bound) ms)) (codes name) ms v h;
+}
+
+pub row_or_sound : {T V : Type 0} (other : V) (name : String) (k : ValueType V) (field : T → V) → IsSoundType k
+    → IsSoundRow (row_or other name k field)
+row_or_sound other name k field sound = record {
+  found = λ ms v h. or_found k sound other v (get_member (codes name) ms) h;
+  held = λ ms v h. elim h [
+    | inl missing ↦ rw (missing.0, missing.1) refl
+    | inr has ↦ at_held k (Ok other) sound (codes name) ms v has
+  ];
+}
+
+pub optional_sound : {T V : Type 0} (name : String) (k : ValueType V) (field : T → Option V) → IsSoundType k
+    → IsSoundRow (optional name k field)
+optional_sound name k field sound = record {
+  found = λ ms v h. some_found k sound (codes name) ms v (get_member (codes name) ms) refl h;
+  held = λ ms v h. some_held k sound (codes name) ms v h;
+}

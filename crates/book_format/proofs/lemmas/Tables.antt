@@ -1,0 +1,249 @@
+-- Each table of the format is read exactly where it is that of what is read, and then in its ranges.
+use Rattle.std.proofs.Common.{◌≡◌, ◌≤◌, ◌+◌, ◌⊎◌, ◌==◌, pos, negsuc, ℕ, List, [], ◌∷◌, length, codes, true, Option, Some, None, Result, Ok}
+use Rattle.std.proofs.Common.{Err, refl, sym, ap, subst, ◌∙◌, arith, inl, inr}
+use Rattle.std.specs.Option.{option_and_then}
+use Rattle.std.specs.Str.{bytes_eq}
+use Rattle.std.proofs.lemmas.Bool.{cases_Bool}
+use Rattle.std.proofs.lemmas.Bool.Decides.{nat_tests}
+use Rattle.std.proofs.lemmas.Slice.Eq.{bytes_eq-Decides}
+use Rattle.hex.proofs.HexLemmas.{decode_of-ok}
+use Rattle.toml.specs.Data.{Data, string, integer, table, Members, no_members, member, get_member, as_integer}
+use Rattle.mac_core.specs.Mechanism.{length_by}
+use Rattle.mac_core.specs.declared.mechanism.Mechanism.TheVariants.{ScramSha1, ScramSha256}
+use Rattle.scram_text.specs.Class.{IsPlainName}
+use Rattle.scram_text.specs.Parts.{most_count}
+use Rattle.otp_core.specs.declared.token.kinds.TokenFields.{TokenFields}
+use Rattle.otp_core.specs.declared.token.kinds.TokenFields.TheVariants.{Hotp, Totp}
+use Rattle.book_format.specs.Account.{AccountFields, AreKeys, IsAccount, most_names}
+use Rattle.book_format.specs.Book.{BookFields, AreAccounts, IsBook}
+use Rattle.book_format.specs.ValueTypes.{text_in, plain_name_of, name_list}
+use Rattle.book_format.specs.Reading.{named_account_of, in_account, at_top, accounts_from, accounts_of_table, is_one, top_of, book_of}
+use Rattle.book_format.specs.Rows.{demand, IsTableIn, HasAt, HasSome, read_or, read_table, table_of, table_in, in_table}
+use Rattle.book_format.specs.Tables.{mech, hotp, totp, IsToken, token_of_kind, token_in, token, account, document}
+use Rattle.book_format.specs.Trees.{AreAccountTrees, AreAccountsOf, IsBookTree}
+use Rattle.book_format.specs.declared.account.MechKeys.{MechKeys}
+use Rattle.book_format.specs.declared.fault.BookWhy.{BookWhy}
+use Rattle.book_format.specs.declared.fault.BookWhy.TheVariants.{Count, Format, Key, KeyLength, Salt}
+use Rattle.book_format.proofs.lemmas.Steps.{bind_ok, demand_ok, ok_same}
+use Rattle.book_format.proofs.lemmas.ValueTypes.{value_type_sound, number_range, bytes_range, name_found, name_held, name_list_sound}
+use Rattle.book_format.proofs.lemmas.Rows.{IsSound, IsSoundType, table_found, table_held, table_said, in_table_sound, row_sound}
+use Rattle.book_format.proofs.lemmas.Rows.{row_to_sound, row_or_sound, optional_sound}
+
+pub mech_sound : (len : ℕ) → IsSound (mech len)
+mech_sound len = record { gives = λ vs. refl; keeps = λ m. refl; rows = search (row_sound, value_type_sound) parts 8 }
+
+pub hotp_sound : IsSound hotp
+hotp_sound = record {
+  gives = λ vs. refl;
+  keeps = λ t. refl;
+  rows = search (row_sound, row_or_sound, row_to_sound, value_type_sound) parts 16;
+}
+
+pub totp_sound : IsSound totp
+totp_sound = record {
+  gives = λ vs. refl;
+  keeps = λ t. refl;
+  rows = search (row_sound, optional_sound, row_to_sound, value_type_sound) parts 24;
+}
+
+-- a token
+
+kind_said : (o : Option Data) (name : List ℕ) → read_or (Err Key) text_in o ≡ Ok name → o ≡ Some (string name)
+unfolding text_in
+kind_said None name h = absurd (cc h)
+kind_said (Some (string s)) name h = ap (λ s. Some (string s)) (ok_same s name h)
+kind_said (Some d) name h = absurd (cc h)
+
+kind_found : (d : Data) (ms : Members) (name : List ℕ) (fields : TokenFields) → d ≡ table ms
+    → get_member (codes "kind") ms ≡ Some (string name)
+    → token_of_kind name ms ≡ Ok fields → IsToken d fields
+unfolding token_of_kind
+kind_found d ms name fields is_table there h = elim (cases_Bool (bytes_eq name (codes "hotp"))) [
+  | inl is ↦
+      let (t, read, same) = bind_ok (read_table hotp ms) _ fields (rw is at h) in
+      let named = there ∙ ap (λ n. Some (string n)) ((bytes_eq-Decides name (codes "hotp")).0 is) in
+      subst (λ f. IsToken d f) (ok_same (Hotp t) fields same) (ms, is_table, table_found hotp hotp_sound ms t (named, tt) read)
+  | inr not_hotp ↦ elim (cases_Bool (bytes_eq name (codes "totp"))) [
+    | inl is ↦
+        let (t, read, same) = bind_ok (read_table totp ms) _ fields (rw (not_hotp, is) at h) in
+        let named = there ∙ ap (λ n. Some (string n)) ((bytes_eq-Decides name (codes "totp")).0 is) in
+        subst (λ f. IsToken d f) (ok_same (Totp t) fields same) (ms, is_table, table_found totp totp_sound ms t (named, tt) read)
+    | inr not_totp ↦
+        let none = rw (not_hotp, not_totp) at h in absurd (cc none)
+  ]
+]
+
+token_found : (d : Data) (fields : TokenFields) → token_in d ≡ Ok fields → IsToken d fields
+unfolding token_in
+token_found d fields h =
+    let (ms, is_table, h0) = bind_ok (table_of d) _ fields h in
+    let (name, said, h1) = bind_ok (read_or (Err Key) text_in (get_member (codes "kind") ms)) _ fields h0 in
+    kind_found d ms name fields (table_said d ms is_table) (kind_said _ name said) h1
+
+token_held : (d : Data) (fields : TokenFields) → IsToken d fields → token_in d ≡ Ok fields
+unfolding token_in token_of_kind text_in
+token_held d (Hotp t) h = rw (h.1, h.2.marks.0, table_held hotp hotp_sound h.0 t h.2) refl
+token_held d (Totp t) h = rw (h.1, h.2.marks.0, table_held totp totp_sound h.0 t h.2) refl
+
+pub token_sound : IsSoundType token
+token_sound = record { found = token_found; held = token_held }
+
+-- an account
+
+account_sound : IsSound account
+account_sound = record {
+  gives = λ vs. refl;
+  keeps = λ a. refl;
+  rows = search (optional_sound, row_or_sound, mechs, name_list_sound, token_sound) parts 8;
+}
+  where
+    mechs : (len : ℕ) → IsSoundType (in_table (mech len))
+    mechs len = in_table_sound (mech len) (mech_sound len) (λ ms. tt)
+
+accounts : IsSoundType (in_table account)
+accounts = in_table_sound account account_sound (λ ms. tt)
+
+entry_parts : (key : List ℕ) (d : Data) (entry : List ℕ × AccountFields) → named_account_of key d ≡ Ok entry
+    → (key ≡ entry.0) × IsPlainName entry.0 × IsTableIn account d entry.1
+unfolding named_account_of
+entry_parts key d entry h =
+    let (name, said, h0) = bind_ok (plain_name_of key) _ entry h in
+    let (fields, read, h1) = bind_ok (table_in account d) _ entry h0 in
+    let (same, plain) = name_found key name said in
+    subst (λ e. (key ≡ e.0) × IsPlainName e.0 × IsTableIn account d e.1) (ok_same (name, fields) entry h1)
+    (same, plain, accounts.found d fields read)
+
+pub entry_name : (key : List ℕ) (d : Data) (entry : List ℕ × AccountFields) → named_account_of key d ≡ Ok entry → entry.0 ≡ key
+entry_name key d entry h = sym (entry_parts key d entry h).0
+
+-- the accounts
+
+in_account_ok : {A : Type 0} (index : ℕ) (r : Result A BookWhy) (x : A) → in_account index r ≡ Ok x → r ≡ Ok x
+in_account_ok index (Ok y) x h = cc h
+in_account_ok index (Err why) x h = absurd (cc h)
+
+accounts_found : (index : ℕ) (ms : Members) (entries : List (List ℕ × AccountFields)) → accounts_from index ms ≡ Ok entries
+    → AreAccountTrees ms entries
+unfolding accounts_from
+accounts_found index no_members entries h = subst (λ es. AreAccountTrees no_members es) (ok_same [] entries h) tt
+accounts_found index (member key d ms) entries h =
+    let (entry, read, h0) = bind_ok (in_account index (named_account_of key d)) _ entries h in
+    let (others, more, h1) = bind_ok (accounts_from (index + 1) ms) _ entries h0 in
+    let (same, plain, tree) = entry_parts key d entry (in_account_ok index _ entry read) in
+    subst (λ es. AreAccountTrees (member key d ms) es) (ok_same (entry ∷ others) entries h1)
+    (same, plain, tree, accounts_found (index + 1) ms others more)
+
+accounts_held : (index : ℕ) (ms : Members) (entries : List (List ℕ × AccountFields)) → AreAccountTrees ms entries
+    → accounts_from index ms ≡ Ok entries
+unfolding accounts_from named_account_of
+accounts_held index no_members [] h = refl
+accounts_held index no_members (entry ∷ entries) h = absurd h
+accounts_held index (member name d ms) [] h = absurd h
+accounts_held index (member name d ms) (entry ∷ entries) h =
+    rw (h.0, name_held entry.0 h.1, accounts.held d entry.1 h.2, accounts_held (index + 1) ms entries h.3) refl
+
+of_table_found : (named : Option Members) (entries : List (List ℕ × AccountFields)) → accounts_of_table named ≡ Ok entries
+    → AreAccountsOf named entries
+of_table_found None entries h = sym (ok_same [] entries h)
+of_table_found (Some ms) entries h = accounts_found 0 ms entries h
+
+of_table_held : (named : Option Members) (entries : List (List ℕ × AccountFields)) → AreAccountsOf named entries
+    → accounts_of_table named ≡ Ok entries
+of_table_held None entries h = rw h refl
+of_table_held (Some ms) entries h = accounts_held 0 ms entries h
+
+-- the document
+
+document_sound : IsSound document
+document_sound = record { gives = λ vs. refl; keeps = λ t. refl; rows = search (row_sound, optional_sound, value_type_sound) parts 8 }
+
+pub at_top_ok : {A : Type 0} (r : Result A BookWhy) (x : A) → at_top r ≡ Ok x → r ≡ Ok x
+at_top_ok (Ok y) x h = cc h
+at_top_ok (Err why) x h = absurd (cc h)
+
+one_said : (o : Option Data) → is_one (option_and_then as_integer o) ≡ true → o ≡ Some (integer (pos 1))
+one_said None h = absurd (cc h)
+one_said (Some (integer (pos n))) h = ap (λ n. Some (integer (pos n))) (is_one_number n h)
+  where
+    is_one_number : (n : ℕ) → (n == 1) ≡ true → n ≡ 1
+    is_one_number n h = grind (arith, nat_tests)
+one_said (Some (integer (negsuc n))) h = absurd (cc h)
+one_said (Some d) h = absurd (cc h)
+
+-- the tree that a book is read from is that of the book
+pub book_found : (ms : Members) (book : BookFields) → book_of ms ≡ Ok book → IsBookTree ms book
+unfolding book_of top_of
+book_found ms book h =
+    let (top, top_read, h0) = bind_ok (at_top (top_of ms)) _ book h in
+    let (entries, entries_read, h1) = bind_ok (accounts_of_table top.accounts) _ book h0 in
+    let (u, format, read) = bind_ok (demand (is_one (option_and_then as_integer (get_member (codes "format") ms))) Format) _ top
+    (at_top_ok (top_of ms) top top_read) in
+    let is_format = one_said (get_member (codes "format") ms) (demand_ok _ Format u format) in
+    subst (λ b. IsBookTree ms b) (ok_same _ book h1) (record {
+      named = top.accounts;
+      top = table_found document document_sound ms top (is_format, tt) read;
+      accounts = of_table_found top.accounts entries entries_read;
+    })
+
+-- the tree of a book is read as that book
+pub book_held : (ms : Members) (book : BookFields) → IsBookTree ms book → book_of ms ≡ Ok book
+unfolding book_of top_of
+book_held ms book h =
+    rw (h.top.marks.0, table_held document document_sound ms _ h.top, of_table_held h.named book.accounts h.accounts) refl
+
+-- ranges
+
+keys_in_range : (len : ℕ) (d : Data) (keys : MechKeys) → IsTableIn (mech len) d keys → AreKeys len keys
+keys_in_range len d keys h =
+    let salt = h.2.rows.0 in
+    let count = h.2.rows.1.0 in
+    let stored = h.2.rows.1.1.0 in
+    let server = h.2.rows.1.1.1.0 in
+    let (text, value, enough, few) = bytes_range Salt 1 64 salt.0 keys.salt salt.2 in
+    let counts = number_range Count 1 most_count count.0 keys.count count.2 in
+    let (text1, value1, enough1, few1) = bytes_range KeyLength len len stored.0 keys.keys.stored.items stored.2 in
+    let (text2, value2, enough2, few2) = bytes_range KeyLength len len server.0 keys.keys.server.items server.2 in
+    record {
+      salt = record { at_least = enough; at_most = few };
+      salt_bytes = (decode_of-ok text keys.salt value).3;
+      count = record { at_least = counts.0; at_most = counts.1 };
+      stored = omega (arith, enough1, few1);
+      server = omega (arith, enough2, few2);
+    }
+
+option_in_range : (len : ℕ) (key : List ℕ) (o : Option MechKeys) (ms : Members) → HasSome key (in_table (mech len)) ms o → (keys : MechKeys)
+    → o ≡ Some keys → AreKeys len keys
+option_in_range len key None ms h keys is = absurd (cc is)
+option_in_range len key (Some held) ms h keys is = subst (λ k. AreKeys len k) (some_same held keys is) (keys_in_range len h.0 held h.2)
+  where
+    some_same : (a b : MechKeys) → Some a ≡ Some b → a ≡ b
+    some_same a b h = cc h
+
+names_in_range : (names : List (List ℕ)) (key : List ℕ) (ms : Members) → ((get_member key ms ≡ None) × (names ≡ []))
+    ⊎ HasAt key name_list ms names → length names ≤ most_names
+names_in_range names key ms (inl h) = rw h.1 (omega arith)
+names_in_range names key ms (inr h) = h.2.few
+
+account_in_range : (d : Data) (a : AccountFields) → IsTableIn account d a → IsAccount a
+account_in_range d a h = record {
+  sha1 = option_in_range (length_by ScramSha1) (codes "sha1") a.sha1 h.0 h.2.rows.0;
+  sha256 = option_in_range (length_by ScramSha256) (codes "sha256") a.sha256 h.0 h.2.rows.1.0;
+  names = names_in_range a.act_as (codes "act_as") h.0 h.2.rows.1.1.0;
+}
+
+accounts_in_range : (ms : Members) (entries : List (List ℕ × AccountFields)) → AreAccountTrees ms entries → AreAccounts entries
+accounts_in_range no_members [] h = tt
+accounts_in_range no_members (entry ∷ entries) h = absurd h
+accounts_in_range (member key d ms) [] h = absurd h
+accounts_in_range (member key d ms) (entry ∷ entries) h = (account_in_range d entry.1 h.2, accounts_in_range ms entries h.3)
+
+of_table_in_range : (named : Option Members) (entries : List (List ℕ × AccountFields)) → AreAccountsOf named entries → AreAccounts entries
+of_table_in_range None entries h = rw h tt
+of_table_in_range (Some ms) entries h = accounts_in_range ms entries h
+
+-- the book of a tree is in its ranges
+pub in_range : (ms : Members) (book : BookFields) → IsBookTree ms book → IsBook book
+in_range ms book h =
+    let count = h.top.rows.1.0 in
+    let range = number_range Count 1 most_count count.0 book.decoy_count count.2 in
+    record { count = record { at_least = range.0; at_most = range.1 }; accounts = of_table_in_range h.named book.accounts h.accounts }

@@ -1,0 +1,232 @@
+-- The trees that are written are those of their values.
+use Rattle.std.proofs.Common.{◌≡◌, inr, ℕ, ℤ, pos, nat_abs, ◌≤◌, List, [], ◌∷◌, ◌++◌, length, codes, true, Option, Some, None, Ok}
+use Rattle.std.proofs.Common.{option_map, refl, arith}
+use Rattle.std.specs.Option.{ForSome}
+use Rattle.toml.specs.Data.{integer, Members, no_members, get_member}
+use Rattle.mac_core.specs.Mechanism.{length_by}
+use Rattle.mac_core.specs.declared.mechanism.Mechanism.TheVariants.{ScramSha256}
+use Rattle.scram_text.specs.Class.{IsPlainName}
+use Rattle.scram_text.specs.Parts.{most_count}
+use Rattle.otp_core.specs.Secret.{IsSecretLength}
+use Rattle.otp_core.specs.Ranges.{IsDigitCount, IsMoment, least_secret, most_secret, least_digits, most_digits, last_moment, most_counter}
+use Rattle.otp_core.specs.Ranges.{most_look_ahead, most_sync_ahead, longest_step, most_steps, most_drift, most_limit}
+use Rattle.otp_core.specs.Settings.{IsHotpInRange, IsTotpInRange}
+use Rattle.otp_core.specs.declared.token.kinds.HotpFields.{HotpFields}
+use Rattle.otp_core.specs.declared.token.kinds.TotpFields.{TotpFields}
+use Rattle.book_format.specs.Account.{AccountFields, AreKeys, IsAccount}
+use Rattle.book_format.specs.Book.{BookFields, AreAccounts, IsBook}
+use Rattle.book_format.specs.Keys.{is_among, has_only}
+use Rattle.book_format.specs.ValueTypes.{number, number_in, signed_in, AreNames}
+use Rattle.book_format.specs.Put.{put_some}
+use Rattle.book_format.specs.Rows.{ValueType, WritesItself, Table, HasMarks, HasRows, HasSome, IsTable, entries, table_keys, in_table}
+use Rattle.book_format.specs.Rows.{number_at, written}
+use Rattle.book_format.specs.Tables.{mech, sha1_keys, sha256_keys, hotp, totp, token, account, document}
+use Rattle.book_format.specs.Trees.{AreAccountTrees, IsBookTree}
+use Rattle.book_format.specs.Written.{accounts_tree, book_tree}
+use Rattle.book_format.specs.declared.account.MechKeys.{MechKeys}
+use Rattle.book_format.specs.declared.fault.BookWhy.TheVariants.{Count, KeyLength, Salt, Token}
+use Rattle.book_format.proofs.lemmas.ValueTypes.{ComesBack, number_again, signed_again, bytes_again, hash_again}
+use Rattle.book_format.proofs.lemmas.Put.{HasAll, are_new, has_all, none_yet, all_known, known_all}
+
+-- a table is written as that of its T, where what is written at each key makes it so
+writes_itself : {T : Type 0} (t : Table T) (x : T) → are_new (entries t x) ≡ true → all_known (is_among (table_keys t)) (entries t x) ≡ true
+    → ((ms : Members) → HasAll (entries t x) ms → HasMarks t.marks ms × HasRows t.rows ms x) → IsTable t (written t x) x
+unfolding written has_only
+writes_itself t x new known each =
+    let (marks, rows) = each (written t x) (has_all (entries t x) no_members new (none_yet (entries t x))) in
+    record { marks = marks; known = known_all (is_among (table_keys t)) (entries t x) no_members known refl; rows = rows }
+
+-- where a key that may be missing has what an option is written as
+some_writes_itself : {V : Type 0} (k : ValueType V) (key : List ℕ) (ms : Members) (o : Option V) → get_member key ms ≡ option_map k.write o
+    → ForSome o (WritesItself k) → HasSome key k ms o
+some_writes_itself k key ms None at h = at
+some_writes_itself k key ms (Some v) at h = (k.write v, at, h v refl)
+
+-- the number at another key is the bound
+bound_again : (key : List ℕ) (ms : Members) (most n : ℕ) → get_member key ms ≡ Some (integer (pos most)) → n ≤ most
+    → number_in Token 0 (number_at key ms) (integer (pos n)) ≡ Ok n
+bound_again key ms most n there few = rw there (number_again Token 0 most n (omega arith) few)
+
+sides_again : (key : List ℕ) (ms : Members) (most : ℕ) (z : ℤ) → get_member key ms ≡ Some (integer (pos most)) → nat_abs z ≤ most
+    → signed_in Token (number_at key ms) (integer z) ≡ Ok z
+sides_again key ms most z there few = rw there (signed_again Token most z few)
+
+pub mech_writes_itself : (len : ℕ) (m : MechKeys) → AreKeys len m → ComesBack m.salt → ComesBack m.keys.stored.items
+    → ComesBack m.keys.server.items
+    → WritesItself (in_table (mech len)) m
+mech_writes_itself len m fits salt stored server =
+    let lengths : (n : ℕ) → n ≡ len → (len ≤ n) × (n ≤ len) = λ n is. (omega (arith, is), omega (arith, is)) in (
+      _,
+      refl,
+      writes_itself (mech len) m refl refl (λ ms at. (
+        tt,
+        (
+          (_, at.0, bytes_again Salt 1 64 m.salt salt fits.salt.at_least fits.salt.at_most),
+          (
+            (_, at.1.0, number_again Count 1 most_count m.count fits.count.at_least fits.count.at_most),
+            (
+              (_, at.1.1.0, bytes_again KeyLength len len _ stored (lengths _ fits.stored).0 (lengths _ fits.stored).1),
+              ((_, at.1.1.1.0, bytes_again KeyLength len len _ server (lengths _ fits.server).0 (lengths _ fits.server).1), tt),
+            ),
+          ),
+        ),
+      )),
+    )
+
+pub hotp_writes_itself : (t : HotpFields) → IsHotpInRange t → IsSecretLength (length t.secret) → IsDigitCount t.digits → ComesBack t.secret
+    → WritesItself (in_table hotp) t
+hotp_writes_itself t (next, (look_ahead, (sync_ahead, (limit, (failures, end))))) secret digits back = (
+  _,
+  refl,
+  writes_itself hotp t refl refl (λ ms at.
+      let rows = at.1 in (
+        (at.0, tt),
+        (
+          (_, rows.0, bytes_again Token least_secret most_secret t.secret back secret.0 secret.1),
+          (
+            (_, rows.1.0, number_again Token least_digits most_digits t.digits digits.0 digits.1),
+            (
+              (_, rows.1.1.0, number_again Token 0 _ t.next (omega arith) next),
+              (
+                (_, rows.1.1.1.0, number_again Token 0 most_look_ahead t.look_ahead (omega arith) look_ahead),
+                (
+                  inr (_, rows.1.1.1.1.0, number_again Token 0 most_sync_ahead t.sync_ahead (omega arith) sync_ahead),
+                  (
+                    (_, rows.1.1.1.1.1.0, number_again Token 1 most_limit t.limit limit.0 limit.1),
+                    ((_, rows.1.1.1.1.1.1.0, bound_again (codes "limit") ms t.limit t.failures rows.1.1.1.1.1.0 failures), tt),
+                  ),
+                ),
+              ),
+            ),
+          ),
+        ),
+      )),
+)
+
+last_writes_itself : (ms : Members) (last : Option ℕ) → get_member (codes "last") ms ≡ option_map (λ n. integer (pos n)) last
+    → ForSome last (λ l. l ≤ most_counter)
+    → HasSome (codes "last") (number Token 0 most_counter) ms last
+last_writes_itself ms last there few = some_writes_itself (number Token 0 most_counter) (codes "last") ms last there
+    (λ l is. number_again Token 0 _ l (omega arith) (few l is))
+
+pub totp_writes_itself : (t : TotpFields) → IsTotpInRange t → IsSecretLength (length t.secret) → IsDigitCount t.digits → IsMoment t.t0
+    → ComesBack t.secret
+    → WritesItself (in_table totp) t
+totp_writes_itself t (step, (back, (ahead, (max_drift, (last, (drift, (limit, (failures, end)))))))) secret digits t0 hex = (
+  _,
+  refl,
+  writes_itself totp t refl refl (λ ms at.
+      let first = at.1 in
+      let then = first.1.1.1.1.1.1.1 in (
+        (at.0, tt),
+        (
+          (_, first.0, hash_again t.hash),
+          (
+            (_, first.1.0, bytes_again Token least_secret most_secret t.secret hex secret.0 secret.1),
+            (
+              (_, first.1.1.0, number_again Token least_digits most_digits t.digits digits.0 digits.1),
+              (
+                (_, first.1.1.1.0, number_again Token 0 last_moment t.t0 (omega arith) t0),
+                (
+                  (_, first.1.1.1.1.0, number_again Token 1 longest_step t.step step.0 step.1),
+                  (
+                    (_, first.1.1.1.1.1.0, number_again Token 0 most_steps t.back (omega arith) back),
+                    (
+                      (_, first.1.1.1.1.1.1.0, number_again Token 0 most_steps t.ahead (omega arith) ahead),
+                      (
+                        (_, then.0, number_again Token 0 most_drift t.max_drift (omega arith) max_drift),
+                        (
+                          last_writes_itself ms t.last then.1.0 last,
+                          (
+                            (_, then.1.1.0, sides_again (codes "max_drift") ms t.max_drift t.drift then.0 drift),
+                            (
+                              (_, then.1.1.1.0, number_again Token 1 most_limit t.limit limit.0 limit.1),
+                              ((_, then.1.1.1.1.0, bound_again (codes "limit") ms t.limit t.failures then.1.1.1.0 failures), tt),
+                            ),
+                          ),
+                        ),
+                      ),
+                    ),
+                  ),
+                ),
+              ),
+            ),
+          ),
+        ),
+      )),
+)
+
+with_last : (t : TotpFields) (last : Option ℕ)
+    → put_some (codes "last") (option_map (λ n. integer (pos n)) last) (written totp (record t { last = None }))
+    ≡ written totp (record t { last = last })
+unfolding written
+with_last t None = refl
+with_last t (Some last) = refl
+
+-- the key that may be missing can be put last
+pub last_put_last : (t : TotpFields) → put_some (codes "last") (option_map (λ n. integer (pos n)) t.last)
+    (written totp (record t { last = None }))
+    ≡ written totp t
+last_put_last t = with_last t t.last
+
+pub account_writes_itself : (a : AccountFields) → IsAccount a → AreNames a.act_as
+    → ForSome a.sha1 (WritesItself (in_table sha1_keys))
+    → ForSome a.sha256 (WritesItself (in_table sha256_keys)) → ForSome a.token (WritesItself token)
+    → WritesItself (in_table account) a
+account_writes_itself a fits plain sha1 sha256 of_token = (
+  _,
+  refl,
+  writes_itself account a refl refl (λ ms at. (
+    tt,
+    (
+      some_writes_itself (in_table sha1_keys) (codes "sha1") ms a.sha1 at.0 sha1,
+      (
+        some_writes_itself (in_table sha256_keys) (codes "sha256") ms a.sha256 at.1.0 sha256,
+        (
+          inr (_, at.1.1.0, record { there = refl; plain = plain; few = fits.names }),
+          (some_writes_itself token (codes "token") ms a.token at.1.1.1.0 of_token, tt),
+        ),
+      ),
+    ),
+  )),
+)
+
+-- an account in the middle of accounts in their ranges is in its ranges
+pub account_among : (done : List (List ℕ × AccountFields)) (e : List ℕ × AccountFields) (more : List (List ℕ × AccountFields))
+    → AreAccounts (done ++ e ∷ more) → IsAccount e.1
+account_among [] e more h = h.0
+account_among (first ∷ done) e more h = account_among done e more h.1
+
+-- one more account after the others
+pub one_more_account : (done : List (List ℕ × AccountFields)) (e : List ℕ × AccountFields) → AreAccountTrees (accounts_tree done) done
+    → IsPlainName e.0 → WritesItself (in_table account) e.1 → AreAccountTrees (accounts_tree (done ++ e ∷ [])) (done ++ e ∷ [])
+unfolding accounts_tree
+one_more_account [] e h plain tree = (refl, plain, tree, tt)
+one_more_account (first ∷ done) e h plain tree = (h.0, h.1, h.2, one_more_account done e h.3 plain tree)
+
+pub book_writes_itself : (b : BookFields) → IsBook b → length b.decoy_key ≡ length_by ScramSha256 → ComesBack b.decoy_key
+    → AreAccountTrees (accounts_tree b.accounts) b.accounts → IsBookTree (book_tree b) b
+unfolding book_tree
+book_writes_itself b fits key back accounts = record {
+  named = Some (accounts_tree b.accounts);
+  top = writes_itself document _ refl refl (λ ms at. (
+    (at.0, tt),
+    (
+      (
+        _,
+        at.1.0,
+        bytes_again KeyLength (length_by ScramSha256) (length_by ScramSha256) b.decoy_key back (omega (arith, key)) (omega (arith, key)),
+      ),
+      (
+        (_, at.1.1.0, number_again Count 1 most_count b.decoy_count fits.count.at_least fits.count.at_most),
+        ((_, at.1.1.1.0, refl), tt),
+      ),
+    ),
+  ));
+  accounts = accounts;
+}
+
+-- one more name after the others
+pub names_more : (done : List (List ℕ)) (name : List ℕ) → AreNames done → IsPlainName name → AreNames (done ++ name ∷ [])
+names_more [] name h plain = (plain, tt)
+names_more (first ∷ done) name h plain = (h.0, names_more done name h.1 plain)

@@ -1,0 +1,92 @@
+-- A command line with which nothing is wrong names one of the commands.
+use Rattle.std.proofs.Common.{◌≡◌, ◌&&◌, Bool, true, false, not, List, [], ◌∷◌, Option, Some, None, is_some, map, refl}
+use Rattle.std.specs.Prelude.{IfSome, ⊤, find, if◌then◌else◌, option_map}
+use Rattle.clap.specs.Faults.{check_fault, defaults_fault, entered_fault, level_fault, settle_fault, walk_fault}
+use Rattle.clap.specs.Kinds.{check_kinds, or_else}
+use Rattle.clap.specs.Simple.{argument_words, entered, label_of, names_of, rows_at}
+use Rattle.clap.specs.Walk.{Held, Names, answers_to, finished, nothing_held, settled, stop_after, walk, walk_from}
+use Rattle.clap.specs.Words.{App, Kinds, Row, Shape, Text, built, fault_of, subcommand_of}
+use Rattle.command_words.specs.Commands.CommandName.{Keys, Enrol, Code, Verify, Unlock, Login, Hall, Audit, Upgrade}
+use Rattle.command_words.specs.Commands.{CommandName, NamesCommand, program, word_of}
+
+-- where no kind of error may come, none comes of the second step
+second : (one two : Kinds) → or_else one two ≡ [] → two ≡ []
+second [] two none = none
+second (kind ∷ kinds) two none = absurd (cc none)
+
+not_wanted : (help command argument : Bool) → check_kinds help command argument ≡ [] → command ≡ false
+not_wanted true command argument none = absurd (cc none)
+not_wanted false true argument none = absurd (cc none)
+not_wanted false false argument none = refl
+
+wanted_is_there : (there wanted : Bool) → not there && wanted ≡ false → wanted ≡ true → there ≡ true
+wanted_is_there true wanted none is = refl
+wanted_is_there false true none is = absurd (cc none)
+wanted_is_there false false none is = absurd (cc is)
+
+-- a command that needs a subcommand has entered one, where nothing is wrong with its words
+level_enters : (shape : Shape) (names : Names) (held : Held) (words : List Text) (enters : Bool) (below : Kinds)
+    → level_fault shape names held words enters below ≡ [] → shape.subcommand_required ≡ true → enters ≡ true
+level_enters shape names held words enters below none is =
+    let end = (walk shape.rules names held words).held in
+    let walked = second (walk_fault shape names (walk_from held) words) _ none in
+    let entered = second below _ walked in
+    let held_over = second (settle_fault shape.rules shape.args_override_self end) _ entered in
+    let checked : check_fault shape (finished shape.rules end) enters
+    ≡ [] = second (defaults_fault (settled shape.rules end).rows shape.rules) _ held_over in
+    wanted_is_there enters shape.subcommand_required (search (not_wanted, checked)) is
+
+-- each has a name that is so
+abbrev Each : (Text → Type 0) → (names : List Text) → Type 0
+Each P [] = ⊤
+Each P (name ∷ names) = P name × Each P names
+
+abbrev names_in : App → List Text
+names_in app = map (λ shape. shape.name) app.subs
+
+found_is : (P : Text → Type 0) (test : Shape → Bool) (shapes : List Shape) → Each P (map (λ shape. shape.name) shapes)
+    → IfSome (find test shapes) (λ shape. P shape.name)
+found_is P test [] each = tt
+found_is P test (shape ∷ shapes) (first, rest) = by (test shape) (found_is P test shapes rest)
+  where
+    by : (passes : Bool) → IfSome (find test shapes) (λ s. P s.name)
+        → IfSome (if passes then Some shape else find test shapes) (λ s. P s.name)
+    by true later = first
+    by false later = later
+
+-- what was entered has one of these names
+entered_is : (P : Text → Type 0) (app : App) (stop : Option (Text × List Text)) → Each P (names_in app) → is_some (entered app stop) ≡ true
+    → (name : Text) × (rows : List Row) × P name × (entered app stop ≡ Some (name, rows))
+entered_is P app None each there = absurd (cc there)
+entered_is P app (Some (word, rest)) each there =
+    by (find (λ s. answers_to word (label_of s)) app.subs) (found_is P (λ s. answers_to word (label_of s)) app.subs each) there
+  where
+    by : (found : Option Shape) → IfSome found (λ s. P s.name) → is_some (option_map (λ s. rows_at s rest) found) ≡ true
+        → (name : Text) × (rows : List Row) × P name × (option_map (λ s. rows_at s rest) found ≡ Some (name, rows))
+    by None is there = absurd (cc there)
+    by (Some shape) is there = (_, _, is, refl)
+
+-- so a command that needs a subcommand has entered one of its own, where nothing is wrong with its words
+names_one : (P : Text → Type 0) (app : App) (line : List Text) → (built app).top.subcommand_required ≡ true → Each P (names_in (built app))
+    → fault_of app line ≡ [] → (name : Text) × (rows : List Row) × P name × (subcommand_of app line ≡ Some (name, rows))
+names_one P app line needed each none =
+    let stop = stop_after (built app).top.rules (names_of (built app)) (argument_words app line) in
+    entered_is P (built app) stop each (level_enters _ _ nothing_held (argument_words app line) _
+    (entered_fault (built app) stop) none needed)
+
+-- the name is that of a command
+abbrev IsWord : Text → Type 0
+IsWord name = (command : CommandName) × (name ≡ word_of command)
+
+abbrev all_commands : List CommandName
+all_commands = Keys ∷ Enrol ∷ Code ∷ Verify ∷ Unlock ∷ Login ∷ Hall ∷ Audit ∷ Upgrade ∷ []
+
+each_is_word : (commands : List CommandName) → Each IsWord (map word_of commands)
+each_is_word [] = tt
+each_is_word (command ∷ commands) = ((command, refl), each_is_word commands)
+
+pub names_command : (line : List Text) → fault_of program line ≡ [] → NamesCommand (subcommand_of program line)
+names_command line none =
+    let one = names_one IsWord program line refl (each_is_word all_commands) none in
+    let (command, is) = one.2 in
+    (command, one.1, rw is at one.3)

@@ -1,0 +1,14 @@
+-- Lemmas: what the proofs of this crate and of those above it cite.
+pub mod ClientLines
+pub mod EventWords
+pub mod Faults
+pub mod HallLogs
+pub mod HeardLines
+pub mod LoginGoesOn
+pub mod Logins
+pub mod Nonces
+pub mod OneEvent
+pub mod Printed
+pub mod Runs
+pub mod Spellings
+pub mod Told

@@ -1,0 +1,167 @@
+-- What a client may say, from what the calls that it makes have promised.
+use Rattle.std.proofs.Common.{◌≡◌, ℕ, List, Option, None, Some, IfSome, sym, subst}
+use Rattle.std.specs.Prelude.{IfOk, IfNone}
+use Rattle.std.specs.Option.{option_or}
+use Rattle.std.specs.declared.result.Result.{Result}
+use Rattle.std.proofs.lemmas.Result.{IfOk-weaker}
+use Rattle.mac_core.specs.Mechanism.{IsOffered}
+use Rattle.mac_core.specs.declared.mechanism.Mechanism.{Mechanism}
+use Rattle.mac_core.specs.declared.mechanism.Mechanism.TheVariants.{ScramSha256}
+use Rattle.command_line.specs.declared.fault.Fault.{Fault}
+use Rattle.log_grammar.specs.Lines.{IsLine, ServerLine, from_server, mechs, cont, accepts}
+use Rattle.log_grammar.proofs.lemmas.lines.ReadBack.{one_line}
+use Rattle.scram_text.specs.Messages.{ServerFirstParts}
+use Rattle.scram_ends.specs.Stages.{Started, Answered}
+use Rattle.scram_ends.specs.Login.{IsAuthentic}
+use Rattle.scram_ends.specs.Client.{IsStarted, IsAnswerable, IsExpecting}
+use Rattle.scram_ends.specs.declared.client.ClientOne.{ClientOne}
+use Rattle.scram_ends.specs.declared.client.ClientTwo.{ClientTwo}
+use Rattle.commands.specs.ClientEnd.{IfSays, IsChosen, BeginsLogin, AnswersChallenge, MaySay, ShowsKeys, IsInLogin, HasToLeave}
+use Rattle.commands.specs.declared.login.client_end.ClientEnd.{ClientEnd}
+use Rattle.commands.specs.declared.login.client_end.Next.{Next}
+use Rattle.commands.specs.declared.login.client_end.Next.TheVariants.{Says, IsIn, Leaves}
+use Rattle.commands.specs.declared.login.client_end.Stage.{Stage}
+use Rattle.commands.specs.declared.login.client_end.Stage.TheVariants.{Silent, Begun, Proved, Over}
+
+-- the mechanism that is taken
+pub chosen : (asked best : Option Mechanism) (names : List ℕ) (mechanism : Mechanism) → option_or asked best ≡ Some mechanism
+    → IfSome best (λ one. IsOffered one names) → (IsOffered ScramSha256 names → best ≡ Some ScramSha256) → IsChosen asked names mechanism
+chosen (Some asked) best names mechanism is offered preferred = cc is
+chosen None best names mechanism is offered preferred = (
+  subst (λ (o : Option Mechanism). IfSome o (λ one. IsOffered one names)) is offered,
+  λ has. cc (is, preferred has),
+)
+
+says_weaker : (next : Next) (fact other : List ℕ → Type 0) → ((said : List ℕ) → fact said → other said) → IfSays next fact
+    → IfSays next other
+says_weaker (Says line) fact other follows says = follows line.items says
+says_weaker IsIn fact other follows says = tt
+says_weaker Leaves fact other follows says = tt
+
+may_say : (client : ClientEnd) (old stage new : Stage) (told : List ℕ) (result : Result Next Fault) (fact : List ℕ → Type 0) → old ≡ stage
+    → ((said : List ℕ) → fact said → MaySay client stage told said new) → IfOk result (λ next. IfSays next fact)
+    → IfOk result (λ next. IfSays next (λ said. MaySay client old told said new))
+may_say client old stage new told result fact is follows says =
+    IfOk-weaker result _ _
+    (λ next. says_weaker next _ _ (λ said holds. subst (λ (s : Stage). MaySay client s told said new) (sym is) (follows said holds)))
+    says
+
+-- a client that has said nothing may begin a login, by the mechanisms that it was told
+pub beginning_may_be_said : (client : ClientEnd) (old new : Stage) (told names : List ℕ) (result : Result Next Fault) → old ≡ Silent
+    → IsLine told (from_server (mechs names))
+    → IfOk result (λ next. IfSays next (λ said. BeginsLogin client.user client.nonce names said new))
+    → IfOk result (λ next. IfSays next (λ said. MaySay client old told said new))
+beginning_may_be_said client old new told names result is line says =
+    may_say client old Silent new told result _ is (λ said begins. (names, line, begins)) says
+
+-- a client that waits for the challenge may say its answer to the one that it was told
+pub answer_may_be_said : (client : ClientEnd) (one : ClientOne) (old new : Stage) (told server_first : List ℕ) (result : Result Next Fault)
+    → old ≡ Begun one
+    → IsLine told (from_server (cont server_first))
+    → IfOk result (λ next. IfSays next (λ said. (login : Started) → IsStarted one login
+    → AnswersChallenge login client.password server_first said new))
+    → IfOk result (λ next. IfSays next (λ said. MaySay client old told said new))
+answer_may_be_said client one old new told server_first result is line says =
+    may_say client old (Begun one) new told result _ is (λ said answers. (server_first, line, answers)) says
+
+-- who says nothing may do so
+pub silence_may_be : (client : ClientEnd) (old new : Stage) (told : List ℕ) (result : Result Next Fault)
+    → IfOk result (λ next. IfSays next (λ said. ⊥)) → IfOk result (λ next. IfSays next (λ said. MaySay client old told said new))
+silence_may_be client old new told result silent =
+    IfOk-weaker result _ _ (λ next. says_weaker next _ _ (λ said never. absurd never)) silent
+
+-- no mechanism is taken where none is asked for and none is offered
+pub none_chosen : (asked best : Option Mechanism) (names : List ℕ) (mechanism : Mechanism) → option_or asked best ≡ None
+    → IfNone best ((one : Mechanism) → IsOffered one names → ⊥) → IsChosen asked names mechanism → ⊥
+none_chosen (Some one) best names mechanism is none chosen = cc is
+none_chosen None None names mechanism is none chosen = none mechanism chosen.0
+none_chosen None (Some one) names mechanism is none chosen = cc is
+
+-- a client at this stage may go on at this line of the server
+abbrev pub IsDueTo : Stage → ServerLine → Type 0
+IsDueTo Silent (mechs names) = Unit {0}
+IsDueTo (Begun one) (cont message) = Unit {0}
+IsDueTo (Proved two) (accepts message) = Unit {0}
+IsDueTo stage line = ⊥
+
+-- a client at a stage where it may say nothing has to leave
+abbrev pub LeavesAt : ClientEnd → Stage → (told : List ℕ) → Type 0
+LeavesAt client stage told = IsInLogin stage → ((said : List ℕ) (new : Stage) → MaySay client stage told said new → ⊥)
+    × (ShowsKeys stage told → ⊥)
+
+leaves_at : (client : ClientEnd) (stage : Stage) (told : List ℕ) → client.stage ≡ stage → LeavesAt client stage told
+    → HasToLeave client told
+leaves_at client stage told is leaves = subst (λ (s : Stage). LeavesAt client s told) (sym is) leaves
+
+-- a line that is not due
+not_due : (client : ClientEnd) (stage : Stage) (told : List ℕ)
+    → ((line : ServerLine) → IsLine told (from_server line) → IsDueTo stage line → ⊥)
+    → LeavesAt client stage told
+not_due client Silent told none stands = (λ said new may. none (mechs may.0) may.1 tt, λ shows. shows)
+not_due client (Begun one) told none stands = (λ said new may. none (cont may.0) may.1 tt, λ shows. shows)
+not_due client (Proved two) told none stands = (λ said new never. never, λ shows. none (accepts shows.0) shows.1 tt)
+not_due client Over told none stands = (λ said new never. never, λ shows. shows)
+
+-- a client has to leave where it is told something that is no line of the server
+pub leaves_at_no_line : (client : ClientEnd) (told : List ℕ) → ((line : ServerLine) → IsLine told (from_server line) → ⊥)
+    → HasToLeave client told
+leaves_at_no_line client told none = not_due client client.stage told (λ line is due. none line is)
+
+same_told : (told : List ℕ) (one other : ServerLine) → IsLine told (from_server one) → IsLine told (from_server other) → one ≡ other
+same_told told one other is also = let same = one_line told (from_server one) (from_server other) is also in cc same
+
+-- an offer without a mechanism that the client takes
+pub leaves_unoffered : (client : ClientEnd) (told names : List ℕ) (result : Result Next Fault) → client.stage ≡ Silent
+    → IsLine told (from_server (mechs names))
+    → IfOk result (λ next. next ≡ Leaves → (mechanism : Mechanism) → IsChosen client.user.mechanism names mechanism → ⊥)
+    → IfOk result (λ next. next ≡ Leaves → HasToLeave client told)
+leaves_unoffered client told names result is line leaves =
+    IfOk-weaker result _ _
+    (λ next none left. leaves_at client Silent told is (λ stands. (
+      λ said new may.
+          let (others, also, begins) = may in
+          let same = same_told told (mechs others) (mechs names) also line in
+          let are : others ≡ names = cc same in
+          none left begins.login.mechanism
+          (subst (λ (n : List ℕ). IsChosen client.user.mechanism n begins.login.mechanism) are begins.is_mechanism),
+      λ shows. shows,
+    ))) leaves
+
+-- a challenge that the client does not answer
+pub leaves_unanswered : (client : ClientEnd) (one : ClientOne) (told server_first : List ℕ) (result : Result Next Fault)
+    → client.stage ≡ Begun one
+    → IsLine told (from_server (cont server_first))
+    → IfOk result (λ next. next ≡ Leaves → (login : Started) → IsStarted one login
+    → (parts : ServerFirstParts) → IsAnswerable login.limits login.nonce server_first parts → ⊥)
+    → IfOk result (λ next. next ≡ Leaves → HasToLeave client told)
+leaves_unanswered client one told server_first result is line leaves =
+    IfOk-weaker result _ _
+    (λ next none left. leaves_at client (Begun one) told is (λ stands. (
+      λ said new may.
+          let (login, started) = stands in
+          let (other, also, answers) = may in
+          let same = same_told told (cont other) (cont server_first) also line in
+          let are : other ≡ server_first = cc same in
+          let answer = answers login started in
+          none left login started answer.challenge
+          (subst (λ (text : List ℕ). IsAnswerable login.limits login.nonce text answer.challenge) are answer.answerable),
+      λ shows. shows,
+    ))) leaves
+
+-- an acceptance without the signature
+pub leaves_unproved : (client : ClientEnd) (two : ClientTwo) (told message : List ℕ) (result : Result Next Fault)
+    → client.stage ≡ Proved two
+    → IsLine told (from_server (accepts message))
+    → IfOk result (λ next. next ≡ Leaves → (l : Answered) (x : IsExpecting two l) → IsAuthentic message x.signature → ⊥)
+    → IfOk result (λ next. next ≡ Leaves → HasToLeave client told)
+leaves_unproved client two told message result is line leaves =
+    IfOk-weaker result _ _
+    (λ next none left. leaves_at client (Proved two) told is (λ stands. (
+      λ said new never. never,
+      λ shows.
+          let (login, expecting) = stands in
+          let (other, also, keys) = shows in
+          let same = same_told told (accepts other) (accepts message) also line in
+          let are : other ≡ message = cc same in
+          none left login expecting (subst (λ (text : List ℕ). IsAuthentic text expecting.signature) are (keys login expecting)),
+    ))) leaves

@@ -1,0 +1,154 @@
+-- One run of the program, by the command that it runs.
+use Rattle.std.proofs.Common.{◌≡◌, ◌≢◌, ◌⊎◌, ◌∙◌, inl, inr, ℕ, List, [], Option, refl, sym, subst, ap}
+use Rattle.std.specs.Prelude.{Some, None, Ok, Err, Box, Bool, true, codes, option_map, IfErr, IfOk, OnOk, MatchResult}
+use Rattle.std.specs.Box.{box_value}
+use Rattle.std.specs.Io.KnownBytes.{Keeps}
+use Rattle.std.specs.declared.result.Result.{Result}
+use Rattle.std.proofs.KnownBytes.{Keeps-refl}
+use Rattle.clap.proofs.OnLiterals.{clap_on_literals}
+use Rattle.clap.specs.Words.{App, HasKind, HasMatchesOf, Row, Text, fault_of, found_of, is_simple, is_simple_and_free, kind_of, rows_of}
+use Rattle.clap.specs.Words.{subcommand_name_of, subcommand_of, subcommand_rows, subcommand_rows_of}
+use Rattle.clap.specs.declared.error.Error.{Error}
+use Rattle.clap.specs.declared.parser.matches.ArgMatches.{ArgMatches}
+use Rattle.clap.specs.declared.parser.matches.ArgMatches.TheViews.{out-ArgMatches, out-SubCommand}
+use Rattle.clap.specs.declared.parser.matches.SubCommand.{SubCommand}
+use Rattle.command_line.specs.declared.fault.Fault.{Fault}
+use Rattle.command_line.specs.declared.fault.Fault.TheVariants.{CannotWriteOutput}
+use Rattle.command_words.specs.Commands.CommandName.{Keys, Enrol, Code, Verify, Unlock, Login, Hall, Audit, Upgrade}
+use Rattle.command_words.specs.Commands.{CommandName, NamesCommand, program, word_of}
+use Rattle.command_words.proofs.lemmas.Naming.{names_command}
+use Rattle.commands.specs.Program.{EndsCommand, EndsRun, HasDone, IsErrorOf, Names, RunsCommand, RunsUntil, StopsAt, exit_status, found_in}
+
+-- how a command ends, by what is known of its answer and of its fault
+pub ends_as : {T : Type 0} {P : T → Type 0} {S : Fault → Type 0} (Q : T → Type 0) (R : Fault → Type 0) (ended : Result T Fault)
+    → IfOk ended P → IfErr ended S
+    → ((x : T) → P x → Q x) → ((fault : Fault) → S fault → R fault) → MatchResult ended Q R
+ends_as Q R (Ok x) did stopped runs stops = runs x did
+ends_as Q R (Err fault) did stopped runs stops = stops fault stopped
+
+-- so it is where the status goes with the answer
+pub ends_by : {T : Type 0} {P : T → Type 0} {S : Fault → Type 0} (Q : ℕ → Type 0) (R : Fault → Type 0) (value : T → ℕ)
+    (ended : Result T Fault)
+    (result : Result ℕ Fault) → MatchResult ended (λ x. result ≡ Ok (value x)) (λ fault. result ≡ Err fault) → IfOk ended P → IfErr ended S
+    → ((x : T) → P x → Q (value x)) → ((fault : Fault) → S fault → R fault) → MatchResult result Q R
+ends_by Q R value (Ok x) result is did stopped runs stops = subst (λ (r : Result ℕ Fault). MatchResult r Q R) (sym is) (runs x did)
+ends_by Q R value (Err fault) result is did stopped runs stops = subst (λ (r : Result ℕ Fault). MatchResult r Q R) (sym is)
+    (stops fault stopped)
+
+-- the subcommand that a parse has entered, by its name and the values of its options
+entered : {Z : Type 0} (o : Option (Box SubCommand Z)) (name word : Text) (rows : List Row)
+    → Some name ≡ option_map (λ b. (out-SubCommand (box_value b)).name.now) o → Some rows ≡ option_map (λ p. p.1) (subcommand_rows o)
+    → name ≡ word → subcommand_rows o ≡ Some (word, rows)
+entered None name word rows is are known = absurd (cc is)
+entered (Some b) name word rows is are known = cc
+
+-- what a parse finds is this word and these values of its options, where it has entered a subcommand of that name with those values
+pub named : (matches words : ArgMatches) (name word : Text) → Some name ≡ subcommand_name_of matches
+    → Some (rows_of (found_of words)) ≡ option_map (λ p. p.1) (subcommand_rows (out-ArgMatches matches).subcommand)
+    → name ≡ word → subcommand_rows_of matches ≡ Some (word, rows_of (found_of words))
+named matches words name word is are known = entered (out-ArgMatches matches).subcommand name word (rows_of (found_of words)) is are known
+
+-- a command that was named and has run, before its output is flushed
+pub runs : {File : Type 0} {bytes_of written_to : File
+    → Option (List ℕ)} {found : Option (Text × List Row)} {status : ℕ} {input old new : Option (List ℕ)}
+    (name : CommandName) (words : ArgMatches) → Names found name words → HasDone bytes_of written_to name words status input old new
+    → RunsCommand bytes_of written_to found status input old new
+runs name words is done = record { name = name; words = words; is_named = is; printed = _; has_done = done; kept = Keeps-refl _ }
+
+-- a command that was named, and has a fault
+pub stops : {File : Type 0} {bytes_of written_to : File
+    → Option (List ℕ)} {found : Option (Text × List Row)} {fault : Fault} {input old new : Option (List ℕ)}
+    (name : CommandName) (words : ArgMatches) → Names found name words → StopsAt bytes_of written_to name words fault input old new
+    → (fault ≡ CannotWriteOutput) ⊎ RunsUntil bytes_of written_to found fault input old new
+stops name words is stopped = inr (record { name = name; words = words; is_named = is; stops = stopped })
+
+-- two facts of a fault, together
+pub both : {T : Type 0} (P S : Fault → Type 0) (ended : Result T Fault) → IfErr ended P → IfErr ended S
+    → IfErr ended (λ fault. P fault × S fault)
+both P S (Ok x) one two = tt
+both P S (Err fault) one two = (one, two)
+
+-- the two facts of the answer of `login`, together
+pub logs_in : {R : Type 0} (P : Type 0) (ended : Result Bool Fault) → OnOk ended P → (ended ≡ Ok true → R)
+    → IfOk ended (λ passed. P × (passed ≡ true → R))
+logs_in P (Ok passed) printed passes = (printed, λ yes. passes (ap (λ (p : Bool). Ok p) yes))
+logs_in P (Err fault) printed passes = tt
+
+-- where a command is named, a subcommand was entered
+none_entered : {Z : Type 0} (o : Option (Box SubCommand Z)) (word : Text) (rows : List Row)
+    → None ≡ option_map (λ b. (out-SubCommand (box_value b)).name.now) o → subcommand_rows o ≡ Some (word, rows) → ⊥
+none_entered None word rows is are = cc
+none_entered (Some b) word rows is are = cc
+
+-- a parse that finds a command has entered a subcommand
+pub not_unnamed : (matches : ArgMatches) → NamesCommand (subcommand_rows_of matches) → None ≡ subcommand_name_of matches → ⊥
+not_unnamed matches (name, values, are) is = none_entered (out-ArgMatches matches).subcommand (word_of name) values is are
+
+-- and it has the name of a command
+same_name : {Z : Type 0} (o : Option (Box SubCommand Z)) (name word : Text) (rows : List Row)
+    → Some name ≡ option_map (λ b. (out-SubCommand (box_value b)).name.now) o → subcommand_rows o ≡ Some (word, rows) → name ≡ word
+same_name None name word rows is are = absurd (cc is)
+same_name (Some b) name word rows is are =
+    let named : Some (out-SubCommand (box_value b)).name.now ≡ Some word = ap (option_map (λ (p : Text × List Row). p.0)) are in cc
+
+-- the name is that of no command
+abbrev pub IsOther : Text → Type 0
+IsOther name = (name ≢ codes "keys") × (name ≢ codes "enrol") × (name ≢ codes "code") × (name ≢ codes "verify") × (name ≢ codes "unlock")
+    × (name ≢ codes "login") × (name ≢ codes "hall") × (name ≢ codes "audit") × (name ≢ codes "upgrade")
+
+other : (name : Text) (command : CommandName) → IsOther name → name ≡ word_of command → ⊥
+other name Keys (keys, enrol, code, verify, unlock, login, hall, audit, upgrade) is = keys is
+other name Enrol (keys, enrol, code, verify, unlock, login, hall, audit, upgrade) is = enrol is
+other name Code (keys, enrol, code, verify, unlock, login, hall, audit, upgrade) is = code is
+other name Verify (keys, enrol, code, verify, unlock, login, hall, audit, upgrade) is = verify is
+other name Unlock (keys, enrol, code, verify, unlock, login, hall, audit, upgrade) is = unlock is
+other name Login (keys, enrol, code, verify, unlock, login, hall, audit, upgrade) is = login is
+other name Hall (keys, enrol, code, verify, unlock, login, hall, audit, upgrade) is = hall is
+other name Audit (keys, enrol, code, verify, unlock, login, hall, audit, upgrade) is = audit is
+other name Upgrade (keys, enrol, code, verify, unlock, login, hall, audit, upgrade) is = upgrade is
+
+-- where a parse finds a command, the subcommand that it has entered has the name of one
+pub not_other : (matches : ArgMatches) (name : Text) → NamesCommand (subcommand_rows_of matches) → Some name ≡ subcommand_name_of matches
+    → IsOther name → ⊥
+not_other matches name (command, values, are) is others =
+    other name command others (same_name (out-ArgMatches matches).subcommand name (word_of command) values is are)
+
+-- the program's command line is one that clap's functions say all of
+is_simple_program : is_simple program ≡ true
+unfolding clap_on_literals
+is_simple_program = refl
+
+is_free_program : is_simple_and_free program ≡ true
+unfolding clap_on_literals
+is_free_program = refl
+
+-- what a parse of it finds
+pub found_by : (app : App) (line : List Text) (matches : ArgMatches) → app ≡ program → HasMatchesOf app line matches
+    → subcommand_rows_of matches ≡ found_in line
+found_by app line matches is has = (has (ap is_simple is ∙ is_simple_program)).1 ∙ ap (λ (a : App). subcommand_of a line) is
+
+-- nothing is wrong with a line that is parsed
+pub understood : (app : App) (line : List Text) → app ≡ program → (is_simple_and_free app ≡ true → fault_of app line ≡ [])
+    → fault_of program line ≡ []
+understood app line is fails = sym (ap (λ (a : App). fault_of a line) is) ∙ fails (ap is_simple_and_free is ∙ is_free_program)
+
+-- and it names a command
+pub names_one : (app : App) (line : List Text) (matches : ArgMatches) → app ≡ program → HasMatchesOf app line matches
+    → (is_simple_and_free app ≡ true → fault_of app line ≡ []) → NamesCommand (subcommand_rows_of matches)
+names_one app line matches is has fails =
+    subst NamesCommand (sym (found_by app line matches is has)) (names_command line (understood app line is fails))
+
+-- what is wrong with a line that is not
+pub error_of : (app : App) (line : List Text) (error : Error) → app ≡ program
+    → (is_simple_and_free app ≡ true → HasKind (fault_of app line) error)
+    → IsErrorOf line (kind_of error)
+error_of app line error is fails =
+    subst (λ (a : App). HasKind (fault_of a line) error) is (fails (ap is_simple_and_free is ∙ is_free_program))
+
+-- a run that is over, by the end of its command
+pub has_ended : {File : Type 0} (bytes_of written_to : File → Option (List ℕ)) (found : Option (Text × List Row)) (line : List Text)
+    (ended : Result ℕ Fault)
+    (status : ℕ) (input old new : Option (List ℕ)) → found ≡ found_in line → fault_of program line ≡ [] → status ≡ exit_status ended
+    → EndsCommand bytes_of written_to found ended input old new → EndsRun bytes_of written_to line status input old new
+has_ended bytes_of written_to found line ended status input old new is right goes ends =
+    inl (right, (ended, goes, subst (λ (f : Option (Text × List Row)). EndsCommand bytes_of written_to f ended input old new) is ends))

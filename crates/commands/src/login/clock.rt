@@ -1,0 +1,78 @@
+//! The moments by which a login's codes are judged.
+ghost use Rattle.std.specs.Prelude.{◌≡◌, ℕ, Option, None};
+ghost use Rattle.commands.specs.Login.{IsGiven};
+
+use otp_core::Moment;
+use std::marker::{Brand, PhantomData};
+use std::time::{Clock, SystemTime, UNIX_EPOCH};
+
+/// The moment that was given, where one was, as a type: so what is proved over any clock can name it. Who calls such code says which it
+/// is.
+pub trait GivenMoment {
+    ghost moment: { Option ℕ };
+}
+
+impl GivenMoment for Brand {
+    ghost moment = { None };
+}
+
+/// A clock that stands still at a moment that was given, or else the machine's.
+#[derive(Drop)]
+pub struct LoginClock<'a, R, G: GivenMoment> {
+    rt: &'a R,
+    given: Option<Moment>,
+
+    // The moment that was told last; the start of 1970 where none was.
+    last: Moment,
+    of: PhantomData<G>,
+
+    ghost is_given: { given ≡ G.moment },
+}
+
+impl<'a, R: Clock, G: GivenMoment> LoginClock<'a, R, G> {
+    /// A clock by the moment that was given.
+    pub fn new(rt: &'a R, given: Option<Moment>) -> LoginClock<'a, R, G>
+        requires { given ≡ G.moment }
+        ensures { result.given ≡ given }
+    {
+        LoginClock {
+            rt,
+            given,
+            last: start_of_1970(),
+            of: PhantomData,
+        }
+    }
+}
+
+impl<R: Clock, G: GivenMoment> sasl_desk::Clock for LoginClock<'_, R, G> {
+    ghost last = { λ m. m.last };
+
+    ghost IsNow = { IsGiven G.moment };
+
+    fn now(&mut self) -> Moment {
+        self.last = match self.given {
+            Some(moment) => moment,
+            None => machine_moment(self.rt),
+        };
+        self.last
+    }
+}
+
+// The moment of the machine's clock, or the start of 1970 where the clock can't be read, or is before 1970 or after the year
+// 9999.
+fn machine_moment<R: Clock>(rt: &R) -> Moment {
+    let Ok(now) = SystemTime::now(rt) else {
+        return start_of_1970();
+    };
+    let Ok(since) = now.duration_since(UNIX_EPOCH) else {
+        return start_of_1970();
+    };
+    Moment::new(since.as_secs()).unwrap_or(start_of_1970())
+}
+
+fn start_of_1970() -> Moment {
+    let Some(moment) = Moment::new(0) else {
+        unreachable!()
+    };
+    moment
+}

@@ -1,4 +1,0 @@
-pub mod EachPlace
-pub mod Closings
-pub mod OpenSessions
-pub mod NumberedFronts

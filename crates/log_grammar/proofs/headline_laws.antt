@@ -1,4 +1,0 @@
-pub mod SessionCounts
-pub mod MomentRanges
-pub mod OfSessions
-pub mod NumberedOfSessions

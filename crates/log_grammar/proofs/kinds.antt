@@ -1,9 +1,0 @@
-pub mod Judged
-pub mod FaultLines
-pub mod Either
-pub mod OneWhy
-pub mod VersionOne
-pub mod VersionTwo
-pub mod AllVersions
-pub mod ShownByLines
-pub mod NoneOfBoth

@@ -1,0 +1,14 @@
+-- Lemmas: what the proofs of this crate and of those above it cite.
+pub mod ListEnds
+pub mod completions
+pub mod demands
+pub mod headline_laws
+pub mod kinds
+pub mod lines
+pub mod login_laws
+pub mod many_sessions
+pub mod reason_laws
+pub mod reply_laws
+pub mod small_logs
+pub mod state_machine
+pub mod upgraded_logs

@@ -1,0 +1,127 @@
+-- From each place of a session there are lines that close it and tell nothing, but where a code waits for its reply.
+use Rattle.std.proofs.Common.{◌≡◌, ◌⊎◌, inl, inr, ℕ, List, [], ◌∷◌, refl, arith}
+use Rattle.otp_core.specs.Attempt.{CodeTexts}
+use Rattle.scram_ends.specs.Verdict.{Due, accept, refuse, due_text}
+use Rattle.log_grammar.specs.Lines.{LogLine, said, gone, ended, cont, accepts, refuses}
+use Rattle.log_grammar.specs.Places.{Place, before_all, between, offered, asks_bare, waits_first, got_first, waits_final, got_final}
+use Rattle.log_grammar.specs.Places.{waits_code, got_code, leaving, over, halted}
+use Rattle.log_grammar.specs.Demands.{Accounts, AllCanBeChallenged, IsVerdict, demands}
+use Rattle.log_grammar.specs.state_machine.Steps.{IsTransition, told_at}
+use Rattle.log_grammar.specs.Numbered.{Numbered, HasRoom, MayFollow}
+use Rattle.log_grammar.specs.NumberedLines.{HasNumber}
+use Rattle.log_grammar.proofs.lemmas.completions.EachPlace.{Ground, Spelt, spelt_end, spelt_gone, spelt_refuses, spelt_cont, refusal_line}
+use Rattle.log_grammar.proofs.lemmas.completions.EachPlace.{acceptance_line, some_verdict}
+use Rattle.log_grammar.proofs.lemmas.demands.StillChallenged.{Opened}
+use Rattle.log_grammar.proofs.lemmas.demands.Challenges.{offered_decided, login_decided, some_challenge}
+use Rattle.log_grammar.proofs.lemmas.lines.TextBytes.{utf8_message}
+
+-- a line that may be written at any time, and that any line may follow
+pub record IsPlain (line : LogLine) : Type 0 where
+  pub spelt : Spelt line
+  pub room : (limit : ℕ) (before : List (Numbered LogLine)) (n : ℕ) → HasRoom limit before n line
+  pub follow : (n m : ℕ) (next : LogLine) → MayFollow n line m next
+  pub has_number : HasNumber line
+
+-- these lines lead from a place to the end of the session, and tell nothing
+abbrev pub Closes : Accounts → Place → List LogLine → Type 0
+Closes accounts place [] = place ≡ between
+Closes accounts place (line ∷ more) =
+    IsPlain line × (told_at place line ≡ []) × (next : Place) × IsTransition (demands accounts) place line next × Closes accounts next more
+
+-- `E` can be written, has room after any lines, and any line may follow it
+pub plain_end : IsPlain ended
+plain_end = record { spelt = spelt_end; room = λ limit before n. tt; follow = λ n m next. tt; has_number = tt }
+
+plain_gone : IsPlain gone
+plain_gone = record { spelt = spelt_gone; room = λ limit before n. tt; follow = λ n m next. tt; has_number = tt }
+
+plain_refuses : (message : List ℕ) → Spelt (said (refuses message)) → IsPlain (said (refuses message))
+plain_refuses message spelt = record { spelt = spelt; room = λ limit before n. tt; follow = λ n m next. tt; has_number = tt }
+
+plain_cont : (message : List ℕ) → Spelt (said (cont message)) → IsPlain (said (cont message))
+plain_cont message spelt = record { spelt = spelt; room = λ limit before n. tt; follow = λ n m next. tt; has_number = tt }
+
+plain_accepts : (message : List ℕ) → Spelt (said (accepts message)) → IsPlain (said (accepts message))
+plain_accepts message spelt = record { spelt = spelt; room = λ limit before n. tt; follow = λ n m next. tt; has_number = tt }
+
+-- lines that close a session at a place
+abbrev pub IsClosable : Accounts → Place → Type 0
+IsClosable accounts place = (lines : List LogLine) × Closes accounts place lines
+
+close_over : (accounts : Accounts) → IsClosable accounts over
+close_over accounts = (ended ∷ [], (plain_end, refl, between, refl, refl))
+
+bare_no : Spelt (said (refuses []))
+bare_no = spelt_refuses [] tt (omega arith)
+
+-- a refusal, and the end
+close_refused : (accounts : Accounts) (place : Place) (text : List ℕ) → Spelt (said (refuses text))
+    → told_at place (said (refuses text)) ≡ []
+    → IsTransition (demands accounts) place (said (refuses text)) over → IsClosable accounts place
+close_refused accounts place text spelt quiet goes =
+    let end = close_over accounts in
+    (said (refuses text) ∷ end.0, (plain_refuses text spelt, quiet, over, goes, end.1))
+
+-- where it is the client's turn, it goes away
+close_turn : (accounts : Accounts) (place : Place) → told_at place gone ≡ [] → IsTransition (demands accounts) place gone over
+    → IsClosable accounts place
+close_turn accounts place quiet goes = let end = close_over accounts in (gone ∷ end.0, (plain_gone, quiet, over, goes, end.1))
+
+close_bare : (accounts : Accounts) (m : List ℕ) → IsClosable accounts (asks_bare m)
+close_bare accounts m = elim (offered_decided m) [
+  | inr none ↦ close_refused accounts (asks_bare m) [] bare_no refl ((none, refl), refl)
+  | inl is ↦
+      let turn = close_turn accounts (waits_first m) refl refl in
+      (said (cont []) ∷ turn.0, (plain_cont [] (spelt_cont [] tt (omega arith)), refl, waits_first m, ((is, refl), refl), turn.1))
+]
+
+close_first : Ground → (accounts : Accounts) → AllCanBeChallenged accounts → (m first : List ℕ) → IsClosable accounts (got_first m first)
+close_first ground accounts fit m first = elim (login_decided ground.once ground.firsts ground.names m first) [
+  | inr none ↦ close_refused accounts (got_first m first) [] bare_no refl ((none, refl), refl)
+  | inl is ↦
+      let challenge = some_challenge accounts fit m first is.0 is.1 in
+      let text = challenge.0 in
+      let next = waits_final m is.0 first text in
+      let message = challenge.1.opens.is_challenge in
+      let turn = close_turn accounts next refl refl in
+      let spelt = spelt_cont text (utf8_message text message.is_text.utf8) message.short in
+      (said (cont text) ∷ turn.0, (plain_cont text spelt, refl, next, (is.0, challenge.1, refl), turn.1))
+]
+
+close_verdict : (accounts : Accounts) (m account first challenge last : List ℕ) (due : Due)
+    → IsVerdict accounts m account first challenge last due
+    → IsClosable accounts (got_final m account first challenge last)
+close_verdict accounts m account first challenge last (refuse why) is =
+    close_refused accounts (got_final m account first challenge last) (due_text (refuse why)) (refusal_line why) refl
+    ((why, is, refl), refl)
+close_verdict accounts m account first challenge last (accept signature) is =
+    let a = acceptance_line accounts m account first challenge last signature is in
+    let turn = close_turn accounts (waits_code account) refl refl in
+    (said (accepts a.text) ∷ turn.0, (plain_accepts a.text a.line, refl, waits_code account, ((signature, is, a.authentic), refl), turn.1))
+
+-- a session is closed by some lines; or it has no line yet, waits for the reply to a code, or is halted
+abbrev pub Exit : Accounts → Place → Type 0
+Exit accounts place =
+    IsClosable accounts place
+    ⊎ ((place ≡ before_all) ⊎ (((account : List ℕ) × (sent : CodeTexts) × (place ≡ got_code account sent)) ⊎ (place ≡ halted)))
+
+-- each place has an exit: lines that close its session; or it is before all lines, a code waits for its reply, or it is halted;
+-- this where a challenge can be written for each name, and the one that the place has meets its demand
+pub exit_of : Ground → (accounts : Accounts) → AllCanBeChallenged accounts → (place : Place) → Opened (demands accounts) place
+    → Exit accounts place
+exit_of ground accounts fit before_all opened = inr (inl refl)
+exit_of ground accounts fit between opened = inl ([], refl)
+exit_of ground accounts fit offered opened = inl (close_turn accounts offered refl refl)
+exit_of ground accounts fit (asks_bare m) opened = inl (close_bare accounts m)
+exit_of ground accounts fit (waits_first m) opened = inl (close_turn accounts (waits_first m) refl refl)
+exit_of ground accounts fit (got_first m first) opened = inl (close_first ground accounts fit m first)
+exit_of ground accounts fit (waits_final m account first challenge) opened = inl
+    (close_turn accounts (waits_final m account first challenge) refl refl)
+exit_of ground accounts fit (got_final m account first challenge last) opened =
+    let due = some_verdict ground.verdicts accounts m account first challenge last opened in
+    inl (close_verdict accounts m account first challenge last due.0 due.1)
+exit_of ground accounts fit (waits_code account) opened = inl (close_turn accounts (waits_code account) refl refl)
+exit_of ground accounts fit (got_code account sent) opened = inr (inr (inl (account, sent, refl)))
+exit_of ground accounts fit leaving opened = inl (close_refused accounts leaving [] bare_no refl (refl, refl))
+exit_of ground accounts fit over opened = inl (close_over accounts)
+exit_of ground accounts fit halted opened = inr (inr (inr refl))

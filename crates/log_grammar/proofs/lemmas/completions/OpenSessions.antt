@@ -1,0 +1,195 @@
+-- Each front of version 2 begins a clean log: the sessions that are open are closed one by one, or a halt ends all.
+use Rattle.std.proofs.Common.{◌≡◌, inl, inr, ℕ, zero, suc, ◌≤◌, true, false, List, [], ◌∷◌, ◌++◌, length, reverse, refl, sym, ◌∙◌, ap}
+use Rattle.std.proofs.Common.{subst, arith, append_assoc, append-nil}
+use Rattle.std.specs.List.{AllByRecursion, AllZip}
+use Rattle.std.proofs.lemmas.Bool.{cases_Bool}
+use Rattle.std.proofs.lemmas.Bool.Decides.{eqb_tells}
+use Rattle.log_grammar.specs.Lines.{LogLine, said, halt, IsLogLine}
+use Rattle.log_grammar.specs.Bytes.{LacksLf}
+use Rattle.log_grammar.specs.LoggedReply.{LoggedReply}
+use Rattle.log_grammar.specs.Places.{Place, before_all, between, halted, is_closed}
+use Rattle.log_grammar.specs.Demands.{Accounts, AllCanBeChallenged, Demands, demands, AreReplies}
+use Rattle.log_grammar.specs.state_machine.Steps.{IsTransition, told_at}
+use Rattle.log_grammar.specs.Numbered.{Numbered, numbered, MayFollow, SpellsNumbered, MayEndNumbered}
+use Rattle.log_grammar.specs.NumberedLines.{IsSessionNumber, HasNumber, numbered_text, IsNumberedLine}
+use Rattle.log_grammar.specs.state_machine.NumberedSteps.{IsVisitTransition, put}
+use Rattle.log_grammar.proofs.lemmas.completions.Closings.{Closes, exit_of}
+use Rattle.log_grammar.proofs.lemmas.completions.EachPlace.{Ground, Spelt, spelt_halt}
+use Rattle.log_grammar.proofs.lemmas.many_sessions.WithoutLast.{numbered_before}
+use Rattle.log_grammar.proofs.lemmas.lines.NumberedReadBack.{numbered_lacks, numbered_written}
+use Rattle.log_grammar.proofs.lemmas.many_sessions.LogSteps.{numbered_on, between_begins}
+use Rattle.log_grammar.proofs.lemmas.many_sessions.OneReading.{nothing_begun, opened_numbered}
+use Rattle.log_grammar.proofs.lemmas.many_sessions.LinesOfNumber.{at_each, put_here, put_other}
+use Rattle.log_grammar.proofs.lemmas.ListEnds.{last_same, with_last, length-last}
+use Rattle.log_grammar.proofs.lemmas.state_machine.StepKinds.{kind_of_step}
+
+-- lines that make a log clean
+pub record CompletesTwo (limit : ℕ) (accounts : Accounts) (log : List (Numbered LogLine)) : Type 0 where
+  pub texts : List (List ℕ)
+  pub more : List (Numbered LogLine)
+  pub are : AllZip IsNumberedLine texts more
+  pub lack : AllByRecursion LacksLf texts
+  pub places : ℕ → Place
+  pub told : List LoggedReply
+  pub spells : SpellsNumbered limit (demands accounts) (log ++ more) places told
+  pub ends : MayEndNumbered places
+
+-- no more lines are needed to make a log clean, where the places of its numbers let it end
+pub finished : (limit : ℕ) (accounts : Accounts) (log : List (Numbered LogLine)) (places : ℕ → Place) (told : List LoggedReply)
+    → SpellsNumbered limit (demands accounts) log places told → MayEndNumbered places → CompletesTwo limit accounts log
+finished limit accounts log places told s ends = record {
+  texts = [];
+  more = [];
+  are = tt;
+  lack = tt;
+  places = places;
+  told = told;
+  spells = subst (λ (l : List (Numbered LogLine)). SpellsNumbered limit (demands accounts) l places told) (sym (append-nil log)) s;
+  ends = ends;
+}
+
+-- a line, and then lines that complete the log
+pub then : (limit : ℕ) (accounts : Accounts) (log : List (Numbered LogLine)) (n : ℕ) (line : LogLine) → IsSessionNumber n → HasNumber line
+    → Spelt line
+    → CompletesTwo limit accounts (log ++ numbered n line ∷ []) → CompletesTwo limit accounts log
+then limit accounts log n line number has s c =
+    let x = numbered n line in
+    let is = numbered_written x number has (subst (λ (t : List ℕ). IsLogLine t line) s.is_line.spelled s.is_line) in
+    record {
+      texts = numbered_text x ∷ c.texts;
+      more = x ∷ c.more;
+      are = (is, c.are);
+      lack = (numbered_lacks (numbered_text x) x is, c.lack);
+      places = c.places;
+      told = c.told;
+      spells = subst (λ (l : List (Numbered LogLine)). SpellsNumbered limit (demands accounts) l c.places c.told)
+          (append_assoc log (x ∷ []) c.more) c.spells;
+      ends = c.ends;
+    }
+
+-- the last line lets any line follow
+abbrev pub Free : List (Numbered LogLine) → Type 0
+Free log = (before : List (Numbered LogLine)) (x : Numbered LogLine) → log ≡ before ++ x ∷ [] → (m : ℕ) (next : LogLine)
+    → MayFollow x.number x.value m next
+
+-- lines let any line follow, where any may follow the last of them
+pub free_after : (log : List (Numbered LogLine)) (n : ℕ) (line : LogLine) → ((m : ℕ) (next : LogLine) → MayFollow n line m next)
+    → Free (log ++ numbered n line ∷ [])
+free_after log n line follow before x e m next =
+    subst (λ (z : Numbered LogLine). MayFollow z.number z.value m next) (last_same log before (numbered n line) x e).1 (follow m next)
+
+-- lines that close a number, one after another, and what completes the log then
+close_number : (limit : ℕ) (accounts : Accounts) (n : ℕ) → IsSessionNumber n
+    → (lines : List LogLine) (log : List (Numbered LogLine)) (places : ℕ → Place) (told : List LoggedReply)
+    → SpellsNumbered limit (demands accounts) log places told → Free log → Closes accounts (places n) lines
+    → ((longer : List (Numbered LogLine)) (after : ℕ → Place) (all : List LoggedReply)
+    → SpellsNumbered limit (demands accounts) longer after all → Free longer
+    → after n ≡ between → ((m : ℕ) → (n ≡ m → ⊥) → after m ≡ places m) → CompletesTwo limit accounts longer)
+    → CompletesTwo limit accounts log
+close_number limit accounts n number [] log places told s free closed on = on log places told s free closed (λ m other. refl)
+close_number limit accounts n number (line ∷ more) log places told s free (plain, quiet, next, goes, closes) on =
+    let longer = log ++ numbered n line ∷ [] in
+    let s' = numbered_on limit (demands accounts) log places told n line next s (record {
+      room = plain.room limit log n;
+      next = λ before x e. free before x e n line;
+      goes = inl goes;
+      due = subst (AreReplies (demands accounts) (reverse told)) (sym quiet) tt;
+    }) in
+    then limit accounts log n line number plain.has_number plain.spelt
+    (close_number limit accounts n number more longer (put n next places) (told ++ told_at (places n) line) s'
+    (free_after log n line (plain.follow n)) (subst (λ (p : Place). Closes accounts p more) (sym (put_here n next places)) closes)
+    (λ after_log after all r free' at others. on after_log after all r free' at
+    (λ m other. others m other ∙ put_other n next places m other)))
+
+-- a number at a place where a session is closed is between sessions
+closed_is_between : (p : Place) → is_closed p ≡ true → (p ≡ before_all → ⊥) → p ≡ between
+closed_is_between before_all is never = absurd (never refl)
+closed_is_between between is never = refl
+closed_is_between p is never = absurd (cc is)
+
+-- no number stands before all lines
+never_before : (d : Demands) (place : Place) (line : LogLine) (next : Place) → IsVisitTransition d place line next
+    → (place ≡ before_all → ⊥) → next ≡ before_all → ⊥
+never_before d place line next goes never at = elim (kind_of_step d place line next goes) [
+  | inl begins ↦ let wrong = sym (ap is_closed at) ∙ begins.3 in cc wrong
+  | inr (inl ends) ↦ let wrong = sym at ∙ ends.3 in cc wrong
+  | inr (inr keeps) ↦
+      let between_is = closed_is_between place (keeps.2 ∙ ap is_closed at) never in
+      let wrong = sym keeps.0 ∙ between_begins d place line next between_is goes in cc wrong
+]
+
+not_before_all : (limit : ℕ) (d : Demands) (k : ℕ) (log : List (Numbered LogLine)) (p : ℕ → Place) (told : List LoggedReply)
+    → length log ≤ k
+    → SpellsNumbered limit d log p told → (n : ℕ) → p n ≡ before_all → ⊥
+not_before_all limit d k [] p told short s = λ n at. let wrong = sym ((nothing_begun limit d p told s).0 n) ∙ at in cc wrong
+not_before_all limit d zero (x ∷ log) p told short s = absurd (omega (arith, short))
+not_before_all limit d (suc k) (x ∷ log) p told short s =
+    let last = with_last x log in
+    let n = last.1.number in
+    let b = numbered_before limit d last.0 n last.1.value p told
+    (subst (λ (l : List (Numbered LogLine)). SpellsNumbered limit d l p told) last.2 s) in
+    let shorter : length last.0 ≤ k = omega (arith, short, ap length last.2, length-last last.0 last.1) in
+    let earlier = not_before_all limit d k last.0 b.before b.told shorter b.spells in
+    at_each (λ (m : ℕ). p m ≡ before_all → ⊥) n (never_before d (b.before n) last.1.value (p n) b.goes.goes (earlier n))
+    (λ m other at. earlier m (sym (b.others m other) ∙ at))
+
+-- the numbers that are open are in their range
+abbrev pub Ranged : (ℕ → Place) → Type 0
+Ranged places = (n : ℕ) → is_closed (places n) ≡ false → IsSessionNumber n
+
+-- a halt ends the log
+by_halt : (limit : ℕ) (accounts : Accounts) (log : List (Numbered LogLine)) (places : ℕ → Place) (told : List LoggedReply) (n : ℕ)
+    → IsSessionNumber n
+    → SpellsNumbered limit (demands accounts) log places told → Free log → IsTransition (demands accounts) (places n) (said halt) halted
+    → told_at (places n) (said halt) ≡ [] → CompletesTwo limit accounts log
+by_halt limit accounts log places told n number s free goes quiet =
+    let s' = numbered_on limit (demands accounts) log places told n (said halt) halted s (record {
+      room = tt;
+      next = λ before x e. free before x e n (said halt);
+      goes = inl goes;
+      due = subst (AreReplies (demands accounts) (reverse told)) (sym quiet) tt;
+    }) in
+    then limit accounts log n (said halt) number tt spelt_halt
+    (finished limit accounts (log ++ numbered n (said halt) ∷ []) (put n halted places) (told ++ told_at (places n) (said halt)) s'
+    (inr (n, put_here n halted places)))
+
+-- the numbers from this one on are closed: then those below it are closed too
+pub close_all : Ground → (limit : ℕ) (accounts : Accounts) → AllCanBeChallenged accounts
+    → (k : ℕ) (log : List (Numbered LogLine)) (places : ℕ → Place) (told : List LoggedReply)
+    → SpellsNumbered limit (demands accounts) log places told → Free log → Ranged places → ((n : ℕ) → k ≤ n → places n ≡ between)
+    → CompletesTwo limit accounts log
+close_all ground limit accounts fit zero log places told s free ranged closed = finished limit accounts log places told s
+    (inl (λ n. closed n (omega arith)))
+close_all ground limit accounts fit (suc k) log places told s free ranged closed =
+    let below : (p : ℕ → Place) → p k ≡ between → ((m : ℕ) → (k ≡ m → ⊥) → p m ≡ places m) → (n : ℕ) → k ≤ n → p n ≡ between =
+    λ p at others n most. elim (eqb_tells k n) [
+      | inl same ↦ subst (λ (m : ℕ). p m ≡ between) same.1 at
+      | inr other ↦ others n other.1 ∙ closed n (omega (arith, most, other.1))
+    ]
+    in
+    let ranged_on : (p : ℕ → Place) → p k ≡ between → ((m : ℕ) → (k ≡ m → ⊥) → p m ≡ places m) → Ranged p =
+    λ p at others. at_each (λ (m : ℕ). is_closed (p m) ≡ false → IsSessionNumber m) k
+    (λ is. let wrong = sym (ap is_closed at) ∙ is in cc wrong)
+    (λ m other is. ranged m (sym (ap is_closed (others m other)) ∙ is))
+    in
+    elim (cases_Bool (is_closed (places k))) [
+      | inl is ↦
+          let at = closed_is_between (places k) is
+          (not_before_all limit (demands accounts) (length log) log places told (omega arith) s k) in
+          close_all ground limit accounts fit k log places told s free ranged (below places at (λ m other. refl))
+      | inr opens ↦
+          let number = ranged k opens in
+          let opened = opened_numbered limit (demands accounts) (length log) log places told (omega arith) s k in
+          elim (exit_of ground accounts fit (places k) opened) [
+            | inl closable ↦
+                close_number limit accounts k number closable.0 log places told s free closable.1
+                (λ longer after all r free' at others. close_all ground limit accounts fit k longer after all r free'
+                (ranged_on after at others) (below after at others))
+            | inr (inl start) ↦ absurd (not_before_all limit (demands accounts) (length log) log places told (omega arith) s k start)
+            | inr (inr (inl waits)) ↦
+                by_halt limit accounts log places told k number s free
+                (subst (λ (p : Place). IsTransition (demands accounts) p (said halt) halted) (sym waits.2) refl)
+                (ap (λ (p : Place). told_at p (said halt)) waits.2)
+            | inr (inr (inr halts)) ↦ finished limit accounts log places told s (inr (k, halts))
+          ]
+    ]

@@ -1,0 +1,32 @@
+-- The counter of a reply that is due to a token in its ranges is in its own.
+use Rattle.std.proofs.Common.{ℕ, ◌-◌, List, sym, subst, arith}
+use Rattle.std.specs.declared.option.Option.TheVariants.{Some}
+use Rattle.std.proofs.Math.Nat.{div-le_self}
+use Rattle.otp_core.specs.Attempt.{Attempt, CodeTexts, OneText, TwoTexts}
+use Rattle.otp_core.specs.Ranges.{IsMoment}
+use Rattle.otp_core.specs.Settings.{IsInRange}
+use Rattle.otp_core.specs.Reply.{IsDueReply}
+use Rattle.otp_core.specs.declared.token.answer.Reply.{Reply}
+use Rattle.otp_core.specs.declared.token.answer.Reply.TheVariants.{Pass, Fail, Locked}
+use Rattle.otp_core.specs.declared.token.kinds.TokenFields.{TokenFields}
+use Rattle.otp_core.specs.declared.token.kinds.TokenFields.TheVariants.{Hotp, Totp}
+use Rattle.log_grammar.specs.Lines.{IsReplyInRange}
+use Rattle.log_grammar.specs.laws.Reasons.{DueRepliesCanBeWritten}
+
+counter_in_range : (token : TokenFields) (attempts : List Attempt) (moment : ℕ) (sent : CodeTexts) (reply : Reply) → IsInRange token
+    → IsMoment moment
+    → IsDueReply token attempts moment sent reply → IsReplyInRange (Some reply)
+counter_in_range (Hotp t) attempts moment (OneText text) (Pass c) range at due = omega (arith, due.1.0.most)
+counter_in_range (Hotp t) attempts moment (TwoTexts first second) (Pass c) range at due =
+    omega (arith, due.1.1, due.1.2.1)
+counter_in_range (Totp t) attempts moment (OneText text) (Pass w) range at due =
+    let step = div-le_self (moment - t.t0) t.step in
+    omega (arith, step, due.1.0.1.not_late, range.1.1.1.0, at)
+counter_in_range (Totp t) attempts moment (TwoTexts first second) (Pass c) range at due = absurd due.1.2
+counter_in_range token attempts moment sent Fail range at due = tt
+counter_in_range token attempts moment sent Locked range at due = tt
+
+-- the counter of the reply that is due is in its range, where the token is in its ranges and the moment in its own
+pub due_in_range : DueRepliesCanBeWritten
+due_in_range token attempts moment sent due range at (reply, is, by) =
+    subst IsReplyInRange (sym is) (counter_in_range token attempts moment sent reply range at by)

@@ -1,0 +1,10 @@
+-- The two versions as kinds of log, and what follows for each kind: one fault line, one reason.
+pub mod Judged
+pub mod FaultLines
+pub mod Either
+pub mod OneWhy
+pub mod VersionOne
+pub mod VersionTwo
+pub mod AllVersions
+pub mod ShownByLines
+pub mod NoneOfBoth

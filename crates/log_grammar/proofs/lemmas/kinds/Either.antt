@@ -1,0 +1,162 @@
+-- Logs of two kinds that begin with different lines are one sound kind.
+use Rattle.std.proofs.Common.{◌≡◌, ◌⊎◌, inl, inr, ℕ, List, [], ◌∷◌, ◌++◌, refl, sym, ◌∙◌, subst}
+use Rattle.mac_core.proofs.lemmas.Decided.{Decided, decided_same}
+use Rattle.log_grammar.specs.Why.{Why, no_line}
+use Rattle.log_grammar.specs.LogKinds.{LogKind, either}
+use Rattle.log_grammar.proofs.lemmas.kinds.Judged.{IsShortened, EndsStand, IsWrongOnce, NextIsJudged, IsSound, first_stand}
+use Rattle.log_grammar.proofs.lemmas.kinds.FaultLines.{FrontsBeginCleanOf, FaultText}
+
+-- each log of the kind begins with this line, and it may be alone
+pub record IsHeaded (kind : LogKind) (first : List ℕ) : Type 0 where
+  pub begins : kind.MayBegin (first ∷ [])
+  pub first_is : (text : List ℕ) → kind.MayBegin (text ∷ []) → text ≡ first
+  pub none_end : kind.AreClean [] → ⊥
+
+-- two kinds whose logs begin with different lines
+pub record AreApart (one two : LogKind) (first second : List ℕ) : Type 0 where
+  pub differ : first ≡ second → ⊥
+  pub one_shorter : IsShortened one
+  pub two_shorter : IsShortened two
+  pub one_headed : IsHeaded one first
+  pub two_headed : IsHeaded two second
+
+-- lines that a log may begin with have the first line of its kind before all others
+pub head_is : (kind : LogKind) (first : List ℕ) → IsShortened kind → IsHeaded kind first → (t : List ℕ) (texts : List (List ℕ))
+    → kind.MayBegin (t ∷ texts) → t ≡ first
+head_is kind first shorter headed t texts stands = headed.first_is t (first_stand kind shorter (t ∷ []) texts stands)
+
+-- lines that begin with the first line of one kind are of that kind
+pub stands_in_one : (one two : LogKind) (first second : List ℕ) → AreApart one two first second → (t : List ℕ) (texts : List (List ℕ))
+    → t ≡ first
+    → (either one two first second).MayBegin (t ∷ texts) → one.MayBegin (t ∷ texts)
+stands_in_one one two first second a t texts is (inl stands) = stands
+stands_in_one one two first second a t texts is (inr stands) =
+    absurd (a.differ (sym is ∙ head_is two second a.two_shorter a.two_headed t texts stands))
+
+-- lines that begin with the first line of the second kind are of that kind
+pub stands_in_two : (one two : LogKind) (first second : List ℕ) → AreApart one two first second → (t : List ℕ) (texts : List (List ℕ))
+    → t ≡ second
+    → (either one two first second).MayBegin (t ∷ texts) → two.MayBegin (t ∷ texts)
+stands_in_two one two first second a t texts is (inl stands) =
+    absurd (a.differ (sym (head_is one first a.one_shorter a.one_headed t texts stands) ∙ is))
+stands_in_two one two first second a t texts is (inr stands) = stands
+
+-- lines that a log of either of two kinds may begin with are such without the last of them
+pub either_shorter : (one two : LogKind) (first second : List ℕ) → IsShortened one → IsShortened two
+    → IsShortened (either one two first second)
+either_shorter one two first second shorter also texts text (inl stands) = inl (shorter texts text stands)
+either_shorter one two first second shorter also texts text (inr stands) = inr (also texts text stands)
+
+-- the lines of a clean log of either kind are such as a log may begin with, where they are so in each kind
+pub either_ends_stand : (one two : LogKind) (first second : List ℕ) → EndsStand one → EndsStand two
+    → EndsStand (either one two first second)
+either_ends_stand one two first second stand also texts (inl ends) = inl (stand texts ends)
+either_ends_stand one two first second stand also texts (inr ends) = inr (also texts ends)
+
+-- a text after others is wrong for one reason at most, where it is so in each kind and their first lines differ
+pub either_wrong_once : (one two : LogKind) (first second : List ℕ) → (first ≡ second → ⊥) → IsWrongOnce one → IsWrongOnce two
+    → IsWrongOnce (either one two first second)
+either_wrong_once one two first second differ once also [] text w v a b = a.2 ∙ sym b.2
+either_wrong_once one two first second differ once also (t ∷ before) text w v (inl a) (inl b) = once (t ∷ before) text w v a.1 b.1
+either_wrong_once one two first second differ once also (t ∷ before) text w v (inl a) (inr b) = absurd (differ (sym a.0 ∙ b.0))
+either_wrong_once one two first second differ once also (t ∷ before) text w v (inr a) (inl b) = absurd (differ (sym b.0 ∙ a.0))
+either_wrong_once one two first second differ once also (t ∷ before) text w v (inr a) (inr b) = also (t ∷ before) text w v a.1 b.1
+
+-- it is decided whether lines that stand are a clean log
+ends_decided : (one two : LogKind) (first second : List ℕ) → AreApart one two first second → IsSound one → IsSound two
+    → (texts : List (List ℕ)) → (either one two first second).MayBegin texts → Decided ((either one two first second).AreClean texts)
+ends_decided one two first second a s z [] stands =
+    inr (λ ends. elim ends [ inl none ↦ a.one_headed.none_end none | inr none ↦ a.two_headed.none_end none ])
+ends_decided one two first second a s z (t ∷ texts) (inl stands) =
+    let is = head_is one first a.one_shorter a.one_headed t texts stands in
+    elim (s.ends_decided (t ∷ texts) stands) [
+      | inl ends ↦ inl (inl ends)
+      | inr none ↦ inr (λ ends. elim ends [
+        | inl here ↦ none here
+        | inr other ↦ a.differ (sym is ∙ head_is two second a.two_shorter a.two_headed t texts (z.ends_stand (t ∷ texts) other))
+      ])
+    ]
+ends_decided one two first second a s z (t ∷ texts) (inr stands) =
+    let is = head_is two second a.two_shorter a.two_headed t texts stands in
+    elim (z.ends_decided (t ∷ texts) stands) [
+      | inl ends ↦ inl (inr ends)
+      | inr none ↦ inr (λ ends. elim ends [
+        | inl other ↦ a.differ (sym (head_is one first a.one_shorter a.one_headed t texts (s.ends_stand (t ∷ texts) other)) ∙ is)
+        | inr here ↦ none here
+      ])
+    ]
+
+-- a first text
+first_judged : (one two : LogKind) (first second : List ℕ) → AreApart one two first second → (text : List ℕ)
+    → NextIsJudged (either one two first second) [] text
+first_judged one two first second a text = elim (decided_same text first) [
+  | inl is ↦ inl (inl (subst (λ (t : List ℕ). one.MayBegin (t ∷ [])) (sym is) a.one_headed.begins))
+  | inr other ↦ elim (decided_same text second) [
+    | inl is ↦ inl (inr (subst (λ (t : List ℕ). two.MayBegin (t ∷ [])) (sym is) a.two_headed.begins))
+    | inr also ↦ inr (
+      λ stands. elim stands [ inl here ↦ other (a.one_headed.first_is text here) | inr here ↦ also (a.two_headed.first_is text here) ],
+      no_line,
+      (other, also, refl),
+    )
+  ]
+]
+
+judged : (one two : LogKind) (first second : List ℕ) → AreApart one two first second → IsSound one → IsSound two
+    → (before : List (List ℕ)) (text : List ℕ) → (either one two first second).MayBegin before
+    → NextIsJudged (either one two first second) before text
+judged one two first second a s z [] text stands = first_judged one two first second a text
+judged one two first second a s z (t ∷ before) text (inl stands) =
+    let is = head_is one first a.one_shorter a.one_headed t before stands in
+    elim (s.judged (t ∷ before) text stands) [
+      | inl on ↦ inl (inl on)
+      | inr fault ↦ inr (λ more. fault.0 (stands_in_one one two first second a t (before ++ text ∷ []) is more), fault.1, inl (is, fault.2))
+    ]
+judged one two first second a s z (t ∷ before) text (inr stands) =
+    let is = head_is two second a.two_shorter a.two_headed t before stands in
+    elim (z.judged (t ∷ before) text stands) [
+      | inl on ↦ inl (inr on)
+      | inr fault ↦ inr (λ more. fault.0 (stands_in_two one two first second a t (before ++ text ∷ []) is more), fault.1, inr (is, fault.2))
+    ]
+
+-- two sound kinds whose logs begin with different lines are one sound kind together
+pub either_sound : (one two : LogKind) (first second : List ℕ) → AreApart one two first second → IsSound one → IsSound two
+    → IsSound (either one two first second)
+either_sound one two first second a s z = record {
+  nothing = inl s.nothing;
+  shorter = either_shorter one two first second s.shorter z.shorter;
+  ends_stand = either_ends_stand one two first second s.ends_stand z.ends_stand;
+  ends_decided = ends_decided one two first second a s z;
+  wrong_once = either_wrong_once one two first second a.differ s.wrong_once z.wrong_once;
+  judged = judged one two first second a s z;
+}
+
+-- each front begins a clean log, where it does so in each kind
+pub either_completes : (one two : LogKind) (first second : List ℕ) → FrontsBeginCleanOf one → FrontsBeginCleanOf two
+    → FrontsBeginCleanOf (either one two first second)
+either_completes one two first second completes also bytes (texts, cut, inl stands) =
+    let (more, clean) = completes bytes (texts, cut, stands) in
+    let (all, there, ends) = clean in
+    (more, (all, there, inl ends))
+either_completes one two first second completes also bytes (texts, cut, inr stands) =
+    let (more, clean) = also bytes (texts, cut, stands) in
+    let (all, there, ends) = clean in
+    (more, (all, there, inr ends))
+
+-- a whole line at fault is a first line, or at fault in one of the kinds
+pub fault_in_either : (one two : LogKind) (first second : List ℕ) → AreApart one two first second
+    → (before : List (List ℕ)) (text : List ℕ) (why : Why)
+    → FaultText (either one two first second) before text why
+    → ((before ≡ []) × (why ≡ no_line)) ⊎ (FaultText one before text why ⊎ FaultText two before text why)
+fault_in_either one two first second a [] text why f = inl (refl, f.wrong.2)
+fault_in_either one two first second a (t ∷ before) text why f = elim f.wrong [
+  | inl wrong ↦ inr (inl (record {
+    stands = stands_in_one one two first second a t before wrong.0 f.stands;
+    wrong = wrong.1;
+    stuck = λ stands. f.stuck (inl stands);
+  }))
+  | inr wrong ↦ inr (inr (record {
+    stands = stands_in_two one two first second a t before wrong.0 f.stands;
+    wrong = wrong.1;
+    stuck = λ stands. f.stuck (inr stands);
+  }))
+]

@@ -1,0 +1,197 @@
+-- The codes of a session are of the account that its client-first message names.
+use Rattle.std.proofs.Common.{◌≡◌, inl, inr, ℕ, Bool, true, false, List, [], ◌∷◌, ◌++◌, refl, sym, ◌∙◌, ap, subst, append_assoc, append-nil}
+use Rattle.std.specs.Prelude.{flat_map}
+use Rattle.std.specs.List.{AllByRecursion}
+use Rattle.otp_core.specs.Attempt.{CodeTexts}
+use Rattle.log_grammar.specs.Lines.{LogLine, header, said, heard, mechs, cont, auth, auth_with, resp}
+use Rattle.log_grammar.specs.LoggedReply.{LoggedReply}
+use Rattle.log_grammar.specs.Places.{got_code}
+use Rattle.log_grammar.specs.Demands.{Accounts, IsFirstOf, demands}
+use Rattle.log_grammar.specs.Sessions.{closing, Farewell, parting, Quit, quitting, Codes, after_ok, Judgement, after_final, Proof}
+use Rattle.log_grammar.specs.Sessions.{after_challenge, Answer, after_first, Session, session_lines, session_place, SessionMeets, silent}
+use Rattle.log_grammar.specs.Sessions.{farewell, departs, aborts, spoils, no_code, quits_codes, asked, replied, halted_at, unjudged, denied}
+use Rattle.log_grammar.specs.Sessions.{granted, no_proof, quits_proof, proves, no_answer, refused, challenged, no_first, quits_first}
+use Rattle.log_grammar.specs.Sessions.{begins, no_word, unoffered, invited, no_login, quits_login, with_first, without_first, session}
+use Rattle.log_grammar.specs.Begins.{place_after}
+use Rattle.log_grammar.specs.laws.Headline.{HasFirst, IsLoginOf, EachCodeIsOfItsLogin, EndsInLoginOf, EachCodeHasItsLogin}
+use Rattle.log_grammar.proofs.lemmas.demands.Challenges.{login_of}
+
+-- a client that ends the session tells nothing
+of_closing : (P : LoggedReply → Type 0) (closed : Bool) → AllByRecursion P (closing closed).told
+of_closing P true = tt
+of_closing P false = tt
+
+of_farewell : (P : LoggedReply → Type 0) (f : Farewell) → AllByRecursion P (parting f).told
+of_farewell P silent = tt
+of_farewell P (farewell text closed) = tt
+
+of_quit : (P : LoggedReply → Type 0) (q : Quit) → AllByRecursion P (quitting q).told
+of_quit P (departs closed) = of_closing P closed
+of_quit P (aborts f) = of_farewell P f
+of_quit P (spoils f) = of_farewell P f
+
+-- all that is told after a challenge is of its account
+abbrev AllOf : List ℕ → List LoggedReply → Type 0
+AllOf account told = AllByRecursion (λ t. t.account ≡ account) told
+
+by_codes : (account : List ℕ) (c : Codes) → AllOf account (after_ok account c).told
+by_codes account no_code = tt
+by_codes account (quits_codes q) = of_quit (λ t. t.account ≡ account) q
+by_codes account (asked sent) = tt
+by_codes account (replied sent moment reply more) = (refl, by_codes account more)
+by_codes account (halted_at sent) = tt
+
+by_judgement : (m account first challenge last : List ℕ) (j : Judgement) → AllOf account (after_final m account first challenge last j).told
+by_judgement m account first challenge last unjudged = tt
+by_judgement m account first challenge last (denied text closed) = tt
+by_judgement m account first challenge last (granted text c) = by_codes account c
+
+by_proof : (m account first challenge : List ℕ) (p : Proof) → AllOf account (after_challenge m account first challenge p).told
+by_proof m account first challenge no_proof = tt
+by_proof m account first challenge (quits_proof q) = of_quit (λ t. t.account ≡ account) q
+by_proof m account first challenge (proves last j) = by_judgement m account first challenge last j
+
+-- so each code is of the login
+each_of : (s : Session) (mechanism first account : List ℕ) (told : List LoggedReply) → HasFirst s mechanism first
+    → IsFirstOf mechanism first account
+    → AllOf account told → AllByRecursion (λ t. IsLoginOf s t.account) told
+each_of s mechanism first account [] has is all = tt
+each_of s mechanism first account (t ∷ told) has is all = (
+  (mechanism, first, has, subst (IsFirstOf mechanism first) (sym all.0) is),
+  each_of s mechanism first account told has is all.1,
+)
+
+by_answer : (accounts : Accounts) (s : Session) (mechanism first : List ℕ) (a : Answer) → HasFirst s mechanism first
+    → (after_first mechanism first a).Meets (demands accounts)
+    → AllByRecursion (λ t. IsLoginOf s t.account) (after_first mechanism first a).told
+by_answer accounts s mechanism first no_answer has meets = tt
+by_answer accounts s mechanism first (refused text closed) has meets = tt
+by_answer accounts s mechanism first (challenged account text p) has meets =
+    each_of s mechanism first account (after_challenge mechanism account first text p).told has
+    (login_of accounts mechanism first account text meets.0)
+    (by_proof mechanism account first text p)
+
+-- each code of a session that meets its demands is of the account that its client-first message names
+pub each_code : EachCodeIsOfItsLogin
+each_code accounts (session names no_login) meets = tt
+each_code accounts (session names (quits_login q)) meets = of_quit (λ t. IsLoginOf (session names (quits_login q)) t.account) q
+each_code accounts (session names (with_first m first a)) meets =
+    by_answer accounts (session names (with_first m first a)) m first a
+    (names, heard (auth_with m first) ∷ [], (after_first m first a).lines, inl refl, refl) meets.1
+each_code accounts (session names (without_first m no_word)) meets = tt
+each_code accounts (session names (without_first m (unoffered text closed))) meets = tt
+each_code accounts (session names (without_first m (invited text no_first))) meets = tt
+each_code accounts (session names (without_first m (invited text (quits_first q)))) meets =
+    of_quit (λ t. IsLoginOf (session names (without_first m (invited text (quits_first q)))) t.account) q
+each_code accounts (session names (without_first m (invited text (begins first a)))) meets =
+    let lines = λ (t : List ℕ). said (mechs names) ∷ heard (auth m) ∷ said (cont t) ∷ heard (resp first) ∷ (after_first m first a).lines in
+    by_answer accounts (session names (without_first m (invited text (begins first a)))) m first a (
+      names,
+      heard (auth m) ∷ said (cont []) ∷ heard (resp first)
+          ∷ [],
+      (after_first m first a).lines,
+      inr refl,
+      ap lines meets.1.0.1,
+    ) meets.1.1
+
+-- after a client that ends the session no code waits for a reply
+farewell_no_code : (f : Farewell) (account : List ℕ) (sent : CodeTexts) → (parting f).place ≡ got_code account sent → ⊥
+farewell_no_code silent account sent e = cc e
+farewell_no_code (farewell message true) account sent e = cc e
+farewell_no_code (farewell message false) account sent e = cc e
+
+quit_no_code : (q : Quit) (account : List ℕ) (sent : CodeTexts) → (quitting q).place ≡ got_code account sent → ⊥
+quit_no_code (departs true) account sent e = cc e
+quit_no_code (departs false) account sent e = cc e
+quit_no_code (aborts f) account sent e = farewell_no_code f account sent e
+quit_no_code (spoils f) account sent e = farewell_no_code f account sent e
+
+-- the account of a code that comes last
+last_code : (own : List ℕ) (c : Codes) (account : List ℕ) (sent : CodeTexts) → (after_ok own c).place ≡ got_code account sent
+    → own ≡ account
+last_code own no_code account sent e = absurd (cc e)
+last_code own (quits_codes q) account sent e = absurd (quit_no_code q account sent e)
+last_code own (asked word) account sent e = cc e
+last_code own (replied word moment reply more) account sent e = last_code own more account sent e
+last_code own (halted_at word) account sent e = absurd (cc e)
+
+last_judged : (m own first challenge last : List ℕ) (j : Judgement) (account : List ℕ) (sent : CodeTexts)
+    → (after_final m own first challenge last j).place ≡ got_code account sent
+    → own ≡ account
+last_judged m own first challenge last unjudged account sent e = absurd (cc e)
+last_judged m own first challenge last (denied message true) account sent e = absurd (cc e)
+last_judged m own first challenge last (denied message false) account sent e = absurd (cc e)
+last_judged m own first challenge last (granted message c) account sent e = last_code own c account sent e
+
+last_proved : (m own first challenge : List ℕ) (p : Proof) (account : List ℕ) (sent : CodeTexts)
+    → (after_challenge m own first challenge p).place ≡ got_code account sent → own ≡ account
+last_proved m own first challenge no_proof account sent e = absurd (cc e)
+last_proved m own first challenge (quits_proof q) account sent e = absurd (quit_no_code q account sent e)
+last_proved m own first challenge (proves last j) account sent e = last_judged m own first challenge last j account sent e
+
+last_answered : (accounts : Accounts) (m first : List ℕ) (a : Answer) (account : List ℕ) (sent : CodeTexts)
+    → (after_first m first a).Meets (demands accounts)
+    → (after_first m first a).place ≡ got_code account sent → IsFirstOf m first account
+last_answered accounts m first no_answer account sent meets e = absurd (cc e)
+last_answered accounts m first (refused message true) account sent meets e = absurd (cc e)
+last_answered accounts m first (refused message false) account sent meets e = absurd (cc e)
+last_answered accounts m first (challenged own challenge p) account sent meets e =
+    subst (IsFirstOf m first) (last_proved m own first challenge p account sent e) (login_of accounts m first own challenge meets.0)
+
+-- the login of a session whose last line is a code
+login_at : (accounts : Accounts) (s : Session) (account : List ℕ) (sent : CodeTexts) → SessionMeets (demands accounts) s
+    → session_place s ≡ got_code account sent
+    → IsLoginOf s account
+login_at accounts (session names no_login) account sent meets e = absurd (cc e)
+login_at accounts (session names (quits_login q)) account sent meets e = absurd (quit_no_code q account sent e)
+login_at accounts (session names (with_first m first a)) account sent meets e = (
+  m,
+  first,
+  (
+    names,
+    heard (auth_with m first)
+        ∷ [],
+    (after_first m first a).lines,
+    inl refl,
+    refl,
+  ),
+  last_answered accounts m first a account sent meets.1 e,
+)
+login_at accounts (session names (without_first m no_word)) account sent meets e = absurd (cc e)
+login_at accounts (session names (without_first m (unoffered message true))) account sent meets e = absurd (cc e)
+login_at accounts (session names (without_first m (unoffered message false))) account sent meets e = absurd (cc e)
+login_at accounts (session names (without_first m (invited message no_first))) account sent meets e = absurd (cc e)
+login_at accounts (session names (without_first m (invited message (quits_first q)))) account sent meets e = absurd
+    (quit_no_code q account sent e)
+login_at accounts (session names (without_first m (invited message (begins first a)))) account sent meets e =
+    let lines = λ (t : List ℕ). said (mechs names) ∷ heard (auth m) ∷ said (cont t) ∷ heard (resp first)
+    ∷ (after_first m first a).lines in (
+      m,
+      first,
+      (names, heard (auth m) ∷ said (cont []) ∷ heard (resp first) ∷ [], (after_first m first a).lines, inr refl, ap lines meets.1.0.1),
+      last_answered accounts m first a account sent meets.1.1 e,
+    )
+
+-- the last of the sessions, after the others
+login_last : (accounts : Accounts) (sessions : List Session) (account : List ℕ) (sent : CodeTexts)
+    → AllByRecursion (SessionMeets (demands accounts)) sessions
+    → place_after sessions ≡ got_code account sent → EndsInLoginOf (flat_map session_lines sessions) account
+login_last accounts [] account sent good e = absurd (cc e)
+login_last accounts (s ∷ []) account sent good e = (s, ([], append-nil (session_lines s)), login_at accounts s account sent good.0 e)
+login_last accounts (s ∷ t ∷ more) account sent good e =
+    let (last, (before, same), login) = login_last accounts (t ∷ more) account sent good.1 e in (
+      last,
+      (
+        session_lines s ++ before,
+        ap (λ (l : List LogLine). session_lines s ++ l) same ∙ sym
+            (append_assoc (session_lines s) before (session_lines last)),
+      ),
+      login,
+    )
+
+-- where the reply to a code is due, the last lines are those of a session whose client-first message names the account
+pub code_has_login : EachCodeHasItsLogin
+code_has_login accounts log account sent told (inl none) = absurd (cc none.1)
+code_has_login accounts log account sent told (inr s) =
+    let (last, (before, same), login) = login_last accounts s.sessions account sent s.good (sym s.after) in
+    (last, (header ∷ before, s.lines ∙ ap (λ (l : List LogLine). header ∷ l) same), login)

@@ -1,0 +1,13 @@
+-- Version 2: the lines of each number, where they stand, and how the log goes on.
+pub mod LinesOfNumber
+pub mod Visits
+pub mod LoggedReply
+pub mod LogSteps
+pub mod WithoutLast
+pub mod OneReading
+pub mod OwnPlaces
+pub mod OpenCounts
+pub mod DemandsAside
+pub mod DueClasses
+pub mod Standings
+pub mod Ends

@@ -1,0 +1,117 @@
+-- A log of version 2 is read in one way, and its first lines are again such a log. The place of a number follows from
+-- the lines of this number alone.
+use Rattle.std.proofs.Common.{◌≡◌, inl, inr, ℕ, zero, suc, ◌≤◌, List, [], ◌∷◌, ◌++◌, length, reverse, sym, ◌∙◌, ap, subst, arith}
+use Rattle.std.proofs.Common.{append_assoc, append-nil}
+use Rattle.log_grammar.specs.Lines.{LogLine, said, busy}
+use Rattle.log_grammar.specs.LoggedReply.{LoggedReply}
+use Rattle.log_grammar.specs.Places.{Place, between}
+use Rattle.log_grammar.specs.Demands.{Demands, AreReplies}
+use Rattle.log_grammar.specs.state_machine.Steps.{IsTransition, told_at}
+use Rattle.log_grammar.specs.Numbered.{Numbered, SpellsNumbered}
+use Rattle.log_grammar.specs.state_machine.NumberedSteps.{IsVisitTransition, IsNumberedTransition}
+use Rattle.log_grammar.proofs.lemmas.many_sessions.WithoutLast.{numbered_before}
+use Rattle.log_grammar.proofs.lemmas.many_sessions.LoggedReply.{values_of, none_numbered}
+use Rattle.log_grammar.proofs.lemmas.demands.StillChallenged.{Opened, opened_by}
+use Rattle.log_grammar.proofs.lemmas.many_sessions.LinesOfNumber.{at_each}
+use Rattle.log_grammar.proofs.lemmas.state_machine.OneReading.{OneAccount, goes_once}
+use Rattle.log_grammar.proofs.lemmas.ListEnds.{with_last, length-last}
+use Rattle.log_grammar.proofs.lemmas.many_sessions.Visits.{no_lines_at}
+
+-- BUSY is no line of a session
+no_busy : (d : Demands) (at next : Place) (line : LogLine) → at ≡ between → line ≡ said busy → IsTransition d at line next → ⊥
+no_busy d at next line between_is busy_is h =
+    subst (λ (l : LogLine). IsTransition d between l next) busy_is (subst (λ (p : Place). IsTransition d p line next) between_is h)
+
+-- a line leads from a number's place to one place
+pub goes_in_once : (d : Demands) → OneAccount d → (at : Place) (line : LogLine) (p q : Place) → IsVisitTransition d at line p
+    → IsVisitTransition d at line q → p ≡ q
+goes_in_once d one at line p q (inl h) (inl k) = goes_once d one at line p q h k
+goes_in_once d one at line p q (inl h) (inr b) = absurd (no_busy d at p line b.0 b.1 h)
+goes_in_once d one at line p q (inr b) (inl k) = absurd (no_busy d at q line b.0 b.1 k)
+goes_in_once d one at line p q (inr b) (inr c) = b.2 ∙ sym c.2
+
+told_alike : (told other : List LoggedReply) (p q : Place) (x : LogLine) → told ≡ other → p ≡ q → told ++ told_at p x ≡ other ++ told_at q x
+told_alike told other p q x a b = ap (λ (t : List LoggedReply). t ++ told_at p x) a ∙ ap (λ (r : Place). other ++ told_at r x) b
+
+-- where there is no line, no session is open and nothing was told
+pub nothing_begun : (limit : ℕ) (d : Demands) (places : ℕ → Place) (told : List LoggedReply) → SpellsNumbered limit d [] places told
+    → ((n : ℕ) → places n ≡ between) × (told ≡ [])
+nothing_begun limit d places told s = (
+  λ n. s.after n ∙ no_lines_at (s.visit n) (sym (s.sessions.lines n)),
+  s.tells ∙ ap values_of
+      (none_numbered s.numbered_told s.sessions.order),
+)
+
+-- the places and what was told follow from the lines
+pub numbered_once : (limit : ℕ) (d : Demands) → OneAccount d
+    → (k : ℕ) (log : List (Numbered LogLine)) (p q : ℕ → Place) (told other : List LoggedReply) → length log ≤ k
+    → SpellsNumbered limit d log p told → SpellsNumbered limit d log q other → ((n : ℕ) → p n ≡ q n) × (told ≡ other)
+numbered_once limit d one k [] p q told other short s r =
+    let a = nothing_begun limit d p told s in
+    let b = nothing_begun limit d q other r in
+    (λ n. a.0 n ∙ sym (b.0 n), a.1 ∙ sym b.1)
+numbered_once limit d one zero (x ∷ log) p q told other short s r = absurd (omega (arith, short))
+numbered_once limit d one (suc k) (x ∷ log) p q told other short s r =
+    let last = with_last x log in
+    let n = last.1.number in
+    let line = last.1.value in
+    let a = numbered_before limit d last.0 n line p told
+    (subst (λ (l : List (Numbered LogLine)). SpellsNumbered limit d l p told) last.2 s) in
+    let b = numbered_before limit d last.0 n line q other
+    (subst (λ (l : List (Numbered LogLine)). SpellsNumbered limit d l q other) last.2 r) in
+    let shorter : length last.0 ≤ k = omega (arith, short, ap length last.2, length-last last.0 last.1) in
+    let earlier = numbered_once limit d one k last.0 a.before b.before a.told b.told shorter a.spells b.spells in
+    let moved = subst (λ (r : Place). IsVisitTransition d r line (q n)) (sym (earlier.0 n)) b.goes.goes in (
+      at_each (λ (m : ℕ). p m ≡ q m) n (goes_in_once d one (a.before n) line (p n) (q n) a.goes.goes moved)
+          (λ m differ. a.others m differ ∙ earlier.0 m ∙ sym (b.others m differ)),
+      a.tells ∙ told_alike a.told b.told (a.before n) (b.before n) line earlier.1 (earlier.0 n) ∙ sym b.tells,
+    )
+
+-- the first lines of such a log are such a log
+pub numbered_front : (limit : ℕ) (d : Demands) (k : ℕ) (log more : List (Numbered LogLine)) (p : ℕ → Place) (told : List LoggedReply)
+    → length more ≤ k
+    → SpellsNumbered limit d (log ++ more) p told → (q : ℕ → Place) × (other : List LoggedReply) × SpellsNumbered limit d log q other
+numbered_front limit d k log [] p told short s =
+    (p, told, subst (λ (l : List (Numbered LogLine)). SpellsNumbered limit d l p told) (append-nil log) s)
+numbered_front limit d zero log (x ∷ more) p told short s = absurd (omega (arith, short))
+numbered_front limit d (suc k) log (x ∷ more) p told short s =
+    let last = with_last x more in
+    let shorter : length last.0 ≤ k = omega (arith, short, ap length last.2, length-last last.0 last.1) in
+    let moved = ap (λ (l : List (Numbered LogLine)). log ++ l) last.2 ∙ sym (append_assoc log last.0 (last.1 ∷ [])) in
+    let b = numbered_before limit d (log ++ last.0) last.1.number last.1.value p told
+    (subst (λ (l : List (Numbered LogLine)). SpellsNumbered limit d l p told) moved s) in
+    numbered_front limit d k log last.0 b.before b.told shorter b.spells
+
+-- after a challenge, what was demanded of that challenge still holds
+opened_in : (d : Demands) (at : Place) (line : LogLine) (next : Place) → Opened d at → IsVisitTransition d at line next → Opened d next
+opened_in d at line next is (inl h) = opened_by d at line next is h
+opened_in d at line next is (inr b) = subst (Opened d) (sym b.2) tt
+
+-- where the place of a number has a challenge, what is demanded of that challenge holds, in a log that meets the demands
+pub opened_numbered : (limit : ℕ) (d : Demands) (k : ℕ) (log : List (Numbered LogLine)) (p : ℕ → Place) (told : List LoggedReply)
+    → length log ≤ k
+    → SpellsNumbered limit d log p told → (n : ℕ) → Opened d (p n)
+opened_numbered limit d k [] p told short s = λ n. subst (Opened d) (sym ((nothing_begun limit d p told s).0 n)) tt
+opened_numbered limit d zero (x ∷ log) p told short s = absurd (omega (arith, short))
+opened_numbered limit d (suc k) (x ∷ log) p told short s =
+    let last = with_last x log in
+    let n = last.1.number in
+    let b = numbered_before limit d last.0 n last.1.value p told
+    (subst (λ (l : List (Numbered LogLine)). SpellsNumbered limit d l p told) last.2 s) in
+    let shorter : length last.0 ≤ k = omega (arith, short, ap length last.2, length-last last.0 last.1) in
+    let earlier = opened_numbered limit d k last.0 b.before b.told shorter b.spells in
+    at_each (λ (m : ℕ). Opened d (p m)) n (opened_in d (b.before n) last.1.value (p n) (earlier n) b.goes.goes)
+    (λ m differ. subst (Opened d) (sym (b.others m differ)) (earlier m))
+
+-- what a number may have is said by its own place alone
+pub goes_moved : (limit : ℕ) (d : Demands) (log : List (Numbered LogLine)) (places other : ℕ → Place) (told also : List LoggedReply) (n : ℕ)
+    (line : LogLine) (to : Place)
+    → IsNumberedTransition limit d log places told n line to → places n ≡ other n → told ≡ also
+    → IsNumberedTransition limit d log other also n line to
+goes_moved limit d log places other told also n line to g at same = record {
+  room = g.room;
+  next = g.next;
+  goes = subst (λ (p : Place). IsVisitTransition d p line to) at g.goes;
+  due = subst (λ (t : List LoggedReply). AreReplies d (reverse t) (told_at (other n) line)) same
+      (subst (λ (p : Place). AreReplies d (reverse told) (told_at p line)) at g.due);
+}

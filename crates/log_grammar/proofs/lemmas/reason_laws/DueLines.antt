@@ -1,0 +1,140 @@
+-- Each line that says what a reason names as due may stand in the place of the line at fault.
+use Rattle.std.proofs.Common.{◌≡◌, inl, inr, ℕ, List, [], ◌∷◌, ◌++◌, reverse, refl, sym, ◌∙◌, subst}
+use Rattle.scram_ends.specs.Verdict.{accept, refuse}
+use Rattle.scram_ends.specs.Login.{IsAuthentic}
+use Rattle.log_grammar.specs.Lines.{LogLine, said, mechs, cont, accepts, refuses, replies, log_text, IsLogInRange, IsWritable}
+use Rattle.log_grammar.specs.Bytes.{ended_by_lf}
+use Rattle.log_grammar.specs.LoggedReply.{LoggedReply}
+use Rattle.log_grammar.specs.Places.{Place, asks_bare, got_first, got_final, waits_code, got_code, leaving}
+use Rattle.log_grammar.specs.Demands.{Accounts, AllCanBeChallenged, demands, AreReplies}
+use Rattle.log_grammar.specs.state_machine.Steps.{IsTransition, told_at}
+use Rattle.log_grammar.specs.Begins.{Begins}
+use Rattle.log_grammar.specs.Why.{Why, is_cut, no_line, out_of_order, other_mechs, other_challenge, other_outcome, other_reply, accepted}
+use Rattle.log_grammar.specs.Why.{refused_with, IsWrongAnswer, IsWrongReply, IsWrong, IsWrongText}
+use Rattle.log_grammar.specs.laws.LogLaws.{FrontsBeginClean}
+use Rattle.log_grammar.specs.Versions.{BeginsClean}
+use Rattle.log_grammar.specs.laws.Reasons.{SaysWhatIsDue, NamesWhatIsDue, EachLineThatIsDueMayStand}
+use Rattle.log_grammar.proofs.lemmas.kinds.ShownByLines.{Lead, fault_after}
+use Rattle.log_grammar.proofs.lemmas.reason_laws.Mended.{by_text, begins_with}
+
+-- the reason is neither a challenge nor an acceptance, so that one line says what is due
+abbrev pub NamesOneLine : Why → Type 0
+NamesOneLine other_challenge = ⊥
+NamesOneLine (other_outcome (accepted signature)) = ⊥
+NamesOneLine why = Unit {0}
+
+-- at most one line says what a reason names as due, where that is neither a challenge nor an acceptance
+pub says_once : (why : Why) (one other : LogLine) → NamesOneLine why → SaysWhatIsDue why one → SaysWhatIsDue why other → one ≡ other
+says_once is_cut one other single says also = absurd says
+says_once no_line one other single says also = absurd says
+says_once out_of_order one other single says also = absurd says
+says_once other_mechs one other single says also = says ∙ sym also
+says_once other_challenge one other single says also = absurd single
+says_once (other_outcome (accepted signature)) one other single says also = absurd single
+says_once (other_outcome (refused_with message)) one other single says also = says ∙ sym also
+says_once (other_reply moment due) one other single says also = says ∙ sym also
+
+-- a reason that a line can say is one that names what is due
+pub named : (why : Why) (line : LogLine) → SaysWhatIsDue why line → IsWritable line → NamesWhatIsDue why
+named is_cut line says writable = says
+named no_line line says writable = says
+named out_of_order line says writable = says
+named other_mechs line says writable = tt
+named other_challenge line says writable = tt
+named (other_outcome due) line says writable = tt
+named (other_reply moment due) line says writable = (subst IsLogInRange says writable.ranges).1
+
+-- an acceptance with the signature that is due
+pub goes_ok : (accounts : Accounts) (place : Place) (signature text : List ℕ)
+    → IsWrongAnswer accounts place (other_outcome (accepted signature))
+    → IsAuthentic text signature → (next : Place) × IsTransition (demands accounts) place (said (accepts text)) next
+    × (told_at place (said (accepts text)) ≡ [])
+goes_ok accounts (asks_bare m) signature text (inl (is, same)) bears = absurd (cc same)
+goes_ok accounts (asks_bare m) signature text (inr (none, same)) bears = absurd (cc same)
+goes_ok accounts (got_first m first) signature text (inl (is, same)) bears = absurd (cc same)
+goes_ok accounts (got_first m first) signature text (inr (none, same)) bears = absurd (cc same)
+goes_ok accounts (got_final m account first challenge last) signature text (refuse why, is, same) bears = absurd (cc same)
+goes_ok accounts (got_final m account first challenge last) signature text (accept other, is, same) bears =
+    let own : signature ≡ other = cc same in
+    (waits_code account, ((other, is, subst (IsAuthentic text) own bears), refl), refl)
+goes_ok accounts leaving signature text same bears = absurd (cc same)
+goes_ok accounts place signature text wrong bears = absurd wrong
+
+no_reply_why : (accounts : Accounts) (place : Place) (told : List LoggedReply) (moment : ℕ) (signature : List ℕ)
+    → IsWrongReply accounts place told moment (other_outcome (accepted signature)) → ⊥
+no_reply_why accounts (got_code account sent) told moment signature (due, is, same) = cc same
+no_reply_why accounts place told moment signature wrong = wrong
+
+-- where the reason names an acceptance as due, a CONT, OK or NO is due at the place, whatever line is at fault there
+pub word_of : (accounts : Accounts) (place : Place) (told : List LoggedReply) (line : LogLine) (signature : List ℕ)
+    → IsWrong accounts place told line (other_outcome (accepted signature))
+    → IsWrongAnswer accounts place (other_outcome (accepted signature))
+word_of accounts place told (said (mechs names)) signature wrong = absurd (cc wrong)
+word_of accounts place told (said (cont message)) signature wrong = wrong
+word_of accounts place told (said (accepts message)) signature wrong = wrong
+word_of accounts place told (said (refuses message)) signature wrong = wrong
+word_of accounts place told (said (replies moment reply)) signature wrong = absurd (no_reply_why accounts place told moment signature wrong)
+word_of accounts place told line signature wrong = absurd wrong
+
+-- a place where an acceptance with this signature is due
+record OkIsDue (accounts : Accounts) (lines : List LogLine) (signature : List ℕ) : Type 0 where
+  at : Place
+  tells : List LoggedReply
+  begins : Begins (demands accounts) lines at tells
+  word : IsWrongAnswer accounts at (other_outcome (accepted signature))
+
+ok_is_due : (accounts : Accounts) (lines : List LogLine) (text signature : List ℕ)
+    → IsWrongText accounts lines text (other_outcome (accepted signature))
+    → OkIsDue accounts lines signature
+ok_is_due accounts lines text signature (inl (unfit, same)) = absurd (cc same)
+ok_is_due accounts lines text signature (inr (fits, line, is, inl (none, same))) = absurd (cc same)
+ok_is_due accounts lines text signature (inr (fits, line, is, inr (due, at, tells, begins, wrong))) =
+    record { at = at; tells = tells; begins = begins; word = word_of accounts at tells line signature wrong }
+
+each_ok : FrontsBeginClean → (accounts : Accounts) → AllCanBeChallenged accounts
+    → (before : List (List ℕ)) (text : List ℕ) (lines : List LogLine) (place : Place) (told : List LoggedReply)
+    (signature message : List ℕ) → Lead accounts before lines place told
+    → IsWrongText accounts lines text (other_outcome (accepted signature))
+    → IsAuthentic message signature → IsWritable (said (accepts message))
+    → BeginsClean accounts (ended_by_lf (before ++ log_text (said (accepts message)) ∷ []))
+each_ok completes accounts fit before text lines place told signature message lead wrong bears writable =
+    let o = ok_is_due accounts lines text signature wrong in
+    let (next, goes, silent) = goes_ok accounts o.at signature message o.word bears in
+    let due = subst (λ (t : List LoggedReply). AreReplies (demands accounts) (reverse o.tells) t) (sym silent) tt in
+    begins_with completes accounts fit before lines place told o.at o.tells (said (accepts message)) next lead o.begins writable goes due
+
+-- a line that is the only one to say what is due
+the_line : FrontsBeginClean → (accounts : Accounts) → AllCanBeChallenged accounts
+    → (before : List (List ℕ)) (text : List ℕ) (lines : List LogLine) (place : Place) (told : List LoggedReply)
+    (why : Why) (line : LogLine) → Lead accounts before lines place told → IsWrongText accounts lines text why → NamesOneLine why
+    → SaysWhatIsDue why line → IsWritable line → BeginsClean accounts (ended_by_lf (before ++ log_text line ∷ []))
+the_line completes accounts fit before text lines place told why line lead wrong single says writable =
+    let (at, tells, begins, m) = by_text accounts fit before text lines place told why lead (named why line says writable) wrong in
+    subst (λ (l : LogLine). BeginsClean accounts (ended_by_lf (before ++ log_text l ∷ []))) (says_once why m.line line single m.says says)
+    (begins_with completes accounts fit before lines place told at tells m.line m.next lead begins m.writable m.goes m.due)
+
+by_why : FrontsBeginClean → (accounts : Accounts) → AllCanBeChallenged accounts
+    → (before : List (List ℕ)) (text : List ℕ) (lines : List LogLine) (place : Place) (told : List LoggedReply)
+    (why : Why) (line : LogLine) → Lead accounts before lines place told → IsWrongText accounts lines text why → (why ≡ other_challenge → ⊥)
+    → SaysWhatIsDue why line → IsWritable line → BeginsClean accounts (ended_by_lf (before ++ log_text line ∷ []))
+by_why completes accounts fit before text lines place told is_cut line lead wrong other says writable = absurd says
+by_why completes accounts fit before text lines place told no_line line lead wrong other says writable = absurd says
+by_why completes accounts fit before text lines place told out_of_order line lead wrong other says writable = absurd says
+by_why completes accounts fit before text lines place told other_mechs line lead wrong other says writable =
+    the_line completes accounts fit before text lines place told other_mechs line lead wrong tt says writable
+by_why completes accounts fit before text lines place told other_challenge line lead wrong other says writable = absurd (other refl)
+by_why completes accounts fit before text lines place told (other_outcome (accepted signature)) line lead wrong other
+    (message, bears, same) writable =
+    subst (λ (l : LogLine). BeginsClean accounts (ended_by_lf (before ++ log_text l ∷ []))) (sym same)
+    (each_ok completes accounts fit before text lines place told signature message lead wrong bears (subst IsWritable same writable))
+by_why completes accounts fit before text lines place told (other_outcome (refused_with message)) line lead wrong other says writable =
+    the_line completes accounts fit before text lines place told (other_outcome (refused_with message)) line lead wrong tt says writable
+by_why completes accounts fit before text lines place told (other_reply moment due) line lead wrong other says writable =
+    the_line completes accounts fit before text lines place told (other_reply moment due) line lead wrong tt says writable
+
+-- each line that can be written and says what is due, except a challenge, may stand in place of the line at fault in a log of
+-- version 1, where each front begins a clean log
+pub each_line : FrontsBeginClean → EachLineThatIsDueMayStand
+each_line completes accounts fit bytes before text after rest why line cut w other says writable =
+    let f = fault_after accounts bytes before text after rest why cut w in
+    by_why completes accounts fit before text f.lines f.place f.told why line f.lead f.wrong other says writable

@@ -1,0 +1,296 @@
+-- What a reason names as due may stand in the place of the numbered line at fault, under its number.
+use Rattle.std.proofs.Common.{◌≡◌, inl, inr, ℕ, ◌+◌, ◌≤◌, List, [], ◌∷◌, ◌++◌, length, reverse, take, refl, sym, ◌∙◌, ap, subst, arith}
+use Rattle.std.specs.List.{AllByRecursion, AllZip}
+use Rattle.std.proofs.lemmas.Bool.{cases_lt}
+use Rattle.log_grammar.specs.Lines.{LogLine, second_header, said, mechs, cont, accepts, refuses, replies, log_text, IsWritable}
+use Rattle.log_grammar.specs.Bytes.{LacksLf, ended_by_lf, IsCut}
+use Rattle.log_grammar.specs.LoggedReply.{LoggedReply}
+use Rattle.log_grammar.specs.Places.{Place, asks_bare, got_first, got_final, got_code, leaving}
+use Rattle.log_grammar.specs.Demands.{Accounts, AllCanBeChallenged, demands, AreReplies}
+use Rattle.log_grammar.specs.state_machine.Steps.{IsTransition, told_at}
+use Rattle.log_grammar.specs.Why.{Why, is_cut, no_line, out_of_order, other_mechs, other_challenge, other_outcome, other_reply, accepted}
+use Rattle.log_grammar.specs.Why.{refused_with, class_of, LineClass, of_mechs, of_login_answers, of_replies, IsWrongAnswer, IsWrongReply}
+use Rattle.log_grammar.specs.Why.{IsWrong}
+use Rattle.log_grammar.specs.state_machine.DueClasses.{IsDueAt}
+use Rattle.log_grammar.specs.LogKinds.{IsWhyOf, BeginsCleanOf}
+use Rattle.log_grammar.specs.VersionTwo.{MayBeginVersionTwo, IsWrongAfterFirst, version_two}
+use Rattle.log_grammar.specs.Numbered.{Numbered, numbered, SpellsNumbered}
+use Rattle.log_grammar.specs.state_machine.NumberedDueClasses.{ClassHasRoom, ClassMayFollow, IsNumberDueAt}
+use Rattle.log_grammar.specs.NumberedLines.{HasNumber, numbered_text, IsNumberedLine, IsNumberedWritable}
+use Rattle.log_grammar.specs.laws.NumberedLogLaws.{NumberedFrontsBeginClean}
+use Rattle.log_grammar.specs.state_machine.NumberedSteps.{put, IsNumberedTransition}
+use Rattle.log_grammar.specs.laws.Reasons.{SaysWhatIsDue, NamesWhatIsDue}
+use Rattle.log_grammar.specs.laws.NumberedReasons.{IsNumberedMended, WhatIsDueMayStandUnderItsNumber, EachNumberedLineThatIsDueMayStand}
+use Rattle.log_grammar.proofs.lemmas.lines.Cuts.{cut_one_way, first_lack}
+use Rattle.log_grammar.proofs.lemmas.reason_laws.DueLines.{NamesOneLine, says_once, named, goes_ok, word_of}
+use Rattle.log_grammar.proofs.lemmas.kinds.FaultLines.{FaultText, at_text}
+use Rattle.log_grammar.proofs.lemmas.kinds.Judged.{front_at}
+use Rattle.log_grammar.proofs.lemmas.kinds.VersionTwo.{numbered_pairs}
+use Rattle.log_grammar.proofs.lemmas.reason_laws.Mended.{by_line, none_named}
+use Rattle.log_grammar.proofs.lemmas.many_sessions.DueClasses.{room_line, next_line, number_classes_due}
+use Rattle.log_grammar.proofs.lemmas.lines.NumberedReadBack.{one_numbered_line, numbered_lacks, numbered_written}
+use Rattle.log_grammar.proofs.lemmas.many_sessions.LogSteps.{numbered_on}
+use Rattle.log_grammar.proofs.lemmas.many_sessions.Standings.{busy_line}
+use Rattle.log_grammar.proofs.lemmas.ListEnds.{parted, all_append}
+
+-- a line of a number that is at fault, where some line of its class is due
+record FaultOf (limit : ℕ) (accounts : Accounts) (before : List (List ℕ)) (x : Numbered LogLine) (why : Why) : Type 0 where
+  first : List ℕ
+  texts : List (List ℕ)
+  same : before ≡ first ∷ texts
+  head : first ≡ log_text second_header
+  log : List (Numbered LogLine)
+  are : AllZip IsNumberedLine texts log
+  places : ℕ → Place
+  told : List LoggedReply
+  spells : SpellsNumbered limit (demands accounts) log places told
+  due : IsNumberDueAt limit log (places x.number) x.number (class_of x.value)
+  wrong : IsWrong accounts (places x.number) told x.value why
+
+-- after the first line
+later_fault : (limit : ℕ) (accounts : Accounts) (first : List ℕ) (texts : List (List ℕ)) (text : List ℕ) (log : List (Numbered LogLine))
+    (x : Numbered LogLine) (why : Why)
+    → first ≡ log_text second_header → AllZip IsNumberedLine texts log → IsNumberedLine text x → NamesWhatIsDue why
+    → IsWrongAfterFirst limit accounts log text why
+    → FaultOf limit accounts (first ∷ texts) x why
+later_fault limit accounts first texts text log x why head are is names (inl (again, same)) = absurd (subst NamesWhatIsDue same names)
+later_fault limit accounts first texts text log x why head are is names (inr (inl (other, none, same))) = absurd
+    (subst NamesWhatIsDue same names)
+later_fault limit accounts first texts text log x why head are is names (inr (inr (y, also, inl (undue, same)))) = absurd
+    (subst NamesWhatIsDue same names)
+later_fault limit accounts first texts text log x why head are is names (inr (inr (y, also, inr (class_due, places, told, s, wrong)))) =
+    let due = (number_classes_due limit accounts log places told y.number (class_of y.value) s).0 class_due in
+    subst (λ (z : Numbered LogLine). FaultOf limit accounts (first ∷ texts) z why) (one_numbered_line text y x also is)
+    (record {
+      first = first;
+      texts = texts;
+      same = refl;
+      head = head;
+      log = log;
+      are = are;
+      places = places;
+      told = told;
+      spells = s;
+      due = due;
+      wrong = wrong;
+    })
+
+fault_of : (limit : ℕ) (accounts : Accounts) (before : List (List ℕ)) (text : List ℕ) (x : Numbered LogLine) (why : Why)
+    → IsNumberedLine text x → NamesWhatIsDue why
+    → FaultText (version_two limit accounts) before text why → FaultOf limit accounts before x why
+fault_of limit accounts [] text x why is names f = absurd (subst NamesWhatIsDue f.wrong.1 names)
+fault_of limit accounts (first ∷ texts) text x why is names f =
+    let (log, are, wrong) = f.wrong in
+    later_fault limit accounts first texts text log x why f.stands.0 are is names wrong
+
+-- the text of a line whose fault names what is due is a numbered line
+numbered_at : (limit : ℕ) (accounts : Accounts) (before : List (List ℕ)) (text : List ℕ) (why : Why) → NamesWhatIsDue why
+    → FaultText (version_two limit accounts) before text why
+    → (x : Numbered LogLine) × IsNumberedLine text x
+numbered_at limit accounts [] text why names f = absurd (subst NamesWhatIsDue f.wrong.1 names)
+numbered_at limit accounts (first ∷ texts) text why names f = of_wrong f.wrong.0 f.wrong.2
+  where
+    of_wrong : (log : List (Numbered LogLine)) → IsWrongAfterFirst limit accounts log text why → (x : Numbered LogLine)
+        × IsNumberedLine text x
+    of_wrong log (inl (again, same)) = absurd (subst NamesWhatIsDue same names)
+    of_wrong log (inr (inl (other, none, same))) = absurd (subst NamesWhatIsDue same names)
+    of_wrong log (inr (inr (x, is, wrong))) = (x, is)
+
+-- BUSY is never wrong, so the class is one that is due at the place
+due_at : (limit : ℕ) (accounts : Accounts) (before : List (List ℕ)) (x : Numbered LogLine) (why : Why)
+    (f : FaultOf limit accounts before x why)
+    → IsDueAt (f.places x.number) (class_of x.value)
+due_at limit accounts before x why f = elim f.due.due [
+  | inl due ↦ due
+  | inr busy ↦ absurd (subst (λ (l : LogLine). IsWrong accounts (f.places x.number) f.told l why) (busy_line x.value busy.1) f.wrong)
+]
+
+-- the class of a line that says what is due
+abbrev class_due : Why → LineClass → Type 0
+class_due other_mechs class = class ≡ of_mechs
+class_due other_challenge class = class ≡ of_login_answers
+class_due (other_outcome due) class = class ≡ of_login_answers
+class_due (other_reply moment due) class = class ≡ of_replies
+class_due why class = ⊥
+
+says_class : (why : Why) (line : LogLine) → SaysWhatIsDue why line → class_due why (class_of line)
+says_class is_cut line says = says
+says_class no_line line says = says
+says_class out_of_order line says = says
+says_class other_mechs line says = ap class_of says
+says_class other_challenge line says = ap class_of says.1
+says_class (other_outcome (accepted signature)) line says = ap class_of says.2
+says_class (other_outcome (refused_with message)) line says = ap class_of says
+says_class (other_reply moment due) line says = ap class_of says
+
+word_class : (accounts : Accounts) (place : Place) (why : Why) → IsWrongAnswer accounts place why → class_due why of_login_answers
+word_class accounts (asks_bare m) why (inl (is, same)) = subst (λ (w : Why). class_due w of_login_answers) (sym same) refl
+word_class accounts (asks_bare m) why (inr (none, same)) = subst (λ (w : Why). class_due w of_login_answers) (sym same) refl
+word_class accounts (got_first m first) why (inl (is, same)) = subst (λ (w : Why). class_due w of_login_answers) (sym same) refl
+word_class accounts (got_first m first) why (inr (none, same)) = subst (λ (w : Why). class_due w of_login_answers) (sym same) refl
+word_class accounts (got_final m account first challenge last) why (due, is, same) = subst (λ (w : Why). class_due w of_login_answers)
+    (sym same) refl
+word_class accounts leaving why same = subst (λ (w : Why). class_due w of_login_answers) (sym same) refl
+word_class accounts place why wrong = absurd wrong
+
+reply_class : (accounts : Accounts) (place : Place) (told : List LoggedReply) (moment : ℕ) (why : Why)
+    → IsWrongReply accounts place told moment why → class_due why of_replies
+reply_class accounts (got_code account sent) told moment why (due, is, same) = subst (λ (w : Why). class_due w of_replies) (sym same) refl
+reply_class accounts place told moment why wrong = absurd wrong
+
+wrong_class : (accounts : Accounts) (place : Place) (told : List LoggedReply) (line : LogLine) (why : Why)
+    → IsWrong accounts place told line why → class_due why (class_of line)
+wrong_class accounts place told (said (mechs names)) why wrong = subst (λ (w : Why). class_due w of_mechs) (sym wrong) refl
+wrong_class accounts place told (said (cont message)) why wrong = word_class accounts place why wrong
+wrong_class accounts place told (said (accepts message)) why wrong = word_class accounts place why wrong
+wrong_class accounts place told (said (refuses message)) why wrong = word_class accounts place why wrong
+wrong_class accounts place told (said (replies moment reply)) why wrong = reply_class accounts place told moment why wrong
+wrong_class accounts place told line why wrong = absurd wrong
+
+one_class : (why : Why) (one other : LineClass) → class_due why one → class_due why other → one ≡ other
+one_class is_cut one other a b = absurd a
+one_class no_line one other a b = absurd a
+one_class out_of_order one other a b = absurd a
+one_class other_mechs one other a b = a ∙ sym b
+one_class other_challenge one other a b = a ∙ sym b
+one_class (other_outcome due) one other a b = a ∙ sym b
+one_class (other_reply moment due) one other a b = a ∙ sym b
+
+-- what says what is due may have a number
+says_numbered : (why : Why) (line : LogLine) → SaysWhatIsDue why line → HasNumber line
+says_numbered is_cut line says = absurd says
+says_numbered no_line line says = absurd says
+says_numbered out_of_order line says = absurd says
+says_numbered other_mechs line says = subst HasNumber (sym says) tt
+says_numbered other_challenge line says = subst HasNumber (sym says.1) tt
+says_numbered (other_outcome (accepted signature)) line says = subst HasNumber (sym says.2) tt
+says_numbered (other_outcome (refused_with message)) line says = subst HasNumber (sym says) tt
+says_numbered (other_reply moment due) line says = subst HasNumber (sym says) tt
+
+-- the lines up to it begin a clean log with a line that says what is due, and goes on from the place of its number
+begins_with : NumberedFrontsBeginClean → (limit : ℕ) (accounts : Accounts) → AllCanBeChallenged accounts
+    → (before : List (List ℕ)) (x : Numbered LogLine) (why : Why)
+    (f : FaultOf limit accounts before x why) (line : LogLine) (next : Place) → AllByRecursion LacksLf before → SaysWhatIsDue why line
+    → IsNumberedWritable (numbered x.number line) → IsTransition (demands accounts) (f.places x.number) line next
+    → AreReplies (demands accounts) (reverse f.told) (told_at (f.places x.number) line)
+    → BeginsCleanOf (version_two limit accounts) (ended_by_lf (before ++ numbered_text (numbered x.number line) ∷ []))
+begins_with completes limit accounts fit before x why f line next lack says writable goes answer =
+    let n = x.number in
+    let y = numbered n line in
+    let same = one_class why (class_of x.value) (class_of line) (wrong_class accounts (f.places n) f.told x.value why f.wrong)
+    (says_class why line says) in
+    let g : IsNumberedTransition limit (demands accounts) f.log f.places f.told n line next = record {
+      room = room_line limit f.log n line (subst (ClassHasRoom limit f.log n) same f.due.room);
+      next = λ earlier z e. next_line z.number z.value n line (subst (ClassMayFollow z.number z.value n) same (f.due.next earlier z e));
+      goes = inl goes;
+      due = answer;
+    } in
+    let on = numbered_on limit (demands accounts) f.log f.places f.told n line next f.spells g in
+    let stands : MayBeginVersionTwo limit accounts ((f.first ∷ f.texts) ++ numbered_text y ∷ []) = (
+      f.head,
+      f.log ++ y ∷ [],
+      put n next f.places,
+      f.told
+          ++ told_at (f.places n) line,
+      numbered_pairs f.texts (numbered_text y) f.log y f.are writable,
+      on,
+    ) in
+    let all = before ++ numbered_text y ∷ [] in
+    let lacks = all_append LacksLf before (numbered_text y ∷ []) lack (numbered_lacks (numbered_text y) y writable, tt) in
+    completes limit accounts fit (ended_by_lf all)
+    (front_at (version_two limit accounts) all lacks
+    (subst (λ (ts : List (List ℕ)). MayBeginVersionTwo limit accounts (ts ++ numbered_text y ∷ [])) (sym f.same) stands))
+
+mended_at : NumberedFrontsBeginClean → (limit : ℕ) (accounts : Accounts) → AllCanBeChallenged accounts
+    → (bytes : List ℕ) (before : List (List ℕ)) (text : List ℕ) (more : List (List ℕ))
+    (rest : List ℕ) (why : Why) → IsCut bytes (before ++ text ∷ more) rest
+    → IsWhyOf (version_two limit accounts) bytes (length before + 1) why → NamesWhatIsDue why
+    → IsNumberedMended limit accounts (before ++ text ∷ more) (length before + 1) why
+mended_at completes limit accounts fit bytes before text more rest why cut w names =
+    let fault = at_text (version_two limit accounts) bytes before text more rest why cut w in
+    let (x, is) = numbered_at limit accounts before text why names fault in
+    let f = fault_of limit accounts before text x why is names fault in
+    let m = by_line accounts fit (f.places x.number) f.told (log_text x.value) x.value why is.line
+    (due_at limit accounts before x why f) names f.wrong in
+    let writable = numbered_written (numbered x.number m.line) is.number (says_numbered why m.line m.says) m.writable in
+    record {
+      before = before;
+      text = text;
+      more = more;
+      split = refl;
+      this = refl;
+      at_fault = x;
+      is_line = is;
+      line = m.line;
+      says = m.says;
+      writable = writable;
+      begins = begins_with completes limit accounts fit before x why f m.line m.next
+          (first_lack before (text ∷ more) cut.lines) m.says writable m.goes m.due;
+    }
+
+-- what a reason names as due may stand in place of the line at fault, under its number, where fronts of version 2 begin clean logs
+pub numbered_what_is_due : NumberedFrontsBeginClean → WhatIsDueMayStandUnderItsNumber
+numbered_what_is_due completes limit accounts fit bytes texts rest k why cut w names = elim (cases_lt w.before (length texts)) [
+  | inr past ↦
+      let same = (cut_one_way bytes w.fault.texts texts w.fault.rest rest w.fault.cut cut).0 in
+      absurd (none_named (version_two limit accounts) (take w.before w.fault.texts) w.fault.texts w.before w.fault.rest why
+      (subst (λ (ts : List (List ℕ)). length ts ≤ w.before) (sym same) past) w.wrong names)
+  | inl less ↦
+      let (before, text, more, same, at) = parted texts w.before less in
+      let this : k ≡ length before + 1 = omega (arith, w.this, at) in
+      subst (λ (ts : List (List ℕ)). IsNumberedMended limit accounts ts k why) (sym same)
+      (subst (λ (i : ℕ). IsNumberedMended limit accounts (before ++ text ∷ more) i why) (sym this)
+      (mended_at completes limit accounts fit bytes before text more rest why (subst (λ (ts : List (List ℕ)). IsCut bytes ts rest) same cut)
+      (subst (λ (i : ℕ). IsWhyOf (version_two limit accounts) bytes i why) this w) names))
+]
+
+-- where a line that says what is due leads to
+record LeadsOn (accounts : Accounts) (place : Place) (told : List LoggedReply) (line : LogLine) : Type 0 where
+  next : Place
+  goes : IsTransition (demands accounts) place line next
+  due : AreReplies (demands accounts) (reverse told) (told_at place line)
+
+-- a line that is the only one to say what is due
+the_line : (accounts : Accounts) → AllCanBeChallenged accounts
+    → (place : Place) (told : List LoggedReply) (x : LogLine) (why : Why) (line : LogLine) → IsWritable x
+    → IsDueAt place (class_of x) → IsWrong accounts place told x why → NamesOneLine why → SaysWhatIsDue why line → IsWritable line
+    → LeadsOn accounts place told line
+the_line accounts fit place told x why line is due wrong single says writable =
+    let m = by_line accounts fit place told (log_text x) x why is due (named why line says writable) wrong in
+    subst (LeadsOn accounts place told) (says_once why m.line line single m.says says)
+    (record { next = m.next; goes = m.goes; due = m.due })
+
+leads_on : (accounts : Accounts) → AllCanBeChallenged accounts
+    → (place : Place) (told : List LoggedReply) (x : LogLine) (why : Why) (line : LogLine) → IsWritable x
+    → IsDueAt place (class_of x) → IsWrong accounts place told x why → (why ≡ other_challenge → ⊥) → SaysWhatIsDue why line
+    → IsWritable line
+    → LeadsOn accounts place told line
+leads_on accounts fit place told x is_cut line is due wrong other says writable = absurd says
+leads_on accounts fit place told x no_line line is due wrong other says writable = absurd says
+leads_on accounts fit place told x out_of_order line is due wrong other says writable = absurd says
+leads_on accounts fit place told x other_mechs line is due wrong other says writable = the_line accounts fit place told x other_mechs line is due wrong tt says writable
+leads_on accounts fit place told x other_challenge line is due wrong other says writable = absurd (other refl)
+leads_on accounts fit place told x (other_outcome (accepted signature)) line is due wrong other (message, bears, same) writable =
+    let (next, goes, silent) = goes_ok accounts place signature message (word_of accounts place told x signature wrong) bears in
+    subst (LeadsOn accounts place told) (sym same)
+    (record {
+      next = next;
+      goes = goes;
+      due = subst (λ (t : List LoggedReply). AreReplies (demands accounts) (reverse told) t)
+          (sym silent) tt;
+    })
+leads_on accounts fit place told x (other_outcome (refused_with message)) line is due wrong other says writable =
+    the_line accounts fit place told x (other_outcome (refused_with message)) line is due wrong tt says writable
+leads_on accounts fit place told x (other_reply moment due_reply) line is due wrong other says writable =
+    the_line accounts fit place told x (other_reply moment due_reply) line is due wrong tt says writable
+
+-- each line that can be written and says what is due, except a challenge, may stand in place of the line at fault, under its
+-- number, where fronts of version 2 begin clean logs
+pub each_numbered_line : NumberedFrontsBeginClean → EachNumberedLineThatIsDueMayStand
+each_numbered_line completes limit accounts fit bytes before text more rest why x line cut w other is says writable =
+    let f = fault_of limit accounts before text x why is (named why line says writable.line)
+    (at_text (version_two limit accounts) bytes before text more rest why cut w) in
+    let l = leads_on accounts fit (f.places x.number) f.told x.value why line is.line
+    (due_at limit accounts before x why f) f.wrong other says writable.line in
+    begins_with completes limit accounts fit before x why f line l.next
+    (first_lack before (text ∷ more) cut.lines) says writable l.goes l.due

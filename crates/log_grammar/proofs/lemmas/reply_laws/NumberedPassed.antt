@@ -1,0 +1,131 @@
+-- Codes that passed in a log of version 2.
+use Rattle.std.proofs.Common.{◌≡◌, inl, inr, ℕ, zero, suc, ◌≤◌, List, [], ◌∷◌, ◌++◌, length, reverse, refl, sym, ◌∙◌, ap, subst, arith}
+use Rattle.std.proofs.Common.{append-nil, append_assoc}
+use Rattle.std.specs.declared.option.Option.{Option}
+use Rattle.std.specs.declared.option.Option.TheVariants.{None, Some}
+use Rattle.scram_text.specs.Laws.{SpellsOneName, HasOneClientFirst}
+use Rattle.otp_core.specs.Attempt.{CodeTexts, used_in}
+use Rattle.otp_core.specs.Reply.{IsDueReply}
+use Rattle.otp_core.specs.Laws.{CandidatesAreNew}
+use Rattle.otp_core.specs.declared.token.answer.Reply.{Reply}
+use Rattle.otp_core.specs.declared.token.answer.Reply.TheVariants.{Pass}
+use Rattle.otp_core.specs.declared.token.kinds.TokenFields.{TokenFields}
+use Rattle.log_grammar.specs.Lines.{LogLine}
+use Rattle.log_grammar.specs.LoggedReply.{LoggedReply}
+use Rattle.log_grammar.specs.Places.{Place, waits_code, got_code}
+use Rattle.log_grammar.specs.Demands.{Accounts, Demands, attempts_of, IsReplyOfToken, demands, AreReplies}
+use Rattle.log_grammar.specs.state_machine.Steps.{told_at}
+use Rattle.log_grammar.specs.laws.Replies.{passes, AreRising}
+use Rattle.log_grammar.specs.Numbered.{Numbered, numbered, SpellsNumbered}
+use Rattle.log_grammar.specs.state_machine.NumberedSteps.{IsVisitTransition}
+use Rattle.log_grammar.specs.laws.NumberedReplies.{IsNumberedCodeOf, EachNumberedPassIsACode, NumberedCountersRise}
+use Rattle.log_grammar.specs.laws.NumberedReplies.{NoNumberedCounterIsUsedTwice}
+use Rattle.log_grammar.proofs.lemmas.state_machine.PlaceBefore.{one_account}
+use Rattle.log_grammar.proofs.lemmas.many_sessions.WithoutLast.{numbered_before}
+use Rattle.log_grammar.proofs.lemmas.many_sessions.OneReading.{numbered_once}
+use Rattle.log_grammar.proofs.lemmas.reply_laws.Passed.{later}
+use Rattle.log_grammar.proofs.lemmas.ListEnds.{with_last, length-last}
+use Rattle.log_grammar.proofs.lemmas.reply_laws.UsedCounters.{all_rise}
+
+-- a PASS stands where a code, or two in a row, wait for their reply
+passes_at : (d : Demands) (place next : Place) (moment counter : ℕ) → IsVisitTransition d place (passes moment counter) next
+    → (account : List ℕ) × (sent : CodeTexts) × (place ≡ got_code account sent) × (next ≡ waits_code account)
+passes_at d place next moment counter (inr busy) = absurd (cc busy.1)
+passes_at d (got_code account sent) next moment counter (inl goes) = (account, sent, refl, goes)
+passes_at d place next moment counter (inl goes) = absurd goes
+
+of_reply : (limit : ℕ) (accounts : Accounts) (log : List (Numbered LogLine)) (n moment counter : ℕ) (next : Place) (account : List ℕ)
+    (sent : CodeTexts)
+    (places : ℕ → Place) (told : List LoggedReply) (o : Option TokenFields) → accounts.token account ≡ o
+    → SpellsNumbered limit (demands accounts) log places told
+    → places n ≡ got_code account sent → next ≡ waits_code account
+    → IsReplyOfToken o (attempts_of account (reverse told)) moment sent (Some (Pass counter))
+    → IsNumberedCodeOf limit accounts log n moment counter next
+of_reply limit accounts log n moment counter next account sent places told None has after waits is_next due = absurd (cc due)
+of_reply limit accounts log n moment counter next account sent places told (Some token) has after waits is_next (reply, is, due) =
+    let same : reply ≡ Pass counter = cc (sym is) in
+    let fits = subst (λ (r : Reply). IsDueReply token (attempts_of account (reverse told)) moment sent r) same due in
+    record {
+      account = account;
+      sent = sent;
+      places = places;
+      told = told;
+      token = token;
+      after = after;
+      waits = waits;
+      has_token = has;
+      fits = fits.1;
+      is_next = is_next;
+    }
+
+-- PASS stands under a number only after the code of its counter, which could pass then, or after two codes in a row whose
+-- second is that of its counter
+pub each_numbered_pass : EachNumberedPassIsACode
+each_numbered_pass limit accounts log n moment counter places told s =
+    let b = numbered_before limit (demands accounts) log n (passes moment counter) places told s in
+    let (account, sent, at, next) = passes_at (demands accounts) (b.before n) (places n) moment counter b.goes.goes in
+    let due = subst (λ (p : Place). AreReplies (demands accounts) (reverse b.told) (told_at p (passes moment counter))) at b.goes.due in
+    of_reply limit accounts log n moment counter (places n) account sent b.before b.told
+    (accounts.token account) refl b.spells at next due.0
+
+-- the first lines of such a log are such a log, and what was told in them comes first
+record Front (limit : ℕ) (d : Demands) (log : List (Numbered LogLine)) (told : List LoggedReply) : Type 0 where
+  places : ℕ → Place
+  earlier : List LoggedReply
+  rest : List LoggedReply
+  spells : SpellsNumbered limit d log places earlier
+  tells : told ≡ earlier ++ rest
+
+told_front : (limit : ℕ) (d : Demands) (k : ℕ) (log more : List (Numbered LogLine)) (p : ℕ → Place) (told : List LoggedReply)
+    → length more ≤ k
+    → SpellsNumbered limit d (log ++ more) p told → Front limit d log told
+told_front limit d k log [] p told short s = record {
+  places = p;
+  earlier = told;
+  rest = [];
+  spells = subst (λ (l : List (Numbered LogLine)). SpellsNumbered limit d l p told) (append-nil log) s;
+  tells = sym (append-nil told);
+}
+told_front limit d zero log (x ∷ more) p told short s = absurd (omega (arith, short))
+told_front limit d (suc k) log (x ∷ more) p told short s =
+    let last = with_last x more in
+    let n = last.1.number in
+    let shorter : length last.0 ≤ k = omega (arith, short, ap length last.2, length-last last.0 last.1) in
+    let moved = ap (λ (l : List (Numbered LogLine)). log ++ l) last.2 ∙ sym (append_assoc log last.0 (last.1 ∷ [])) in
+    let b = numbered_before limit d (log ++ last.0) n last.1.value p told
+    (subst (λ (l : List (Numbered LogLine)). SpellsNumbered limit d l p told) moved s) in
+    let f = told_front limit d k log last.0 b.before b.told shorter b.spells in
+    let this = told_at (b.before n) last.1.value in
+    record {
+      places = f.places;
+      earlier = f.earlier;
+      rest = f.rest ++ this;
+      spells = f.spells;
+      tells = b.tells ∙ ap (λ (t : List LoggedReply). t ++ this) f.tells ∙ append_assoc f.earlier f.rest this;
+    }
+
+-- of two passes of one account in a log of version 2, under whichever numbers, the later has the greater counter, where a
+-- client-first message has one list of parts, a saslname one name, and a counter that can pass is above those that passed
+pub numbered_rise : HasOneClientFirst → SpellsOneName → CandidatesAreNew → NumberedCountersRise
+numbered_rise one_first names new limit accounts log more account n moment counter m at greater places after told all s at_n longer at_m =
+    let line = passes moment counter in
+    let first = log ++ numbered n line ∷ [] in
+    let one = numbered_before limit (demands accounts) log n line places told s in
+    let (mine, sent, was, next) = passes_at (demands accounts) (one.before n) (places n) moment counter one.goes.goes in
+    let split = sym (append_assoc first more (numbered m (passes at greater) ∷ [])) in
+    let two = each_numbered_pass limit accounts (first ++ more) m at greater after all
+    (subst (λ (l : List (Numbered LogLine)). SpellsNumbered limit (demands accounts) l after all) split longer) in
+    let f = told_front limit (demands accounts) (length more) first more two.places two.told (omega arith) two.after in
+    let same = (numbered_once limit (demands accounts) (one_account one_first names accounts)
+    (length first) first f.places places f.earlier told (omega arith) f.spells s).1 in
+    let told_here = one.tells ∙ ap (λ (p : Place). one.told ++ told_at p line) was in
+    let tells = f.tells ∙ ap (λ (l : List LoggedReply). l ++ f.rest) (same ∙ told_here) in
+    let whose : mine ≡ two.account = cc (sym next ∙ at_n ∙ sym at_m ∙ two.is_next) in
+    later new two.token two.account two.sent two.told at greater two.fits mine moment counter sent one.told f.rest whose tells
+
+-- the counters that an account's codes use in a log of version 2 rise, so that none is used twice, where a counter that can pass
+-- is above those that passed
+pub none_used_twice_numbered : CandidatesAreNew → NoNumberedCounterIsUsedTwice
+none_used_twice_numbered new limit accounts log places told account s =
+    subst (λ (l : List LoggedReply). AreRising (used_in (attempts_of account l))) (append-nil (reverse told))
+    (all_rise new accounts account [] told s.replies tt)

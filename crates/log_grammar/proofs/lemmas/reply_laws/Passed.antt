@@ -1,0 +1,207 @@
+-- Codes that passed in a log.
+use Rattle.std.proofs.Common.{All, le-leb, get_or, length, arith, ◌≡◌, inl, inr, ℕ, ◌+◌, ◌<◌, true, List, [], ◌∷◌, ◌++◌, reverse, refl, sym}
+use Rattle.std.proofs.Common.{◌∙◌, ap, subst, append_assoc}
+use Rattle.std.proofs.lemmas.List.{reverse-append}
+use Rattle.std.specs.declared.option.Option.{Option}
+use Rattle.std.specs.declared.option.Option.TheVariants.{None, Some}
+use Rattle.std.specs.Char.{IsAsciiDigit}
+use Rattle.std.specs.List.{list_all}
+use Rattle.std.proofs.lemmas.List.Elements.{All-get_or}
+use Rattle.std.proofs.lemmas.List.Sums.{list_all-from_AllPass}
+use Rattle.otp_core.specs.Ranges.{IsDigitCount}
+use Rattle.otp_core.specs.Code.{IsCodeText}
+use Rattle.otp_core.proofs.lemmas.Digits.{IsCodeText-last_digits}
+use Rattle.otp_core.specs.declared.token.kinds.TokenFields.TheVariants.{Hotp}
+use Rattle.otp_core.specs.declared.token.kinds.HotpFields.{HotpFields}
+use Rattle.log_grammar.specs.Words.{is_code_char, IsCodeWord, IsCounter}
+use Rattle.log_grammar.specs.Upgrades.{original_text}
+use Rattle.log_grammar.specs.laws.Logins.{LoginsAreAnswered}
+use Rattle.otp_core.specs.Attempt.{Attempt, CodeTexts, OneText, TwoTexts, counters_of, used_in}
+use Rattle.otp_core.specs.Window.{IsAbove, IsInWindow}
+use Rattle.otp_core.specs.Reply.{IsDueReply, IsFitting, code_text}
+use Rattle.otp_core.specs.Laws.{CandidatesAreNew}
+use Rattle.otp_core.specs.declared.token.answer.Reply.{Reply}
+use Rattle.otp_core.specs.declared.token.answer.Reply.TheVariants.{Pass, Fail, Locked}
+use Rattle.otp_core.specs.declared.token.kinds.TokenFields.{TokenFields}
+use Rattle.scram_text.specs.Laws.{SpellsOneName, HasOneClientFirst}
+use Rattle.log_grammar.specs.Lines.{LogLine}
+use Rattle.log_grammar.specs.LoggedReply.{LoggedReply, logged_reply_of}
+use Rattle.log_grammar.specs.Places.{Place, waits_code, got_code}
+use Rattle.log_grammar.specs.Demands.{Accounts, attempts_by, attempts_of, IsReplyOfToken, demands}
+use Rattle.log_grammar.specs.Begins.{Begins}
+use Rattle.log_grammar.specs.laws.Outcomes.{IsReplied, EachReplyIsDue}
+use Rattle.log_grammar.specs.laws.Replies.{passes, IsCodeOf, EachPassIsACode, CountersRise, NextHotpCodePasses, NextTwoHotpCodesPass}
+use Rattle.log_grammar.proofs.lemmas.state_machine.LogSteps.{turned}
+use Rattle.log_grammar.proofs.lemmas.reply_laws.ServerLines.{told_first}
+use Rattle.log_grammar.proofs.lemmas.state_machine.PlaceBefore.{one_reading}
+use Rattle.log_grammar.proofs.lemmas.demands.EachAccount.{of_account}
+
+of_reply : (accounts : Accounts) (log : List LogLine) (account : List ℕ) (sent : CodeTexts) (told : List LoggedReply) (moment counter : ℕ)
+    (next : Place) (o : Option TokenFields)
+    → accounts.token account ≡ o → Begins (demands accounts) log (got_code account sent) told → next ≡ waits_code account
+    → IsReplyOfToken o (attempts_of account (reverse told)) moment sent (Some (Pass counter)) → IsCodeOf accounts log moment counter next
+of_reply accounts log account sent told moment counter next None has after is_next due = absurd (cc due)
+of_reply accounts log account sent told moment counter next (Some token) has after is_next (reply, is, due) =
+    let same : reply ≡ Pass counter = cc (sym is) in
+    let fits = subst (λ (r : Reply). IsDueReply token (attempts_of account (reverse told)) moment sent r) same due in
+    record {
+      account = account;
+      sent = sent;
+      told = told;
+      token = token;
+      after = after;
+      has_token = has;
+      fits = fits.1;
+      is_next = is_next;
+    }
+
+of_answer : (accounts : Accounts) (log : List LogLine) (moment counter : ℕ) (next : Place) (told : List LoggedReply)
+    → IsReplied accounts log moment (Some (Pass counter)) next told → IsCodeOf accounts log moment counter next
+of_answer accounts log moment counter next told r =
+    of_reply accounts log r.account r.sent r.told moment counter next (accounts.token r.account) refl r.after r.is_next r.due
+
+-- PASS stands only after the code of its counter, which could pass then, or after two codes in a row whose second is that of its
+-- counter, where replies may stand exactly where they are due
+pub each_pass : EachReplyIsDue → EachPassIsACode
+each_pass replied accounts log moment counter next told begins =
+    of_answer accounts log moment counter next told ((replied accounts log moment (Some (Pass counter)) next told).0 begins)
+
+-- the number after one that is above these is above them too
+above_next : (counters : List ℕ) (w c : ℕ) → c ≡ w + 1 → IsAbove counters w → IsAbove counters c
+above_next [] w c next above = tt
+above_next (p ∷ counters) w c next above = (omega (arith, next, above.0), above_next counters w c next above.1)
+
+-- a counter that fits, and the one before it where two codes fit, is above all that passed
+pub fits_above : CandidatesAreNew → (token : TokenFields) (attempts : List Attempt) (moment : ℕ) (sent : CodeTexts) (c : ℕ)
+    → IsFitting token attempts moment sent c → IsAbove (used_in attempts) c
+fits_above new token attempts moment (OneText text) c fits = new token attempts moment c (inl fits.0)
+fits_above new token attempts moment (TwoTexts first second) c fits =
+    above_next (used_in attempts) fits.0 c fits.1 (new token attempts moment fits.0 (inr fits.2))
+
+-- a number above what a pass used, and what passed before, is above its counter, and above what passed before
+above_used : (sent : CodeTexts) (c : ℕ) (counters : List ℕ) (d : ℕ) → IsAbove (counters_of sent c ++ counters) d → (c < d)
+    × IsAbove counters d
+above_used (OneText text) c counters d above = above
+above_used (TwoTexts first second) c counters d above = (above.0, above.1.1)
+
+-- a counter above all that passed is above those that passed in fewer attempts
+above_by : (t : LoggedReply) (reply : Option Reply) (attempts : List Attempt) (d : ℕ) → IsAbove (used_in (attempts_by t reply attempts)) d
+    → IsAbove (used_in attempts) d
+above_by t None attempts d above = above
+above_by t (Some (Pass c)) attempts d above = (above_used t.sent c (used_in attempts) d above).1
+above_by t (Some Fail) attempts d above = above
+above_by t (Some Locked) attempts d above = above
+
+above_taken : (account : List ℕ) (t : LoggedReply) (before : List LoggedReply) (d : ℕ)
+    → IsAbove (used_in (attempts_of account (t ∷ before))) d
+    → IsAbove (used_in (attempts_of account before)) d
+above_taken account t before d above = elim (of_account t account) [
+  | inl is ↦ above_by t t.reply (attempts_of account before) d (rw is.1 at above)
+  | inr other ↦ rw other.0 at above
+]
+
+above_late : (account : List ℕ) (late early : List LoggedReply) (d : ℕ) → IsAbove (used_in (attempts_of account (late ++ early))) d
+    → IsAbove (used_in (attempts_of account early)) d
+above_late account [] early d above = above
+above_late account (t ∷ late) early d above = above_late account late early d (above_taken account t (late ++ early) d above)
+
+above_pass : (account : List ℕ) (t : LoggedReply) (before : List LoggedReply) (c d : ℕ) → t.account ≡ account → t.reply ≡ Some (Pass c)
+    → IsAbove (used_in (attempts_of account (t ∷ before))) d → c < d
+above_pass account t before c d is passes above = elim (of_account t account) [
+  | inl same ↦
+      let taken : IsAbove (used_in (attempts_by t t.reply (attempts_of account before))) d = rw same.1 at above in
+      let by = subst (λ (r : Option Reply). IsAbove (used_in (attempts_by t r (attempts_of account before))) d) passes taken in
+      (above_used t.sent c (used_in (attempts_of account before)) d by).0
+  | inr other ↦ absurd (other.1 is)
+]
+
+turned_part : (front middle : List LoggedReply) (t : LoggedReply) → reverse (front ++ t ∷ middle) ≡ reverse middle ++ t ∷ reverse front
+turned_part front middle t = reverse-append front (t ∷ middle) ∙ turned t middle (reverse front)
+
+-- the later of two passes, by what was told before it
+pub later : CandidatesAreNew → (token : TokenFields) (account : List ℕ) (last : CodeTexts) (told : List LoggedReply) (at d : ℕ)
+    → IsFitting token (attempts_of account (reverse told)) at last d
+    → (mine : List ℕ) (moment counter : ℕ) (sent : CodeTexts) (before rest : List LoggedReply)
+    → mine ≡ account → told ≡ (before ++ logged_reply_of mine moment sent (Some (Pass counter)) ∷ []) ++ rest → counter < d
+later new token account last told at d fits mine moment counter sent before rest same tells =
+    let t = logged_reply_of mine moment sent (Some (Pass counter)) in
+    let above = fits_above new token (attempts_of account (reverse told)) at last d fits in
+    let split = tells ∙ append_assoc before (t ∷ []) rest in
+    let turned = subst (λ (l : List LoggedReply). IsAbove (used_in (attempts_of account (reverse l))) d) split above in
+    let here = subst (λ (l : List LoggedReply). IsAbove (used_in (attempts_of account l)) d) (turned_part before rest t) turned in
+    above_pass account t (reverse before) counter d same refl (above_late account (reverse rest) (t ∷ reverse before) d here)
+
+-- of two passes of one account in a log, in whichever sessions, the later has the greater counter, where replies may stand just where
+-- due, a client-first message has one list of parts, a saslname one name, and a counter that can pass is above those that passed
+pub counters_rise : HasOneClientFirst → SpellsOneName → CandidatesAreNew → EachReplyIsDue → CountersRise
+counters_rise one_first names new replied accounts log more account moment counter at greater told all begins both =
+    let first = log ++ passes moment counter ∷ [] in
+    let one = (replied accounts log moment (Some (Pass counter)) (waits_code account) told).0 begins in
+    let split = sym (append_assoc first more (passes at greater ∷ [])) in
+    let two = each_pass replied accounts (first ++ more) at greater (waits_code account) all
+    (subst (λ (l : List LogLine). Begins (demands accounts) l (waits_code account) all) split both) in
+    let front = told_first accounts (length more) first more (got_code two.account two.sent) two.told (omega arith) two.after in
+    let same = (one_reading one_first names accounts first front.0 (waits_code account) front.1 told front.3 begins).1 in
+    let tells = front.4 ∙ ap (λ (l : List LoggedReply). l ++ front.2) (same ∙ one.tells) in
+    let mine : one.account ≡ two.account = cc (sym one.is_next ∙ two.is_next) in
+    later new two.token two.account two.sent two.told at greater two.fits one.account moment counter one.sent one.told front.2 mine tells
+
+-- a code's text is a code word
+visible : (c : ℕ) → IsAsciiDigit c → is_code_char c ≡ true
+visible c is = rw (le-leb 33 c (omega (arith, is)), le-leb c 126 (omega (arith, is))) refl
+
+visible_digits : (text : List ℕ) → All IsAsciiDigit text → list_all is_code_char text ≡ true
+visible_digits text all = list_all-from_AllPass is_code_char text
+    (λ k d within. visible (get_or text k d) (All-get_or IsAsciiDigit text k d within all))
+
+-- the text of a code is one that a client may send
+pub code_word : (text : List ℕ) → IsCodeText text → IsCodeWord text
+code_word text is = record {
+  at_least = omega (arith, is.count.0);
+  at_most = omega (arith, is.count.1);
+  each = visible_digits text is.digits;
+}
+
+-- the next counter is the least that can pass
+next_is_due : (t : HotpFields) (moment : ℕ) → t.failures < t.limit → IsCounter t.next
+    → IsDueReply (Hotp t) [] moment (OneText (code_text (Hotp t) t.next)) (Pass t.next)
+next_is_due t moment unlocked counter =
+    let due : IsInWindow t.next t.look_ahead t.next =
+    record { not_before = omega arith; within = omega arith; most = omega (arith, counter) } in
+    (unlocked, (due, refl), λ k fits. fits.0.not_before)
+
+-- after a valid login the code of a HOTP token's next counter passes, where failures do not lock it, the counter is not used up, and
+-- a log of version 1 is clean in which the code after a valid login has the reply that is due
+pub next_hotp_code_passes : LoginsAreAnswered original_text → NextHotpCodePasses
+next_hotp_code_passes answered accounts mechanism name exchange moment t login at has unlocked digits counter =
+    let text = code_text (Hotp t) t.next in
+    let due = next_is_due t moment unlocked counter in
+    let by = subst (λ (o : Option TokenFields). IsReplyOfToken o [] moment (OneText text) (Some (Pass t.next))) (sym has)
+    (Pass t.next, refl, due) in
+    answered accounts mechanism name exchange (OneText text) moment (Some (Pass t.next)) login
+    (code_word text (IsCodeText-last_digits t.digits _ digits)) at counter by
+
+-- the next two counters are the least that can pass in a row
+pub next_two_are_due : (t : HotpFields) (moment : ℕ) → t.failures < t.limit → IsCounter (t.next + 1)
+    → IsDueReply (Hotp t) [] moment (TwoTexts (code_text (Hotp t) t.next) (code_text (Hotp t) (t.next + 1))) (Pass (t.next + 1))
+next_two_are_due t moment unlocked counter =
+    let due : IsInWindow t.next t.sync_ahead t.next =
+    record { not_before = omega arith; within = omega arith; most = omega (arith, counter) } in
+    (unlocked, (t.next, refl, (due, omega (arith, counter)), refl, refl), λ k fits. omega (arith, fits.1, fits.2.0.not_before))
+
+-- the line with the codes of the next two counters can be sent
+pub two_words : (t : HotpFields) → IsDigitCount t.digits → IsCodeWord (code_text (Hotp t) t.next)
+    × IsCodeWord (code_text (Hotp t) (t.next + 1))
+two_words t digits = (
+  code_word (code_text (Hotp t) t.next) (IsCodeText-last_digits t.digits _ digits),
+  code_word (code_text (Hotp t) (t.next + 1)) (IsCodeText-last_digits t.digits _ digits),
+)
+
+-- after a valid login the codes of a HOTP token's next two counters, sent in a row, pass by that of the second, where failures do
+-- not lock it, neither is used up, and a log of version 1 is clean in which codes after a valid login have the reply that is due
+pub next_two_hotp_codes_pass : LoginsAreAnswered original_text → NextTwoHotpCodesPass
+next_two_hotp_codes_pass answered accounts mechanism name exchange moment t login at has unlocked digits counter =
+    let sent = TwoTexts (code_text (Hotp t) t.next) (code_text (Hotp t) (t.next + 1)) in
+    let by = subst (λ (o : Option TokenFields). IsReplyOfToken o [] moment sent (Some (Pass (t.next + 1)))) (sym has)
+    (Pass (t.next + 1), refl, next_two_are_due t moment unlocked counter) in
+    answered accounts mechanism name exchange sent moment (Some (Pass (t.next + 1))) login (two_words t digits) at counter by

@@ -1,0 +1,10 @@
+-- Version 1: places as states, one line at a time (specs/state_machine).
+pub mod Growth
+pub mod Shortening
+pub mod LogSteps
+pub mod OneReading
+pub mod PlaceBefore
+pub mod DemandsAside
+pub mod DueClasses
+pub mod Standings
+pub mod StepKinds

@@ -1,0 +1,246 @@
+-- How a line stands at a place: it goes on from there; no line of its class does; or one does, and this one is wrong.
+use Rattle.std.proofs.Common.{◌≡◌, ◌⊎◌, inl, inr, ℕ, List, [], reverse, refl}
+use Rattle.std.specs.Prelude.{codes}
+use Rattle.mac_core.proofs.lemmas.Decided.{Decided, decided_both, decided_same}
+use Rattle.scram_ends.specs.Verdict.{Due}
+use Rattle.otp_core.specs.Attempt.{CodeTexts, OneText, TwoTexts}
+use Rattle.log_grammar.specs.Lines.{LogLine, header, said, heard, bad, gone, ended, mechs, cont, accepts, refuses, replies, halt, auth}
+use Rattle.log_grammar.specs.Lines.{auth_with, resp, abort, code, sync}
+use Rattle.log_grammar.specs.LoggedReply.{LoggedReply, logged_reply_of}
+use Rattle.log_grammar.specs.Places.{Place, before_all, between, offered, asks_bare, waits_first, got_first, waits_final, got_final}
+use Rattle.log_grammar.specs.Places.{waits_code, got_code, leaving, over, halted}
+use Rattle.log_grammar.specs.Demands.{Accounts, IsVerdict, attempts_of, IsToldDue, demands, AreReplies}
+use Rattle.log_grammar.specs.state_machine.Steps.{IsTransition, told_at}
+use Rattle.log_grammar.specs.Why.{Why, other_mechs, other_challenge, other_outcome, other_reply, refused_with, outcome_of, LineClass}
+use Rattle.log_grammar.specs.Why.{of_abort, of_code, of_sync, of_bad, of_gone, class_of, IsWrongAnswer, IsWrongReply, IsWrong}
+use Rattle.log_grammar.specs.state_machine.DueClasses.{IsQuitting, IsDueAt}
+use Rattle.log_grammar.proofs.lemmas.demands.Challenges.{offered_decided, login_decided}
+use Rattle.log_grammar.proofs.lemmas.demands.StillChallenged.{Opened}
+use Rattle.log_grammar.proofs.lemmas.completions.EachPlace.{some_verdict}
+use Rattle.log_grammar.proofs.lemmas.demands.DemandsDecided.{Settled, challenged_decided, denied_decided, granted_decided, some_reply}
+use Rattle.log_grammar.proofs.lemmas.demands.DemandsDecided.{reply_decided}
+
+-- a line goes on from a place, with the reply due where it is one
+pub record Follows (accounts : Accounts) (place : Place) (told : List LoggedReply) (line : LogLine) : Type 0 where
+  pub next : Place
+  pub goes : IsTransition (demands accounts) place line next
+  pub due : AreReplies (demands accounts) (reverse told) (told_at place line)
+
+-- a line of a class that is due does not go on, and there is a reason
+pub record Fails (accounts : Accounts) (place : Place) (told : List LoggedReply) (line : LogLine) : Type 0 where
+  pub of_class : IsDueAt place (class_of line)
+  pub stuck : Follows accounts place told line → ⊥
+  pub why : Why
+  pub wrong : IsWrong accounts place told line why
+
+-- a line goes on, is of a class that is not due, or fails
+abbrev pub Standing : Accounts → Place → List LoggedReply → LogLine → Type 0
+Standing accounts place told line = Follows accounts place told line
+    ⊎ ((IsDueAt place (class_of line) → ⊥) ⊎ Fails accounts place told line)
+
+-- a line that goes on exactly where it meets its demand
+by_demand : (accounts : Accounts) (place : Place) (told : List LoggedReply) (line : LogLine) (P : Type 0) → IsDueAt place (class_of line)
+    → (why : Why) × IsWrong accounts place told line why → (P → Follows accounts place told line) → (Follows accounts place told line → P)
+    → Decided P → Standing accounts place told line
+by_demand accounts place told line P due why there back (inl meets) = inl (there meets)
+by_demand accounts place told line P due why there back (inr none) =
+    inr (inr (record { of_class = due; stuck = λ f. none (back f); why = why.0; wrong = why.1 }))
+
+-- a line that never goes on there is wrong
+never : (accounts : Accounts) (place : Place) (told : List LoggedReply) (line : LogLine) → IsDueAt place (class_of line)
+    → (why : Why) × IsWrong accounts place told line why → (Follows accounts place told line → ⊥) → Standing accounts place told line
+never accounts place told line due why stuck = by_demand accounts place told line ⊥ due why (λ none. absurd none) stuck (inr (λ none. none))
+
+-- a class that is not among those due where it is the client's turn
+no_turn : (class own : LineClass) → (class ≡ own → ⊥) → (class ≡ of_abort → ⊥) → (class ≡ of_bad → ⊥) → (class ≡ of_gone → ⊥)
+    → (class ≡ own) ⊎ IsQuitting class → ⊥
+no_turn class own no_own no_abort no_bad no_gone (inl is) = no_own is
+no_turn class own no_own no_abort no_bad no_gone (inr (inl is)) = no_abort is
+no_turn class own no_own no_abort no_bad no_gone (inr (inr (inl is))) = no_bad is
+no_turn class own no_own no_abort no_bad no_gone (inr (inr (inr is))) = no_gone is
+
+-- or where a code is due, or two in a row
+no_code_due : (class : LineClass) → (class ≡ of_code → ⊥) → (class ≡ of_sync → ⊥) → (class ≡ of_abort → ⊥) → (class ≡ of_bad → ⊥)
+    → (class ≡ of_gone → ⊥) → (class ≡ of_code) ⊎ ((class ≡ of_sync) ⊎ IsQuitting class) → ⊥
+no_code_due class no_code no_sync no_abort no_bad no_gone (inl is) = no_code is
+no_code_due class no_code no_sync no_abort no_bad no_gone (inr other) = no_turn class of_sync no_sync no_abort no_bad no_gone other
+
+-- it is decided whether something exists, said in one way and in the other
+there_decided : {A : Type 0} {P : A → Type 0} → ((a : A) × P a) ⊎ ((a : A) → P a → ⊥) → Decided ((a : A) × P a)
+there_decided (inl is) = inl is
+there_decided (inr none) = inr (λ is. none is.0 is.1)
+
+none_decided : {A : Type 0} {P : A → Type 0} → ((a : A) × P a) ⊎ ((a : A) → P a → ⊥) → Decided ((a : A) → P a → ⊥)
+none_decided (inl is) = inr (λ none. none is.0 is.1)
+none_decided (inr none) = inl none
+
+-- The clauses for `S HALT` and `C ABORT` make the clause below them take each line apart.
+at_start : (accounts : Accounts) (told : List LoggedReply) (line : LogLine) → Standing accounts before_all told line
+at_start accounts told header = inl (record { next = between; goes = refl; due = tt })
+at_start accounts told (said halt) = inr (inl (λ is. cc is))
+at_start accounts told (heard abort) = inr (inl (λ is. cc is))
+at_start accounts told line = inr (inl (λ is. cc is))
+
+at_between : (accounts : Accounts) (told : List LoggedReply) (line : LogLine) → Standing accounts between told line
+at_between accounts told (said (mechs names)) =
+    by_demand accounts between told (said (mechs names)) (names ≡ codes "SCRAM-SHA-256 SCRAM-SHA-1") refl (other_mechs, refl)
+    (λ is. record { next = offered; goes = (is, refl); due = tt }) (λ f. f.goes.0) (decided_same names (codes "SCRAM-SHA-256 SCRAM-SHA-1"))
+at_between accounts told (heard abort) = inr (inl (λ is. cc is))
+at_between accounts told line = inr (inl (λ is. cc is))
+
+at_offered : (accounts : Accounts) (told : List LoggedReply) (line : LogLine) → Standing accounts offered told line
+at_offered accounts told (heard (auth m)) = inl (record { next = asks_bare m; goes = refl; due = tt })
+at_offered accounts told (heard (auth_with m first)) = inl (record { next = got_first m first; goes = refl; due = tt })
+at_offered accounts told (heard abort) = inl (record { next = leaving; goes = refl; due = tt })
+at_offered accounts told bad = inl (record { next = leaving; goes = refl; due = tt })
+at_offered accounts told gone = inl (record { next = over; goes = refl; due = tt })
+at_offered accounts told (said halt) = inr (inl (no_turn _ _ (λ e. cc e) (λ e. cc e) (λ e. cc e) (λ e. cc e)))
+at_offered accounts told line = inr (inl (no_turn _ _ (λ e. cc e) (λ e. cc e) (λ e. cc e) (λ e. cc e)))
+
+-- why a word is wrong after `C AUTH` without a message
+bare_why : (accounts : Accounts) (m : List ℕ) → (why : Why) × IsWrongAnswer accounts (asks_bare m) why
+bare_why accounts m = elim (offered_decided m) [
+  | inl is ↦ (other_challenge, inl (is, refl))
+  | inr none ↦ (other_outcome (refused_with []), inr (none, refl))
+]
+
+at_bare : (accounts : Accounts) (told : List LoggedReply) (m : List ℕ) (line : LogLine) → Standing accounts (asks_bare m) told line
+at_bare accounts told m (said (refuses text)) =
+    by_demand accounts (asks_bare m) told (said (refuses text)) _ refl (bare_why accounts m)
+    (λ is. record { next = over; goes = (is, refl); due = tt }) (λ f. f.goes.0)
+    (decided_both _ _ (none_decided (offered_decided m)) (decided_same text []))
+at_bare accounts told m (said (cont text)) =
+    by_demand accounts (asks_bare m) told (said (cont text)) _ refl (bare_why accounts m)
+    (λ is. record { next = waits_first m; goes = (is, refl); due = tt }) (λ f. f.goes.0)
+    (decided_both _ _ (there_decided (offered_decided m)) (decided_same text []))
+at_bare accounts told m (said (accepts text)) = never accounts (asks_bare m) told (said (accepts text)) refl (bare_why accounts m)
+    (λ f. f.goes)
+at_bare accounts told m (heard abort) = inr (inl (λ is. cc is))
+at_bare accounts told m line = inr (inl (λ is. cc is))
+
+at_waits_first : (accounts : Accounts) (told : List LoggedReply) (m : List ℕ) (line : LogLine) → Standing accounts (waits_first m) told line
+at_waits_first accounts told m (heard (resp first)) = inl (record { next = got_first m first; goes = refl; due = tt })
+at_waits_first accounts told m (heard abort) = inl (record { next = leaving; goes = refl; due = tt })
+at_waits_first accounts told m bad = inl (record { next = leaving; goes = refl; due = tt })
+at_waits_first accounts told m gone = inl (record { next = over; goes = refl; due = tt })
+at_waits_first accounts told m (said halt) = inr (inl (no_turn _ _ (λ e. cc e) (λ e. cc e) (λ e. cc e) (λ e. cc e)))
+at_waits_first accounts told m line = inr (inl (no_turn _ _ (λ e. cc e) (λ e. cc e) (λ e. cc e) (λ e. cc e)))
+
+-- why a word is wrong after a client-first message
+first_why : Settled → (accounts : Accounts) (m first : List ℕ) → (why : Why) × IsWrongAnswer accounts (got_first m first) why
+first_why s accounts m first = elim (login_decided s.ground.once s.ground.firsts s.ground.names m first) [
+  | inl is ↦ (other_challenge, inl (is, refl))
+  | inr none ↦ (other_outcome (refused_with []), inr (none, refl))
+]
+
+at_first : Settled → (accounts : Accounts) (told : List LoggedReply) (m first : List ℕ) (line : LogLine)
+    → Standing accounts (got_first m first) told line
+at_first s accounts told m first (said (refuses text)) =
+    by_demand accounts (got_first m first) told (said (refuses text)) _ refl (first_why s accounts m first)
+    (λ is. record { next = over; goes = (is, refl); due = tt }) (λ f. f.goes.0)
+    (decided_both _ _ (none_decided (login_decided s.ground.once s.ground.firsts s.ground.names m first)) (decided_same text []))
+at_first s accounts told m first (said (cont text)) =
+    by_demand accounts (got_first m first) told (said (cont text)) _ refl (first_why s accounts m first)
+    (λ is. record { next = waits_final m is.0 first text; goes = (is.0, is.1, refl); due = tt }) (λ f. (f.goes.0, f.goes.1))
+    (challenged_decided s accounts m first text)
+at_first s accounts told m first (said (accepts text)) =
+    never accounts (got_first m first) told (said (accepts text)) refl (first_why s accounts m first) (λ f. f.goes)
+at_first s accounts told m first (heard abort) = inr (inl (λ is. cc is))
+at_first s accounts told m first line = inr (inl (λ is. cc is))
+
+at_waits_final : (accounts : Accounts) (told : List LoggedReply) (m account first challenge : List ℕ) (line : LogLine)
+    → Standing accounts (waits_final m account first challenge) told line
+at_waits_final accounts told m account first challenge (heard (resp last)) =
+    inl (record { next = got_final m account first challenge last; goes = refl; due = tt })
+at_waits_final accounts told m account first challenge (heard abort) = inl (record { next = leaving; goes = refl; due = tt })
+at_waits_final accounts told m account first challenge bad = inl (record { next = leaving; goes = refl; due = tt })
+at_waits_final accounts told m account first challenge gone = inl (record { next = over; goes = refl; due = tt })
+at_waits_final accounts told m account first challenge (said halt) =
+    inr (inl (no_turn _ _ (λ e. cc e) (λ e. cc e) (λ e. cc e) (λ e. cc e)))
+at_waits_final accounts told m account first challenge line = inr (inl (no_turn _ _ (λ e. cc e) (λ e. cc e) (λ e. cc e) (λ e. cc e)))
+
+at_final : Settled → (accounts : Accounts) (told : List LoggedReply) (m account first challenge last : List ℕ)
+    → (due : Due) × IsVerdict accounts m account first challenge last due
+    → (line : LogLine) → Standing accounts (got_final m account first challenge last) told line
+at_final s accounts told m account first challenge last (due, is) (said (refuses text)) =
+    by_demand accounts (got_final m account first challenge last) told (said (refuses text)) _ refl
+    (other_outcome (outcome_of due), (due, is, refl))
+    (λ denied. record { next = over; goes = (denied, refl); due = tt }) (λ f. f.goes.0)
+    (denied_decided s accounts m account first challenge last text due is)
+at_final s accounts told m account first challenge last (due, is) (said (accepts text)) =
+    by_demand accounts (got_final m account first challenge last) told (said (accepts text)) _ refl
+    (other_outcome (outcome_of due), (due, is, refl))
+    (λ granted. record { next = waits_code account; goes = (granted, refl); due = tt }) (λ f. f.goes.0)
+    (granted_decided s accounts m account first challenge last text due is)
+at_final s accounts told m account first challenge last (due, is) (said (cont text)) =
+    never accounts (got_final m account first challenge last) told (said (cont text)) refl (other_outcome (outcome_of due), (due, is, refl))
+    (λ f. f.goes)
+at_final s accounts told m account first challenge last (due, is) (heard abort) = inr (inl (λ e. cc e))
+at_final s accounts told m account first challenge last (due, is) line = inr (inl (λ e. cc e))
+
+at_waits_code : (accounts : Accounts) (told : List LoggedReply) (account : List ℕ) (line : LogLine)
+    → Standing accounts (waits_code account) told line
+at_waits_code accounts told account (heard (code text)) = inl (record { next = got_code account (OneText text); goes = refl; due = tt })
+at_waits_code accounts told account (heard (sync first second)) =
+    inl (record { next = got_code account (TwoTexts first second); goes = refl; due = tt })
+at_waits_code accounts told account (heard abort) = inl (record { next = leaving; goes = refl; due = tt })
+at_waits_code accounts told account bad = inl (record { next = leaving; goes = refl; due = tt })
+at_waits_code accounts told account gone = inl (record { next = over; goes = refl; due = tt })
+at_waits_code accounts told account (said halt) = inr (inl (no_code_due _ (λ e. cc e) (λ e. cc e) (λ e. cc e) (λ e. cc e) (λ e. cc e)))
+at_waits_code accounts told account line = inr (inl (no_code_due _ (λ e. cc e) (λ e. cc e) (λ e. cc e) (λ e. cc e) (λ e. cc e)))
+
+-- why a reply is wrong
+reply_why : Settled → (accounts : Accounts) (account : List ℕ) (sent : CodeTexts) (told : List LoggedReply) (moment : ℕ)
+    → (why : Why) × IsWrongReply accounts (got_code account sent) told moment why
+reply_why s accounts account sent told moment =
+    let due = some_reply s.replies (accounts.token account) (attempts_of account (reverse told)) moment sent in
+    (other_reply moment due.0, (due.0, due.1, refl))
+
+at_code : Settled → (accounts : Accounts) (told : List LoggedReply) (account : List ℕ) (sent : CodeTexts) (line : LogLine)
+    → Standing accounts (got_code account sent) told line
+at_code s accounts told account sent (said (replies moment reply)) =
+    by_demand accounts (got_code account sent) told (said (replies moment reply))
+    (IsToldDue accounts (reverse told) (logged_reply_of account moment sent reply))
+    refl (reply_why s accounts account sent told moment)
+    (λ is. record { next = waits_code account; goes = refl; due = (is, tt) }) (λ f. f.due.0)
+    (reply_decided s (accounts.token account) (attempts_of account (reverse told)) moment sent reply)
+at_code s accounts told account sent (said halt) = inl (record { next = halted; goes = refl; due = tt })
+at_code s accounts told account sent (heard abort) = inr (inl (λ is. cc is))
+at_code s accounts told account sent line = inr (inl (λ is. cc is))
+
+at_leaving : (accounts : Accounts) (told : List LoggedReply) (line : LogLine) → Standing accounts leaving told line
+at_leaving accounts told (said (refuses text)) =
+    by_demand accounts leaving told (said (refuses text)) (text ≡ []) refl (other_outcome (refused_with []), refl)
+    (λ is. record { next = over; goes = (is, refl); due = tt }) (λ f. f.goes.0) (decided_same text [])
+at_leaving accounts told (said (cont text)) =
+    never accounts leaving told (said (cont text)) refl (other_outcome (refused_with []), refl) (λ f. f.goes)
+at_leaving accounts told (said (accepts text)) =
+    never accounts leaving told (said (accepts text)) refl (other_outcome (refused_with []), refl) (λ f. f.goes)
+at_leaving accounts told (heard abort) = inr (inl (λ is. cc is))
+at_leaving accounts told line = inr (inl (λ is. cc is))
+
+at_over : (accounts : Accounts) (told : List LoggedReply) (line : LogLine) → Standing accounts over told line
+at_over accounts told ended = inl (record { next = between; goes = refl; due = tt })
+at_over accounts told (said halt) = inr (inl (λ is. cc is))
+at_over accounts told (heard abort) = inr (inl (λ is. cc is))
+at_over accounts told line = inr (inl (λ is. cc is))
+
+-- how a line stands at each place of a log
+pub standing_at : Settled → (accounts : Accounts) (place : Place) (told : List LoggedReply) (line : LogLine)
+    → Opened (demands accounts) place
+    → Standing accounts place told line
+standing_at s accounts before_all told line opened = at_start accounts told line
+standing_at s accounts between told line opened = at_between accounts told line
+standing_at s accounts offered told line opened = at_offered accounts told line
+standing_at s accounts (asks_bare m) told line opened = at_bare accounts told m line
+standing_at s accounts (waits_first m) told line opened = at_waits_first accounts told m line
+standing_at s accounts (got_first m first) told line opened = at_first s accounts told m first line
+standing_at s accounts (waits_final m account first challenge) told line opened = at_waits_final accounts told m account first challenge line
+standing_at s accounts (got_final m account first challenge last) told line opened =
+    at_final s accounts told m account first challenge last
+    (some_verdict s.ground.verdicts accounts m account first challenge last opened) line
+standing_at s accounts (waits_code account) told line opened = at_waits_code accounts told account line
+standing_at s accounts (got_code account sent) told line opened = at_code s accounts told account sent line
+standing_at s accounts leaving told line opened = at_leaving accounts told line
+standing_at s accounts over told line opened = at_over accounts told line
+standing_at s accounts halted told line opened = inr (inl (λ none. none))

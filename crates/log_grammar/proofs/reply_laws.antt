@@ -1,4 +1,0 @@
-pub mod Passed
-pub mod UsedCounters
-pub mod ServerLines
-pub mod NumberedPassed

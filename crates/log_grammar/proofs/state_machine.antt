@@ -1,9 +1,0 @@
-pub mod Growth
-pub mod Shortening
-pub mod LogSteps
-pub mod OneReading
-pub mod PlaceBefore
-pub mod DemandsAside
-pub mod DueClasses
-pub mod Standings
-pub mod StepKinds

@@ -1,4 +1,0 @@
-pub mod Renumbered
-pub mod GoesOnAlike
-pub mod Texts
-pub mod SameFault

@@ -1,0 +1,9 @@
+-- Lemmas: what the proofs of this crate and of those above it cite.
+pub mod Digits
+pub mod Joins
+pub mod OneReply
+pub mod Pairs
+pub mod SomeReply
+pub mod Steps
+pub mod Used
+pub mod Windows

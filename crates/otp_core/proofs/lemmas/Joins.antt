@@ -1,0 +1,28 @@
+-- Histories that go on from where others led.
+use Rattle.std.proofs.Common.{◌++◌, List, [], ◌∷◌}
+use Rattle.otp_core.specs.Attempt.{Attempt}
+use Rattle.otp_core.specs.History.{IsAfter, IsLegal, AreAlike}
+use Rattle.otp_core.specs.Laws.{HistoriesJoin, LegalHistoriesJoin}
+use Rattle.otp_core.specs.declared.token.kinds.TokenFields.{TokenFields}
+use Rattle.otp_core.proofs.lemmas.Steps.{due_alike, alike_onward, alike_more}
+
+-- a history that is legal from the middle on is legal from the start on, and the pasts are alike
+legal_joined : (start : TokenFields) (earlier : List Attempt) (middle : TokenFields) → IsAfter start earlier middle
+    → (later : List Attempt) → IsLegal middle later
+    → IsLegal start (later ++ earlier) × AreAlike start (later ++ earlier) middle later
+legal_joined start earlier middle after [] legal = (after.legal, after.alike)
+legal_joined start earlier middle after (a ∷ later) legal =
+    let front = legal_joined start earlier middle after later legal.2 in (
+      (legal.0, due_alike start middle (later ++ earlier) later a.moment a.sent a.reply front.1 legal.0 legal.1, front.0),
+      alike_more start middle (later ++ earlier) later a.moment a.sent a.reply front.1 legal.0 legal.1,
+    )
+
+pub legal_histories-join : LegalHistoriesJoin
+legal_histories-join start earlier middle later after legal = legal_joined start earlier middle after later legal
+
+pub histories-join : HistoriesJoin
+histories-join start earlier middle later end after on =
+    let front = legal_joined start earlier middle after later on.legal in record {
+      legal = front.0;
+      alike = alike_onward start middle end (later ++ earlier) later [] front.1 on.alike;
+    }

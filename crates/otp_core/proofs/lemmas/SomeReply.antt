@@ -1,0 +1,126 @@
+-- Some reply is due to every attempt: whether a counter fits is decided, and those that fit are below a
+-- bound, so there is a least one or none.
+use Rattle.std.proofs.Common.{◌≡◌, ◌+◌, ◌<◌, ◌≤◌, ◌^◌, ◌⊎◌, ℕ, zero, suc, List, [], ◌∷◌, Option, None, Some, ℤ, arith, inl, inr, refl}
+use Rattle.std.proofs.Common.{subst}
+use Rattle.std.proofs.lemmas.Bool.{cases_Bool, cases_lt}
+use Rattle.std.specs.Prelude.{◌≤ℤ◌, ◌+ℤ◌, ◌-ℤ◌, pos}
+use Rattle.std.specs.Option.{ForSome}
+use Rattle.mac_core.proofs.lemmas.Decided.{Decided, decided_by, decided_both, decided_le, decided_lt, decided_same}
+use Rattle.otp_core.specs.Ranges.{most_counter}
+use Rattle.otp_core.specs.Attempt.{Attempt, CodeTexts, used_in}
+use Rattle.otp_core.specs.Window.{IsAbove, IsCandidate, IsPairCandidate, IsInWindow, IsStepNear, first_in_window, drift_after, step_at}
+use Rattle.otp_core.specs.Reply.{IsDueReply, IsFitting, code_text, failures_after, limit_of}
+use Rattle.otp_core.specs.Laws.{SomeReplyIsDue}
+use Rattle.otp_core.specs.declared.token.answer.Reply.{Reply}
+use Rattle.otp_core.specs.declared.token.answer.Reply.TheVariants.{Pass, Fail, Locked}
+use Rattle.otp_core.specs.declared.token.kinds.TokenFields.{TokenFields}
+use Rattle.otp_core.specs.declared.token.kinds.TokenFields.TheVariants.{Hotp, Totp}
+use lib.Signed.{le_z}
+
+decided_leℤ : (a b : ℤ) → Decided (a ≤ℤ b)
+decided_leℤ a b = elim (cases_Bool (le_z a b)) [
+  | inl is ↦ inl (record { le = rw is tt })
+  | inr other ↦ inr (λ h. rw other at h.le)
+]
+
+decided_above : (counters : List ℕ) (w : ℕ) → Decided (IsAbove counters w)
+decided_above [] w = inl tt
+decided_above (p ∷ counters) w = decided_both (p < w) (IsAbove counters w) (decided_lt p w) (decided_above counters w)
+
+decided_last : (last : Option ℕ) (w : ℕ) → Decided (ForSome last (λ l. l < w))
+decided_last None w = inl (λ x e. absurd (cc))
+decided_last (Some last) w =
+    decided_by (last < w) (ForSome (Some last) (λ l. l < w))
+    (λ h x e. let same : last ≡ x = cc in omega (arith, h, same))
+    (λ f. f last refl)
+    (decided_lt last w)
+
+decided_counter : (first look_ahead c : ℕ) → Decided (IsInWindow first look_ahead c)
+decided_counter first look_ahead c =
+    decided_by ((first ≤ c) × ((c ≤ first + look_ahead) × (c ≤ most_counter))) (IsInWindow first look_ahead c)
+    (λ h. record { not_before = h.0; within = h.1.0; most = h.1.1 })
+    (λ d. (d.not_before, (d.within, d.most)))
+    (decided_both _ _ (decided_le first c) (decided_both _ _ (decided_le c (first + look_ahead)) (decided_le c most_counter)))
+
+decided_near : (now : ℕ) (drift : ℤ) (back ahead max_drift w : ℕ) → Decided (IsStepNear now drift back ahead max_drift w)
+decided_near now drift back ahead max_drift w =
+    decided_by
+    (((((pos now +ℤ drift) -ℤ pos back) ≤ℤ pos w) × (pos w ≤ℤ ((pos now +ℤ drift) +ℤ pos ahead)))
+    × ((now ≤ w + max_drift) × (w ≤ now + max_drift)))
+    (IsStepNear now drift back ahead max_drift w)
+    (λ h. record { not_before = h.0.0; not_after = h.0.1; not_early = h.1.0; not_late = h.1.1 })
+    (λ d. ((d.not_before, d.not_after), (d.not_early, d.not_late)))
+    (decided_both _ _
+    (decided_both _ _ (decided_leℤ ((pos now +ℤ drift) -ℤ pos back) (pos w)) (decided_leℤ (pos w) ((pos now +ℤ drift) +ℤ pos ahead)))
+    (decided_both _ _ (decided_le now (w + max_drift)) (decided_le w (now + max_drift))))
+
+-- whether a counter can pass is decided
+decided_candidate : (s : TokenFields) (h : List Attempt) (m c : ℕ) → Decided (IsCandidate s h m c)
+decided_candidate (Hotp t) h m c = decided_counter (first_in_window t.next (used_in h)) t.look_ahead c
+decided_candidate (Totp t) h m w =
+    let near : Type 0 = IsStepNear (step_at t m) (drift_after t h) t.back t.ahead t.max_drift w in
+    decided_by ((t.t0 ≤ m) × (near × (ForSome t.last (λ l. l < w) × IsAbove (used_in h) w))) (IsCandidate (Totp t) h m w)
+    (λ d. (d.0, d.1.0, d.1.1.0, d.1.1.1))
+    (λ d. (d.0, (d.1, (d.2, d.3))))
+    (decided_both _ _ (decided_le t.t0 m)
+    (decided_both _ _ (decided_near (step_at t m) (drift_after t h) t.back t.ahead t.max_drift w)
+    (decided_both _ _ (decided_last t.last w) (decided_above (used_in h) w))))
+
+decided_pair : (s : TokenFields) (h : List Attempt) (w : ℕ) → Decided (IsPairCandidate s h w)
+decided_pair (Hotp t) h w = decided_both _ _ (decided_counter (first_in_window t.next (used_in h)) t.sync_ahead w)
+    (decided_le (w + 1) most_counter)
+decided_pair (Totp t) h w = inr (λ pair. pair)
+
+-- whether a counter fits what was sent is decided
+decided_fitting : (s : TokenFields) (h : List Attempt) (m : ℕ) (sent : CodeTexts) (c : ℕ) → Decided (IsFitting s h m sent c)
+decided_fitting s h m (CodeTexts.OneText text) c =
+    decided_both _ _ (decided_candidate s h m c) (decided_same (code_text s c) text)
+decided_fitting s h m (CodeTexts.TwoTexts first second) zero = inr (λ fits. let wrong : zero ≡ fits.0 + 1 = fits.1 in omega arith)
+decided_fitting s h m (CodeTexts.TwoTexts first second) (suc w) =
+    decided_by (IsPairCandidate s h w × ((code_text s w ≡ first) × (code_text s (w + 1) ≡ second)))
+    (IsFitting s h m (CodeTexts.TwoTexts first second) (suc w))
+    (λ is. (w, omega arith, is.0, is.1.0, is.1.1))
+    (λ fits. by_first fits.0 (omega (arith, fits.1)) (fits.2, (fits.3, fits.4)))
+    (decided_both _ _ (decided_pair s h w)
+    (decided_both _ _ (decided_same (code_text s w) first) (decided_same (code_text s (w + 1)) second)))
+  where
+    by_first : (v : ℕ) → v ≡ w → IsPairCandidate s h v × ((code_text s v ≡ first) × (code_text s (v + 1) ≡ second))
+        → IsPairCandidate s h w × ((code_text s w ≡ first) × (code_text s (w + 1) ≡ second))
+    by_first v same is = subst (λ (n : ℕ). IsPairCandidate s h n × ((code_text s n ≡ first) × (code_text s (n + 1) ≡ second))) same is
+
+-- below a number there is a least one for which a decided fact holds, or it holds for none
+least : (P : ℕ → Type 0) → ((k : ℕ) → Decided (P k)) → (n : ℕ)
+    → ((c : ℕ) × P c × ((k : ℕ) → P k → c ≤ k)) ⊎ ((k : ℕ) → k < n → P k → ⊥)
+least P decided zero = inr (λ k low p. absurd (omega arith))
+least P decided (suc n) = elim (least P decided n) [
+  | inl found ↦ inl found
+  | inr none ↦ elim (decided n) [
+    | inl here ↦ inl (n, here, λ k p. elim (cases_lt k n) [ inl low ↦ absurd (none k low p) | inr h ↦ h ])
+    | inr other ↦ inr (λ k low p. elim (cases_lt k n) [
+      | inl lower ↦ none k lower p
+      | inr high ↦ let same : k ≡ n = omega arith in other (subst P same p)
+    ])
+  ]
+]
+
+-- the reply, where the counters that fit are below a bound
+due_below : (s : TokenFields) (h : List Attempt) (m : ℕ) (sent : CodeTexts) (n : ℕ)
+    → ((k : ℕ) → IsFitting s h m sent k → k < n) → (reply : Reply) × IsDueReply s h m sent reply
+due_below s h m sent n bound = elim (cases_lt (failures_after s h) (limit_of s)) [
+  | inl below ↦ elim (least (λ k. IsFitting s h m sent k) (decided_fitting s h m sent) n) [
+    | inl found ↦ (Pass found.0, (below, found.1, found.2))
+    | inr none ↦ (Fail, (below, λ k fits. none k (bound k fits) fits))
+  ]
+  | inr reached ↦ (Locked, reached)
+]
+
+-- a counter that fits can pass, and those that can are below a bound
+pub some-reply_is_due : SomeReplyIsDue
+some-reply_is_due (Hotp t) h m (CodeTexts.OneText text) =
+    due_below (Hotp t) h m (CodeTexts.OneText text) (2 ^ 63) (λ k fits. omega (arith, fits.0.most))
+some-reply_is_due (Hotp t) h m (CodeTexts.TwoTexts first second) =
+    due_below (Hotp t) h m (CodeTexts.TwoTexts first second) (2 ^ 63) (λ k fits. omega (arith, fits.1, fits.2.1))
+some-reply_is_due (Totp t) h m (CodeTexts.TwoTexts first second) =
+    due_below (Totp t) h m (CodeTexts.TwoTexts first second) 0 (λ k fits. absurd fits.2)
+some-reply_is_due (Totp t) h m (CodeTexts.OneText text) =
+    due_below (Totp t) h m (CodeTexts.OneText text) (step_at t m + t.max_drift + 1) (λ w fits. omega (arith, fits.0.1.not_late))

@@ -1,0 +1,248 @@
+-- One more attempt: from a token and its past to any start and history that are alike.
+use Rattle.std.proofs.Common.{◌≡◌, ◌≤◌, ◌<◌, ◌+◌, ◌-◌, ◌↔◌, ◌++◌, ℕ, pos, ◌-ℤ◌, List, [], ◌∷◌, Option, Some, None, max, refl, sym, ap}
+use Rattle.std.proofs.Common.{subst, arith, ◌∙◌}
+use Rattle.std.specs.Option.{option_map_or}
+use Rattle.otp_core.specs.Ranges.{IsMoment, most_counter}
+use Rattle.otp_core.specs.Attempt.{Attempt, CodeTexts, attempt_of, counters_of, used_in}
+use Rattle.otp_core.specs.Attempt.CodeTexts.{OneText, TwoTexts}
+use Rattle.otp_core.specs.Window.{IsCandidate, IsPairCandidate, IsInWindow, IsStepNear, IsAbove, first_in_window, greatest, step_at}
+use Rattle.otp_core.specs.Reply.{IsDueReply, IsFitting, code_text, limit_of, failures_of, failures_after, failures_after_reply}
+use Rattle.otp_core.specs.History.{IsAfter, AreAlike, settings_of}
+use Rattle.otp_core.specs.State.{advanced, after_pass}
+use Rattle.otp_core.specs.declared.token.answer.Reply.{Reply}
+use Rattle.otp_core.specs.declared.token.answer.Reply.TheVariants.{Pass, Fail, Locked}
+use Rattle.otp_core.specs.declared.token.kinds.HotpFields.{HotpFields}
+use Rattle.otp_core.specs.declared.token.kinds.TotpFields.{TotpFields}
+use Rattle.otp_core.specs.declared.token.kinds.TokenFields.{TokenFields}
+use Rattle.otp_core.specs.declared.token.kinds.TokenFields.TheVariants.{Hotp, Totp}
+
+-- the limit is among the settings
+limit_settled : (s : TokenFields) → limit_of (settings_of s) ≡ limit_of s
+limit_settled (Hotp s) = refl
+limit_settled (Totp s) = refl
+
+-- the codes depend only on the settings
+code_settled : (s : TokenFields) (c : ℕ) → code_text (settings_of s) c ≡ code_text s c
+code_settled (Hotp s) c = refl
+code_settled (Totp s) c = refl
+
+limit_alike : (s t : TokenFields) → settings_of s ≡ settings_of t → limit_of s ≡ limit_of t
+limit_alike s t e = sym (limit_settled s) ∙ (ap limit_of e ∙ limit_settled t)
+
+code_alike : (s t : TokenFields) (c : ℕ) → settings_of s ≡ settings_of t → code_text s c ≡ code_text t c
+code_alike s t c e = sym (code_settled s c) ∙ (ap (λ f. code_text f c) e ∙ code_settled t c)
+
+-- equivalences go both ways, and from one to the next
+back : {A B : Type 0} → A ↔ B → B ↔ A
+back one = (one.1, one.0)
+
+onward : {A B C : Type 0} → A ↔ B → B ↔ C → A ↔ C
+onward one other = ((λ x. other.0 (one.0 x)), (λ x. one.1 (other.1 x)))
+
+alike_back : (s t : TokenFields) (h k : List Attempt) → AreAlike s h t k → AreAlike t k s h
+alike_back s t h k alike = record {
+  settings = sym alike.settings;
+  failures = sym alike.failures;
+  candidates = λ m c is. back (alike.candidates m c is);
+  pairs = λ w. back (alike.pairs w);
+}
+
+pub alike_onward : (s t u : TokenFields) (h k l : List Attempt) → AreAlike s h t k → AreAlike t k u l → AreAlike s h u l
+alike_onward s t u h k l one other = record {
+  settings = one.settings ∙ other.settings;
+  failures = one.failures ∙ other.failures;
+  candidates = λ m c is. onward (one.candidates m c is) (other.candidates m c is);
+  pairs = λ w. onward (one.pairs w) (other.pairs w);
+}
+
+-- a counter that fits after one of two alike pasts fits after the other
+fits_alike : (s t : TokenFields) (h k : List Attempt) (m : ℕ) (sent : CodeTexts) (c : ℕ) → AreAlike s h t k → IsMoment m
+    → IsFitting s h m sent c → IsFitting t k m sent c
+fits_alike s t h k m (OneText text) c alike is fits =
+    ((alike.candidates m c is).0 fits.0, sym (code_alike s t c alike.settings) ∙ fits.1)
+fits_alike s t h k m (TwoTexts one other) c alike is (w, next, pair, first, second) = (
+  w,
+  next,
+  (alike.pairs w).0 pair,
+  sym (code_alike s t w alike.settings) ∙ first,
+  sym (code_alike s t (w + 1) alike.settings) ∙ second,
+)
+
+-- a reply that is due after one of two alike pasts is due after the other
+pub due_alike : (s t : TokenFields) (h k : List Attempt) (m : ℕ) (sent : CodeTexts) (reply : Reply) → AreAlike s h t k → IsMoment m
+    → IsDueReply t k m sent reply → IsDueReply s h m sent reply
+due_alike s t h k m sent Locked alike is due =
+    let limit = limit_alike s t alike.settings in
+    let failures = alike.failures in omega arith
+due_alike s t h k m sent Fail alike is due =
+    let limit = limit_alike s t alike.settings in
+    let failures = alike.failures in
+    let below_limit : failures_after t k < limit_of t = due.0 in
+    (omega arith, λ c fits. due.1 c (fits_alike s t h k m sent c alike is fits))
+due_alike s t h k m sent (Pass p) alike is due =
+    let limit = limit_alike s t alike.settings in
+    let failures = alike.failures in
+    let below_limit : failures_after t k < limit_of t = due.0 in (
+      (omega arith),
+      fits_alike t s k h m sent p (alike_back s t h k alike) is due.1,
+      λ c fits. due.2 c (fits_alike s t h k m sent c alike is fits),
+    )
+
+-- no reply changes a setting, and the failures change as the replies say
+parts_advanced : (t : TokenFields) (m : ℕ) (reply : Reply)
+    → (settings_of t ≡ settings_of (advanced t m reply)) × (failures_after_reply reply (failures_of t) ≡ failures_of (advanced t m reply))
+parts_advanced (Hotp t) m (Pass p) = (refl, refl)
+parts_advanced (Hotp t) m Fail = (refl, refl)
+parts_advanced (Hotp t) m Locked = (refl, refl)
+parts_advanced (Totp t) m (Pass p) = (refl, refl)
+parts_advanced (Totp t) m Fail = (refl, refl)
+parts_advanced (Totp t) m Locked = (refl, refl)
+
+-- after a pass of a counter that is due, HOTP's first counter is one more
+first_of : (o : Option ℕ) (next p : ℕ) → option_map_or (λ m. m + 1) o next ≤ p
+    → option_map_or (λ m. m + 1) (Some (option_map_or (λ most. max p most) o p)) next ≡ p + 1
+first_of None next p h = refl
+first_of (Some m) next p h = omega arith
+
+-- and after a pass of a pair, one more than its second
+pair_first_of : (o : Option ℕ) (next w : ℕ) → option_map_or (λ m. m + 1) o next ≤ w
+    → option_map_or (λ m. m + 1) (Some (max (w + 1) (option_map_or (λ most. max (w + 1 - 1) most) o (w + 1 - 1)))) next ≡ w + 1 + 1
+pair_first_of None next w h = omega arith
+pair_first_of (Some m) next w h = omega arith
+
+-- HOTP's first counter is one after what was sent has passed
+pub first_after : (t : HotpFields) (h : List Attempt) (m : ℕ) (sent : CodeTexts) (p : ℕ) → IsFitting (Hotp t) h m sent p
+    → first_in_window t.next (counters_of sent p ++ used_in h) ≡ p + 1
+first_after t h m (OneText text) p fits = first_of (greatest (used_in h)) t.next p fits.0.not_before
+first_after t h m (TwoTexts one other) p (w, next, pair, first, second) =
+    subst (λ (n : ℕ). first_in_window t.next (counters_of (TwoTexts one other) n ++ used_in h) ≡ n + 1) (sym next)
+    (pair_first_of (greatest (used_in h)) t.next w pair.0.not_before)
+
+-- no pair of TOTP codes fits
+no_pair : (t : TotpFields) (h : List Attempt) (m : ℕ) (one other : List ℕ) (c : ℕ) → IsFitting (Totp t) h m (TwoTexts one other) c → ⊥
+no_pair t h m one other c (w, next, pair, first, second) = pair
+
+-- a counter above one that is above all of these is above all of them
+above_more : (counters : List ℕ) (p c : ℕ) → IsAbove counters p → p < c → IsAbove counters c
+above_more [] p c h more = h
+above_more (x ∷ counters) p c h more =
+    let below : x < p = h.0 in (omega arith, above_more counters p c h.1 more)
+
+-- the part of a window that depends on the settings, after a pass of p at m
+window_by : TokenFields → ℕ → ℕ → ℕ → ℕ → Type 0
+window_by (Hotp t) m p later c = IsInWindow (p + 1) t.look_ahead c
+window_by (Totp t) m p later c =
+    (t.t0 ≤ later) × IsStepNear (step_at t later) (pos p -ℤ pos (step_at t m)) t.back t.ahead t.max_drift c
+
+-- and the pairs
+pairs_by : TokenFields → ℕ → ℕ → Type 0
+pairs_by (Hotp t) p w = IsInWindow (p + 1) t.sync_ahead w × (w + 1 ≤ most_counter)
+pairs_by (Totp t) p w = ⊥
+
+-- the same counters can pass, alone and in pairs, after two pasts
+abbrev CanPassAlike : TokenFields → List Attempt → TokenFields → List Attempt → Type 0
+CanPassAlike s h t k =
+    ((m c : ℕ) → IsMoment m → IsCandidate s h m c ↔ IsCandidate t k m c)
+    × ((w : ℕ) → IsPairCandidate s h w ↔ IsPairCandidate t k w)
+
+-- after a pass of a counter that fits the same can pass as in the token that the pass makes, whatever the past
+passed : (s t : TokenFields) (h : List Attempt) (m : ℕ) (sent : CodeTexts) (p : ℕ) → settings_of s ≡ settings_of t
+    → IsFitting s h m sent p → CanPassAlike s (attempt_of m sent (Pass p) ∷ h) (after_pass t m p) []
+unfolding window_by pairs_by
+passed (Hotp s) (Hotp t) h m sent p e fits =
+    let first : first_in_window s.next (counters_of sent p ++ used_in h) ≡ p + 1 = first_after s h m sent p fits in (
+      (λ later c when. (
+        (λ w. subst (λ f. window_by f m p later c) e (subst (λ n. IsInWindow n s.look_ahead c) first w)),
+        (λ w. subst (λ n. IsInWindow n s.look_ahead c) (sym first) (subst (λ f. window_by f m p later c) (sym e) w)),
+      )),
+      (λ w. (
+        (λ x. subst (λ f. pairs_by f p w) e (subst (λ n. IsInWindow n s.sync_ahead w × (w + 1 ≤ most_counter)) first x)),
+        (λ x. subst (λ n. IsInWindow n s.sync_ahead w × (w + 1 ≤ most_counter)) (sym first) (subst (λ f. pairs_by f p w) (sym e) x)),
+      )),
+    )
+passed (Totp s) (Totp t) h m (OneText text) p e fits = (
+  (λ later c when. (
+    (λ w. let near = subst (λ f. window_by f m p later c) e (w.0, w.1) in
+        let above : p < c = w.3.0 in
+        (near.0, near.1, (λ l is. let same : p ≡ l = cc in omega arith), tt)),
+    (λ w. let near = subst (λ f. window_by f m p later c) (sym e) (w.0, w.1) in
+        let above : p < c = w.2 p refl in
+        (near.0, near.1, (λ l is. let below : l < p = fits.0.2 l is in omega arith), (above, above_more (used_in h) p c fits.0.3 above))),
+  )),
+  (λ w. ((λ x. x), (λ x. x))),
+)
+passed (Totp s) (Totp t) h m (TwoTexts one other) p e fits = absurd (no_pair s h m one other p fits)
+passed (Hotp s) (Totp t) h m sent p e fits = absurd (cc)
+passed (Totp s) (Hotp t) h m sent p e fits = absurd (cc)
+
+-- after a past the same can pass as after itself
+same : (s : TokenFields) (h : List Attempt) → CanPassAlike s h s h
+same s h = ((λ m c is. ((λ x. x), (λ x. x))), (λ w. ((λ x. x), (λ x. x))))
+
+-- a reply that passes no counter
+abbrev IsNoPass : Reply → Type 0
+IsNoPass (Pass p) = ⊥
+IsNoPass Fail = Unit {0}
+IsNoPass Locked = Unit {0}
+
+-- such a reply leaves what can pass as it was, after the history and in the token that it makes
+kept : (s : TokenFields) (h : List Attempt) (m : ℕ) (sent : CodeTexts) (reply : Reply) → IsNoPass reply
+    → CanPassAlike s (attempt_of m sent reply ∷ h) s h × CanPassAlike s (attempt_of m sent reply ∷ h) (advanced s m reply) h
+kept s h m sent (Pass p) idle = absurd idle
+kept (Hotp s) h m sent Fail idle = (same (Hotp s) h, same (Hotp s) h)
+kept (Totp s) h m sent Fail idle = (same (Totp s) h, same (Totp s) h)
+kept (Hotp s) h m sent Locked idle = (same (Hotp s) h, same (Hotp s) h)
+kept (Totp s) h m sent Locked idle = (same (Totp s) h, same (Totp s) h)
+
+-- so after two alike pasts the same can pass still
+still : (s t : TokenFields) (h k : List Attempt) (m : ℕ) (sent : CodeTexts) (reply : Reply) → IsNoPass reply → AreAlike s h t k
+    → CanPassAlike s (attempt_of m sent reply ∷ h) t (attempt_of m sent reply ∷ k)
+still s t h k m sent reply idle alike =
+    let one = (kept s h m sent reply idle).0 in
+    let other = (kept t k m sent reply idle).0 in (
+      (λ later c when. onward (one.0 later c when) (onward (alike.candidates later c when) (back (other.0 later c when)))),
+      (λ w. onward (one.1 w) (onward (alike.pairs w) (back (other.1 w)))),
+    )
+
+-- what can pass after a due reply, in two alike pasts
+can_pass_more : (s t : TokenFields) (h k : List Attempt) (m : ℕ) (sent : CodeTexts) (reply : Reply) → AreAlike s h t k → IsMoment m
+    → IsDueReply t k m sent reply → CanPassAlike s (attempt_of m sent reply ∷ h) t (attempt_of m sent reply ∷ k)
+can_pass_more s t h k m sent (Pass p) alike is due =
+    let one = passed s t h m sent p alike.settings (fits_alike t s k h m sent p (alike_back s t h k alike) is due.1) in
+    let other = passed t t k m sent p refl due.1 in
+    ((λ later c when. onward (one.0 later c when) (back (other.0 later c when))), (λ w. onward (one.1 w) (back (other.1 w))))
+can_pass_more s t h k m sent Fail alike is due = still s t h k m sent Fail tt alike
+can_pass_more s t h k m sent Locked alike is due = still s t h k m sent Locked tt alike
+
+-- one more attempt keeps two pasts alike
+pub alike_more : (s t : TokenFields) (h k : List Attempt) (m : ℕ) (sent : CodeTexts) (reply : Reply) → AreAlike s h t k → IsMoment m
+    → IsDueReply t k m sent reply → AreAlike s (attempt_of m sent reply ∷ h) t (attempt_of m sent reply ∷ k)
+alike_more s t h k m sent reply alike is due =
+    let passing = can_pass_more s t h k m sent reply alike is due in record {
+      settings = alike.settings;
+      failures = ap (failures_after_reply reply) alike.failures;
+      candidates = passing.0;
+      pairs = passing.1;
+    }
+
+-- what can pass in a token after a due reply
+can_pass_advanced : (t : TokenFields) (m : ℕ) (sent : CodeTexts) (reply : Reply) → IsDueReply t [] m sent reply
+    → CanPassAlike t (attempt_of m sent reply ∷ []) (advanced t m reply) []
+can_pass_advanced t m sent (Pass p) due = passed t t [] m sent p refl due.1
+can_pass_advanced t m sent Fail due = (kept t [] m sent Fail tt).1
+can_pass_advanced t m sent Locked due = (kept t [] m sent Locked tt).1
+
+-- a due reply leads from a past to that past with the attempt added
+pub after_attempt : (s t : TokenFields) (h : List Attempt) (m : ℕ) (sent : CodeTexts) (reply : Reply) → IsMoment m
+    → IsAfter s h t → IsDueReply t [] m sent reply → IsAfter s (attempt_of m sent reply ∷ h) (advanced t m reply)
+after_attempt s t h m sent reply is after due =
+    let passing = can_pass_advanced t m sent reply due in record {
+      legal = (is, due_alike s t h [] m sent reply after.alike is due, after.legal);
+      alike = alike_onward s t (advanced t m reply) (attempt_of m sent reply ∷ h) (attempt_of m sent reply ∷ []) []
+          (alike_more s t h [] m sent reply after.alike is due) (record {
+            settings = (parts_advanced t m reply).0;
+            failures = (parts_advanced t m reply).1;
+            candidates = passing.0;
+            pairs = passing.1;
+          });
+    }

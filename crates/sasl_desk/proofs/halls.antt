@@ -1,6 +1,0 @@
-pub mod Guests
-pub mod Greetings
-pub mod Laws
-pub mod Calls
-pub mod Paths
-pub mod Turns

@@ -1,0 +1,384 @@
+-- What a hall stands for after each of its calls, and what the calls add.
+use Rattle.std.proofs.Common.{◌≡◌, ◌↔◌, inl, inr, ◌+◌, Bool, true, false, ℕ, List, [], ◌∷◌, ◌++◌, map, reverse, length, filter, refl, sym}
+use Rattle.std.proofs.Common.{◌∙◌, ap, subst, arith, append_assoc}
+use Rattle.std.specs.Prelude.{decimal}
+use Rattle.std.specs.List.Sorted.{IsPermutation}
+use Rattle.std.proofs.lemmas.List.{reverse-append}
+use Rattle.std.proofs.lemmas.List.Sorted.{IsPermutation-trans}
+use Rattle.std.specs.declared.option.Option.{Option}
+use Rattle.std.specs.declared.option.Option.TheVariants.{None, Some}
+use Rattle.otp_core.specs.Attempt.{CodeTexts}
+use Rattle.otp_core.specs.Laws.{BeginsWithItself}
+use Rattle.otp_core.specs.declared.token.answer.Reply.{Reply}
+use Rattle.book_format.specs.Book.{BookFields}
+use Rattle.book_format.specs.Trees.{IsBookText}
+use Rattle.account_book.specs.SavedBooks.{needs_save}
+use Rattle.account_book.specs.Store.{StoreFacts}
+use Rattle.log_grammar.specs.Books.{accounts_in}
+use Rattle.log_grammar.specs.Bytes.{ended_by_lf}
+use Rattle.log_grammar.specs.Lines.{LogLine, heard, asking, log_text}
+use Rattle.log_grammar.specs.LoggedReply.{LoggedReply, logged_reply_of}
+use Rattle.log_grammar.specs.Places.{Place, between, waits_code, got_code, halted, is_closed}
+use Rattle.log_grammar.specs.Demands.{Accounts, demands}
+use Rattle.log_grammar.specs.Numbered.{Numbered, numbered, of_number}
+use Rattle.log_grammar.specs.NumberedLines.{numbered_text}
+use Rattle.log_grammar.proofs.lemmas.lines.LackLf.{reply_line}
+use Rattle.log_grammar.proofs.lemmas.state_machine.Shortening.{code_goes}
+use Rattle.log_grammar.proofs.lemmas.ListEnds.{same_cons}
+use Rattle.log_grammar.specs.Versions.{most_open}
+use Rattle.sasl_desk.specs.Desks.{HoldsBook, IsAttemptOf, IsBookWith, all_spent, session_phase, is_saving}
+use Rattle.sasl_desk.specs.Events.{ClientEvent}
+use Rattle.sasl_desk.specs.Guests.{guest_of}
+use Rattle.sasl_desk.specs.Halls.{HallFields, hall_of, hall_lines, numbered_bytes, IsStay, IsPhaseOf, IsHallAfter, AnswersIn, IsSameHall}
+use Rattle.sasl_desk.specs.Keeper.{IsAttemptJudged, IsJudged, IsJudgedInRange}
+use Rattle.sasl_desk.specs.TurnResults.{after_turn_of, judged_lines, after_judged, SessionAnswers, AsksJudgement, IsTurnOf, IsTurnWritten}
+use Rattle.sasl_desk.specs.Prefix.{prefix, prefixed_bytes}
+use Rattle.sasl_desk.specs.Runs.{Asked, hears, Call, call_of, own_part, IsTurnTaken, IsRun}
+use Rattle.sasl_desk.specs.Sessions.{IsSessionAt, IsLeftAt, IsRecord, turn_lines}
+use Rattle.sasl_desk.specs.Spent.{AreSpent, SpentStaysSpent}
+use Rattle.sasl_desk.specs.Turns.{IsPath}
+use Rattle.sasl_desk.specs.declared.hall.guest.Guest.{Guest}
+use Rattle.sasl_desk.specs.declared.keeper.Keeper.{Keeper}
+use Rattle.sasl_desk.specs.declared.keeper.CodeJudged.{CodeJudged}
+use Rattle.sasl_desk.specs.declared.keeper.CodeJudged.TheVariants.{Replied, Lost}
+use Rattle.sasl_desk.specs.declared.session.Session.{Session}
+use Rattle.sasl_desk.specs.declared.session.Session.TheVariants.{Offered, WaitsFirst, WaitsFinal, WaitsCode}
+use Rattle.sasl_desk.specs.declared.desk.state.Phase.{Phase}
+use Rattle.sasl_desk.specs.declared.desk.state.Phase.TheVariants as phase
+use Rattle.sasl_desk.specs.declared.turn.AfterTurn.{AfterTurn}
+use Rattle.sasl_desk.specs.declared.turn.AfterTurn.TheVariants.{Going, Over, Halted}
+use Rattle.sasl_desk.proofs.lemmas.halls.Paths.{ends_of, turn_of_turns, turn_closed, path_on, reply_on}
+use Rattle.sasl_desk.proofs.lemmas.halls.Turns.{turn_is_open, any_follows, holds_book, stands_reordered, LeavesAt, guests_after}
+use Rattle.sasl_desk.proofs.lemmas.halls.Turns.{halted_after, HallStep, stands_by_step}
+use Rattle.sasl_desk.proofs.lemmas.turns.Keepers.{told_due}
+use Rattle.sasl_desk.proofs.lemmas.turns.Paths.{client_turn, turn_path, turn_no_reply}
+use Rattle.sasl_desk.proofs.lemmas.runs.Bytes.{left_rests}
+use Rattle.sasl_desk.proofs.lemmas.runs.IsDeskAfter.{book_after_told, held_at_turn, left_going, kept_held, spent_after, halt_written}
+use Rattle.sasl_desk.proofs.lemmas.runs.IsDeskAfter.{taken_by_turn, taken_by_reply, taken_by_halt, stored_by_halt}
+use Rattle.sasl_desk.proofs.lemmas.runs.Calls.{turn_saves, saves_by_code, asked_by_code, quiet_by_code, failed_by, open_goes_on}
+
+-- numbered lines, as a turn writes them
+prefixed_texts : (n : ℕ) (lines : List LogLine)
+    → map (λ line. prefix (Some n) ++ log_text line) lines ≡ map numbered_text (map (numbered n) lines)
+prefixed_texts n [] = refl
+prefixed_texts n (line ∷ lines) = same_cons _ _ _ _ (append_assoc (decimal n) (32 ∷ []) (log_text line)) (prefixed_texts n lines)
+
+-- lines written each after a session's number are, byte for byte, that session's numbered lines
+pub marked_numbered : (n : ℕ) (lines : List LogLine) → prefixed_bytes (Some n) lines ≡ numbered_bytes (map (numbered n) lines)
+marked_numbered n lines = ap ended_by_lf (prefixed_texts n lines)
+
+-- an open session has not been turned away
+run_of : (accounts : Accounts) (calls : List Call) (at : Place) → is_closed at ≡ false → IsStay accounts calls at → IsRun accounts calls at
+run_of accounts calls at is_open (inl run) = run
+run_of accounts calls at is_open (inr (own, turned, same)) =
+    let never : is_closed between ≡ false = subst (λ (p : Place). is_closed p ≡ false) same is_open in absurd (cc never)
+
+-- where a session is left
+leaves_left : (accounts : Accounts) (next : Place) (ends : ℕ) (going : Option Session) → IsLeftAt accounts next going → ends ≡ ends_of going
+    → LeavesAt accounts next ends (after_turn_of going)
+leaves_left accounts next ends (Some going) is same = (is, same)
+leaves_left accounts next ends None is same = (is, same)
+
+-- the session answered a turn
+step_by_answer : BeginsWithItself → {S : Type 0} (facts : S → StoreFacts) (IsStored : List ℕ → Type 0) (start : BookFields)
+    (calls : List (Numbered Call)) (keeper : Keeper S) (n : ℕ)
+    (going : Session) (own : List ℕ) (others : List Guest) (given : ℕ) (event : ClientEvent) (moment : ℕ) (lines : List LogLine)
+    (left : AfterTurn) (new : Keeper S)
+    (s : IsHallAfter facts IsStored start calls (hall_of keeper (guest_of n going own ∷ others) given false))
+    → SessionAnswers keeper going own event lines left new
+    → HallStep facts IsStored start calls s.places n event moment lines left new
+step_by_answer itself facts IsStored start calls keeper n going own others given event moment lines left new s t =
+    let accounts = accounts_in start in
+    let hall = hall_of keeper (guest_of n going own ∷ others) given false in
+    let is = (s.seated refl).0 in
+    let after = book_after_told itself start s.told keeper.book s.is_book in
+    let turn = t.hears accounts (s.places n) after.entries is.0 in
+    let next = turn.is_answer.next in
+    let path = turn_path accounts own event (s.places n) going t.turn t.message is.0 turn in
+    rw (t.lines_are, t.is_left, t.same) (record {
+      next = next;
+      told = s.told;
+      taken = taken_by_turn accounts (own_part (of_number n calls)) own event moment (s.places n) going t.turn t.message is.1 is.0 turn;
+      spelled = path_on most_open (demands accounts) (hall_lines calls) s.places s.told n (turn_lines t.turn t.message) next s.spelled
+          (turn_of_turns t.turn t.message)
+          (turn_no_reply accounts own event (s.places n) t.turn t.message turn)
+          (λ line to goes. any_follows facts IsStored start calls hall s refl n line) path;
+      turns = turn_of_turns t.turn t.message;
+      writable = rw t.lines_are at t.writable;
+      leaves = leaves_left accounts next _ t.turn.answer.session turn.is_answer.left (turn_closed n t.turn t.message);
+      is_book = s.is_book;
+      stored = held_at_turn IsStored accounts
+          (call_of (hears event moment) (turn_lines t.turn t.message) ∷ of_number n calls) next keeper.book (facts keeper.store)
+          (left_rests accounts next t.turn.answer.session turn.is_answer.left)
+          (left_going accounts next t.turn.answer.session turn.is_answer.left)
+          (holds_book facts IsStored start calls hall s refl);
+      spent = s.spent;
+    })
+
+-- a code, or two in a row, got its reply
+step_by_reply : BeginsWithItself → SpentStaysSpent
+    → {S : Type 0} (facts : S → StoreFacts) (IsStored : List ℕ → Type 0) (start : BookFields) (calls : List (Numbered Call))
+    (old new : Keeper S)
+    (n : ℕ) (going : Session) (own : List ℕ) (others : List Guest) (given : ℕ) (event : ClientEvent) (moment : ℕ) (name : List ℕ)
+    (sent : CodeTexts)
+    (reply : Option Reply) (s : IsHallAfter facts IsStored start calls (hall_of old (guest_of n going own ∷ others) given false))
+    → AsksJudgement old going event name sent
+    → IsJudged IsStored old.book (facts old.store) name moment sent (Replied reply) new.book (facts new.store)
+    → IsJudgedInRange (Replied reply)
+    → HallStep facts IsStored start calls s.places n event moment (judged_lines moment sent (Replied reply))
+    (after_judged name (Replied reply)) new
+step_by_reply itself stays facts IsStored start calls old new n going own others given event moment name sent reply s asked
+    (one, kept) range =
+    let accounts = accounts_in start in
+    let hall = hall_of old (guest_of n going own ∷ others) given false in
+    let seated = (s.seated refl).0 in
+    let after = book_after_told itself start s.told old.book s.is_book in
+    let asks = asked.asks accounts (s.places n) after.entries seated.0 in
+    let is_record = subst (λ (p : Place). IsRecord event p (heard (asking sent))) asks.place asks.is_record in
+    let t = logged_reply_of name moment sent reply in
+    let lines = judged_lines moment sent (Replied reply) in
+    record {
+      next = waits_code name;
+      told = s.told ++ t ∷ [];
+      taken = subst (λ (p : Place). IsTurnTaken accounts (own_part (of_number n calls)) event moment p lines (waits_code name))
+          (sym asks.place)
+          (taken_by_reply accounts (own_part (of_number n calls)) event moment name sent reply is_record);
+      spelled = reply_on most_open (demands accounts) (hall_lines calls) s.places s.told n name sent moment reply s.spelled
+          (any_follows facts IsStored start calls hall s refl n)
+          asks.place (told_due old.book new.book t one accounts s.told after);
+      turns = (tt, (tt, tt));
+      writable = (asked.writable, (reply_line moment reply one.is_moment range, tt));
+      leaves = (refl, refl);
+      is_book = subst (λ (l : List LoggedReply). IsBookWith start l new.book) (sym (reverse-append s.told (t ∷ [])))
+          (old.book, s.is_book, one);
+      stored = kept_held IsStored (needs_save reply) old.book new.book (facts old.store) (facts new.store) kept
+          (holds_book facts IsStored start calls hall s refl);
+      spent = spent_after itself stays start old.book new.book s.told t one s.spent;
+    }
+
+-- its save failed
+step_by_halt : BeginsWithItself → {S : Type 0} (facts : S → StoreFacts) (IsStored : List ℕ → Type 0) (start : BookFields)
+    (calls : List (Numbered Call)) (old new : Keeper S)
+    (n : ℕ) (going : Session) (own : List ℕ) (others : List Guest) (given : ℕ) (event : ClientEvent) (moment : ℕ) (name : List ℕ)
+    (sent : CodeTexts)
+    (s : IsHallAfter facts IsStored start calls (hall_of old (guest_of n going own ∷ others) given false))
+    → AsksJudgement old going event name sent
+    → IsJudged IsStored old.book (facts old.store) name moment sent Lost new.book (facts new.store)
+    → HallStep facts IsStored start calls s.places n event moment (judged_lines moment sent Lost) (after_judged name Lost) new
+step_by_halt itself facts IsStored start calls old new n going own others given event moment name sent s asked judged =
+    let accounts = accounts_in start in
+    let hall = hall_of old (guest_of n going own ∷ others) given false in
+    let seated = (s.seated refl).0 in
+    let after = book_after_told itself start s.told old.book s.is_book in
+    let asks = asked.asks accounts (s.places n) after.entries seated.0 in
+    let is_record = subst (λ (p : Place). IsRecord event p (heard (asking sent))) asks.place asks.is_record in
+    let is_open = turn_is_open (s.places n) (client_turn accounts (s.places n) going seated.0) in
+    let run = subst (λ (p : Place). IsRun accounts (of_number n calls) p) asks.place
+    (run_of accounts (of_number n calls) (s.places n) is_open (s.stays n)) in
+    let lines = judged_lines moment sent Lost in
+    let path : IsPath (demands accounts) (waits_code name) lines halted = (got_code name sent, code_goes name sent, (halted, refl, refl)) in
+    record {
+      next = halted;
+      told = s.told;
+      taken = subst (λ (p : Place). IsTurnTaken accounts (own_part (of_number n calls)) event moment p lines halted) (sym asks.place)
+          (taken_by_halt accounts (own_part (of_number n calls)) event moment name sent is_record);
+      spelled = path_on most_open (demands accounts) (hall_lines calls) s.places s.told n lines halted s.spelled (tt, (tt, tt))
+          (tt, (tt, tt))
+          (λ line to goes. any_follows facts IsStored start calls hall s refl n line)
+          (subst (λ (p : Place). IsPath (demands accounts) p lines halted) (sym asks.place) path);
+      turns = (tt, (tt, tt));
+      writable = (asked.writable, (halt_written, tt));
+      leaves = (refl, refl);
+      is_book = subst (λ (b : BookFields). IsBookWith start (reverse s.told) b) (sym judged.0) s.is_book;
+      stored = stored_by_halt IsStored accounts (of_number n calls) old.book new.book (facts old.store)
+          (facts new.store) name event moment sent run
+          (holds_book facts IsStored start calls hall s refl) judged;
+      spent = λ ps spent. subst (λ (b : BookFields). AreSpent (all_spent (reverse s.told) ++ ps) b) (sym judged.0) (s.spent ps spent);
+    }
+
+step_by_code : BeginsWithItself → SpentStaysSpent
+    → {S : Type 0} (facts : S → StoreFacts) (IsStored : List ℕ → Type 0) (start : BookFields) (calls : List (Numbered Call))
+    (old new : Keeper S)
+    (n : ℕ) (going : Session) (own : List ℕ) (others : List Guest) (given : ℕ) (event : ClientEvent) (moment : ℕ) (name : List ℕ)
+    (sent : CodeTexts)
+    (judged : CodeJudged) (s : IsHallAfter facts IsStored start calls (hall_of old (guest_of n going own ∷ others) given false))
+    → AsksJudgement old going event name sent
+    → IsJudged IsStored old.book (facts old.store) name moment sent judged new.book (facts new.store)
+    → IsJudgedInRange judged
+    → HallStep facts IsStored start calls s.places n event moment (judged_lines moment sent judged) (after_judged name judged) new
+step_by_code itself stays facts IsStored start calls old new n going own others given event moment name sent
+    (Replied reply) s asked judged range =
+    step_by_reply itself stays facts IsStored start calls old new n going own others given event moment name sent reply s asked judged range
+step_by_code itself stays facts IsStored start calls old new n going own others given event moment name sent Lost s asked judged range =
+    step_by_halt itself facts IsStored start calls old new n going own others given event moment name sent s asked judged
+
+step_by_turn : BeginsWithItself → SpentStaysSpent
+    → {S : Type 0} (facts : S → StoreFacts) (IsStored : List ℕ → Type 0) (start : BookFields) (calls : List (Numbered Call))
+    (old new : Keeper S)
+    (n : ℕ) (going : Session) (own : List ℕ) (others : List Guest) (given : ℕ) (event : ClientEvent) (moment : ℕ) (lines : List LogLine)
+    (left : AfterTurn)
+    (s : IsHallAfter facts IsStored start calls (hall_of old (guest_of n going own ∷ others) given false))
+    → IsTurnOf facts IsStored old going own event moment lines left new
+    → HallStep facts IsStored start calls s.places n event moment lines left new
+step_by_turn itself stays facts IsStored start calls old new n going own others given event moment lines left s (inl t) =
+    step_by_answer itself facts IsStored start calls old n going own others given event moment lines left new s t
+step_by_turn itself stays facts IsStored start calls old new n going own others given event moment lines left s
+    (inr (name, sent, asked, t)) =
+    rw (t.lines_are, t.is_left)
+    (step_by_code itself stays facts IsStored start calls old new n going own others given event moment name sent t.judged s asked t.is_judged t.in_range)
+
+-- the phase that a turn answers
+abbrev pub phase_left : AfterTurn → Phase
+phase_left (Going going) = session_phase going
+phase_left Over = phase.Closed
+phase_left (Halted going) = phase.Halted
+
+-- an open session's phase is that of the place at which it stands
+pub session_phase_at : (accounts : Accounts) (at : Place) (going : Session) → IsSessionAt accounts at going
+    → IsPhaseOf at (session_phase going)
+session_phase_at accounts at Offered is = is
+session_phase_at accounts at (WaitsFirst mechanism) is = (_, is)
+session_phase_at accounts at (WaitsFinal waiting) (first, challenge, is, stands) = (_, _, first, challenge, is)
+session_phase_at accounts at (WaitsCode name) is = (name, is)
+
+phase_left_at : (accounts : Accounts) (at : Place) (ends : ℕ) (left : AfterTurn) → LeavesAt accounts at ends left
+    → IsPhaseOf at (phase_left left)
+phase_left_at accounts at ends (Going going) is = session_phase_at accounts at going is.0
+phase_left_at accounts at ends Over is = is.0
+phase_left_at accounts at ends (Halted going) is = tt
+
+-- what is said of saves, as of a desk's
+saves_by_turn : {S : Type 0} (facts : S → StoreFacts) (IsStored : List ℕ → Type 0) (old new : Keeper S) (going : Session) (own : List ℕ)
+    (event : ClientEvent) (moment : ℕ) (lines : List LogLine)
+    (left : AfterTurn) → IsTurnOf facts IsStored old going own event moment lines left new → HoldsBook IsStored old.book (facts old.store)
+    → (facts new.store).saves ≡ (facts old.store).saves + length (filter is_saving lines)
+saves_by_turn facts IsStored old new going own event moment lines left (inl t) held =
+    let none = ap (λ (l : List LogLine). length (filter is_saving l)) t.lines_are ∙ ap (λ (l : List LogLine). length l)
+    (turn_saves t.turn t.message) in
+    let unasked = ap (λ (k : Keeper _). (facts k.store).saves) t.same in
+    omega (arith, none, unasked)
+saves_by_turn facts IsStored old new going own event moment lines left (inr (name, sent, asked, t)) held =
+    rw t.lines_are (saves_by_code IsStored moment sent name t.judged old.book new.book (facts old.store) (facts new.store) held t.is_judged)
+
+quiet_by_turn : {S : Type 0} (facts : S → StoreFacts) (IsStored : List ℕ → Type 0) (old new : Keeper S) (going : Session) (own : List ℕ)
+    (event : ClientEvent) (moment : ℕ) (lines : List LogLine)
+    (left : AfterTurn) → IsTurnOf facts IsStored old going own event moment lines left new → filter is_saving lines ≡ []
+    → (new.book ≡ old.book) × (facts new.store ≡ facts old.store)
+quiet_by_turn facts IsStored old new going own event moment lines left (inl t) none =
+    (ap (λ (k : Keeper _). k.book) t.same, ap (λ (k : Keeper _). facts k.store) t.same)
+quiet_by_turn facts IsStored old new going own event moment lines left (inr (name, sent, asked, t)) none =
+    quiet_by_code IsStored moment sent name t.judged old.book new.book (facts old.store) (facts new.store) t.is_judged
+    (rw t.lines_are at none)
+
+halts_judged : (IsStored : List ℕ → Type 0) (moment : ℕ) (sent : CodeTexts) (name : List ℕ) (judged : CodeJudged) (old new : BookFields)
+    (was now : StoreFacts)
+    → IsJudged IsStored old was name moment sent judged new now → halted_after (after_judged name judged) ≡ true → (now.failed ≡ true)
+    × (new ≡ old)
+halts_judged IsStored moment sent name (Replied reply) old new was now judged is = absurd (cc is)
+halts_judged IsStored moment sent name Lost old new was now (same, (reply, next, needs, one, loses)) is =
+    (failed_by was now loses.text loses.lost, same)
+
+goes_on_after : (going : Option Session) → halted_after (after_turn_of going) ≡ true → ⊥
+goes_on_after (Some going) is = cc is
+goes_on_after None is = cc is
+
+halts_by_turn : {S : Type 0} (facts : S → StoreFacts) (IsStored : List ℕ → Type 0) (old new : Keeper S) (going : Session) (own : List ℕ)
+    (event : ClientEvent) (moment : ℕ) (lines : List LogLine)
+    (left : AfterTurn) → IsTurnOf facts IsStored old going own event moment lines left new → halted_after left ≡ true
+    → ((facts new.store).failed ≡ true) × (new.book ≡ old.book)
+halts_by_turn facts IsStored old new going own event moment lines left (inl t) is = absurd
+    (goes_on_after t.turn.answer.session (rw t.is_left at is))
+halts_by_turn facts IsStored old new going own event moment lines left (inr (name, sent, asked, t)) is =
+    halts_judged IsStored moment sent name t.judged old.book new.book (facts old.store) (facts new.store) t.is_judged (rw t.is_left at is)
+
+asks_by_turn : BeginsWithItself → {S : Type 0} (facts : S → StoreFacts) (IsStored : List ℕ → Type 0) (start : BookFields)
+    (calls : List (Numbered Call)) (old new : Keeper S) (n : ℕ)
+    (going : Session) (own : List ℕ) (others : List Guest) (given : ℕ) (event : ClientEvent) (moment : ℕ) (lines : List LogLine)
+    (left : AfterTurn)
+    (s : IsHallAfter facts IsStored start calls (hall_of old (guest_of n going own ∷ others) given false))
+    → IsTurnOf facts IsStored old going own event moment lines left new
+    → (filter is_saving lines ≡ [] → ⊥)
+    → (t : LoggedReply) × (next : BookFields) × IsAttemptOf (hears event moment) (s.places n) lines t × IsAttemptJudged old.book t next
+    × IsBookText (facts new.store).asked next
+asks_by_turn itself facts IsStored start calls old new n going own others given event moment lines left s (inl t) some =
+    absurd (some (ap (filter is_saving) t.lines_are ∙ turn_saves t.turn t.message))
+asks_by_turn itself facts IsStored start calls old new n going own others given event moment lines left s
+    (inr (name, sent, asked, t)) some =
+    let after = book_after_told itself start s.told old.book s.is_book in
+    let asks = asked.asks (accounts_in start) (s.places n) after.entries (s.seated refl).0.0 in
+    let hall = hall_of old (guest_of n going own ∷ others) given false in
+    rw t.lines_are (asked_by_code IsStored event moment sent name (s.places n) t.judged old.book new.book (facts old.store)
+    (facts new.store) asks.place
+    (holds_book facts IsStored start calls hall s refl) t.is_judged (rw t.lines_are at some))
+
+-- the phase that a turn leaves is Halted exactly where it has halted the hall
+tells_halt : (left : AfterTurn) → (phase_left left ≡ phase.Halted) ↔ (halted_after left ≡ true)
+tells_halt (Going going) = (λ is. absurd (open_goes_on going is), λ is. absurd (cc is))
+tells_halt Over = (λ is. absurd (cc is), λ is. absurd (cc is))
+tells_halt (Halted going) = (λ is. refl, λ is. refl)
+
+-- where a guest's turn was taken and its lines written, the hall has answered the call
+pub answers_by_taken_in : BeginsWithItself → SpentStaysSpent
+    → {S : Type 0} (facts : S → StoreFacts) (IsStored : List ℕ → Type 0) (old new : Keeper S) (n : ℕ) (going : Session) (own : List ℕ)
+    (others : List Guest) (given : ℕ) (event : ClientEvent) (moment : ℕ) (left : AfterTurn) (wire wire' log log' : List ℕ)
+    → IsTurnWritten facts IsStored old going own event moment (Some n) wire wire' log log' left new
+    → AnswersIn facts IsStored (hall_of old (guest_of n going own ∷ others) given false) n (hears event moment)
+    (phase_left left) wire wire' log log'
+    (hall_of new (guests_after n own left others) given (halted_after left))
+answers_by_taken_in itself stays facts IsStored old new n going own others given event moment left wire wire' log log' (lines, t, written) =
+    let hall = hall_of old (guest_of n going own ∷ others) given false in
+    record {
+      lines = lines;
+      logged = written.logged ∙ ap (λ (b : List ℕ). log ++ b) (marked_numbered n lines);
+      sent = written.sent;
+      stands = λ start calls s.
+          let step = step_by_turn itself stays facts IsStored start calls old new n going own others given event moment lines left s t in
+          let after = stands_by_step facts IsStored start calls old new n going own others given event moment lines left s step in (
+            after.0,
+            subst (λ (p : Place). IsPhaseOf p (phase_left left)) (sym after.1)
+                (phase_left_at (accounts_in start) step.next _ left step.leaves),
+          );
+      saves = λ start calls s. saves_by_turn facts IsStored old new going own event moment lines left t
+          (holds_book facts IsStored start calls hall s refl);
+      asks = λ start calls s some. asks_by_turn itself facts IsStored start calls old new n going own others given event moment lines left s t some;
+      quiet = λ none. quiet_by_turn facts IsStored old new going own event moment lines left t none;
+      tells = tells_halt left;
+      halts = λ is. halts_by_turn facts IsStored old new going own event moment lines left t is;
+    }
+
+-- what a call does is the same where its guests are in another order
+pub answers_reordered : {S : Type 0} (facts : S → StoreFacts) (IsStored : List ℕ → Type 0) (keeper : Keeper S) (guests others : List Guest)
+    (given : ℕ) (is_halted : Bool) (m n : ℕ) (asked : Asked)
+    (answered : Phase) (wire wire' log log' : List ℕ) (new : HallFields S) → IsPermutation guests others → m ≡ n
+    → AnswersIn facts IsStored (hall_of keeper others given is_halted) m asked answered wire wire' log log' new
+    → AnswersIn facts IsStored (hall_of keeper guests given is_halted) n asked answered wire wire' log log' new
+unfolding stands_reordered
+answers_reordered facts IsStored keeper guests others given is_halted m n asked answered wire wire' log log' new same is was =
+    let a = subst (λ (k : ℕ). AnswersIn facts IsStored
+    (hall_of keeper others given is_halted) k asked answered wire wire' log log' new) is was in
+    record {
+      lines = a.lines;
+      logged = a.logged;
+      sent = a.sent;
+      stands = λ start calls s. a.stands start calls
+          (stands_reordered facts IsStored start calls keeper guests others given is_halted same s);
+      saves = λ start calls s. a.saves start calls
+          (stands_reordered facts IsStored start calls keeper guests others given is_halted same s);
+      asks = λ start calls s some. a.asks start calls
+          (stands_reordered facts IsStored start calls keeper guests others given is_halted same s) some;
+      quiet = a.quiet;
+      tells = a.tells;
+      halts = a.halts;
+    }
+
+-- halls that are the same as the same are the same
+pub same_reordered : {S : Type 0} (keeper : Keeper S) (guests others : List Guest) (given : ℕ) (is_halted : Bool) (new : HallFields S)
+    → IsPermutation guests others
+    → IsSameHall (hall_of keeper others given is_halted) new → IsSameHall (hall_of keeper guests given is_halted) new
+same_reordered keeper guests others given is_halted new same is = record {
+  book = is.book;
+  store = is.store;
+  guests = IsPermutation-trans guests others new.guests same is.guests;
+  given = is.given;
+  halted = is.halted;
+}

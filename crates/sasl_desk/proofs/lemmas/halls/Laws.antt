@@ -1,0 +1,321 @@
+-- The laws of halls.
+use Rattle.std.proofs.Common.{◌≡◌, ◌⊎◌, inl, inr, Bool, true, false, ℕ, List, [], ◌∷◌, ◌++◌, map, reverse, refl, sym, ◌∙◌, ap, subst, arith}
+use Rattle.std.proofs.Common.{append_assoc, append-nil}
+use Rattle.std.specs.List.{AllByRecursion, find}
+use Rattle.std.specs.declared.option.Option.{Option}
+use Rattle.std.specs.declared.option.Option.TheVariants.{None, Some}
+use Rattle.std.proofs.lemmas.Bool.{cases_Bool, eqb-true}
+use Rattle.std.proofs.lemmas.Bool.Decides.{eqb_tells}
+use Rattle.std.proofs.lemmas.List.{map-append}
+use Rattle.std.proofs.lemmas.Grind.{flat_map-append}
+use Rattle.otp_core.specs.Laws.{BeginsWithItself}
+use Rattle.book_format.specs.Book.{BookFields}
+use Rattle.book_format.specs.Trees.{IsBookText}
+use Rattle.account_book.specs.SavedBooks.{WasSaved}
+use Rattle.account_book.specs.Store.{StoreFacts}
+use Rattle.log_grammar.specs.Books.{accounts_in}
+use Rattle.log_grammar.specs.Bytes.{ended_by_lf, IsCut}
+use Rattle.log_grammar.specs.Versions.{most_open, IsFront, IsClean}
+use Rattle.log_grammar.specs.Lines.{LogLine, second_header, said, halt, log_text}
+use Rattle.log_grammar.specs.LoggedReply.{LoggedReply}
+use Rattle.log_grammar.specs.Places.{Place, before_all, between, halted, is_closed}
+use Rattle.log_grammar.specs.Demands.{Accounts, demands}
+use Rattle.log_grammar.specs.Numbered.{Numbered, numbered, of_number, SpellsNumbered, MayEndNumbered}
+use Rattle.log_grammar.specs.NumberedLines.{numbered_text, IsNumberedWritable}
+use Rattle.log_grammar.proofs.lemmas.many_sessions.WithoutLast.{numbered_before}
+use Rattle.log_grammar.proofs.lemmas.many_sessions.LinesOfNumber.{of_number_append, of_number_all, of_number_none}
+use Rattle.log_grammar.proofs.lemmas.headline_laws.NumberedOfSessions.{are_written, each_lacks}
+use Rattle.sasl_desk.specs.Desks.{HoldsBook, IsLostAfter, IsStoredAt, session_phase, all_spent}
+use Rattle.sasl_desk.specs.Guests.{is_of}
+use Rattle.sasl_desk.specs.Saved.{AreLinesSaved}
+use Rattle.sasl_desk.specs.Halls.{HallFields, hall_lines, hall_bytes, numbered_bytes, IsStay, IsSeated, IsStoredAfter, IsHallAfter}
+use Rattle.sasl_desk.specs.Halls.{guest_phase, phase_in, IsPhaseOf, IsPhaseIn}
+use Rattle.sasl_desk.specs.Keeper.{IsAttemptJudged}
+use Rattle.sasl_desk.specs.Records.{HasSessionRecords}
+use Rattle.sasl_desk.specs.Restarts.{IsHallRunLeaving}
+use Rattle.sasl_desk.specs.Runs.{Asked, greets, hears, Call, IsAtRest, IsAnsweredBy, IsRun, wire_bytes, own_part}
+use Rattle.sasl_desk.specs.Serves.{call_lines}
+use Rattle.sasl_desk.specs.Spent.{AreSpent, SpentStaysSpent}
+use Rattle.sasl_desk.specs.declared.hall.guest.Guest.{Guest}
+use Rattle.sasl_desk.proofs.lemmas.halls.Guests.{counted_none, found_holds, found_counted}
+use Rattle.sasl_desk.proofs.lemmas.halls.Calls.{session_phase_at}
+use Rattle.sasl_desk.proofs.lemmas.halls.Turns.{opened, closed, halt_in}
+use Rattle.sasl_desk.proofs.lemmas.runs.Records.{run_offers, run_records}
+use Rattle.sasl_desk.proofs.lemmas.runs.Restarts.{held_or_lost, was_saved, told_spent}
+use Rattle.sasl_desk.proofs.lemmas.runs.Bytes.{wire_bytes-append}
+
+hall_cut : (calls : List (Numbered Call)) → AllByRecursion IsNumberedWritable (hall_lines calls)
+    → IsCut (hall_bytes calls) (log_text second_header ∷ map numbered_text (hall_lines calls)) []
+hall_cut calls written = record {
+  bytes_are = sym (append-nil (ended_by_lf (log_text second_header ∷ map numbered_text (hall_lines calls)))
+      ∙ flat_map-append (λ text. text ++ 10 ∷ []) (log_text second_header ∷ []) (map numbered_text (hall_lines calls)));
+  lines = (refl, each_lacks (hall_lines calls) written);
+  after = refl;
+}
+
+-- after any calls, also while sessions are open, the log of a hall is the front of a clean log
+pub hall_is_front : {S : Type 0} (facts : S → StoreFacts) (IsStored : List ℕ → Type 0) (start : BookFields) (calls : List (Numbered Call))
+    (hall : HallFields S)
+    → IsHallAfter facts IsStored start calls hall → IsFront (accounts_in start) (hall_bytes calls)
+hall_is_front facts IsStored start calls hall s = (
+  log_text second_header ∷ map numbered_text (hall_lines calls),
+  hall_cut calls s.writable,
+  inr (refl, hall_lines calls, s.places, s.told, are_written (hall_lines calls) s.writable, s.spelled),
+)
+
+hall_ends : {S : Type 0} (facts : S → StoreFacts) (IsStored : List ℕ → Type 0) (start : BookFields) (calls : List (Numbered Call))
+    (hall : HallFields S)
+    (s : IsHallAfter facts IsStored start calls hall) → MayEndNumbered s.places → IsClean (accounts_in start) (hall_bytes calls)
+hall_ends facts IsStored start calls hall s ends = (
+  log_text second_header ∷ map numbered_text (hall_lines calls),
+  hall_cut calls s.writable,
+  inr (refl, hall_lines calls, s.places, s.told, are_written (hall_lines calls) s.writable, s.spelled, ends),
+)
+
+-- nothing is left to be said at a session's place
+answered_rests : (accounts : Accounts) (own : List ℕ) (asked : Asked) (place at : Place) (lines : List LogLine)
+    → IsAnsweredBy accounts own asked place lines at
+    → IsAtRest at
+answered_rests accounts own (greets new) place at lines greeting = rw greeting.waits refl
+answered_rests accounts own (hears event moment) place at lines turn = turn.rests
+
+run_rests : (accounts : Accounts) (calls : List Call) (at : Place) → IsRun accounts calls at → IsAtRest at
+run_rests accounts [] at run = rw run tt
+run_rests accounts (c ∷ calls) at (place, run, answered) = answered_rests accounts (own_part calls) c.asked place at c.lines answered
+
+stay_rests : (accounts : Accounts) (calls : List Call) (at : Place) → IsStay accounts calls at → IsAtRest at
+stay_rests accounts calls at (inl run) = run_rests accounts calls at run
+stay_rests accounts calls at (inr (own, turned, is)) = rw is tt
+
+closed_between : (at : Place) → is_closed at ≡ true → IsAtRest at → at ≡ between
+closed_between before_all is rests = absurd (cc rests)
+closed_between between is rests = refl
+closed_between at is rests = absurd (cc is)
+
+-- a number without a guest stands where no session is open, and one with a guest does not
+none_between : {S : Type 0} (facts : S → StoreFacts) (IsStored : List ℕ → Type 0) (start : BookFields) (calls : List (Numbered Call))
+    (hall : HallFields S)
+    (s : IsHallAfter facts IsStored start calls hall) (n : ℕ) → find (is_of n) hall.guests ≡ None → s.places n ≡ between
+none_between facts IsStored start calls hall s n none = elim (cases_Bool (is_closed (s.places n))) [
+  | inl is ↦ closed_between (s.places n) is (stay_rests (accounts_in start) (of_number n calls) (s.places n) (s.stays n))
+  | inr is_open ↦ absurd (omega (arith, counted_none (is_of n) hall.guests none, s.guests n, opened (s.places n) is_open))
+]
+
+some_open : {S : Type 0} (facts : S → StoreFacts) (IsStored : List ℕ → Type 0) (start : BookFields) (calls : List (Numbered Call))
+    (hall : HallFields S)
+    (s : IsHallAfter facts IsStored start calls hall) (n : ℕ) (guest : Guest) → find (is_of n) hall.guests ≡ Some guest
+    → s.places n ≡ between → ⊥
+some_open facts IsStored start calls hall s n guest some at =
+    found_counted (is_of n) hall.guests guest some (s.guests n ∙ closed (s.places n) (rw at refl))
+
+no_guest : (is_halted : Bool) (guest : Option Guest) → guest_phase is_halted guest ≡ None → guest ≡ None
+no_guest is_halted None is = refl
+no_guest true (Some guest) is = absurd (cc is)
+no_guest false (Some guest) is = absurd (cc is)
+
+-- the log of a hall is clean where no session is open
+pub closed_is_clean : {S : Type 0} (facts : S → StoreFacts) (IsStored : List ℕ → Type 0) (start : BookFields) (calls : List (Numbered Call))
+    (hall : HallFields S)
+    → IsHallAfter facts IsStored start calls hall → ((n : ℕ) → phase_in hall n ≡ None) → IsClean (accounts_in start) (hall_bytes calls)
+closed_is_clean facts IsStored start calls hall s none =
+    hall_ends facts IsStored start calls hall s
+    (inl (λ n. none_between facts IsStored start calls hall s n (no_guest hall.is_halted (find (is_of n) hall.guests) (none n))))
+
+lost_at : (IsStored : List ℕ → Type 0) (accounts : Accounts) (calls : List Call) (place : Place) (book : BookFields) (store : StoreFacts)
+    → IsStoredAt IsStored accounts calls place book store
+    → store.failed ≡ true → place ≡ halted
+lost_at IsStored accounts calls halted book store lost failed = refl
+lost_at IsStored accounts calls place book store held failed = absurd (cc (held.working, failed))
+
+failed_ends : {S : Type 0} (facts : S → StoreFacts) (IsStored : List ℕ → Type 0) (start : BookFields) (calls : List (Numbered Call))
+    (hall : HallFields S)
+    (s : IsHallAfter facts IsStored start calls hall) → (facts hall.keeper.store).failed ≡ true → MayEndNumbered s.places
+failed_ends facts IsStored start [] hall s failed = absurd (cc (s.is_stored.working, failed))
+failed_ends facts IsStored start (c ∷ calls) hall s failed =
+    inr (
+      c.number,
+      lost_at IsStored (accounts_in start) (of_number c.number (c ∷ calls)) (s.places c.number) hall.keeper.book
+          (facts hall.keeper.store) s.is_stored failed,
+    )
+
+-- the log of a hall whose store has failed is clean: the session of the latest call then stands after HALT, where a log may end
+pub failed_is_clean : {S : Type 0} (facts : S → StoreFacts) (IsStored : List ℕ → Type 0) (start : BookFields) (calls : List (Numbered Call))
+    (hall : HallFields S)
+    → IsHallAfter facts IsStored start calls hall → (facts hall.keeper.store).failed ≡ true → IsClean (accounts_in start) (hall_bytes calls)
+failed_is_clean facts IsStored start calls hall s failed = hall_ends facts IsStored start calls hall s
+    (failed_ends facts IsStored start calls hall s failed)
+
+-- the log of a hall is clean where its last line is `S HALT`
+pub halted_is_clean : {S : Type 0} (facts : S → StoreFacts) (IsStored : List ℕ → Type 0) (start : BookFields) (calls : List (Numbered Call))
+    (hall : HallFields S)
+    → IsHallAfter facts IsStored start calls hall → (lines : List (Numbered LogLine)) (n : ℕ)
+    → hall_lines calls ≡ lines ++ numbered n (said halt) ∷ []
+    → IsClean (accounts_in start) (hall_bytes calls)
+halted_is_clean facts IsStored start calls hall s lines n last =
+    let d = demands (accounts_in start) in
+    let b = numbered_before most_open d lines n (said halt) s.places s.told
+    (subst (λ (l : List (Numbered LogLine)). SpellsNumbered most_open d l s.places s.told) last s.spelled) in
+    hall_ends facts IsStored start calls hall s (inr (n, halt_in d (b.before n) (s.places n) b.goes.goes))
+
+-- phases
+phase_found : {S : Type 0} (facts : S → StoreFacts) (IsStored : List ℕ → Type 0) (start : BookFields) (calls : List (Numbered Call))
+    (hall : HallFields S)
+    (s : IsHallAfter facts IsStored start calls hall) (n : ℕ) (is_halted : Bool) → is_halted ≡ hall.is_halted → (guest : Option Guest)
+    → find (is_of n) hall.guests ≡ guest
+    → IsPhaseIn (s.places n) (guest_phase is_halted guest)
+phase_found facts IsStored start calls hall s n is_halted same None none = none_between facts IsStored start calls hall s n none
+phase_found facts IsStored start calls hall s n true same (Some guest) some = (some_open facts IsStored start calls hall s n guest some, tt)
+phase_found facts IsStored start calls hall s n false same (Some guest) some =
+    let found = found_holds (IsSeated (accounts_in start) calls s.places) (is_of n) hall.guests guest (s.seated (sym same)) some in
+    let number = eqb-true guest.number n found.1 in (
+      some_open facts IsStored start calls hall s n guest some,
+      subst (λ (m : ℕ). IsPhaseOf (s.places m) (session_phase guest.session)) number
+          (session_phase_at (accounts_in start) (s.places guest.number) guest.session found.0.0),
+    )
+
+-- the phase of each number's session is that of its place, and there is none exactly where no session is open
+pub phases_of_places : {S : Type 0} (facts : S → StoreFacts) (IsStored : List ℕ → Type 0) (start : BookFields)
+    (calls : List (Numbered Call)) (hall : HallFields S)
+    (s : IsHallAfter facts IsStored start calls hall) (n : ℕ) → IsPhaseIn (s.places n) (phase_in hall n)
+phases_of_places facts IsStored start calls hall s n = phase_found facts IsStored start calls hall s n hall.is_halted refl
+    (find (is_of n) hall.guests) refl
+
+-- records
+stay_records : (accounts : Accounts) (calls : List Call) (at : Place) → IsStay accounts calls at → HasSessionRecords accounts calls
+stay_records accounts calls at (inl run) = inl
+    (record { offers = run_offers accounts calls at run; records = run_records accounts calls at run })
+stay_records accounts calls at (inr (own, turned, is)) = inr (own, turned)
+
+-- the calls of each number have their records, as at a desk; or its session was turned away and asked nothing more
+pub session_records : {S : Type 0} (facts : S → StoreFacts) (IsStored : List ℕ → Type 0) (start : BookFields) (calls : List (Numbered Call))
+    (hall : HallFields S)
+    → IsHallAfter facts IsStored start calls hall → (n : ℕ) → HasSessionRecords (accounts_in start) (of_number n calls)
+session_records facts IsStored start calls hall s n = stay_records (accounts_in start) (of_number n calls) (s.places n) (s.stays n)
+
+-- the bytes of a log with one more call end with those of the call's lines
+pub hall_bytes_next : (c : Numbered Call) (before : List (Numbered Call))
+    → hall_bytes (c ∷ before) ≡ hall_bytes before ++ numbered_bytes (map (numbered c.number) c.value.lines)
+hall_bytes_next c before =
+    let more = map (numbered c.number) c.value.lines in
+    let whole : numbered_bytes (hall_lines before ++ more) ≡ numbered_bytes (hall_lines before) ++ numbered_bytes more =
+    ap ended_by_lf (map-append numbered_text (hall_lines before) more)
+    ∙ flat_map-append (λ text. text ++ 10 ∷ []) (map numbered_text (hall_lines before)) (map numbered_text more) in
+    ap (λ (b : List ℕ). ended_by_lf (log_text second_header ∷ []) ++ b) whole
+    ∙ sym (append_assoc (ended_by_lf (log_text second_header ∷ [])) (numbered_bytes (hall_lines before)) (numbered_bytes more))
+
+-- the lines of a number in the log of a hall are those of its own calls, in their order
+pub of_number_lines : (n : ℕ) (calls : List (Numbered Call)) → of_number n (hall_lines calls) ≡ call_lines (of_number n calls)
+of_number_lines n [] = refl
+of_number_lines n (c ∷ before) = elim (eqb_tells n c.number) [
+  | inl same ↦
+      let here = subst (λ (m : ℕ). of_number n (map (numbered m) c.value.lines) ≡ c.value.lines) same.1 (of_number_all n c.value.lines) in
+      rw same.0 (of_number_append n (hall_lines before) (map (numbered c.number) c.value.lines)
+      ∙ ap (λ (l : List LogLine). of_number n (hall_lines before) ++ l) here ∙ ap (λ (l : List LogLine). l ++ c.value.lines)
+      (of_number_lines n before))
+  | inr other ↦
+      rw other.0 (of_number_append n (hall_lines before) (map (numbered c.number) c.value.lines)
+      ∙ ap (λ (l : List LogLine). of_number n (hall_lines before) ++ l)
+      (of_number_none c.number n c.value.lines (λ same. other.1 (sym same)))
+      ∙ append-nil (of_number n (hall_lines before)) ∙ of_number_lines n before)
+]
+
+-- the latest call adds the bytes of what the server says in its lines to what was sent before
+pub wire_bytes_next : (c : Call) (before : List Call)
+    → wire_bytes (call_lines (c ∷ before)) ≡ wire_bytes (call_lines before) ++ wire_bytes c.lines
+wire_bytes_next c before = wire_bytes-append (call_lines before) c.lines
+
+-- what the store holds
+held_or_lost_after : (IsStored : List ℕ → Type 0) (accounts : Accounts) (calls : List (Numbered Call)) (places : ℕ → Place)
+    (book : BookFields) (store : StoreFacts)
+    → IsStoredAfter IsStored accounts calls places book store → HoldsBook IsStored book store
+    ⊎ ((own_calls : List Call) × IsLostAfter IsStored accounts own_calls book store)
+held_or_lost_after IsStored accounts [] places book store held = inl held
+held_or_lost_after IsStored accounts (c ∷ calls) places book store stored =
+    elim (held_or_lost IsStored accounts (of_number c.number (c ∷ calls)) (places c.number) book store stored) [
+      | inl held ↦ inl held
+      | inr lost ↦ inr (of_number c.number (c ∷ calls), lost)
+    ]
+
+was_saved_after : (IsStored : List ℕ → Type 0) (accounts : Accounts) (calls : List (Numbered Call)) (places : ℕ → Place) (book : BookFields)
+    (store : StoreFacts)
+    → IsStoredAfter IsStored accounts calls places book store → WasSaved IsStored book
+was_saved_after IsStored accounts [] places book store held = (store.saved, held.saved, held.stored)
+was_saved_after IsStored accounts (c ∷ calls) places book store stored =
+    was_saved IsStored accounts (of_number c.number (c ∷ calls)) (places c.number) book store stored
+
+-- the book after what a log tells was saved
+pub log_is_saved : {S : Type 0} (facts : S → StoreFacts) (IsStored : List ℕ → Type 0) (start : BookFields) (calls : List (Numbered Call))
+    (hall : HallFields S)
+    → IsHallAfter facts IsStored start calls hall → AreLinesSaved IsStored start (hall_lines calls)
+log_is_saved facts IsStored start calls hall s = record {
+  places = s.places;
+  told = s.told;
+  spelled = s.spelled;
+  saved = record {
+    last = hall.keeper.book;
+    is_last = s.is_book;
+    saved = was_saved_after IsStored (accounts_in start) calls s.places hall.keeper.book (facts hall.keeper.store) s.is_stored;
+  };
+}
+
+-- a book that a run leaves
+run_to : {S : Type 0} (facts : S → StoreFacts) (IsStored : List ℕ → Type 0) (start : BookFields) (calls : List (Numbered Call))
+    (hall : HallFields S)
+    (s : IsHallAfter facts IsStored start calls hall) (left : BookFields)
+    → (left ≡ hall.keeper.book) ⊎ ((t : LoggedReply) × IsAttemptJudged hall.keeper.book t left)
+    → IsHallRunLeaving facts IsStored start calls left
+run_to facts IsStored start calls hall s left leaves = (
+  record { start = start; calls = calls; places = s.places; told = s.told; left = left },
+  record { hall = hall; stands = s; spelled = s.spelled; leaves = leaves },
+  refl,
+  refl,
+  refl,
+)
+
+-- the text that the store of a hall holds is that of a book which the run leaves where it stops here
+pub left_by_hall : {S : Type 0} (facts : S → StoreFacts) (IsStored : List ℕ → Type 0) (start : BookFields) (calls : List (Numbered Call))
+    (hall : HallFields S)
+    → IsHallAfter facts IsStored start calls hall
+    → (left : BookFields) × IsHallRunLeaving facts IsStored start calls left × IsBookText (facts hall.keeper.store).saved left
+left_by_hall facts IsStored start calls hall s =
+    let book = hall.keeper.book in
+    elim (held_or_lost_after IsStored (accounts_in start) calls s.places book (facts hall.keeper.store) s.is_stored) [
+      | inl held ↦ (book, run_to facts IsStored start calls hall s book (inl refl), held.saved)
+      | inr (own_calls, lost) ↦ elim lost.saved [
+        | inl before ↦ (book, run_to facts IsStored start calls hall s book (inl refl), before.0)
+        | inr after ↦ (lost.next, run_to facts IsStored start calls hall s lost.next (inr (lost.t, lost.is_told)), after)
+      ]
+    ]
+
+-- a run that stops as the hall saves one more attempt may leave the book with that attempt
+pub stopped_hall : {S : Type 0} (facts : S → StoreFacts) (IsStored : List ℕ → Type 0) (start : BookFields) (calls : List (Numbered Call))
+    (hall : HallFields S) (t : LoggedReply) (next : BookFields)
+    → IsHallAfter facts IsStored start calls hall → IsAttemptJudged hall.keeper.book t next
+    → IsHallRunLeaving facts IsStored start calls next
+stopped_hall facts IsStored start calls hall t next s one = run_to facts IsStored start calls hall s next (inr (t, one))
+
+-- in the book whose text the store of a hall holds, what was spent before is spent, and each counter that a reply used
+pub saved_by_hall : BeginsWithItself → SpentStaysSpent
+    → {S : Type 0} (facts : S → StoreFacts) (IsStored : List ℕ → Type 0) (start : BookFields) (calls : List (Numbered Call))
+    (hall : HallFields S)
+    (s : IsHallAfter facts IsStored start calls hall) (ps : List (List ℕ × ℕ)) → AreSpent ps start
+    → (saved : BookFields) × IsBookText (facts hall.keeper.store).saved saved × AreSpent (all_spent (reverse s.told) ++ ps) saved
+saved_by_hall itself stays facts IsStored start calls hall s ps spent =
+    let book = hall.keeper.book in
+    let mine = s.spent ps spent in
+    elim (held_or_lost_after IsStored (accounts_in start) calls s.places book (facts hall.keeper.store) s.is_stored) [
+      | inl held ↦ (book, held.saved, mine)
+      | inr (own_calls, lost) ↦ elim lost.saved [
+        | inl before ↦ (book, before.0, mine)
+        | inr after ↦ (lost.next, after, told_spent itself stays book lost.next lost.t (all_spent (reverse s.told) ++ ps) lost.is_told mine)
+      ]
+    ]
+
+-- in the hall's book with one more attempt, what was spent before is spent, and each counter that a told reply used
+pub stopped_by_hall : BeginsWithItself → SpentStaysSpent
+    → {S : Type 0} (facts : S → StoreFacts) (IsStored : List ℕ → Type 0) (start : BookFields) (calls : List (Numbered Call))
+    (hall : HallFields S) (s : IsHallAfter facts IsStored start calls hall) (ps : List (List ℕ × ℕ)) (t : LoggedReply) (next : BookFields)
+    → AreSpent ps start
+    → IsAttemptJudged hall.keeper.book t next → AreSpent (all_spent (reverse s.told) ++ ps) next
+stopped_by_hall itself stays facts IsStored start calls hall s ps t next spent one =
+    told_spent itself stays hall.keeper.book next t (all_spent (reverse s.told) ++ ps) one (s.spent ps spent)

@@ -1,0 +1,344 @@
+-- What a hall stands for after a session of it took a turn.
+use Rattle.std.proofs.Common.{◌≡◌, ◌⊎◌, inl, inr, ◌+◌, Bool, true, false, ℕ, List, [], ◌∷◌, ◌++◌, map, reverse, length, length-append, refl}
+use Rattle.std.proofs.Common.{sym, ◌∙◌, ap, subst, arith}
+use Rattle.std.specs.Prelude.{count_by}
+use Rattle.std.specs.List.{AllByRecursion}
+use Rattle.std.specs.List.Sorted.{IsPermutation}
+use Rattle.std.proofs.lemmas.List.Sorted.{length_permutation}
+use Rattle.std.proofs.lemmas.Bool.{cases_Bool, eq-eqb}
+use Rattle.std.proofs.lemmas.Bool.Decides.{eqb_tells}
+use Rattle.book_format.specs.Book.{BookFields}
+use Rattle.account_book.specs.Store.{StoreFacts}
+use Rattle.log_grammar.specs.Books.{accounts_in}
+use Rattle.log_grammar.specs.Lines.{LogLine, said, busy, halt}
+use Rattle.log_grammar.specs.LoggedReply.{LoggedReply}
+use Rattle.log_grammar.specs.Places.{Place, before_all, between, over, halted, is_closed, open_at}
+use Rattle.log_grammar.specs.Demands.{Accounts, Demands, demands}
+use Rattle.log_grammar.specs.Numbered.{Numbered, numbered, of_number, closed_in, MayFollow, SpellsNumbered, FollowsLast}
+use Rattle.log_grammar.specs.NumberedLines.{IsSessionNumber, IsNumberedWritable}
+use Rattle.log_grammar.specs.state_machine.NumberedSteps.{put, IsVisitTransition}
+use Rattle.log_grammar.proofs.lemmas.many_sessions.WithoutLast.{numbered_before}
+use Rattle.log_grammar.proofs.lemmas.many_sessions.OpenCounts.{open_was_begun}
+use Rattle.log_grammar.proofs.lemmas.many_sessions.LinesOfNumber.{at_each, put_here, put_other, begun_append, closed_append}
+use Rattle.log_grammar.proofs.lemmas.ListEnds.{all_append}
+use Rattle.log_grammar.proofs.lemmas.completions.NumberedFronts.{halt_leads, no_busy_line}
+use Rattle.sasl_log.proofs.lemmas.steps.PermutedSlots.{all_permuted, count_permuted}
+use Rattle.log_grammar.specs.Versions.{most_open}
+use Rattle.sasl_desk.specs.Desks.{HoldsBook, IsStoredAt, IsBookWith, all_spent}
+use Rattle.sasl_desk.specs.Events.{ClientEvent}
+use Rattle.sasl_desk.specs.Guests.{is_of, guest_of}
+use Rattle.sasl_desk.specs.Halls.{HallFields, hall_of, hall_lines, IsStay, IsSeated, IsHallAfter}
+use Rattle.sasl_desk.specs.Runs.{hears, Call, call_of, own_part, IsTurnTaken}
+use Rattle.sasl_desk.specs.Sessions.{IsSessionAt, CanBeWritten}
+use Rattle.sasl_desk.specs.Spent.{AreSpent}
+use Rattle.sasl_desk.specs.Turns.{is_client_turn}
+use Rattle.sasl_desk.specs.declared.hall.guest.Guest.{Guest}
+use Rattle.sasl_desk.specs.declared.keeper.Keeper.{Keeper}
+use Rattle.sasl_desk.specs.declared.session.Session.{Session}
+use Rattle.sasl_desk.specs.declared.turn.AfterTurn.{AfterTurn}
+use Rattle.sasl_desk.specs.declared.turn.AfterTurn.TheVariants.{Going, Over, Halted}
+use Rattle.sasl_desk.proofs.lemmas.halls.Guests.{count_here, count_other, count_last, one_of, none_of, all_with}
+use Rattle.sasl_desk.proofs.lemmas.halls.Paths.{IsTurnLine, turn_number, turn_begun}
+use Rattle.sasl_desk.proofs.lemmas.turns.Paths.{client_turn}
+
+-- the calls of a number, with one more
+pub of_number_here : {X : Type 0} (n : ℕ) (x : X) (xs : List (Numbered X)) → of_number n (numbered n x ∷ xs) ≡ x ∷ of_number n xs
+of_number_here n x xs = rw (eq-eqb n n refl) refl
+
+-- the calls of a number, with one more of another number, are the same
+pub of_number_skip : {X : Type 0} (n m : ℕ) (x : X) (xs : List (Numbered X)) → (n ≡ m → ⊥)
+    → of_number m (numbered n x ∷ xs) ≡ of_number m xs
+of_number_skip n m x xs other = elim (eqb_tells m n) [
+  | inl same ↦ absurd (other (sym same.1))
+  | inr differ ↦ rw differ.0 refl
+]
+
+-- an open place counts for one open session
+pub opened : (at : Place) → is_closed at ≡ false → open_at at ≡ 1
+opened at is = rw is refl
+
+-- a closed place counts for no open session
+pub closed : (at : Place) → is_closed at ≡ true → open_at at ≡ 0
+closed at is = rw is refl
+
+-- a session is open where it is its client's turn
+pub turn_is_open : (at : Place) → is_client_turn at ≡ true → is_closed at ≡ false
+turn_is_open before_all turn = absurd (cc turn)
+turn_is_open between turn = absurd (cc turn)
+turn_is_open at turn = refl
+
+-- nothing is left to be said at a place: no session is open there, or it is its client's turn
+abbrev pub IsResting : Place → Type 0
+IsResting at = (is_closed at ≡ true) ⊎ (is_client_turn at ≡ true)
+
+halted_stirs : (at : Place) → at ≡ halted → IsResting at → ⊥
+halted_stirs at is (inl closed) = let same : is_closed halted ≡ true = subst (λ (p : Place). is_closed p ≡ true) is closed in cc same
+halted_stirs at is (inr turn) = let same : is_client_turn halted ≡ true = subst (λ (p : Place). is_client_turn p ≡ true) is turn in cc same
+
+over_stirs : (at : Place) → at ≡ over → IsResting at → ⊥
+over_stirs at is (inl closed) = let same : is_closed over ≡ true = subst (λ (p : Place). is_closed p ≡ true) is closed in cc same
+over_stirs at is (inr turn) = let same : is_client_turn over ≡ true = subst (λ (p : Place). is_client_turn p ≡ true) is turn in cc same
+
+-- HALT leads to the halted place alone, and BUSY to the one where its `E` is due
+pub halt_in : (d : Demands) (at next : Place) → IsVisitTransition d at (said halt) next → next ≡ halted
+halt_in d at next (inl goes) = halt_leads d at next goes
+halt_in d at next (inr b) = let same = b.1 in absurd (cc same)
+
+busy_in : (d : Demands) (at next : Place) → IsVisitTransition d at (said busy) next → next ≡ over
+busy_in d at next (inl goes) = absurd (no_busy_line d at next goes)
+busy_in d at next (inr b) = b.2
+
+-- any line may follow one that leads to a place where nothing is left to be said
+may_follow : (d : Demands) (at next : Place) (n m : ℕ) (line more : LogLine) → IsVisitTransition d at line next → IsResting next
+    → MayFollow n line m more
+may_follow d at next n m (said halt) more goes rests = halted_stirs next (halt_in d at next goes) rests
+may_follow d at next n m (said busy) more goes rests = absurd (over_stirs next (busy_in d at next goes) rests)
+may_follow d at next n m line more goes rests = tt
+
+-- where a hall has not halted, nothing is left to be said to any of its sessions
+pub seated_guest : {S : Type 0} (facts : S → StoreFacts) (IsStored : List ℕ → Type 0) (start : BookFields) (calls : List (Numbered Call))
+    (hall : HallFields S)
+    (s : IsHallAfter facts IsStored start calls hall) → hall.is_halted ≡ false → (n : ℕ) → is_closed (s.places n) ≡ false
+    → (guest : Guest) × IsSeated (accounts_in start) calls s.places guest × (guest.number ≡ n)
+seated_guest facts IsStored start calls hall s working n is_open =
+    one_of (IsSeated (accounts_in start) calls s.places) n hall.guests (s.seated working)
+    (λ none. absurd (omega (arith, none, s.guests n, opened (s.places n) is_open)))
+
+-- where a hall has not halted, each number stands where no session is open, or where it is its client's turn
+pub at_rest : {S : Type 0} (facts : S → StoreFacts) (IsStored : List ℕ → Type 0) (start : BookFields) (calls : List (Numbered Call))
+    (hall : HallFields S)
+    (s : IsHallAfter facts IsStored start calls hall) → hall.is_halted ≡ false → (n : ℕ) → IsResting (s.places n)
+at_rest facts IsStored start calls hall s working n = elim (cases_Bool (is_closed (s.places n))) [
+  | inl closed ↦ inl closed
+  | inr is_open ↦
+      let found = seated_guest facts IsStored start calls hall s working n is_open in
+      let turn = client_turn (accounts_in start) (s.places found.0.number) found.0.session found.1.0 in
+      inr (subst (λ (m : ℕ). is_client_turn (s.places m) ≡ true) found.2 turn)
+]
+
+-- where a hall has not halted, any line of any number may follow the last of its log
+pub any_follows : {S : Type 0} (facts : S → StoreFacts) (IsStored : List ℕ → Type 0) (start : BookFields) (calls : List (Numbered Call))
+    (hall : HallFields S)
+    (s : IsHallAfter facts IsStored start calls hall) → hall.is_halted ≡ false → (n : ℕ) (line : LogLine)
+    → FollowsLast (hall_lines calls) n line
+any_follows facts IsStored start calls hall s working n line before x same =
+    let d = demands (accounts_in start) in
+    let b = numbered_before most_open d before x.number x.value s.places s.told
+    (subst (λ (l : List (Numbered LogLine)). SpellsNumbered most_open d l s.places s.told) same s.spelled) in
+    may_follow d (b.before x.number) (s.places x.number) x.number n x.value line b.goes.goes
+    (at_rest facts IsStored start calls hall s working x.number)
+
+-- and its store holds the book
+held_unless : (IsStored : List ℕ → Type 0) (accounts : Accounts) (calls : List Call) (at : Place) (book : BookFields) (store : StoreFacts)
+    → (at ≡ halted → ⊥)
+    → IsStoredAt IsStored accounts calls at book store → HoldsBook IsStored book store
+held_unless IsStored accounts calls halted book store going stored = absurd (going refl)
+held_unless IsStored accounts calls at book store going stored = stored
+
+-- where a hall has not halted, its store has not failed and holds the text of its book
+pub holds_book : {S : Type 0} (facts : S → StoreFacts) (IsStored : List ℕ → Type 0) (start : BookFields) (calls : List (Numbered Call))
+    (hall : HallFields S)
+    (s : IsHallAfter facts IsStored start calls hall) → hall.is_halted ≡ false
+    → HoldsBook IsStored hall.keeper.book (facts hall.keeper.store)
+holds_book facts IsStored start [] hall s working = s.is_stored
+holds_book facts IsStored start (c ∷ calls) hall s working =
+    held_unless IsStored (accounts_in start) (of_number c.number (c ∷ calls)) (s.places c.number) hall.keeper.book (facts hall.keeper.store)
+    (λ is. halted_stirs (s.places c.number) is (at_rest facts IsStored start (c ∷ calls) hall s working c.number)) s.is_stored
+
+-- the guests of a hall in another order
+unfoldable pub stands_reordered : {S : Type 0} (facts : S → StoreFacts) (IsStored : List ℕ → Type 0) (start : BookFields)
+    (calls : List (Numbered Call)) (keeper : Keeper S) (guests others : List Guest)
+    (given : ℕ) (is_halted : Bool) → IsPermutation guests others
+    → IsHallAfter facts IsStored start calls (hall_of keeper guests given is_halted)
+    → IsHallAfter facts IsStored start calls (hall_of keeper others given is_halted)
+stands_reordered facts IsStored start calls keeper guests others given is_halted same s = record {
+  places = s.places;
+  told = s.told;
+  stays = s.stays;
+  fresh = s.fresh;
+  spelled = s.spelled;
+  writable = s.writable;
+  given = s.given;
+  last_number = s.last_number;
+  guests = λ n. count_permuted (is_of n) guests others same ∙ s.guests n;
+  open_are = omega (arith, length_permutation guests others same, s.open_are);
+  seated = λ working. all_permuted (IsSeated (accounts_in start) calls s.places) guests others same (s.seated working);
+  is_book = s.is_book;
+  is_stored = s.is_stored;
+  spent = s.spent;
+}
+
+-- a session is left at a place, and its turn has an `E` exactly where it ended
+abbrev pub LeavesAt : Accounts → Place → (ends : ℕ) → AfterTurn → Type 0
+LeavesAt accounts next ends (Going going) = IsSessionAt accounts next going × (ends ≡ 0)
+LeavesAt accounts next ends Over = (next ≡ between) × (ends ≡ 1)
+LeavesAt accounts next ends (Halted going) = (next ≡ halted) × (ends ≡ 0)
+
+-- the guests after a turn of the session of this number: it has a place again unless it ended
+abbrev pub guests_after : (n : ℕ) (own : List ℕ) → AfterTurn → List Guest → List Guest
+guests_after n own (Going going) others = others ++ guest_of n going own ∷ []
+guests_after n own Over others = others
+guests_after n own (Halted going) others = others ++ guest_of n going own ∷ []
+
+-- whether a turn that leaves its session so has halted the hall
+abbrev pub halted_after : AfterTurn → Bool
+halted_after (Going going) = false
+halted_after Over = false
+halted_after (Halted going) = true
+
+-- how many places it has
+seats_of : AfterTurn → ℕ
+seats_of (Going going) = 1
+seats_of Over = 0
+seats_of (Halted going) = 1
+
+seats_open : (accounts : Accounts) (next : Place) (ends : ℕ) (left : AfterTurn) → LeavesAt accounts next ends left
+    → open_at next ≡ seats_of left
+unfolding seats_of
+seats_open accounts next ends (Going going) is = opened next (turn_is_open next (client_turn accounts next going is.0))
+seats_open accounts next ends Over is = closed next (rw is.0 refl)
+seats_open accounts next ends (Halted going) is = opened next (rw is.0 refl)
+
+seats_end : (accounts : Accounts) (next : Place) (ends : ℕ) (left : AfterTurn) → LeavesAt accounts next ends left → seats_of left + ends ≡ 1
+unfolding seats_of
+seats_end accounts next ends (Going going) is = omega (arith, is.1)
+seats_end accounts next ends Over is = omega (arith, is.1)
+seats_end accounts next ends (Halted going) is = omega (arith, is.1)
+
+length_after : (n : ℕ) (own : List ℕ) (left : AfterTurn) (others : List Guest)
+    → length (guests_after n own left others) ≡ length others + seats_of left
+unfolding seats_of
+length_after n own (Going going) others = length-append others (guest_of n going own ∷ [])
+length_after n own Over others = omega arith
+length_after n own (Halted going) others = length-append others (guest_of n going own ∷ [])
+
+count_after_here : (n : ℕ) (own : List ℕ) (left : AfterTurn) (others : List Guest) → count_by (is_of n) others ≡ 0
+    → count_by (is_of n) (guests_after n own left others) ≡ seats_of left
+unfolding seats_of
+count_after_here n own (Going going) others none =
+    omega (arith, none, count_last (is_of n) others (guest_of n going own), count_here n (guest_of n going own) others refl)
+count_after_here n own Over others none = none
+count_after_here n own (Halted going) others none =
+    omega (arith, none, count_last (is_of n) others (guest_of n going own), count_here n (guest_of n going own) others refl)
+
+count_after_other : (n m : ℕ) (own : List ℕ) (left : AfterTurn) (others : List Guest) → (n ≡ m → ⊥)
+    → count_by (is_of m) (guests_after n own left others) ≡ count_by (is_of m) others
+count_after_other n m own (Going going) others other = count_last (is_of m) others (guest_of n going own) ∙ count_other m
+    (guest_of n going own) others other
+count_after_other n m own Over others other = refl
+count_after_other n m own (Halted going) others other = count_last (is_of m) others (guest_of n going own) ∙ count_other m
+    (guest_of n going own) others other
+
+-- numbered lines of a turn can be written
+pub turn_written : (n : ℕ) → IsSessionNumber n → (lines : List LogLine) → AllByRecursion IsTurnLine lines → CanBeWritten lines
+    → AllByRecursion IsNumberedWritable (map (numbered n) lines)
+turn_written n number [] turns written = tt
+turn_written n number (line ∷ lines) turns written = (
+  record {
+    spelled = refl;
+    number = number;
+    has_number = turn_number line turns.0;
+    line = written.0;
+  },
+  turn_written n number lines turns.1 written.1,
+)
+
+-- the guests of other numbers stand where they stood
+pub others_seated : (accounts : Accounts) (calls : List (Numbered Call)) (places : ℕ → Place) (n : ℕ) (call : Call) (next : Place)
+    (others : List Guest)
+    → AllByRecursion (IsSeated accounts calls places) others → AllByRecursion (λ guest. guest.number ≡ n → ⊥) others
+    → AllByRecursion (IsSeated accounts (numbered n call ∷ calls) (put n next places)) others
+others_seated accounts calls places n call next others seated differ =
+    all_with (IsSeated accounts calls places) (λ guest. guest.number ≡ n → ⊥)
+    (IsSeated accounts (numbered n call ∷ calls) (put n next places)) others seated differ
+    (λ guest is apart. (
+      subst (λ (p : Place). IsSessionAt accounts p guest.session)
+          (sym (put_other n next places guest.number (λ same. apart (sym same)))) is.0,
+      is.1 ∙ ap own_part (sym (of_number_skip n guest.number call calls (λ same. apart (sym same)))),
+    ))
+
+-- a turn of the session of a number, by which its hall stands on
+pub record HallStep {S : Type 0} (facts : S → StoreFacts) (IsStored : List ℕ → Type 0) (start : BookFields) (calls : List (Numbered Call))
+    (places : ℕ → Place) (n : ℕ) (event : ClientEvent)
+    (moment : ℕ) (lines : List LogLine) (left : AfterTurn) (keeper : Keeper S) : Type 0 where
+  pub next : Place
+  pub told : List LoggedReply
+  pub taken : IsTurnTaken (accounts_in start) (own_part (of_number n calls)) event moment (places n) lines next
+  pub spelled : SpellsNumbered most_open (demands (accounts_in start)) (hall_lines calls ++ map (numbered n) lines) (put n next places) told
+  pub turns : AllByRecursion IsTurnLine lines
+  pub writable : CanBeWritten lines
+  pub leaves : LeavesAt (accounts_in start) next (closed_in (map (numbered n) lines)) left
+  pub is_book : IsBookWith start (reverse told) keeper.book
+  pub stored : IsStoredAt IsStored (accounts_in start) (call_of (hears event moment) lines ∷ of_number n calls) next keeper.book
+      (facts keeper.store)
+  pub spent : (ps : List (List ℕ × ℕ)) → AreSpent ps start → AreSpent (all_spent (reverse told) ++ ps) keeper.book
+
+seated_after : (accounts : Accounts) (calls : List (Numbered Call)) (places : ℕ → Place) (n : ℕ) (own : List ℕ) (left : AfterTurn)
+    (others : List Guest) (ends : ℕ)
+    → LeavesAt accounts (places n) ends left → AllByRecursion (IsSeated accounts calls places) others → own ≡ own_part (of_number n calls)
+    → halted_after left ≡ false → AllByRecursion (IsSeated accounts calls places) (guests_after n own left others)
+seated_after accounts calls places n own (Going going) others ends is seated same working =
+    all_append (IsSeated accounts calls places) others (guest_of n going own ∷ []) seated ((is.0, same), tt)
+seated_after accounts calls places n own Over others ends is seated same working = seated
+seated_after accounts calls places n own (Halted going) others ends is seated same working = absurd (cc working)
+
+-- a hall stands on after a turn of one of its sessions, which then stands at the place to which the turn led
+pub stands_by_step : {S : Type 0} (facts : S → StoreFacts) (IsStored : List ℕ → Type 0) (start : BookFields) (calls : List (Numbered Call))
+    (old new : Keeper S) (n : ℕ) (going : Session)
+    (own : List ℕ) (others : List Guest) (given : ℕ) (event : ClientEvent) (moment : ℕ) (lines : List LogLine) (left : AfterTurn)
+    (s : IsHallAfter facts IsStored start calls (hall_of old (guest_of n going own ∷ others) given false))
+    (step : HallStep facts IsStored start calls s.places n event moment lines left new)
+    → (after : IsHallAfter facts IsStored start (numbered n (call_of (hears event moment) lines) ∷ calls)
+    (hall_of new (guests_after n own left others) given (halted_after left)))
+    × (after.places n ≡ step.next)
+stands_by_step facts IsStored start calls old new n going own others given event moment lines left s step =
+    let accounts = accounts_in start in
+    let call = call_of (hears event moment) lines in
+    let guest = guest_of n going own in
+    let places = put n step.next s.places in
+    let here = put_here n step.next s.places in
+    let mine = of_number_here n call calls in
+    let is = s.seated refl in
+    let is_open = turn_is_open (s.places n) (client_turn accounts (s.places n) going is.0.0) in
+    let range = open_was_begun most_open (demands accounts) (hall_lines calls) s.places s.told s.spelled n is_open in
+    let number : IsSessionNumber n = (range.0, omega (arith, range.1, s.given, s.last_number)) in
+    let counted = count_here n guest others refl in
+    let alone : count_by (is_of n) others ≡ 0 = omega (arith, counted, s.guests n, opened (s.places n) is_open) in
+    let none = turn_begun n lines step.turns in
+    let all_begun = begun_append (hall_lines calls) (map (numbered n) lines) in
+    let all_closed = closed_append (hall_lines calls) (map (numbered n) lines) in
+    let leaves = subst (λ (p : Place). LeavesAt accounts p (closed_in (map (numbered n) lines)) left) (sym here) step.leaves in (
+      record {
+        places = places;
+        told = step.told;
+        stays = at_each (λ (m : ℕ). IsStay accounts (of_number m (numbered n call ∷ calls)) (places m)) n
+            (subst (λ (l : List Call). IsStay accounts l (places n)) (sym mine)
+            (subst (λ (p : Place). IsStay accounts (call ∷ of_number n calls) p) (sym here) (elim (s.stays n) [
+              | inl run ↦ inl (s.places n, run, step.taken)
+              | inr (own_was, turned, at) ↦ absurd
+                  (let same : is_closed between ≡ false = subst (λ (p : Place). is_closed p ≡ false) at is_open in cc same)
+            ])))
+            (λ m other. subst (λ (l : List Call). IsStay accounts l (places m)) (sym (of_number_skip n m call calls other))
+            (subst (λ (p : Place). IsStay accounts (of_number m calls) p) (sym (put_other n step.next s.places m other)) (s.stays m)));
+        fresh = λ m more. of_number_skip n m call calls (λ same. omega (arith, same, more, range.1, none, all_begun))
+            ∙ s.fresh m (omega (arith, more, none, all_begun));
+        spelled = step.spelled;
+        writable = all_append IsNumberedWritable (hall_lines calls) (map (numbered n) lines) s.writable
+            (turn_written n number lines step.turns step.writable);
+        given = omega (arith, s.given, none, all_begun);
+        last_number = s.last_number;
+        guests = at_each (λ (m : ℕ). count_by (is_of m) (guests_after n own left others) ≡ open_at (places m)) n
+            (count_after_here n own left others alone ∙ sym (seats_open accounts (places n) _ left leaves))
+            (λ m other. count_after_other n m own left others other ∙ sym (count_other m guest others other) ∙ s.guests m
+            ∙ ap open_at (sym (put_other n step.next s.places m other)));
+        open_are = omega (arith, length_after n own left others, seats_end accounts step.next _ left step.leaves, s.open_are, none, all_begun, all_closed);
+        seated = seated_after accounts (numbered n call ∷ calls) places n own left others _ leaves
+            (others_seated accounts calls s.places n call step.next others is.1 (none_of n others alone)) (is.0.1 ∙ ap own_part (sym mine));
+        is_book = step.is_book;
+        is_stored = subst (λ (l : List Call). IsStoredAt IsStored accounts l (places n) new.book (facts new.store)) (sym mine)
+            (subst (λ (p : Place). IsStoredAt IsStored accounts (call ∷ of_number n calls) p new.book (facts new.store))
+            (sym here) step.stored);
+        spent = step.spent;
+      },
+      here,
+    )

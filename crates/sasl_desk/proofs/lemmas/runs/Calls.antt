@@ -1,0 +1,262 @@
+-- What a call of a desk did.
+use Rattle.std.proofs.Common.{◌≡◌, inl, inr, ◌⊎◌, ◌+◌, true, ℕ, List, [], ◌∷◌, ◌++◌, length, filter, refl, sym, ◌∙◌, ap, subst, arith}
+use Rattle.std.specs.declared.option.Option.{Option}
+use Rattle.std.specs.declared.option.Option.TheVariants.{None, Some}
+use Rattle.otp_core.specs.Attempt.{CodeTexts}
+use Rattle.otp_core.specs.Laws.{BeginsWithItself}
+use Rattle.otp_core.specs.declared.token.answer.Reply.TheVariants.{Pass, Fail, Locked}
+use Rattle.book_format.specs.Book.{BookFields}
+use Rattle.book_format.specs.Trees.{IsBookText}
+use Rattle.account_book.specs.Store.{StoreFacts, IsFailedSave}
+use Rattle.log_grammar.specs.Books.{accounts_in}
+use Rattle.log_grammar.specs.laws.LogLaws.{GoesOnByALine}
+use Rattle.log_grammar.specs.Lines.{LogLine, said, heard, mechs, replies, halt, asking, log_bytes}
+use Rattle.log_grammar.specs.Words.{offered_names}
+use Rattle.log_grammar.specs.LoggedReply.{LoggedReply, logged_reply_of}
+use Rattle.log_grammar.specs.Places.{Place, waits_code, halted}
+use Rattle.sasl_desk.specs.Events.{ClientEvent}
+use Rattle.sasl_desk.specs.Keeper.{IsAttemptJudged, IsJudged}
+use Rattle.sasl_desk.specs.Sessions.{IsSessionAt, IsRecord, recorded_shown, said_lines, end_lines, lines_of_answer, turn_lines}
+use Rattle.sasl_desk.specs.Runs.{greets, hears, Call, wire_bytes}
+use Rattle.sasl_desk.specs.Spent.{SpentStaysSpent}
+use Rattle.sasl_desk.specs.TurnResults.{after_turn_of, judged_lines, after_judged, SessionAnswers, IsCodeJudged, AsksJudgement, AreSent}
+use Rattle.sasl_desk.specs.TurnResults.{IsTurnWritten}
+use Rattle.sasl_desk.specs.Desks.{HoldsBook, IsAttemptOf, IsDeskAfter, Answers, phase_of, session_phase, desk_of, state_after, is_saving}
+use Rattle.sasl_desk.specs.declared.turn.AfterTurn.{AfterTurn}
+use Rattle.sasl_desk.specs.declared.keeper.Keeper.{Keeper}
+use Rattle.sasl_desk.specs.declared.keeper.CodeJudged.{CodeJudged}
+use Rattle.sasl_desk.specs.declared.keeper.CodeJudged.TheVariants.{Replied, Lost}
+use Rattle.sasl_desk.specs.declared.desk.Desk.{Desk}
+use Rattle.sasl_desk.specs.declared.desk.state.State.{State}
+use Rattle.sasl_desk.specs.declared.desk.state.State.TheVariants.{Closed, Open, Halted}
+use Rattle.sasl_desk.specs.declared.session.Session.{Session}
+use Rattle.sasl_desk.specs.declared.desk.state.Phase.TheVariants as phase
+use Rattle.sasl_desk.specs.declared.session.Session.TheVariants.{Offered, WaitsFirst, WaitsFinal, WaitsCode}
+use Rattle.sasl_desk.specs.declared.session.turn.Recorded.{Recorded}
+use Rattle.sasl_desk.specs.declared.session.turn.Recorded.TheVariants as recorded
+use Rattle.sasl_desk.specs.declared.session.turn.Saying.{Saying}
+use Rattle.sasl_desk.specs.declared.session.turn.Saying.TheVariants.{Nothing, Continues, Accepts, Refuses}
+use Rattle.sasl_desk.specs.declared.session.turn.Turn.{Turn}
+use Rattle.sasl_desk.proofs.lemmas.turns.Paths.{client_turn}
+use Rattle.sasl_desk.proofs.lemmas.runs.IsDeskAfter.{book_after_told, held_in_turn, lost_now, stands_by_greeting, stands_by_turn}
+use Rattle.sasl_desk.proofs.lemmas.runs.IsDeskAfter.{stands_by_code}
+
+-- what is recorded of a client stands for no save
+recorded_saves : (kept : Recorded) (lines : List LogLine) → filter is_saving (recorded_shown kept ∷ lines) ≡ filter is_saving lines
+recorded_saves (recorded.Line line) lines = refl
+recorded_saves recorded.Bad lines = refl
+recorded_saves recorded.Gone lines = refl
+
+-- nor does the end of a session
+ends_save : (going : Option Session) → filter is_saving (end_lines going) ≡ []
+ends_save (Some going) = refl
+ends_save None = refl
+
+-- nor does what a session answers
+answer_saves : (says : Saying) (going : Option Session) (message : List ℕ)
+    → filter is_saving (said_lines says message ++ end_lines going) ≡ []
+answer_saves Nothing going message = ends_save going
+answer_saves Continues going message = ends_save going
+answer_saves Accepts going message = ends_save going
+answer_saves Refuses going message = ends_save going
+
+-- so no line of a turn that a session answers stands for a save
+pub turn_saves : (turn : Turn) (message : List ℕ) → filter is_saving (turn_lines turn message) ≡ []
+turn_saves turn message =
+    recorded_saves turn.recorded (lines_of_answer turn.answer message) ∙ answer_saves turn.answer.says turn.answer.session message
+
+-- of a code, or two in a row: one save for PASS, FAIL and HALT, and none for another reply
+pub saves_by_code : (IsStored : List ℕ → Type 0) (moment : ℕ) (sent : CodeTexts) (name : List ℕ) (judged : CodeJudged)
+    (old new : BookFields)
+    (was now : StoreFacts) → HoldsBook IsStored old was
+    → IsJudged IsStored old was name moment sent judged new now
+    → now.saves ≡ was.saves + length (filter is_saving (judged_lines moment sent judged))
+saves_by_code IsStored moment sent name (Replied (Some (Pass c))) old new was now held (one, kept) = kept.saved.begun.counted
+saves_by_code IsStored moment sent name (Replied (Some Fail)) old new was now held (one, kept) = kept.saved.begun.counted
+saves_by_code IsStored moment sent name (Replied (Some Locked)) old new was now held (one, kept) =
+    let same = ap (λ (f : StoreFacts). f.saves) kept.1 in omega (arith, same)
+saves_by_code IsStored moment sent name (Replied None) old new was now held (one, kept) =
+    let same = ap (λ (f : StoreFacts). f.saves) kept.1 in omega (arith, same)
+saves_by_code IsStored moment sent name Lost old new was now held (same, (reply, next, needs, one, loses)) =
+    (lost_now was now loses.text held.working loses.lost).begun.counted
+
+-- what the store was given for that save
+pub asked_by_code : (IsStored : List ℕ → Type 0) (event : ClientEvent) (moment : ℕ) (sent : CodeTexts) (name : List ℕ) (at : Place)
+    (judged : CodeJudged) (old new : BookFields) (was now : StoreFacts)
+    → at ≡ waits_code name → HoldsBook IsStored old was → IsJudged IsStored old was name moment sent judged new now
+    → (filter is_saving (judged_lines moment sent judged) ≡ [] → ⊥)
+    → (t : LoggedReply) × (next : BookFields) × IsAttemptOf (hears event moment) at (judged_lines moment sent judged) t
+    × IsAttemptJudged old t next
+    × IsBookText now.asked next
+asked_by_code IsStored event moment sent name at (Replied (Some (Pass c))) old new was now here held (one, kept) some = (
+  logged_reply_of name moment sent (Some (Pass c)),
+  new,
+  record {
+    event = event;
+    answer = said (replies moment (Some (Pass c)));
+    is_asked = refl;
+    place = here;
+    lines_are = refl;
+    is_saved = refl;
+  },
+  one,
+  subst (λ (t : List ℕ). IsBookText t new) (sym kept.saved.begun.asked) kept.is_text,
+)
+asked_by_code IsStored event moment sent name at (Replied (Some Fail)) old new was now here held (one, kept) some = (
+  logged_reply_of name moment sent (Some Fail),
+  new,
+  record { event = event; answer = said (replies moment (Some Fail)); is_asked = refl; place = here; lines_are = refl; is_saved = refl },
+  one,
+  subst (λ (t : List ℕ). IsBookText t new) (sym kept.saved.begun.asked) kept.is_text,
+)
+asked_by_code IsStored event moment sent name at (Replied (Some Locked)) old new was now here held judged some = absurd (some refl)
+asked_by_code IsStored event moment sent name at (Replied None) old new was now here held judged some = absurd (some refl)
+asked_by_code IsStored event moment sent name at Lost old new was now here held (same, (reply, next, needs, one, loses)) some = (
+  logged_reply_of name moment sent reply,
+  next,
+  record { event = event; answer = said halt; is_asked = refl; place = here; lines_are = refl; is_saved = needs },
+  one,
+  subst (λ (t : List ℕ). IsBookText t next) (sym (lost_now was now loses.text held.working loses.lost).begun.asked) loses.is_text,
+)
+
+-- where nothing is saved, nothing changes
+pub quiet_by_code : (IsStored : List ℕ → Type 0) (moment : ℕ) (sent : CodeTexts) (name : List ℕ) (judged : CodeJudged)
+    (old new : BookFields)
+    (was now : StoreFacts)
+    → IsJudged IsStored old was name moment sent judged new now → filter is_saving (judged_lines moment sent judged) ≡ [] → (new ≡ old)
+    × (now ≡ was)
+quiet_by_code IsStored moment sent name (Replied (Some (Pass c))) old new was now judged none = absurd (cc none)
+quiet_by_code IsStored moment sent name (Replied (Some Fail)) old new was now judged none = absurd (cc none)
+quiet_by_code IsStored moment sent name (Replied (Some Locked)) old new was now (one, kept) none = kept
+quiet_by_code IsStored moment sent name (Replied None) old new was now (one, kept) none = kept
+quiet_by_code IsStored moment sent name Lost old new was now judged none = absurd (cc none)
+
+-- a store that was to save, and lost it, has failed
+pub failed_by : (was now : StoreFacts) (text : List ℕ) → ((was.failed ≡ true) × (now ≡ was)) ⊎ IsFailedSave was text now → now.failed ≡ true
+failed_by was now text (inl (failed, same)) = rw same failed
+failed_by was now text (inr lost) = lost.failed
+
+-- the desk has halted only where the save was lost
+halts_by_code : (IsStored : List ℕ → Type 0) (moment : ℕ) (sent : CodeTexts) (name own : List ℕ) (judged : CodeJudged)
+    (old new : BookFields)
+    (was now : StoreFacts)
+    → IsJudged IsStored old was name moment sent judged new now → phase_of (state_after (after_judged name judged) own) ≡ phase.Halted
+    → (now.failed ≡ true) × (new ≡ old)
+halts_by_code IsStored moment sent name own (Replied reply) old new was now judged is = absurd (cc is)
+halts_by_code IsStored moment sent name own Lost old new was now (same, (reply, next, needs, one, loses)) is =
+    (failed_by was now loses.text loses.lost, same)
+
+-- an open session is no halt
+pub open_goes_on : (going : Session) → session_phase going ≡ phase.Halted → ⊥
+open_goes_on Offered is = cc is
+open_goes_on (WaitsFirst mechanism) is = cc is
+open_goes_on (WaitsFinal waiting) is = cc is
+open_goes_on (WaitsCode name) is = cc is
+
+-- nor is one that goes on, or has ended
+left_goes_on : (going : Option Session) (own : List ℕ) → phase_of (state_after (after_turn_of going) own) ≡ phase.Halted → ⊥
+left_goes_on None own is = cc is
+left_goes_on (Some going) own is = open_goes_on going is
+
+-- the session waits for a code of this account, and its client sent one, or two in a row
+answers_by_code : BeginsWithItself → SpentStaysSpent → GoesOnByALine
+    → {S : Type 0} (facts : S → StoreFacts) (IsStored : List ℕ → Type 0) (old : Keeper S) (going : Session)
+    (own : List ℕ) (event : ClientEvent) (moment : ℕ) (lines : List LogLine) (left : AfterTurn) (wire wire' log log' : List ℕ)
+    (new : Desk S)
+    (name : List ℕ) (sent : CodeTexts) → AsksJudgement old going event name sent
+    → IsCodeJudged facts IsStored old name moment sent lines left new.keeper
+    → AreSent None lines wire wire' log log' → new.state ≡ state_after left own
+    → Answers facts IsStored (desk_of old (Open going own)) (hears event moment) wire wire' log log' new
+answers_by_code itself stays law {S} facts IsStored old going own event moment lines left wire wire' log log' new name sent asked t written is_state =
+    let held = λ (start : BookFields) (calls : List Call) (s : IsDeskAfter facts IsStored start calls (desk_of old (Open going own))).
+    held_in_turn IsStored (accounts_in start) calls s.place old.book (facts old.store)
+    (client_turn (accounts_in start) s.place going s.is_state.0) s.is_stored in
+    record {
+      lines = lines;
+      logged = written.logged;
+      sent = written.sent;
+      stands = λ start calls s.
+          let here = subst (λ (g : Session). IsDeskAfter facts IsStored start calls (desk_of old (Open g own))) asked.waits s in
+          let after = book_after_told itself start s.told old.book s.is_book in
+          let asks = asked.asks (accounts_in start) s.place after.entries s.is_state.0 in
+          let is_record = subst (λ (p : Place). IsRecord event p (heard (asking sent))) asks.place asks.is_record in
+          rw (is_state, t.is_left, t.lines_are)
+          (stands_by_code itself stays law facts IsStored start calls old new.keeper name own event moment sent t.judged here is_record
+          asked.writable t.is_judged t.in_range);
+      saves = λ start calls s.
+          rw t.lines_are
+          (saves_by_code IsStored moment sent name t.judged old.book new.keeper.book (facts old.store) (facts new.keeper.store)
+          (held start calls s) t.is_judged);
+      asks = λ start calls s some.
+          let here = subst (λ (g : Session). IsSessionAt (accounts_in start) s.place g) asked.waits s.is_state.0 in
+          rw t.lines_are
+          (asked_by_code IsStored event moment sent name s.place t.judged old.book new.keeper.book (facts old.store)
+          (facts new.keeper.store) here
+          (held start calls s) t.is_judged (rw t.lines_are at some));
+      quiet = λ none.
+          quiet_by_code IsStored moment sent name t.judged old.book new.keeper.book (facts old.store) (facts new.keeper.store) t.is_judged
+          (rw t.lines_are at none);
+      halts = λ is.
+          halts_by_code IsStored moment sent name own t.judged old.book new.keeper.book (facts old.store)
+          (facts new.keeper.store) t.is_judged
+          (rw (is_state, t.is_left) at is);
+    }
+
+-- the session answered a turn
+answers_by_turn : BeginsWithItself → GoesOnByALine
+    → {S : Type 0} (facts : S → StoreFacts) (IsStored : List ℕ → Type 0) (keeper : Keeper S) (going : Session) (own : List ℕ)
+    (event : ClientEvent)
+    (moment : ℕ) (lines : List LogLine) (left : AfterTurn) (wire wire' log log' : List ℕ) (new : Desk S)
+    → SessionAnswers keeper going own event lines left new.keeper → AreSent None lines wire wire' log log'
+    → new.state ≡ state_after left own
+    → Answers facts IsStored (desk_of keeper (Open going own)) (hears event moment) wire wire' log log' new
+answers_by_turn itself law facts IsStored keeper going own event moment lines left wire wire' log log' new t written is_state =
+    let none_saved : filter is_saving lines ≡ [] = rw t.lines_are (turn_saves t.turn t.message) in
+    record {
+      lines = lines;
+      logged = written.logged;
+      sent = written.sent;
+      stands = λ start calls s.
+          rw (t.same, is_state, t.is_left, t.lines_are)
+          (stands_by_turn itself law facts IsStored start calls keeper going own event moment t.turn t.message s t.hears
+          (rw t.lines_are at t.writable));
+      saves = λ start calls s.
+          let none = ap (λ (l : List LogLine). length l) none_saved in
+          let unasked = ap (λ (k : Keeper _). (facts k.store).saves) t.same in
+          omega (arith, none, unasked);
+      asks = λ start calls s some. absurd (some none_saved);
+      quiet = λ none. (ap (λ (k : Keeper _). k.book) t.same, ap (λ (k : Keeper _). facts k.store) t.same);
+      halts = λ is. absurd (left_goes_on t.turn.answer.session own (rw (is_state, t.is_left) at is));
+    }
+
+-- where the open session took a turn and its lines were written, the desk has answered the call
+pub answers_by_taken : BeginsWithItself → SpentStaysSpent → GoesOnByALine
+    → {S : Type 0} (facts : S → StoreFacts) (IsStored : List ℕ → Type 0) (old : Keeper S) (going : Session) (own : List ℕ)
+    (event : ClientEvent) (moment : ℕ) (left : AfterTurn) (wire wire' log log' : List ℕ) (new : Desk S)
+    → IsTurnWritten facts IsStored old going own event moment None wire wire' log log' left new.keeper → new.state ≡ state_after left own
+    → Answers facts IsStored (desk_of old (Open going own)) (hears event moment) wire wire' log log' new
+answers_by_taken itself stays law facts IsStored old going own event moment left wire wire' log log' new (lines, inl t, written) is_state =
+    answers_by_turn itself law facts IsStored old going own event moment lines left wire wire' log log' new t written is_state
+answers_by_taken itself stays law facts IsStored old going own event moment left wire wire' log log' new
+    (lines, inr (name, sent, asked, t), written) is_state =
+    answers_by_code itself stays law facts IsStored old going own event moment lines left wire wire' log log' new name sent asked t written is_state
+
+-- the desk greeted a client
+pub answers_by_greeting : GoesOnByALine
+    → {S : Type 0} (facts : S → StoreFacts) (IsStored : List ℕ → Type 0) (keeper : Keeper S) (state : State)
+    (own wire wire' log log' : List ℕ)
+    → state ≡ Closed → log' ≡ log ++ log_bytes (said (mechs offered_names) ∷ [])
+    → wire' ≡ wire ++ wire_bytes (said (mechs offered_names) ∷ [])
+    → Answers facts IsStored (desk_of keeper state) (greets own) wire wire' log log' (desk_of keeper (Open Offered own))
+answers_by_greeting law facts IsStored keeper state own wire wire' log log' closed logged sent = record {
+  lines = said (mechs offered_names) ∷ [];
+  logged = logged;
+  sent = sent;
+  stands = λ start calls s.
+      stands_by_greeting law facts IsStored start calls keeper own
+      (subst (λ (st : State). IsDeskAfter facts IsStored start calls (desk_of keeper st)) closed s);
+  saves = λ start calls s. omega arith;
+  asks = λ start calls s some. absurd (some refl);
+  quiet = λ none. (refl, refl);
+  halts = λ is. absurd (cc is);
+}

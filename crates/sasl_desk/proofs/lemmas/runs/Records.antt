@@ -1,0 +1,132 @@
+-- The log of a run records what its clients did, and nothing else.
+use Rattle.std.proofs.Common.{◌≡◌, ℕ, true, false, List, [], ◌∷◌, ◌++◌, length, filter, refl, sym, ◌∙◌, ap, subst, arith, append-nil}
+use Rattle.std.specs.List.{AllByRecursion}
+use Rattle.std.proofs.lemmas.List.{length-append}
+use Rattle.std.proofs.lemmas.List.Elements.{filter-append}
+use Rattle.account_book.specs.Store.{StoreFacts}
+use Rattle.book_format.specs.Book.{BookFields}
+use Rattle.log_grammar.specs.Books.{accounts_in}
+use Rattle.log_grammar.specs.Lines.{LogLine, header, second_header, said, heard, bad, gone, ended, mechs}
+use Rattle.log_grammar.specs.Places.{Place}
+use Rattle.log_grammar.specs.Demands.{Accounts}
+use Rattle.log_grammar.specs.Counts.{is_offer}
+use Rattle.sasl_desk.specs.Events.{ClientEvent, sends, goes_away}
+use Rattle.sasl_desk.specs.Sessions.{IsRecord}
+use Rattle.sasl_desk.specs.Runs.{Asked, greets, hears, Call, run_lines, own_part, IsAnswerLine, IsTurnTaken, IsAnsweredBy, IsRun}
+use Rattle.sasl_desk.specs.Desks.{IsDeskAfter}
+use Rattle.sasl_desk.specs.Records.{is_record, nonces_in, nonces_with, HasRecordOf, AreRecords, HasItsRecords}
+use Rattle.sasl_desk.specs.declared.desk.Desk.{Desk}
+
+-- what answers a client records nothing
+no_records : (lines : List LogLine) → AllByRecursion IsAnswerLine lines → filter is_record lines ≡ []
+no_records [] all = refl
+no_records (said line ∷ lines) all = no_records lines all.1
+no_records (ended ∷ lines) all = no_records lines all.1
+no_records (header ∷ lines) all = absurd all.0
+no_records (second_header ∷ lines) all = absurd all.0
+no_records (heard line ∷ lines) all = absurd all.0
+no_records (bad ∷ lines) all = absurd all.0
+no_records (gone ∷ lines) all = absurd all.0
+
+-- and offers nothing
+no_offers : (lines : List LogLine) → AllByRecursion IsAnswerLine lines → filter is_offer lines ≡ []
+no_offers [] all = refl
+no_offers (said (mechs names) ∷ lines) all = absurd all.0
+no_offers (said line ∷ lines) all = no_offers lines all.1
+no_offers (ended ∷ lines) all = no_offers lines all.1
+no_offers (header ∷ lines) all = absurd all.0
+no_offers (second_header ∷ lines) all = absurd all.0
+no_offers (heard line ∷ lines) all = absurd all.0
+no_offers (bad ∷ lines) all = absurd all.0
+no_offers (gone ∷ lines) all = absurd all.0
+
+-- the record of an event is one
+record_kept : (event : ClientEvent) (at : Place) (kept : LogLine) → IsRecord event at kept → is_record kept ≡ true
+record_kept (sends text) at (heard line) is = refl
+record_kept (sends text) at bad is = refl
+record_kept (sends text) at kept is = absurd is
+record_kept goes_away at gone is = refl
+record_kept goes_away at kept is = absurd is
+
+-- and no offer
+record_offers : (event : ClientEvent) (at : Place) (kept : LogLine) → IsRecord event at kept → is_offer kept ≡ false
+record_offers (sends text) at (heard line) is = refl
+record_offers (sends text) at bad is = refl
+record_offers (sends text) at kept is = absurd is
+record_offers goes_away at gone is = refl
+record_offers goes_away at kept is = absurd is
+
+-- the records of a call: none of a greeting, and one of an event
+turn_records : (accounts : Accounts) (own : List ℕ) (event : ClientEvent) (moment : ℕ) (at : Place) (lines : List LogLine) (next : Place)
+    (t : IsTurnTaken accounts own event moment at lines next) → filter is_record lines ≡ t.recorded ∷ []
+turn_records accounts own event moment at lines next t =
+    ap (filter is_record) t.lines_are
+    ∙ rw (record_kept event at t.recorded t.is_record) (ap (λ (l : List LogLine). t.recorded ∷ l) (no_records t.answered t.answers))
+
+turn_offers : (accounts : Accounts) (own : List ℕ) (event : ClientEvent) (moment : ℕ) (at : Place) (lines : List LogLine) (next : Place)
+    → IsTurnTaken accounts own event moment at lines next → filter is_offer lines ≡ []
+turn_offers accounts own event moment at lines next t =
+    ap (filter is_offer) t.lines_are ∙ rw (record_offers event at t.recorded t.is_record) (no_offers t.answered t.answers)
+
+-- the offers of a log with a call more
+offers_next : (accounts : Accounts) (own : List ℕ) (asked : Asked) (at : Place) (lines : List LogLine) (next : Place)
+    (before : List LogLine) (nonces : List (List ℕ))
+    → IsAnsweredBy accounts own asked at lines next → length (filter is_offer before) ≡ length nonces
+    → length (filter is_offer (before ++ lines)) ≡ length (nonces_with asked nonces)
+offers_next accounts own (greets new) at lines next before nonces answered same =
+    let added : filter is_offer lines ≡ said (mechs _) ∷ [] = ap (filter is_offer) answered.says in
+    let whole = filter-append is_offer before lines ∙ ap (λ (l : List LogLine). filter is_offer before ++ l) added in
+    let counted = ap length whole ∙ length-append (filter is_offer before) (said (mechs _) ∷ []) in
+    omega (arith, counted, same)
+offers_next accounts own (hears event moment) at lines next before nonces turn same =
+    ap length (filter-append is_offer before lines
+    ∙ ap (λ (l : List LogLine). filter is_offer before ++ l) (turn_offers accounts own event moment at lines next turn)
+    ∙ append-nil (filter is_offer before))
+    ∙ same
+
+-- the records of a log with a call more
+records_next : (accounts : Accounts) (asked : Asked) (at : Place) (lines : List LogLine) (next : Place) (before : List Call)
+    → IsRun accounts before at → IsAnsweredBy accounts (own_part before) asked at lines next
+    → AreRecords accounts before (filter is_record (run_lines before))
+    → HasRecordOf accounts asked before (AreRecords accounts before) (filter is_record (run_lines before ++ lines))
+records_next accounts (greets own) at lines next before run answered records =
+    let whole = filter-append is_record (run_lines before) lines
+    ∙ ap (λ (l : List LogLine). filter is_record (run_lines before) ++ l) (ap (filter is_record) answered.says)
+    ∙ append-nil (filter is_record (run_lines before)) in
+    subst (λ (l : List LogLine). AreRecords accounts before l) (sym whole) records
+records_next accounts (hears event moment) at lines next before run turn records = (
+  at,
+  filter is_record (run_lines before),
+  turn.recorded,
+  run,
+  turn.is_record,
+  records,
+  filter-append is_record (run_lines before) lines
+      ∙ ap (λ (l : List LogLine). filter is_record (run_lines before) ++ l)
+      (turn_records accounts (own_part before) event moment at lines next turn),
+)
+
+-- the log of a run has as many offers of mechanisms as clients were greeted
+pub run_offers : (accounts : Accounts) (calls : List Call) (at : Place) → IsRun accounts calls at
+    → length (filter is_offer (run_lines calls)) ≡ length (nonces_in calls)
+run_offers accounts [] at run = refl
+run_offers accounts (c ∷ before) at (place, run, answered) =
+    offers_next accounts (own_part before) c.asked place c.lines at (run_lines before) (nonces_in before) answered
+    (run_offers accounts before place run)
+
+-- the records in the log of a run are those of what clients did in its calls, in their order
+pub run_records : (accounts : Accounts) (calls : List Call) (at : Place) → IsRun accounts calls at
+    → AreRecords accounts calls (filter is_record (run_lines calls))
+run_records accounts [] at run = refl
+run_records accounts (c ∷ before) at (place, run, answered) =
+    records_next accounts c.asked place c.lines at before run answered (run_records accounts before place run)
+
+-- the log of a desk has one offer for each greeting and one record for each thing that a client did, and no others
+pub log_has_its_records : {S : Type 0} (facts : S → StoreFacts) (IsStored : List ℕ → Type 0) (start : BookFields) (calls : List Call)
+    (desk : Desk S) → IsDeskAfter facts IsStored start calls desk
+    → HasItsRecords (accounts_in start) calls
+log_has_its_records facts IsStored start calls desk s =
+    record {
+      offers = run_offers (accounts_in start) calls s.place s.is_run;
+      records = run_records (accounts_in start) calls s.place s.is_run;
+    }

@@ -1,0 +1,282 @@
+-- A desk's log is a front, and clean between sessions; and what is spent over runs one after another.
+use Rattle.std.proofs.Common.{◌≡◌, inl, inr, ◌⊎◌, true, ℕ, List, [], ◌∷◌, ◌++◌, reverse, map, refl, sym, subst, append_assoc, append-nil}
+use Rattle.std.specs.List.{AllByRecursion}
+use Rattle.book_format.specs.Book.{BookFields}
+use Rattle.book_format.specs.Trees.{IsBookText}
+use Rattle.account_book.specs.SavedBooks.{WasSaved}
+use Rattle.account_book.specs.Store.{StoreFacts}
+use Rattle.account_book.specs.Laws.{TokensAreApart, AddedIsApart}
+use Rattle.otp_core.specs.Laws.{BeginsWithItself, CandidatesAreNew}
+use Rattle.log_grammar.specs.Books.{accounts_in}
+use Rattle.log_grammar.specs.laws.LogLaws.{LogsHaveOneReading, GoesOnByNoOther}
+use Rattle.log_grammar.specs.Lines.{LogLine, said, halt, log_text, log_bytes}
+use Rattle.log_grammar.specs.LoggedReply.{LoggedReply}
+use Rattle.log_grammar.specs.Places.{Place, MayEnd, got_code, halted}
+use Rattle.log_grammar.specs.Demands.{Accounts, Demands, demands}
+use Rattle.log_grammar.specs.state_machine.Steps.{IsTransition}
+use Rattle.log_grammar.specs.Begins.{Begins, AreLines}
+use Rattle.log_grammar.specs.Versions.{most_open, IsFront, IsClean}
+use Rattle.log_grammar.proofs.lemmas.kinds.ShownByLines.{lines_front, lines_clean}
+use Rattle.log_grammar.proofs.lemmas.headline_laws.OfSessions.{are_lines, each_lacks}
+use Rattle.sasl_desk.specs.Keeper.{IsAttemptJudged}
+use Rattle.sasl_desk.specs.Sessions.{CanBeWritten}
+use Rattle.sasl_desk.specs.Runs.{Call, run_lines}
+use Rattle.sasl_desk.specs.Saved.{IsLogSaved}
+use Rattle.sasl_desk.specs.Spent.{AreDifferent, IsCounterSpent, AreSpent, spent_by, SpentStaysSpent}
+use Rattle.sasl_desk.specs.Desks.{HoldsBook, IsLostAfter, IsStoredAt, IsStateAt, all_spent, IsDeskAfter, phase_of, session_phase}
+use Rattle.log_grammar.specs.laws.NumberedLaws.{HasOneNumberedReading}
+use Rattle.sasl_desk.specs.Halls.{hall_lines}
+use Rattle.sasl_desk.specs.Restarts.{Run, IsDeskRunOf, HallRun, IsHallRunOf, IsRunLeaving, Change, desk_ran, hall_ran, judged, unlocked}
+use Rattle.sasl_desk.specs.Restarts.{added, IsChange, AreChanges, spent_by_change, spent_in}
+use Rattle.sasl_desk.specs.declared.desk.Desk.{Desk}
+use Rattle.sasl_desk.specs.declared.desk.state.State.{State}
+use Rattle.sasl_desk.specs.declared.desk.state.State.TheVariants.{Closed, Open, Halted}
+use Rattle.sasl_desk.specs.declared.desk.state.Phase.TheVariants as phase
+use Rattle.sasl_desk.specs.declared.session.Session.{Session}
+use Rattle.sasl_desk.specs.declared.session.Session.TheVariants.{Offered, WaitsFirst, WaitsFinal, WaitsCode}
+use Rattle.sasl_desk.proofs.lemmas.turns.Keepers.{told_due, told_after}
+use Rattle.sasl_desk.proofs.lemmas.runs.Unlocks.{unlocks_keep, added_keeps}
+use Rattle.sasl_log.proofs.lemmas.audits.AuditedLineByLine.{book_first}
+
+-- the bytes of lines that can be written are these lines
+bytes_are_lines : (lines : List LogLine) → CanBeWritten lines → AreLines (log_bytes lines) lines []
+bytes_are_lines lines written = (
+  map log_text lines,
+  record { bytes_are = sym (append-nil (log_bytes lines)); lines = each_lacks lines written; after = refl },
+  are_lines lines written,
+)
+
+-- a desk's log is a front
+pub log_is_front : {S : Type 0} (facts : S → StoreFacts) (IsStored : List ℕ → Type 0) (start : BookFields) (calls : List Call)
+    (desk : Desk S) → IsDeskAfter facts IsStored start calls desk
+    → IsFront (accounts_in start) (log_bytes (run_lines calls))
+log_is_front facts IsStored start calls desk s =
+    lines_front (accounts_in start) (log_bytes (run_lines calls)) (run_lines calls) s.place s.told
+    (bytes_are_lines (run_lines calls) s.writable) s.begins
+
+-- where no session is open, or the store has failed, a log may end
+closed_open : (going : Session) → session_phase going ≡ phase.Closed → ⊥
+closed_open Offered is = cc is
+closed_open (WaitsFirst mechanism) is = cc is
+closed_open (WaitsFinal waiting) is = cc is
+closed_open (WaitsCode name) is = cc is
+
+closed_ends : (start : BookFields) (own : List ℕ) (place : Place) (state : State) → IsStateAt (accounts_in start) own place state
+    → phase_of state ≡ phase.Closed
+    → MayEnd place
+closed_ends start own place Closed at is = rw at tt
+closed_ends start own place (Open going kept) at is = absurd (closed_open going is)
+closed_ends start own place Halted at is = absurd (cc is)
+
+lost_ends : (IsStored : List ℕ → Type 0) (accounts : Accounts) (calls : List Call) (place : Place) (book : BookFields) (store : StoreFacts)
+    → IsStoredAt IsStored accounts calls place book store
+    → store.failed ≡ true → MayEnd place
+lost_ends IsStored accounts calls halted book store lost failed = tt
+lost_ends IsStored accounts calls place book store held failed = absurd (cc (held.working, failed))
+
+-- `S HALT` leads to one place alone
+halt_leads : (d : Demands) (place next : Place) → IsTransition d place (said halt) next → MayEnd next
+halt_leads d (got_code account sent) next goes = rw goes tt
+halt_leads d place next goes = absurd goes
+
+-- it is clean where no session is open, and where the store has failed
+pub log_is_clean : {S : Type 0} (facts : S → StoreFacts) (IsStored : List ℕ → Type 0) (start : BookFields) (calls : List Call)
+    (desk : Desk S) → IsDeskAfter facts IsStored start calls desk
+    → (phase_of desk.state ≡ phase.Closed) ⊎ ((facts desk.keeper.store).failed ≡ true)
+    → IsClean (accounts_in start) (log_bytes (run_lines calls))
+log_is_clean facts IsStored start calls desk s ends =
+    lines_clean (accounts_in start) (log_bytes (run_lines calls)) (run_lines calls) s.place s.told
+    (bytes_are_lines (run_lines calls) s.writable) s.begins
+    (elim ends [
+      | inl closed ↦ closed_ends start _ s.place desk.state s.is_state closed
+      | inr failed ↦ lost_ends IsStored (accounts_in start) calls s.place desk.keeper.book (facts desk.keeper.store) s.is_stored failed
+    ])
+
+-- so is a log whose last line is `S HALT`
+pub halted_is_clean : GoesOnByNoOther → {S : Type 0} (facts : S → StoreFacts) (IsStored : List ℕ → Type 0) (start : BookFields)
+    (calls : List Call) (desk : Desk S) → IsDeskAfter facts IsStored start calls desk
+    → (lines : List LogLine) → run_lines calls ≡ lines ++ said halt ∷ [] → IsClean (accounts_in start) (log_bytes (run_lines calls))
+halted_is_clean law facts IsStored start calls desk s lines last =
+    let before = law (accounts_in start) lines (said halt) s.place s.told
+    (subst (λ (l : List LogLine). Begins (demands (accounts_in start)) l s.place s.told) last s.begins) in
+    lines_clean (accounts_in start) (log_bytes (run_lines calls)) (run_lines calls) s.place s.told
+    (bytes_are_lines (run_lines calls) s.writable) s.begins
+    (halt_leads (demands (accounts_in start)) before.place s.place before.goes)
+
+-- what is spent is so without some of it
+fewer_different : (ps qs : List (List ℕ × ℕ)) → AreDifferent (ps ++ qs) → AreDifferent qs
+fewer_different [] qs all = all
+fewer_different (p ∷ ps) qs all = fewer_different ps qs all.1
+
+fewer_all : (book : BookFields) (ps qs : List (List ℕ × ℕ)) → AllByRecursion (λ p. IsCounterSpent book p.0 p.1) (ps ++ qs)
+    → AllByRecursion (λ p. IsCounterSpent book p.0 p.1) qs
+fewer_all book [] qs all = all
+fewer_all book (p ∷ ps) qs all = fewer_all book ps qs all.1
+
+fewer_spent : (book : BookFields) (ps qs : List (List ℕ × ℕ)) → AreSpent (ps ++ qs) book → AreSpent qs book
+fewer_spent book ps qs spent = record { different = fewer_different ps qs spent.different; spent = fewer_all book ps qs spent.spent }
+
+-- what was spent after an attempt that the book's token judged
+spent_after_told : BeginsWithItself → SpentStaysSpent → (old new : BookFields) (t : LoggedReply) (ps : List (List ℕ × ℕ))
+    → IsAttemptJudged old t new
+    → AreSpent ps old → AreSpent (spent_by t ++ ps) new
+spent_after_told itself stays old new t ps one spent =
+    let self = book_first itself old in
+    stays old new t ps one.is_moment (told_due old new t one (accounts_in old) [] self)
+    (told_after old new t one (accounts_in old) [] self) spent
+
+-- what was spent after one run
+spent_after_run : BeginsWithItself → SpentStaysSpent → LogsHaveOneReading
+    → {S : Type 0} (facts : S → StoreFacts) (IsStored : List ℕ → Type 0) (r : Run) (ps : List (List ℕ × ℕ))
+    → IsDeskRunOf facts IsStored r → AreSpent ps r.start → AreSpent (all_spent (reverse r.told) ++ ps) r.left
+spent_after_run itself stays once facts IsStored r ps run spent =
+    let s = run.stands in
+    let same = once (accounts_in r.start) (run_lines r.calls) s.place r.place s.told r.told s.begins run.begins in
+    let own = subst (λ (t : List LoggedReply). AreSpent (all_spent (reverse t) ++ ps) run.desk.keeper.book) same.1 (s.spent ps spent) in
+    elim run.leaves [
+      | inl left ↦ subst (λ (b : BookFields). AreSpent (all_spent (reverse r.told) ++ ps) b) (sym left) own
+      | inr (t, one) ↦
+          fewer_spent r.left (spent_by t) (all_spent (reverse r.told) ++ ps)
+          (spent_after_told itself stays run.desk.keeper.book r.left t (all_spent (reverse r.told) ++ ps) one own)
+    ]
+
+-- what was spent after one run of a hall
+spent_after_hall : BeginsWithItself → SpentStaysSpent → HasOneNumberedReading
+    → {S : Type 0} (facts : S → StoreFacts) (IsStored : List ℕ → Type 0) (r : HallRun) (ps : List (List ℕ × ℕ))
+    → IsHallRunOf facts IsStored r → AreSpent ps r.start → AreSpent (all_spent (reverse r.told) ++ ps) r.left
+spent_after_hall itself stays once facts IsStored r ps run spent =
+    let s = run.stands in
+    let same = once most_open (accounts_in r.start) (hall_lines r.calls) s.places r.places s.told r.told s.spelled run.spelled in
+    let own = subst (λ (t : List LoggedReply). AreSpent (all_spent (reverse t) ++ ps) run.hall.keeper.book) same.1 (s.spent ps spent) in
+    elim run.leaves [
+      | inl left ↦ subst (λ (b : BookFields). AreSpent (all_spent (reverse r.told) ++ ps) b) (sym left) own
+      | inr (t, one) ↦
+          fewer_spent r.left (spent_by t) (all_spent (reverse r.told) ++ ps)
+          (spent_after_told itself stays run.hall.keeper.book r.left t (all_spent (reverse r.told) ++ ps) one own)
+    ]
+
+-- what was spent after a change
+spent_after : BeginsWithItself → SpentStaysSpent → LogsHaveOneReading → HasOneNumberedReading → TokensAreApart → CandidatesAreNew
+    → AddedIsApart → {S : Type 0} (facts : S → StoreFacts) (IsStored : List ℕ → Type 0)
+    (c : Change) (old new : BookFields) (ps : List (List ℕ × ℕ)) → IsChange facts IsStored c old new → AreSpent ps old
+    → AreSpent (spent_by_change c ++ ps) new
+spent_after itself stays once numbered_once apart fresh added_apart facts IsStored (desk_ran r) old new ps (run, start, left) spent =
+    subst (λ (b : BookFields). AreSpent (all_spent (reverse r.told) ++ ps) b) left
+    (spent_after_run itself stays once facts IsStored r ps run (subst (λ (b : BookFields). AreSpent ps b) (sym start) spent))
+spent_after itself stays once numbered_once apart fresh added_apart facts IsStored (hall_ran r) old new ps (run, start, left) spent =
+    subst (λ (b : BookFields). AreSpent (all_spent (reverse r.told) ++ ps) b) left
+    (spent_after_hall itself stays numbered_once facts IsStored r ps run (subst (λ (b : BookFields). AreSpent ps b) (sym start) spent))
+spent_after itself stays once numbered_once apart fresh added_apart facts IsStored
+    (judged t) old new ps one spent = spent_after_told itself stays old new t ps one spent
+spent_after itself stays once numbered_once apart fresh added_apart facts IsStored
+    (unlocked name) old new ps changed spent = unlocks_keep apart fresh old new name ps changed spent
+spent_after itself stays once numbered_once apart fresh added_apart facts IsStored (added name account) old new ps (free, is) spent =
+    added_keeps added_apart old new name account ps free is spent
+
+-- what was spent after any number of changes
+pub spent_over_changes : BeginsWithItself → SpentStaysSpent → LogsHaveOneReading → HasOneNumberedReading → TokensAreApart → CandidatesAreNew
+    → AddedIsApart → {S : Type 0}
+    (facts : S → StoreFacts) (IsStored : List ℕ → Type 0) (first : BookFields) (changes : List Change) (last : BookFields)
+    (ps : List (List ℕ × ℕ)) → AreChanges facts IsStored first changes last
+    → AreSpent ps first → AreSpent (spent_in changes ++ ps) last
+spent_over_changes itself stays once numbered_once apart fresh added_apart facts IsStored first [] last ps same spent = subst
+    (λ (b : BookFields). AreSpent ps b) (sym same) spent
+spent_over_changes itself stays once numbered_once apart fresh added_apart facts IsStored first (c ∷ before) last ps
+    (middle, earlier, change) spent =
+    let until = spent_over_changes itself stays once numbered_once apart fresh added_apart facts IsStored first before middle ps earlier spent in
+    subst (λ (l : List (List ℕ × ℕ)). AreSpent l last) (sym (append_assoc (spent_by_change c) (spent_in before) ps))
+    (spent_after itself stays once numbered_once apart fresh added_apart facts IsStored c middle last (spent_in before ++ ps) change until)
+
+-- the store holds the book, or it failed in its last save
+pub held_or_lost : (IsStored : List ℕ → Type 0) (accounts : Accounts) (calls : List Call) (place : Place) (book : BookFields)
+    (store : StoreFacts) → IsStoredAt IsStored accounts calls place book store
+    → HoldsBook IsStored book store ⊎ IsLostAfter IsStored accounts calls book store
+held_or_lost IsStored accounts calls halted book store lost = inr lost
+held_or_lost IsStored accounts calls place book store held = inl held
+
+-- wherever its log stands, the book was saved
+pub was_saved : (IsStored : List ℕ → Type 0) (accounts : Accounts) (calls : List Call) (place : Place) (book : BookFields)
+    (store : StoreFacts)
+    → IsStoredAt IsStored accounts calls place book store → WasSaved IsStored book
+was_saved IsStored accounts calls halted book store lost = lost.before
+was_saved IsStored accounts calls place book store held = (store.saved, held.saved, held.stored)
+
+-- the book after what a log tells was saved
+pub log_is_saved : {S : Type 0} (facts : S → StoreFacts) (IsStored : List ℕ → Type 0) (start : BookFields) (calls : List Call)
+    (desk : Desk S)
+    → IsDeskAfter facts IsStored start calls desk → IsLogSaved IsStored start (log_bytes (run_lines calls))
+log_is_saved facts IsStored start calls desk s = record {
+  lines = run_lines calls;
+  place = s.place;
+  told = s.told;
+  are_lines = refl;
+  begins = s.begins;
+  saved = record {
+    last = desk.keeper.book;
+    is_last = s.is_book;
+    saved = was_saved IsStored (accounts_in start) calls s.place desk.keeper.book (facts desk.keeper.store) s.is_stored;
+  };
+}
+
+-- a book that a run leaves
+run_to : {S : Type 0} (facts : S → StoreFacts) (IsStored : List ℕ → Type 0) (start : BookFields) (calls : List Call) (desk : Desk S)
+    (s : IsDeskAfter facts IsStored start calls desk) (left : BookFields)
+    → (left ≡ desk.keeper.book) ⊎ ((t : LoggedReply) × IsAttemptJudged desk.keeper.book t left)
+    → IsRunLeaving facts IsStored start calls left
+run_to facts IsStored start calls desk s left leaves = (
+  record { start = start; calls = calls; place = s.place; told = s.told; left = left },
+  record { desk = desk; stands = s; begins = s.begins; leaves = leaves },
+  refl,
+  refl,
+  refl,
+)
+
+-- the store holds the text of a book that the desk leaves
+pub left_book : {S : Type 0} (facts : S → StoreFacts) (IsStored : List ℕ → Type 0) (start : BookFields) (calls : List Call) (desk : Desk S)
+    → IsDeskAfter facts IsStored start calls desk
+    → (left : BookFields) × IsRunLeaving facts IsStored start calls left × IsBookText (facts desk.keeper.store).saved left
+left_book facts IsStored start calls desk s =
+    let book = desk.keeper.book in
+    elim (held_or_lost IsStored (accounts_in start) calls s.place book (facts desk.keeper.store) s.is_stored) [
+      | inl held ↦ (book, run_to facts IsStored start calls desk s book (inl refl), held.saved)
+      | inr lost ↦ elim lost.saved [
+        | inl before ↦ (book, run_to facts IsStored start calls desk s book (inl refl), before.0)
+        | inr after ↦ (lost.next, run_to facts IsStored start calls desk s lost.next (inr (lost.t, lost.is_told)), after)
+      ]
+    ]
+
+-- a stop within a call leaves the book with the attempt that is judged
+pub stopped_run : {S : Type 0} (facts : S → StoreFacts) (IsStored : List ℕ → Type 0) (start : BookFields) (calls : List Call)
+    (desk : Desk S) (t : LoggedReply) (next : BookFields)
+    → IsDeskAfter facts IsStored start calls desk → IsAttemptJudged desk.keeper.book t next → IsRunLeaving facts IsStored start calls next
+stopped_run facts IsStored start calls desk t next s one = run_to facts IsStored start calls desk s next (inr (t, one))
+
+-- what was spent is spent after one more attempt
+pub told_spent : BeginsWithItself → SpentStaysSpent → (old new : BookFields) (t : LoggedReply) (ps : List (List ℕ × ℕ))
+    → IsAttemptJudged old t new → AreSpent ps old → AreSpent ps new
+told_spent itself stays old new t ps one spent = fewer_spent new (spent_by t) ps (spent_after_told itself stays old new t ps one spent)
+
+-- each counter that was told is spent in the book whose text the store holds
+pub saved_spent : BeginsWithItself → SpentStaysSpent
+    → {S : Type 0} (facts : S → StoreFacts) (IsStored : List ℕ → Type 0) (start : BookFields) (calls : List Call) (desk : Desk S)
+    (s : IsDeskAfter facts IsStored start calls desk) (ps : List (List ℕ × ℕ)) → AreSpent ps start
+    → (saved : BookFields) × IsBookText (facts desk.keeper.store).saved saved × AreSpent (all_spent (reverse s.told) ++ ps) saved
+saved_spent itself stays facts IsStored start calls desk s ps spent =
+    let book = desk.keeper.book in
+    let own = s.spent ps spent in
+    elim (held_or_lost IsStored (accounts_in start) calls s.place book (facts desk.keeper.store) s.is_stored) [
+      | inl held ↦ (book, held.saved, own)
+      | inr lost ↦ elim lost.saved [
+        | inl before ↦ (book, before.0, own)
+        | inr after ↦ (lost.next, after, told_spent itself stays book lost.next lost.t (all_spent (reverse s.told) ++ ps) lost.is_told own)
+      ]
+    ]
+
+-- and in the one that a stop within a call leaves
+pub stopped_spent : BeginsWithItself → SpentStaysSpent
+    → {S : Type 0} (facts : S → StoreFacts) (IsStored : List ℕ → Type 0) (start : BookFields) (calls : List Call) (desk : Desk S)
+    (s : IsDeskAfter facts IsStored start calls desk) (ps : List (List ℕ × ℕ)) (t : LoggedReply) (next : BookFields) → AreSpent ps start
+    → IsAttemptJudged desk.keeper.book t next
+    → AreSpent (all_spent (reverse s.told) ++ ps) next
+stopped_spent itself stays facts IsStored start calls desk s ps t next spent one =
+    told_spent itself stays desk.keeper.book next t (all_spent (reverse s.told) ++ ps) one (s.spent ps spent)

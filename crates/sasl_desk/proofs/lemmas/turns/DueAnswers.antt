@@ -1,0 +1,180 @@
+-- The answers of a session are those that are due.
+use Rattle.std.proofs.Common.{◌≡◌, ℕ, List, [], refl, sym, ap, subst}
+use Rattle.std.specs.declared.option.Option.{Option}
+use Rattle.std.specs.declared.option.Option.TheVariants.{None, Some}
+use Rattle.mac_core.specs.Mechanism.{name_of}
+use Rattle.mac_core.specs.declared.mechanism.Mechanism.{Mechanism}
+use Rattle.scram_text.specs.Laws.{SpellsOneName, HasOneClientFirst}
+use Rattle.scram_text.specs.Messages.{ClientFirstParts, IsClientFirst, IsServerFinal}
+use Rattle.scram_ends.specs.Entry.{Entry}
+use Rattle.scram_ends.specs.Stages.{challenged_login}
+use Rattle.scram_ends.specs.Opening.{IsTakenUp}
+use Rattle.scram_ends.specs.First.{IsRefusedWith, IsChallengeTo}
+use Rattle.scram_ends.specs.Standing.{StandsFor}
+use Rattle.scram_ends.specs.Verdict.{Due, accept, refuse, IsDue, due_text, final_due, verdict_of}
+use Rattle.scram_ends.specs.Laws.{RefusedIsNotTakenUp}
+use Rattle.scram_ends.specs.declared.server.ServerWait.{ServerWait}
+use Rattle.scram_ends.specs.declared.first.FirstFault.{FirstFault}
+use Rattle.scram_ends.specs.declared.verdict.Refusal.{Refusal}
+use Rattle.scram_ends.specs.declared.verdict.Verdict.{Verdict}
+use Rattle.log_grammar.specs.Places.{Place, between, asks_bare, waits_first, got_first, waits_final, got_final, waits_code, leaving, over}
+use Rattle.log_grammar.specs.Demands.{Accounts, NamesMechanism, IsFirstOf}
+use Rattle.sasl_log.proofs.lemmas.steps.Logins.{stands_same, challenge_of}
+use Rattle.sasl_desk.specs.Waiting.{waiting_of}
+use Rattle.sasl_desk.specs.Sessions.{answer_of, verdict_answer, IsBareNoDue, IsAnswer}
+use Rattle.sasl_desk.specs.declared.session.Session.TheVariants.{WaitsFirst, WaitsFinal}
+use Rattle.sasl_desk.specs.declared.session.turn.Saying.TheVariants.{Nothing, Continues, Refuses}
+
+-- a bare `S NO` is due to a client that is turned away
+pub bare_no_due : (accounts : Accounts) (own : List ℕ) (at : Place) → IsBareNoDue at → IsAnswer accounts own at (answer_of Refuses None) []
+bare_no_due accounts own leaving away =
+    record { next = between; path = (over, (refl, refl), (between, refl, refl)); left = refl; own_part = tt; plain = (tt, (tt, tt)) }
+bare_no_due accounts own (asks_bare mechanism) away =
+    record {
+      next = between;
+      path = (over, ((away, refl), refl), (between, refl, refl));
+      left = refl;
+      own_part = tt;
+      plain = (tt, (tt, tt));
+    }
+bare_no_due accounts own (got_first mechanism first) away =
+    record {
+      next = between;
+      path = (over, ((away, refl), refl), (between, refl, refl));
+      left = refl;
+      own_part = tt;
+      plain = (tt, (tt, tt));
+    }
+bare_no_due accounts own at away = absurd away
+
+-- nothing but `E` is due after a client that has gone away
+pub departure_due : (accounts : Accounts) (own : List ℕ) → IsAnswer accounts own over (answer_of Nothing None) []
+departure_due accounts own = record { next = between; path = (between, refl, refl); left = refl; own_part = tt; plain = (tt, tt) }
+
+-- a mechanism that is not offered opens no login
+pub not_offered : (mechanism first : List ℕ) → ((m : Mechanism) → NamesMechanism mechanism m → ⊥) → (name : List ℕ)
+    → IsFirstOf mechanism first name → ⊥
+not_offered mechanism first unknown name is = unknown is.m is.offered
+
+-- a message that is refused opens no login
+pub not_first : RefusedIsNotTakenUp → (mechanism first : List ℕ) (fault : FirstFault) → IsRefusedWith first fault → (name : List ℕ)
+    → IsFirstOf mechanism first name → ⊥
+not_first law mechanism first fault refusal name is = law first fault is.parts name is.authzid refusal is.is_first is.taken_up
+
+-- a message that is taken up opens a login by a mechanism that is offered
+pub first_of : (mechanism first name : List ℕ) (m : Mechanism) (p : ClientFirstParts) (authzid : Option (List ℕ))
+    → NamesMechanism mechanism m
+    → IsClientFirst first p → IsTakenUp p name authzid → IsFirstOf mechanism first name
+first_of mechanism first name m p authzid named is taken =
+    record { m = m; offered = named; parts = p; authzid = authzid; is_first = is; taken_up = taken }
+
+-- the empty challenge is due to a client that asks for a mechanism that is offered
+pub invitation_due : (accounts : Accounts) (own : List ℕ) (mechanism : List ℕ) (m : Mechanism) → NamesMechanism mechanism m
+    → IsAnswer accounts own (asks_bare mechanism) (answer_of Continues (Some (WaitsFirst m))) []
+invitation_due accounts own mechanism m named = record {
+  next = waits_first mechanism;
+  path = (waits_first mechanism, (((m, named), refl), refl), refl);
+  left = ap waits_first named;
+  own_part = tt;
+  plain = (tt, tt);
+}
+
+-- the challenge that a server writes is due, and the server stands for its login
+challenge_to : HasOneClientFirst → SpellsOneName
+    → (accounts : Accounts) (own : List ℕ) (wait : ServerWait) (m : Mechanism) (mechanism name client_first server_first : List ℕ)
+    → NamesMechanism mechanism m → IsFirstOf mechanism client_first name
+    → IsChallengeTo (accounts.entry m name) client_first own server_first
+    → StandsFor wait (challenged_login (accounts.entry m name) m client_first server_first)
+    → IsAnswer accounts own (got_first mechanism client_first)
+    (answer_of Continues (Some (WaitsFinal (waiting_of wait m name)))) server_first
+challenge_to once names accounts own wait m mechanism name client_first server_first named first shows stands = record {
+  next = waits_final mechanism name client_first server_first;
+  path = (
+    waits_final mechanism name client_first server_first,
+    (name, challenge_of once names accounts wait m mechanism name client_first server_first named first stands, refl),
+    refl,
+  );
+  left = (client_first, server_first, ap (λ (t : List ℕ). waits_final t name client_first server_first) named, stands);
+  own_part = (m, named, shows);
+  plain = (tt, tt);
+}
+
+-- a challenge of a server that stands for the account's login is due after its client-first message, and the session then waits
+-- for the final one
+pub challenge_due : HasOneClientFirst → SpellsOneName → (accounts : Accounts) (own : List ℕ) (wait : ServerWait) (m : Mechanism)
+    (mechanism name client_first server_first message : List ℕ) (entry : Entry) → entry ≡ accounts.entry m name → message ≡ server_first
+    → NamesMechanism mechanism m → IsFirstOf mechanism client_first name → IsChallengeTo entry client_first own server_first
+    → StandsFor wait (challenged_login entry m client_first server_first)
+    → IsAnswer accounts own (got_first mechanism client_first) (answer_of Continues (Some (WaitsFinal (waiting_of wait m name)))) message
+challenge_due once names accounts own wait m mechanism name client_first server_first message entry same written named first shows stands =
+    let here = subst (λ (e : Entry). IsChallengeTo e client_first own server_first) same shows in
+    let stood = stands_same wait entry (accounts.entry m name) m client_first client_first server_first same refl stands in
+    subst (λ (t : List ℕ). IsAnswer accounts own (got_first mechanism client_first)
+    (answer_of Continues (Some (WaitsFinal (waiting_of wait m name)))) t)
+    (sym written) (challenge_to once names accounts own wait m mechanism name client_first server_first named first here stood)
+
+-- an acceptance is due where its verdict is
+pub acceptance_due : (accounts : Accounts) (own : List ℕ) (m : Mechanism) (name client_first server_first client_final signature : List ℕ)
+    → IsDue (challenged_login (accounts.entry m name) m client_first server_first) client_final (accept signature)
+    → IsServerFinal (due_text (accept signature)) (final_due (accept signature))
+    → IsAnswer accounts own (got_final (name_of m) name client_first server_first client_final)
+    (verdict_answer (verdict_of (accept signature)) name)
+    (due_text (accept signature))
+acceptance_due accounts own m name client_first server_first client_final signature due is = record {
+  next = waits_code name;
+  path = (
+    waits_code name,
+    (
+      (
+        signature,
+        (m, refl, due),
+        record {
+          last = final_due (accept signature);
+          is_last = is;
+          not_mandatory = refl;
+          verifier = refl;
+        },
+      ),
+      refl,
+    ),
+    refl,
+  );
+  left = refl;
+  own_part = tt;
+  plain = ((signature, is), tt);
+}
+
+-- a denial is due where its verdict is, with the message that says why
+pub denial_due : (accounts : Accounts) (own : List ℕ) (m : Mechanism) (name client_first server_first client_final : List ℕ) (why : Refusal)
+    → IsDue (challenged_login (accounts.entry m name) m client_first server_first) client_final (refuse why)
+    → IsAnswer accounts own (got_final (name_of m) name client_first server_first client_final)
+    (verdict_answer (verdict_of (refuse why)) name)
+    (due_text (refuse why))
+denial_due accounts own m name client_first server_first client_final why due = record {
+  next = between;
+  path = (over, ((why, (m, refl, due), refl), refl), (between, refl, refl));
+  left = refl;
+  own_part = tt;
+  plain = (tt, (tt, tt));
+}
+
+by_due : (accounts : Accounts) (own : List ℕ) (m : Mechanism) (name client_first server_first client_final : List ℕ) (d : Due)
+    → IsDue (challenged_login (accounts.entry m name) m client_first server_first) client_final d → IsServerFinal (due_text d) (final_due d)
+    → IsAnswer accounts own (got_final (name_of m) name client_first server_first client_final) (verdict_answer (verdict_of d) name)
+    (due_text d)
+by_due accounts own m name client_first server_first client_final (accept signature) due is =
+    acceptance_due accounts own m name client_first server_first client_final signature due is
+by_due accounts own m name client_first server_first client_final (refuse why) due is =
+    denial_due accounts own m name client_first server_first client_final why due
+
+-- the answer that bears the verdict is due
+pub verdict_due : (accounts : Accounts) (own : List ℕ) (m : Mechanism) (name client_first server_first client_final message : List ℕ)
+    (v : Verdict) (d : Due)
+    → IsDue (challenged_login (accounts.entry m name) m client_first server_first) client_final d → v ≡ verdict_of d → message ≡ due_text d
+    → IsServerFinal (due_text d) (final_due d)
+    → IsAnswer accounts own (got_final (name_of m) name client_first server_first client_final) (verdict_answer v name) message
+verdict_due accounts own m name client_first server_first client_final message v d due says written is =
+    let at = got_final (name_of m) name client_first server_first client_final in
+    let here = by_due accounts own m name client_first server_first client_final d due is in
+    let worded = subst (λ (w : Verdict). IsAnswer accounts own at (verdict_answer w name) (due_text d)) (sym says) here in
+    subst (λ (t : List ℕ). IsAnswer accounts own at (verdict_answer v name) t) (sym written) worded

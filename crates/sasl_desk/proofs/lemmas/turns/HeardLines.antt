@@ -1,0 +1,79 @@
+-- What came of a line is what came of the event that it was.
+use Rattle.std.proofs.Common.{◌≡◌, true, false, ℕ, List, refl, sym, subst}
+use Rattle.std.specs.Prelude.{IfOk}
+use Rattle.std.specs.declared.result.Result.{Result}
+use Rattle.std.specs.declared.result.Result.TheVariants.{Ok, Err}
+use Rattle.log_grammar.specs.laws.LineLaws.{EachTextIsAtMostOneLine}
+use Rattle.otp_core.specs.Attempt.{CodeTexts, OneText, TwoTexts}
+use Rattle.log_grammar.specs.Lines.{LogLine, heard, bad, ClientLine, asking, from_client, IsLine}
+use Rattle.log_grammar.specs.Places.{Place}
+use Rattle.log_grammar.specs.Demands.{Accounts}
+use Rattle.sasl_desk.specs.Events.{ClientEvent, sends, goes_away}
+use Rattle.otp_core.specs.Sent.{texts_of}
+use Rattle.sasl_desk.specs.Turns.{is_due}
+use Rattle.sasl_desk.specs.Sessions.{IsLineOf, IsRecord, IsRecordOfLine, ComesOfEvent, ComesOfLine, AsksFor, AsksForEvent, TakesMemory}
+use Rattle.sasl_desk.specs.Sessions.{SentWhatTakesMemory}
+use Rattle.sasl_desk.specs.declared.session.Session.{Session}
+use Rattle.sasl_desk.specs.declared.session.turn.Heard.{Heard}
+use Rattle.sasl_desk.specs.declared.session.turn.Heard.TheVariants.{Answered, Asks}
+
+-- lines of a client that are one line of the protocol are the same
+pub line_inside : (one other : ClientLine) → from_client one ≡ from_client other → one ≡ other
+line_inside one other same = cc
+
+-- the record of a line is that of an event which is this line and, since a text is one line, no other
+pub record_of_line : EachTextIsAtMostOneLine → (event : ClientEvent) (line : ClientLine) (at : Place) (recorded : LogLine)
+    → IsLineOf event line → IsRecordOfLine line at recorded
+    → IsRecord event at recorded
+record_of_line once goes_away line at recorded is kept = absurd is
+record_of_line once (sends text) line at (heard recorded) is kept = (
+  subst (λ (l : ClientLine). IsLine text (from_client l)) (sym kept.0) is,
+  subst (λ (l : ClientLine). is_due at l ≡ true) (sym kept.0) kept.1,
+)
+record_of_line once (sends text) line at bad is kept = λ other also.
+    subst (λ (l : ClientLine). is_due at l ≡ false) (line_inside line other (once text (from_client line) (from_client other) is also)) kept
+record_of_line once (sends text) line at recorded is kept = absurd kept
+
+heard_of_line : EachTextIsAtMostOneLine → (accounts : Accounts) (own : List ℕ) (event : ClientEvent) (line : ClientLine) (at : Place)
+    (h : Heard) (message : List ℕ)
+    → IsLineOf event line → ComesOfLine accounts own line at h message → ComesOfEvent accounts own event at h message
+heard_of_line once accounts own event line at (Answered turn) message is came =
+    record { is_record = record_of_line once event line at _ is came.is_record; is_answer = came.is_answer }
+heard_of_line once accounts own event line at (Asks name sent) message is came =
+    record { place = came.0; is_record = record_of_line once event line at (heard (asking (texts_of sent))) is came.1 }
+
+-- what came of a line of the client, unless the call failed, came of the event that was this line
+pub all_heard_of_line : EachTextIsAtMostOneLine
+    → (accounts : Accounts) (own : List ℕ) (event : ClientEvent) (line : ClientLine) (at : Place) (r : Result Heard Session)
+    (message : List ℕ)
+    → IsLineOf event line → IfOk r (λ h. ComesOfLine accounts own line at h message)
+    → IfOk r (λ h. ComesOfEvent accounts own event at h message)
+all_heard_of_line once accounts own event line at (Ok h) message is came = heard_of_line once accounts own event line at h message is came
+all_heard_of_line once accounts own event line at (Err back) message is came = tt
+
+-- a text that is no line of a client is recorded as `C BAD`
+pub no_line_record : (event : ClientEvent) (at : Place) → ((line : ClientLine) → IsLineOf event line → ⊥) → (event ≡ goes_away → ⊥)
+    → IsRecord event at bad
+no_line_record goes_away at no_line sent = absurd (sent refl)
+no_line_record (sends text) at no_line sent = λ line is. absurd (no_line line is)
+
+-- a code is that of the event where it is that of the line that the event was
+asks_of_line : (event : ClientEvent) (line : ClientLine) (h : Heard) → IsLineOf event line → AsksFor h line → AsksForEvent h event
+asks_of_line event line (Answered turn) is same = tt
+asks_of_line event line (Asks name sent) is same = subst (λ (l : ClientLine). IsLineOf event l) same is
+
+-- unless the call failed, a code that is to be judged is that of the event, where it is that of the line that the event was
+pub all_asks_of_line : (event : ClientEvent) (line : ClientLine) (r : Result Heard Session) → IsLineOf event line
+    → IfOk r (λ h. AsksFor h line)
+    → IfOk r (λ h. AsksForEvent h event)
+all_asks_of_line event line (Ok h) is same = asks_of_line event line h is same
+all_asks_of_line event line (Err back) is same = tt
+
+-- a code takes memory, and so do two in a row
+takes_code : (sent : CodeTexts) → TakesMemory (asking sent)
+takes_code (OneText text) = tt
+takes_code (TwoTexts first second) = tt
+
+-- a client that sent a code, or two in a row, sent a line whose answer takes memory
+pub sent_code : (event : ClientEvent) (sent : CodeTexts) → IsLineOf event (asking sent) → SentWhatTakesMemory event
+sent_code event sent is = (asking sent, is, takes_code sent)

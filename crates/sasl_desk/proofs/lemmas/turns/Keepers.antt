@@ -1,0 +1,105 @@
+-- What a keeper told, and a token that it puts back.
+use Rattle.std.proofs.Common.{◌≡◌, ◌≢◌, ◌≤◌, ℕ, true, List, [], ◌∷◌, ◌++◌, reverse, refl, sym, ap, subst, ◌∙◌}
+use Rattle.std.specs.declared.option.Option.TheVariants.{None, Some}
+use Rattle.otp_core.specs.Attempt.{Attempt, CodeTexts, attempt_of}
+use Rattle.otp_core.specs.History.{IsAfter}
+use Rattle.otp_core.specs.Reply.{IsDueReply}
+use Rattle.otp_core.specs.Ranges.{IsMoment, most_counter}
+use Rattle.otp_core.specs.State.{advanced}
+use Rattle.otp_core.specs.declared.token.answer.Reply.{Reply}
+use Rattle.otp_core.specs.declared.token.answer.Reply.TheVariants.{Pass, Fail, Locked}
+use Rattle.otp_core.specs.declared.token.kinds.TokenFields.{TokenFields}
+use Rattle.book_format.specs.Book.{BookFields}
+use Rattle.account_book.specs.Accounts.{IsChanged, with_changed}
+use Rattle.account_book.specs.SavedBooks.{needs_save, SavesBook}
+use Rattle.account_book.specs.Store.{StoreFacts}
+use Rattle.account_book.specs.Tokens.{token_at, with_token, IsAttempt}
+use Rattle.account_book.proofs.lemmas.Maps.{is_changed}
+use Rattle.account_book.proofs.lemmas.Tokens.{tokens_go_back, tokens_stay}
+use Rattle.log_grammar.specs.Lines.{IsReplyInRange}
+use Rattle.log_grammar.specs.LoggedReply.{LoggedReply, logged_reply_of}
+use Rattle.log_grammar.specs.Demands.{Accounts, IsToldDue}
+use Rattle.sasl_log.proofs.lemmas.steps.Tokens.{reply_by, book_after}
+use Rattle.sasl_log.specs.Tokens.{IsBookAfter}
+use Rattle.sasl_desk.specs.Keeper.{IsAttemptJudged, IsKept}
+
+-- a token judged what was sent, and leads on from where it was
+pub record IsStep (token : TokenFields) (moment : ℕ) (sent : CodeTexts) (reply : Reply) (now : TokenFields) : Type 0 where
+  pub due : (start : TokenFields) (history : List Attempt) → IsAfter start history token → IsDueReply start history moment sent reply
+  pub after : (start : TokenFields) (history : List Attempt) → IsAfter start history token
+      → IsAfter start (attempt_of moment sent reply ∷ history) now
+  pub state : now ≡ advanced token moment reply
+
+attempted : (old new : BookFields) (name : List ℕ) (token now : TokenFields) (moment : ℕ) (sent : CodeTexts) (reply : Reply)
+    → IsStep token moment sent reply now → IsChanged old name (with_token now) new → IsAttempt old name token moment sent reply new
+attempted old new name token now moment sent reply step put = record {
+  due = step.due;
+  after = λ start history after. subst (λ (t : TokenFields). IsAfter start (attempt_of moment sent reply ∷ history) t) step.state
+      (step.after start history after);
+  kept = subst (λ (t : TokenFields). IsChanged old name (with_token t) new) step.state put;
+}
+
+-- the reply to an attempt is told of the account
+pub told_by : (old new : BookFields) (name : List ℕ) (token now : TokenFields) (moment : ℕ) (sent : CodeTexts) (reply : Reply)
+    → IsMoment moment
+    → token_at old name ≡ Some token → IsStep token moment sent reply now → IsChanged old name (with_token now) new
+    → IsAttemptJudged old (logged_reply_of name moment sent (Some reply)) new
+told_by old new name token now moment sent reply is has step put =
+    record { is_moment = is; answered = rw has (reply, refl, attempted old new name token now moment sent reply step put) }
+
+-- nothing is told of an account without a token
+pub told_none : (old : BookFields) (name : List ℕ) (moment : ℕ) (sent : CodeTexts) → IsMoment moment → token_at old name ≡ None
+    → IsAttemptJudged old (logged_reply_of name moment sent None) old
+told_none old name moment sent is has = record { is_moment = is; answered = rw has (refl, refl) }
+
+-- what is told is the reply that is due, and leads on from what was told before
+pub told_due : (old new : BookFields) (t : LoggedReply) → IsAttemptJudged old t new → (accounts : Accounts) (told : List LoggedReply)
+    → IsBookAfter accounts told old
+    → IsToldDue accounts (reverse told) t
+told_due old new t one accounts told h = reply_by accounts told old t.account t.moment t.sent t.reply new one.answered h
+
+-- the book in which an attempt was judged is the book after what was told before, with that attempt's reply told last
+pub told_after : (old new : BookFields) (t : LoggedReply) → IsAttemptJudged old t new → (accounts : Accounts) (told : List LoggedReply)
+    → IsBookAfter accounts told old
+    → IsBookAfter accounts (told ++ t ∷ []) new
+told_after old new t one accounts told h = book_after accounts told old t.account t.moment t.sent t.reply new
+    (token_at old t.account) refl one.answered h
+
+-- the counter of a token's reply is one that can pass
+pub reply_in_range : (reply : Reply) → ((c : ℕ) → reply ≡ Pass c → c ≤ most_counter) → IsReplyInRange (Some reply)
+reply_in_range (Pass counter) most = most counter refl
+reply_in_range Fail most = tt
+reply_in_range Locked most = tt
+
+-- a reply other than LOCKED needs a save
+pub saved_unless_locked : (reply : Reply) → reply ≢ Locked → needs_save (Some reply) ≡ true
+saved_unless_locked (Pass counter) apart = refl
+saved_unless_locked Fail apart = refl
+saved_unless_locked Locked apart = absurd (apart refl)
+
+-- LOCKED is told of a book that stays as it was
+pub told_locked : (IsStored : List ℕ → Type 0) (old : BookFields) (name : List ℕ) (token now : TokenFields) (moment : ℕ) (sent : CodeTexts)
+    (reply : Reply) → IsMoment moment
+    → token_at old name ≡ Some token → IsStep token moment sent reply now → reply ≡ Locked → (was : StoreFacts)
+    → IsAttemptJudged old (logged_reply_of name moment sent (Some reply)) old × IsKept IsStored (needs_save (Some reply)) old was old was
+told_locked IsStored old name token now moment sent reply is has step locked was =
+    let same : now ≡ token = step.state ∙ ap (advanced token moment) locked in
+    let stays : old ≡ with_changed old name (with_token now) =
+    sym (ap (λ (t : TokenFields). with_changed old name (with_token t)) same ∙ tokens_stay old name token has) in
+    (told_by old old name token now moment sent reply is has step (is_changed old name (with_token now) old stays), rw locked (refl, refl))
+
+-- a reply that is not LOCKED is kept by a store that holds the book's text
+pub kept_by : (IsStored : List ℕ → Type 0) (old new : BookFields) (was now : StoreFacts) (reply : Reply) → reply ≢ Locked
+    → SavesBook IsStored was new now → IsKept IsStored (needs_save (Some reply)) old was new now
+kept_by IsStored old new was now (Pass counter) apart holds = holds
+kept_by IsStored old new was now Fail apart holds = holds
+kept_by IsStored old new was now Locked apart holds = absurd (apart refl)
+
+-- a token that was put back
+pub put_back : (old mid new : BookFields) (name : List ℕ) (token next back : TokenFields) → token_at old name ≡ Some token → back ≡ token
+    → IsChanged old name (with_token next) mid → IsChanged mid name (with_token back) new → new ≡ old
+put_back old mid new name token next back has same first second =
+    second.book
+    ∙ ap (λ (b : BookFields). with_changed b name (with_token back)) first.book
+    ∙ ap (λ (t : TokenFields). with_changed (with_changed old name (with_token next)) name (with_token t)) same
+    ∙ tokens_go_back old name token next has

@@ -1,0 +1,100 @@
+-- The lines of a turn are a path from the place where the session stands, and a log goes on by them.
+use Rattle.std.proofs.Common.{◌≡◌, true, ℕ, List, [], ◌∷◌, ◌++◌, reverse, refl, sym, subst, append_assoc, append-nil}
+use Rattle.std.specs.List.{AllByRecursion}
+use Rattle.std.specs.declared.option.Option.{Option}
+use Rattle.std.specs.declared.option.Option.TheVariants.{None, Some}
+use Rattle.log_grammar.specs.laws.LogLaws.{GoesOnByALine}
+use Rattle.log_grammar.specs.Lines.{LogLine, said, heard, bad, gone, replies}
+use Rattle.log_grammar.specs.LoggedReply.{LoggedReply}
+use Rattle.log_grammar.specs.Places.{Place, got_code}
+use Rattle.log_grammar.specs.Demands.{Accounts, Demands, demands, AreReplies}
+use Rattle.log_grammar.specs.state_machine.Steps.{IsTransition, told_at}
+use Rattle.log_grammar.specs.Begins.{Begins}
+use Rattle.sasl_desk.specs.Events.{ClientEvent, sends, goes_away}
+use Rattle.sasl_desk.specs.Turns.{is_client_turn, record_place, IsPath}
+use Rattle.sasl_desk.specs.Sessions.{IsSessionAt, IsRecord, IsTurnOnEvent, recorded_shown, turn_lines, said_lines, end_lines}
+use Rattle.sasl_desk.specs.declared.session.Session.{Session}
+use Rattle.sasl_desk.specs.declared.session.Session.TheVariants.{Offered, WaitsFirst, WaitsFinal, WaitsCode}
+use Rattle.sasl_desk.specs.declared.session.turn.Saying.{Saying}
+use Rattle.sasl_desk.specs.declared.session.turn.Saying.TheVariants.{Nothing, Continues, Accepts, Refuses}
+use Rattle.sasl_desk.specs.declared.session.turn.Turn.{Turn}
+use Rattle.sasl_desk.proofs.lemmas.turns.DueRecords.{due_goes, bad_goes, gone_goes}
+
+-- where a session stands it is the client's turn
+pub client_turn : (accounts : Accounts) (at : Place) (going : Session) → IsSessionAt accounts at going → is_client_turn at ≡ true
+client_turn accounts at Offered is = rw is refl
+client_turn accounts at (WaitsFirst mechanism) is = rw is refl
+client_turn accounts at (WaitsFinal waiting) (client_first, server_first, place, stands) = rw place refl
+client_turn accounts at (WaitsCode name) is = rw is refl
+
+-- what is recorded may stand
+pub record_goes : (d : Demands) (at : Place) (event : ClientEvent) (recorded : LogLine) → is_client_turn at ≡ true
+    → IsRecord event at recorded
+    → IsTransition d at recorded (record_place at recorded)
+record_goes d at (sends text) (heard line) turn is = due_goes d line at is.1
+record_goes d at (sends text) bad turn is = bad_goes d at turn
+record_goes d at goes_away gone turn is = gone_goes d at turn
+record_goes d at event recorded turn is = absurd is
+
+-- the lines of a turn are a path
+pub turn_path : (accounts : Accounts) (own : List ℕ) (event : ClientEvent) (at : Place) (going : Session) (turn : Turn) (message : List ℕ)
+    → IsSessionAt accounts at going
+    → (t : IsTurnOnEvent accounts own event at turn message) → IsPath (demands accounts) at (turn_lines turn message) t.is_answer.next
+turn_path accounts own event at going turn message is t = (
+  record_place at (recorded_shown turn.recorded),
+  record_goes (demands accounts) at event (recorded_shown turn.recorded) (client_turn accounts at going is) t.is_record,
+  t.is_answer.path,
+)
+
+-- the line is no reply to a code
+abbrev pub IsNoReply : LogLine → Type 0
+IsNoReply (said (replies moment reply)) = ⊥
+IsNoReply line = Unit {0}
+
+-- what is recorded of a client is no reply
+pub record_no_reply : (event : ClientEvent) (at : Place) (recorded : LogLine) → IsRecord event at recorded → IsNoReply recorded
+record_no_reply (sends text) at (heard line) is = tt
+record_no_reply (sends text) at bad is = tt
+record_no_reply goes_away at gone is = tt
+record_no_reply event at recorded is = absurd is
+
+ends_no_reply : (going : Option Session) → AllByRecursion IsNoReply (end_lines going)
+ends_no_reply (Some going) = tt
+ends_no_reply None = (tt, tt)
+
+answer_no_reply : (says : Saying) (going : Option Session) (message : List ℕ)
+    → AllByRecursion IsNoReply (said_lines says message ++ end_lines going)
+answer_no_reply Nothing going message = ends_no_reply going
+answer_no_reply Continues going message = (tt, ends_no_reply going)
+answer_no_reply Accepts going message = (tt, ends_no_reply going)
+answer_no_reply Refuses going message = (tt, ends_no_reply going)
+
+-- no line of a turn is a reply
+pub turn_no_reply : (accounts : Accounts) (own : List ℕ) (event : ClientEvent) (at : Place) (turn : Turn) (message : List ℕ)
+    → IsTurnOnEvent accounts own event at turn message
+    → AllByRecursion IsNoReply (turn_lines turn message)
+turn_no_reply accounts own event at turn message t =
+    (record_no_reply event at (recorded_shown turn.recorded) t.is_record, answer_no_reply turn.answer.says turn.answer.session message)
+
+-- such a line tells nothing
+pub quiet_at : (at : Place) (line : LogLine) → IsNoReply line → told_at at line ≡ []
+quiet_at (got_code account sent) (said (replies moment reply)) no_reply = absurd no_reply
+quiet_at (got_code account sent) line no_reply = refl
+quiet_at at line no_reply = refl
+
+-- a log goes on by a path without replies, and tells nothing new
+pub goes_on_by_path : GoesOnByALine → (accounts : Accounts) (log : List LogLine) (at : Place) (told : List LoggedReply)
+    (lines : List LogLine) (next : Place)
+    → Begins (demands accounts) log at told → IsPath (demands accounts) at lines next → AllByRecursion IsNoReply lines
+    → Begins (demands accounts) (log ++ lines) next told
+goes_on_by_path law accounts log at told [] next begins path no_replies =
+    let here = subst (λ (p : Place). Begins (demands accounts) log p told) (sym path) begins in
+    subst (λ (l : List LogLine). Begins (demands accounts) l next told) (sym (append-nil log)) here
+goes_on_by_path law accounts log at told (line ∷ lines) next begins (middle, goes, path) no_replies =
+    let quiet = quiet_at at line no_replies.0 in
+    let due = subst (λ (t : List LoggedReply). AreReplies (demands accounts) (reverse told) t) (sym quiet) tt in
+    let step = law accounts log at told line middle begins goes due in
+    let told_here = subst (λ (t : List LoggedReply). Begins (demands accounts) (log ++ line ∷ []) middle (told ++ t)) quiet step in
+    let here = subst (λ (t : List LoggedReply). Begins (demands accounts) (log ++ line ∷ []) middle t) (append-nil told) told_here in
+    subst (λ (l : List LogLine). Begins (demands accounts) l next told) (append_assoc log (line ∷ []) lines)
+    (goes_on_by_path law accounts (log ++ line ∷ []) middle told lines next here path no_replies.1)

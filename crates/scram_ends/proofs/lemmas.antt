@@ -1,0 +1,10 @@
+-- Lemmas: what the proofs of this crate and of those above it cite.
+pub mod Challenges
+pub mod Clients
+pub mod Decided
+pub mod Digests
+pub mod HonestLogins
+pub mod Opening
+pub mod Servers
+pub mod Verdicts
+pub mod Written

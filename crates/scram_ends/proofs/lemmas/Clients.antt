@@ -1,0 +1,273 @@
+-- The client's messages: that they can be written and are short, and that they are honest.
+use Rattle.std.proofs.Common.{◌≡◌, ℕ, ◌+◌, ◌-◌, ◌*◌, ◌<◌, ◌≤◌, List, [], ◌∷◌, ◌++◌, length, take, drop, length-append, sym, ◌∙◌, ap, subst}
+use Rattle.std.proofs.Common.{refl, arith}
+use Rattle.std.proofs.Math.Seq.{drop-append_seam}
+use Rattle.std.specs.Prelude.{codes, option_map, IfSome}
+use Rattle.std.specs.declared.option.Option.{Option}
+use Rattle.std.specs.declared.option.Option.TheVariants.{None, Some}
+use Rattle.std.specs.declared.result.Result.{Result}
+use Rattle.std.specs.declared.result.Result.TheVariants.{Err}
+use Rattle.scram_text.specs.Limits.{longest_channel, longest_message, longest_nonce}
+use Rattle.mac_core.specs.declared.mechanism.Mechanism.{Mechanism}
+use Rattle.scram_text.specs.Class.{IsPlainName, IsNoncePart, IsNonce}
+use Rattle.scram_text.specs.Name.{name_spelling}
+use Rattle.scram_text.specs.Base64Field.{base64, IsField}
+use Rattle.scram_text.specs.Parts.{authzid_text}
+use Rattle.scram_text.specs.Messages.{ClientFirstParts, header_text, bare_text, client_first_text, IsClientFirst, ServerFirstParts}
+use Rattle.scram_text.specs.Messages.{IsServerFirst, client_final_without_proof, ClientFinalParts, client_final_text, IsClientFinal}
+use Rattle.scram_text.specs.Written.{client_first_of, CanBeClientFirst, client_final_of, CanBeClientFinal, CanBeWithoutProof}
+use Rattle.scram_text.specs.Written.{IsWithoutProof}
+use Rattle.scram_text.specs.declared.fault.WriteFault.{WriteFault}
+use Rattle.scram_text.specs.declared.fault.WriteFault.TheVariants.{Unwritable, OverLimit, NoMemory}
+use Rattle.scram_text.specs.declared.client_first.Flag.TheVariants.{NoBinding}
+use Rattle.scram_text.specs.declared.client_final.ClientFinalWithoutProof.{ClientFinalWithoutProof}
+use Rattle.scram_text.proofs.lemmas.Parts.{rest_taken}
+use Rattle.scram_text.proofs.lemmas.Names.{length-spelling}
+use Rattle.scram_text.proofs.lemmas.Base64.{length-base64, field_of_bytes}
+use Rattle.scram_text.proofs.lemmas.Texts.{text_nil}
+use Rattle.scram_ends.specs.Opening.{IsAuthzidOf}
+use Rattle.scram_ends.specs.Auth.{auth_to_challenge, auth_message, proof_of, signature_of}
+use Rattle.scram_ends.specs.Honest.{IsHonestFirst}
+use Rattle.scram_ends.specs.Stages.{Started, answered}
+use Rattle.scram_ends.specs.Client.{IsStarted, IsExpecting}
+use Rattle.scram_ends.specs.declared.client.ClientOne.{ClientOne}
+use Rattle.scram_ends.specs.declared.client.ClientTwo.{ClientTwo}
+use Rattle.scram_ends.proofs.lemmas.Digests.{AreBytes}
+
+-- a writer that is given what it can write fails only where memory runs out
+only_memory : {T : Type 0} (r : Result T WriteFault) (f : WriteFault) → r ≡ Err f → (r ≡ Err Unwritable → ⊥) → (r ≡ Err OverLimit → ⊥)
+    → f ≡ NoMemory
+only_memory r Unwritable failed unwritable over = absurd (unwritable failed)
+only_memory r OverLimit failed unwritable over = absurd (over failed)
+only_memory r NoMemory failed unwritable over = refl
+
+-- client-first
+
+pub can_start : CanBeClientFirst NoBinding []
+can_start = record { flag_class = refl; extensions_class = record { is_text = text_nil; each = tt } }
+
+flat_first : (f a n r : List ℕ) → length ((f ++ 44 ∷ (a ++ 44 ∷ [])) ++ (n ++ 44 ∷ r)) ≡ length f + length a + length n + length r + 3
+flat_first f a n r =
+    omega (
+      arith,
+      length-append (f ++ 44 ∷ (a ++ 44 ∷ [])) (n ++ 44 ∷ r),
+      length-append f (44 ∷ (a ++ 44 ∷ [])),
+      length-append a
+          (44 ∷ []),
+      length-append n (44 ∷ r),
+    )
+
+spelled_authzid : (authzid : Option (List ℕ)) → IfSome authzid IsPlainName → length (authzid_text (option_map name_spelling authzid)) ≤ 767
+spelled_authzid None is = omega arith
+spelled_authzid (Some name) is = omega (arith, length-spelling name, is.at_most)
+
+first_bound : (f a n r : ℕ) → f ≡ 1 → a ≤ 767 → n ≤ 767 → r ≤ 258 → f + a + n + r + 3 ≤ longest_message
+first_bound f a n r one authzid name nonce = omega arith
+
+pub first_short : (authzid : Option (List ℕ)) (name nonce : List ℕ) → IfSome authzid IsPlainName → IsPlainName name → IsNoncePart nonce
+    → length (client_first_text (client_first_of NoBinding authzid name nonce [])) ≤ longest_message
+unfolding client_first_text header_text bare_text
+first_short authzid name nonce is_authzid is_name is_nonce =
+    subst (λ (k : ℕ). k ≤ longest_message)
+    (sym (flat_first (codes "n") (authzid_text (option_map name_spelling authzid)) (codes "n=" ++ name_spelling name)
+    (codes "r=" ++ nonce)))
+    (first_bound 1 _ _ _ refl (spelled_authzid authzid is_authzid) (omega (arith, length-spelling name, is_name.at_most))
+    (omega (arith, is_nonce.at_most)))
+
+pub first_fails : {T : Type 0} (r : Result T WriteFault) (f : WriteFault) (authzid : Option (List ℕ)) (name nonce : List ℕ) → r ≡ Err f
+    → IfSome authzid IsPlainName → IsPlainName name → IsNoncePart nonce
+    → (r ≡ Err Unwritable → CanBeClientFirst NoBinding [] → ⊥)
+    → (r ≡ Err OverLimit → CanBeClientFirst NoBinding []
+    × (longest_message < length (client_first_text (client_first_of NoBinding authzid name nonce []))))
+    → f ≡ NoMemory
+first_fails r f authzid name nonce failed is_authzid is_name is_nonce unwritable over =
+    only_memory r f failed (λ e. unwritable e can_start)
+    (λ e. let long = over e in omega (arith, long.1, first_short authzid name nonce is_authzid is_name is_nonce))
+
+authzid_of : (authzid : Option (List ℕ)) → IfSome authzid IsPlainName → IsAuthzidOf authzid (option_map name_spelling authzid)
+authzid_of None is = tt
+authzid_of (Some name) is = record { plain = is; spelled = refl }
+
+-- a client-first message that is written is honest
+pub honest_first : (authzid : Option (List ℕ)) (name nonce client_first : List ℕ) → IfSome authzid IsPlainName → IsPlainName name
+    → IsClientFirst client_first (client_first_of NoBinding authzid name nonce [])
+    → IsHonestFirst name authzid nonce client_first (client_first_of NoBinding authzid name nonce [])
+honest_first authzid name nonce client_first is_authzid is_name is_first = record {
+  is_first = is_first;
+  flag = refl;
+  not_mandatory = refl;
+  no_extensions = refl;
+  is_name = record { plain = is_name; spelled = refl };
+  is_authzid = authzid_of authzid is_authzid;
+  own = refl;
+}
+
+-- what was appended is what follows the old end
+pub appended : (whole written front text : List ℕ) (start : ℕ) → whole ≡ written → written ≡ front ++ text → start ≡ length front
+    → take (length whole - start) (drop start whole) ≡ text
+appended whole written front text start same is at =
+    rest_taken whole start
+    ∙ (ap (λ (k : ℕ). drop k whole) at
+    ∙ (ap (λ (xs : List ℕ). drop (length front) xs) (same ∙ is)
+    ∙ drop-append_seam front text))
+
+-- the bare message and the gs2-header of client-first
+
+pub bare_length : (text bare : List ℕ) (p : ClientFirstParts) → IsClientFirst text p → bare ≡ bare_text p → length bare ≤ longest_message
+unfolding client_first_text
+bare_length text bare p is same =
+    let whole : length text ≡ length (header_text p) + length (bare_text p) = ap length is.spelled ∙ length-append (header_text p)
+    (bare_text p) in
+    let part : length bare ≡ length (bare_text p) = ap length same in
+    omega (arith, whole, part, is.short)
+
+authzid_length : (authzid part : Option (List ℕ)) → IsAuthzidOf authzid part → length (authzid_text part) ≤ 767
+authzid_length None None is = omega arith
+authzid_length None (Some part) is = absurd is
+authzid_length (Some name) None is = absurd is
+authzid_length (Some name) (Some part) is =
+    let same : length part ≡ length (name_spelling name) = ap length is.spelled in
+    omega (arith, same, length-spelling name, is.plain.at_most)
+
+flat_header : (f a : List ℕ) → length (f ++ 44 ∷ (a ++ 44 ∷ [])) ≡ length f + length a + 2
+flat_header f a = omega (arith, length-append f (44 ∷ (a ++ 44 ∷ [])), length-append a (44 ∷ []))
+
+pub header_length : (name : List ℕ) (authzid : Option (List ℕ)) (nonce client_first : List ℕ) (first : ClientFirstParts)
+    → IsHonestFirst name authzid nonce client_first first
+    → (1 ≤ length (header_text first)) × (length (header_text first) ≤ 770)
+unfolding header_text
+header_length name authzid nonce client_first first honest =
+    let flag : length first.flag ≡ 1 = ap length honest.flag in
+    let short = authzid_length authzid first.authzid honest.is_authzid in
+    let whole = flat_header first.flag (authzid_text first.authzid) in
+    (omega (arith, flag, whole), omega (arith, flag, short, whole))
+
+pub header_fits : (name : List ℕ) (authzid : Option (List ℕ)) (nonce client_first header : List ℕ) (first : ClientFirstParts)
+    → IsHonestFirst name authzid nonce client_first first
+    → header ≡ header_text first → length header ≤ longest_channel
+header_fits name authzid nonce client_first header first honest same =
+    let long : length header ≡ length (header_text first) = ap length same in
+    omega (arith, long, (header_length name authzid nonce client_first first honest).1)
+
+-- client-final
+
+can_sign : (header nonce : List ℕ) → AreBytes header → 1 ≤ length header → length header ≤ 770 → IsNonce longest_nonce nonce
+    → CanBeWithoutProof header nonce []
+can_sign header nonce bytes some short is_nonce = record {
+  channel_class = field_of_bytes longest_channel header bytes some (omega (arith, short));
+  nonce_class = is_nonce;
+  extensions_class = record { is_text = text_nil; each = tt };
+}
+
+pub can_answer : (header nonce proof : List ℕ) → AreBytes header → AreBytes proof → 1 ≤ length header → length header ≤ 770
+    → IsNonce longest_nonce nonce → 1 ≤ length proof → length proof ≤ 64 → CanBeClientFinal header nonce [] proof
+can_answer header nonce proof bytes also some short is_nonce some_proof short_proof = record {
+  channel_class = field_of_bytes longest_channel header bytes some (omega (arith, short));
+  nonce_class = is_nonce;
+  extensions_class = record { is_text = text_nil; each = tt };
+  proof_class = field_of_bytes 64 proof also some_proof short_proof;
+}
+
+flat_final : (c n p : List ℕ) → length ((c ++ 44 ∷ n) ++ 44 ∷ p) ≡ length c + length n + length p + 2
+flat_final c n p = omega (arith, length-append (c ++ 44 ∷ n) (44 ∷ p), length-append c (44 ∷ n))
+
+final_bound : (c n p : ℕ) → c ≤ 1030 → n ≤ 514 → p ≤ 90 → c + n + p + 2 ≤ longest_message
+final_bound c n p channel nonce proof = omega arith
+
+field_bound : (bytes : List ℕ) (most : ℕ) → length bytes ≤ 3 * most → length (base64 bytes) ≤ 4 * most
+field_bound bytes most within = omega (arith, length-base64 bytes)
+
+pub answer_short : (header nonce proof : List ℕ) → length header ≤ 770 → length nonce ≤ longest_nonce → length proof ≤ 64
+    → length (client_final_text (client_final_of header nonce [] proof)) ≤ longest_message
+unfolding client_final_text client_final_without_proof
+answer_short header nonce proof short is_nonce is_proof =
+    subst (λ (k : ℕ). k ≤ longest_message)
+    (sym (flat_final (codes "c=" ++ base64 header) (codes "r=" ++ nonce) (codes "p=" ++ base64 proof)))
+    (final_bound _ _ _ (omega (arith, field_bound header 257 (omega arith))) (omega arith)
+    (omega (arith, field_bound proof 22 (omega arith))))
+
+pub front_short : (header nonce : List ℕ) → length header ≤ 770 → length nonce ≤ longest_nonce
+    → length (client_final_without_proof (client_final_of header nonce [] [])) ≤ longest_message
+unfolding client_final_without_proof
+front_short header nonce short is_nonce =
+    omega (arith, length-append (codes "c=" ++ base64 header) (44 ∷ (codes "r=" ++ nonce)), field_bound header 257 (omega arith))
+
+-- the front is the same for every proof
+pub same_front : (header nonce proof : List ℕ)
+    → client_final_without_proof (client_final_of header nonce [] []) ≡ client_final_without_proof (client_final_of header nonce [] proof)
+unfolding client_final_without_proof
+same_front header nonce proof = refl
+
+pub front_fails : {T : Type 0} (r : Result T WriteFault) (f : WriteFault) (header nonce : List ℕ) → r ≡ Err f
+    → AreBytes header → 1 ≤ length header → length header ≤ 770 → IsNonce longest_nonce nonce
+    → (r ≡ Err Unwritable → CanBeWithoutProof header nonce [] → ⊥)
+    → (r ≡ Err OverLimit → CanBeWithoutProof header nonce []
+    × (longest_message < length (client_final_without_proof (client_final_of header nonce [] []))))
+    → (r ≡ Err NoMemory → ⊥) → ⊥
+front_fails r f header nonce failed bytes some short is_nonce unwritable over no_memory =
+    let full : f ≡ NoMemory = only_memory r f failed (λ e. unwritable e (can_sign header nonce bytes some short is_nonce))
+    (λ e. let long = over e in omega (arith, long.1, front_short header nonce short is_nonce.at_most)) in
+    no_memory (failed ∙ ap (λ (x : WriteFault). Err x) full)
+
+pub answer_fails : {T : Type 0} (r : Result T WriteFault) (f : WriteFault) (w : ClientFinalWithoutProof) (header nonce proof : List ℕ)
+    → r ≡ Err f
+    → length header ≤ 770 → IsNonce longest_nonce nonce → IsField 64 proof → IsWithoutProof w (client_final_of header nonce [] proof)
+    → (r ≡ Err Unwritable → IsField 64 proof → ⊥)
+    → (r ≡ Err OverLimit → IsField 64 proof
+    × ((p : ClientFinalParts) → IsWithoutProof w p → p.proof ≡ proof → longest_message < length (client_final_text p)))
+    → f ≡ NoMemory
+answer_fails r f w header nonce proof failed short is_nonce field is unwritable over =
+    only_memory r f failed (λ e. unwritable e field)
+    (λ e. let long = (over e).1 (client_final_of header nonce [] proof) is refl in omega
+    (arith, long, answer_short header nonce proof short is_nonce.at_most field.at_most))
+
+-- the length of the client's own header
+pub header_range : (w : ClientOne) (l : Started) (header : List ℕ)
+    → IsStarted w l → header ≡ w.header.items → (1 ≤ length header) × (length header ≤ 770)
+header_range w l header started same =
+    let range = header_length l.name l.authzid l.nonce l.client_first started.first started.is_first in
+    let long : length header ≡ length (header_text started.first) = ap length (same ∙ started.header) in
+    (omega (arith, long, range.0), omega (arith, long, range.1))
+
+same_proof : (m n : Mechanism) (password salt other auth text : List ℕ) (count also : ℕ) → m ≡ n → salt ≡ other → count ≡ also → auth ≡ text
+    → proof_of m password salt count auth ≡ proof_of n password other also text
+same_proof m n password salt other auth text count also e f g h = λ i. proof_of (e i) password (f i) (g i) (h i)
+
+same_signature : (m n : Mechanism) (password salt other auth text : List ℕ) (count also : ℕ) → m ≡ n → salt ≡ other → count ≡ also
+    → auth ≡ text
+    → signature_of m password salt count auth ≡ signature_of n password other also text
+same_signature m n password salt other auth text count also e f g h = λ i. signature_of (e i) password (f i) (g i) (h i)
+
+-- a client-final message that is written is honest, and its signature is the one to expect
+pub expecting : (w : ClientOne) (two : ClientTwo) (l : Started) (server_first password header nonce salt front proof : List ℕ) (count : ℕ)
+    (p : ServerFirstParts)
+    → (started : IsStarted w l) → IsServerFirst server_first p
+    → header ≡ w.header.items → nonce ≡ p.nonce → salt ≡ p.salt → count ≡ p.count
+    → front ≡ client_final_without_proof (client_final_of header nonce [] proof)
+    → proof ≡ proof_of w.mechanism password salt count (auth_to_challenge started.first server_first ++ front)
+    → two.expected.items ≡ signature_of w.mechanism password salt count (auth_to_challenge started.first server_first ++ front)
+    → IsClientFinal (client_final_text (client_final_of header nonce [] proof)) (client_final_of header nonce [] proof)
+    → IsExpecting two (answered l password server_first (client_final_text (client_final_of header nonce [] proof)))
+expecting w two l server_first password header nonce salt front proof count p started is_challenge is_header is_nonce is_salt is_count is_front is_proof is_signature is_final =
+    let q : ClientFinalParts = client_final_of header nonce [] proof in
+    let auth : auth_to_challenge started.first server_first ++ front ≡ auth_message started.first server_first q =
+    ap (λ (text : List ℕ). auth_to_challenge started.first server_first ++ text) is_front in
+    record {
+      honest = record {
+        first = started.first;
+        challenge = p;
+        final = q;
+        is_first = started.is_first;
+        is_challenge = is_challenge;
+        is_final = record {
+          is_final = is_final;
+          channel = is_header ∙ started.header;
+          sent_nonce = is_nonce;
+          no_extensions = refl;
+          proof = is_proof ∙ same_proof w.mechanism l.mechanism password salt p.salt _ _ count p.count started.mechanism is_salt is_count auth;
+        };
+      };
+      signature = two.expected.items;
+      signed = is_signature ∙ same_signature w.mechanism l.mechanism password salt p.salt _ _ count p.count started.mechanism is_salt is_count auth;
+      expected = refl;
+    }

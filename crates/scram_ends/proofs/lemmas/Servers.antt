@@ -1,0 +1,65 @@
+-- The challenge that a server sends opens a login.
+use Rattle.std.proofs.Common.{◌≡◌, ◌≤◌, ◌-◌, ℕ, List, [], ◌++◌, length, take, drop, ap, subst, refl, arith, ◌∙◌}
+use Rattle.std.proofs.lemmas.Grind.{common_steps}
+use Rattle.mac_core.specs.Mechanism.{length_by, hmac_by}
+use Rattle.mac_core.specs.declared.mechanism.Mechanism.{Mechanism}
+use Rattle.mac_core.specs.declared.mechanism.Mechanism.TheVariants.{ScramSha1, ScramSha256}
+use Rattle.mac_core.proofs.lemmas.Lengths.{length-hmac_by}
+use Rattle.scram_text.specs.declared.fault.WriteFault.{WriteFault}
+use Rattle.scram_text.specs.declared.fault.WriteFault.TheVariants.{Unwritable, OverLimit, NoMemory}
+use Rattle.scram_text.specs.Messages.{ClientFirstParts, IsClientFirst, IsServerFirst}
+use Rattle.scram_text.specs.Written.{server_first_of}
+use Rattle.scram_ends.specs.Entry.{Entry}
+use Rattle.scram_ends.specs.Stages.{Challenged}
+use Rattle.scram_ends.specs.Verdict.{Due, accept, IsDue}
+use Rattle.scram_ends.specs.Opening.{Opening, IsOpening}
+use Rattle.scram_ends.specs.First.{ShowsAcceptedFirst, ShowsOpening}
+use Rattle.scram_ends.specs.declared.first.AcceptedFirst.{AcceptedFirst}
+use Rattle.scram_ends.proofs.lemmas.Verdicts.{signature_due}
+
+-- a client-first message that is taken up and a challenge to it are an opening, of the parts that were taken
+pub challenge_opens : (e : Entry) (client_first own server_first sent : List ℕ) (first : ClientFirstParts) (taken : AcceptedFirst)
+    → IsClientFirst client_first first → ShowsAcceptedFirst taken first → sent ≡ taken.nonce.now ++ own → 1 ≤ length own
+    → IsServerFirst server_first (server_first_of sent e.salt e.count [])
+    → (o : Opening) × IsOpening e client_first server_first o × ShowsOpening taken sent o
+challenge_opens e client_first own server_first sent first taken is_first shows same some is_challenge =
+    let o : Opening = record {
+      first = first;
+      name = taken.name;
+      authzid = taken.authzid;
+      challenge = server_first_of sent e.salt e.count [];
+    } in
+    let longer : sent ≡ first.nonce ++ own = same ∙ ap (λ (n : List ℕ). n ++ own) shows.nonce in (
+      o,
+      record {
+        is_first = is_first;
+        taken_up = shows.taken_up;
+        is_challenge = is_challenge;
+        not_mandatory = refl;
+        longer = (own, longer, some);
+        salt = refl;
+        count = refl;
+      },
+      record { header = shows.header; bare = shows.bare; name = refl; authzid = refl; nonce = refl },
+    )
+
+-- what follows the front of a list
+pub after_front : (items front text : List ℕ) (start : ℕ) → items ≡ front ++ text → start ≡ length front
+    → take (length items - start) (drop start items) ≡ text
+after_front items front text start same at = rw (same, at) (grind (arith, common_steps))
+
+-- a signature as long as a MAC is not empty
+is_signed : (m : Mechanism) (mac signature : List ℕ) → length mac ≡ length_by m → signature ≡ mac → length signature ≡ 0 → ⊥
+is_signed ScramSha1 mac signature len same none = omega (arith, len, ap length same, none)
+is_signed ScramSha256 mac signature len same none = omega (arith, len, ap length same, none)
+
+-- a verdict that is due has a signature to write, so the only fault is that memory runs out
+pub memory_alone : (l : Challenged) (client_final : List ℕ) (d : Due) (fault : WriteFault) → IsDue l client_final d
+    → (fault ≡ Unwritable → (signature : List ℕ) × (d ≡ accept signature) × (length signature ≡ 0)) → (fault ≡ OverLimit → ⊥)
+    → fault ≡ NoMemory
+memory_alone l client_final d NoMemory due empty over = refl
+memory_alone l client_final d OverLimit due empty over = absurd (over refl)
+memory_alone l client_final d Unwritable due empty over =
+    let none = empty refl in
+    let (keys, auth, signed) = signature_due l client_final none.0 (subst (λ (x : Due). IsDue l client_final x) none.1 due) in
+    absurd (is_signed l.mechanism (hmac_by l.mechanism keys.server auth) none.0 (length-hmac_by l.mechanism _ _) signed none.2)

@@ -1,0 +1,123 @@
+-- At most one verdict is due, and acceptance exactly to a valid login.
+use Rattle.std.proofs.Common.{◌≡◌, ◌↔◌, ℕ, inl, inr, List, sym, ◌∙◌, ap, subst, refl}
+use Rattle.std.specs.declared.option.Option.TheVariants.{Some}
+use Rattle.scram_text.specs.Messages.{ClientFinalParts, IsClientFinal, IsServerFinal}
+use Rattle.scram_text.proofs.lemmas.ClientFinal.{client_final_once}
+use Rattle.scram_ends.specs.Entry.{Keys}
+use Rattle.scram_ends.specs.Stages.{Challenged}
+use Rattle.scram_ends.specs.Auth.{auth_message, server_signature}
+use Rattle.scram_ends.specs.Opening.{Opening, IsOpening}
+use Rattle.scram_ends.specs.Verdict.{rows, Asks, Due, accept, refuse, IsWeighed, IsDueToParts, IsDue, final_due, due_text, verdict_of}
+use Rattle.scram_ends.specs.Login.{IsAuthentic, IsValidLogin}
+use Rattle.scram_ends.specs.Laws.{AtMostOneIsDue, AcceptsExactlyValid}
+use Rattle.scram_ends.specs.declared.verdict.Refusal.{Refusal}
+use Rattle.scram_ends.specs.declared.verdict.Refusal.TheVariants.{InvalidEncoding}
+use Rattle.scram_ends.specs.declared.verdict.Verdict.TheVariants as verdict
+use Rattle.scram_ends.proofs.lemmas.Opening.{same_opening}
+use Rattle.scram_text.proofs.lemmas.Rows.{none_unmet, one_first}
+
+pub some_keys : (one other : Keys) → Some one ≡ Some other → one ≡ other
+some_keys one other same = cc
+
+refusal_is_not_acceptance : (r : Refusal) (signature : List ℕ) → refuse r ≡ accept signature → ⊥
+refusal_is_not_acceptance r signature same = cc
+
+-- the parts have one verdict
+one_weighed : (l : Challenged) (o : Opening) (p : ClientFinalParts) (d other : Due) → IsWeighed l o p d → IsWeighed l o p other → d ≡ other
+one_weighed l o p (accept one) (accept other) is also =
+    let signed : Keys → List ℕ = λ keys. server_signature l.mechanism keys (auth_message o.first l.server_first p) in
+    let keys : is.1.0 ≡ also.1.0 = some_keys is.1.0 also.1.0 (sym is.1.1 ∙ also.1.1) in
+    ap (λ (s : List ℕ). accept s) (is.1.2 ∙ (ap signed keys ∙ sym also.1.2))
+one_weighed l o p (accept one) (refuse q) is also = absurd (none_unmet (λ r. Asks r l o p) rows q is.0 also)
+one_weighed l o p (refuse r) (accept other) is also = absurd (none_unmet (λ r. Asks r l o p) rows r also.0 is)
+one_weighed l o p (refuse r) (refuse q) is also = ap (λ (x : Refusal). refuse x) (one_first (λ r. Asks r l o p) rows r q is also)
+
+-- the verdict due to the messages is the one on all parts that they have
+weighed_of : (l : Challenged) (client_final : List ℕ) (o : Opening) (p : ClientFinalParts) (d : Due)
+    → IsOpening l.entry l.client_first l.server_first o → IsClientFinal client_final p → IsDueToParts l client_final d → IsWeighed l o p d
+weighed_of l client_final o p d is_opening is_final due =
+    subst (λ (q : ClientFinalParts). IsWeighed l o q d) (client_final_once client_final due.final p due.is_final is_final)
+    (subst (λ (q : Opening). IsWeighed l q due.final d)
+    (same_opening l.entry l.client_first l.server_first due.opening o due.is_opening is_opening) due.weighed)
+
+pub at_most_one : AtMostOneIsDue
+at_most_one l client_final d other (inl none) (inl also) = none.1 ∙ sym also.1
+at_most_one l client_final d other (inl none) (inr also) = absurd (none.0 also.final also.is_final)
+at_most_one l client_final d other (inr due) (inl none) = absurd (none.0 due.final due.is_final)
+at_most_one l client_final d other (inr due) (inr also) =
+    one_weighed l also.opening also.final d other
+    (weighed_of l client_final also.opening also.final d also.is_opening also.is_final due) also.weighed
+
+-- a valid login makes acceptance due, with the signature that its last message bears
+pub due_of_valid : (l : Challenged) (client_final server_final : List ℕ) (v : IsValidLogin l client_final server_final)
+    → IsDue l client_final (accept (server_signature l.mechanism v.keys (auth_message v.opening.first l.server_first v.final)))
+due_of_valid l client_final server_final v = inr (record {
+  opening = v.opening;
+  final = v.final;
+  is_opening = v.is_opening;
+  is_final = v.is_final;
+  weighed = (
+    (v.not_mandatory, (v.nonce, (v.channel, ((v.keys, v.has_keys, v.proof), (v.allowed, tt))))),
+    (v.keys, v.has_keys, refl),
+  );
+})
+
+-- where acceptance is due, its signature is the server's
+pub signature_due : (l : Challenged) (client_final signature : List ℕ) → IsDue l client_final (accept signature)
+    → (keys : Keys) × (auth : List ℕ) × (signature ≡ server_signature l.mechanism keys auth)
+signature_due l client_final signature (inl none) = absurd (refusal_is_not_acceptance InvalidEncoding signature (sym none.1))
+signature_due l client_final signature (inr due) =
+    let signed = due.weighed.1 in
+    (signed.0, auth_message due.opening.first l.server_first due.final, signed.2)
+
+-- where acceptance is due, a text that shows the signature makes a valid login
+valid_of : (l : Challenged) (client_final server_final signature : List ℕ)
+    → IsDue l client_final (accept signature) → IsAuthentic server_final signature → IsValidLogin l client_final server_final
+valid_of l client_final server_final signature (inl none) authentic = absurd
+    (refusal_is_not_acceptance InvalidEncoding signature (sym none.1))
+valid_of l client_final server_final signature (inr due) authentic =
+    let (mandatory, (nonce, (channel, (proof, (allowed, rest))))) = due.weighed.0 in
+    let signed = due.weighed.1 in
+    let keys : signed.0 ≡ proof.0 = some_keys signed.0 proof.0 (sym signed.1 ∙ proof.1) in
+    record {
+      opening = due.opening;
+      final = due.final;
+      keys = proof.0;
+      is_opening = due.is_opening;
+      is_final = due.is_final;
+      not_mandatory = mandatory;
+      nonce = nonce;
+      channel = channel;
+      has_keys = proof.1;
+      proof = proof.2;
+      allowed = allowed;
+      authentic = subst (λ (x : List ℕ). IsAuthentic server_final x)
+          (signed.2 ∙ ap (λ (k : Keys). server_signature l.mechanism k
+          (auth_message due.opening.first l.server_first due.final)) keys) authentic;
+    }
+
+pub accepts_exactly_valid : AcceptsExactlyValid
+accepts_exactly_valid l client_final server_final = (
+  (λ (signature, due, authentic). valid_of l client_final server_final signature due authentic),
+  λ v. (
+    server_signature l.mechanism v.keys (auth_message v.opening.first l.server_first v.final),
+    due_of_valid l client_final server_final v,
+    v.authentic,
+  ),
+)
+
+refused_is_not_accepted : (r : Refusal) → verdict.Refused r ≡ verdict.Accepted → ⊥
+refused_is_not_accepted r same = cc
+
+-- acceptance by the message due makes a valid login, and a refusal makes none
+pub valid_iff : (l : Challenged) (client_final : List ℕ) (d : Due) → IsDue l client_final d → IsServerFinal (due_text d) (final_due d)
+    → (verdict_of d ≡ verdict.Accepted) ↔ IsValidLogin l client_final (due_text d)
+valid_iff l client_final (accept signature) due is_last =
+    let authentic : IsAuthentic (due_text (accept signature)) signature =
+    record { last = final_due (accept signature); is_last = is_last; not_mandatory = refl; verifier = refl } in
+    ((λ _. (accepts_exactly_valid l client_final (due_text (accept signature))).0 (signature, due, authentic)), λ _. refl)
+valid_iff l client_final (refuse r) due is_last = (
+  (λ same. absurd (refused_is_not_accepted r same)),
+  λ valid. let accepted = (accepts_exactly_valid l client_final (due_text (refuse r))).1 valid in
+      absurd (refusal_is_not_acceptance r accepted.0 (at_most_one l client_final (refuse r) (accept accepted.0) due accepted.1)),
+)

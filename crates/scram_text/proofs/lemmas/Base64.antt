@@ -1,0 +1,126 @@
+-- The STANDARD engine's texts have their usual form: no comma, four bytes for each three begun, and each
+-- is decoded to the bytes that it is the text of, while no other text is.
+use Rattle.std.proofs.Common.{◌≡◌, ℕ, zero, suc, ◌+◌, ◌*◌, ◌/◌, ◌%◌, ◌≤◌, true, not, List, [], ◌∷◌, length, replicate, refl, sym, ◌∙◌, ap}
+use Rattle.std.proofs.Common.{arith, length-append, subst}
+use Rattle.std.specs.Prelude.{slice_index}
+use Rattle.std.specs.List.{list_all}
+use Rattle.std.specs.declared.result.Result.TheVariants.{Ok, Err}
+use Rattle.std.proofs.lemmas.List.{length-replicate}
+use Rattle.std.proofs.lemmas.List.Folds.{list_all-append}
+use Rattle.base64.specs.declared.decode.DecodeError.{DecodeError}
+use Rattle.base64.specs.Engines.{standard}
+use Rattle.base64.specs.GeneralPurpose.{decode_of, IsBytes}
+use Rattle.base64.specs.Rfc4648.{encode_symbols, padding_len, unpadded_len}
+use Rattle.base64.proofs.EngineFacts.{decode_of-encode_of, decode_of_strict}
+use Rattle.base64.proofs.RoundTrip.{length-encode_symbols}
+use Rattle.scram_text.specs.Class.{is_comma}
+use Rattle.scram_text.specs.Name.{LacksComma}
+use Rattle.scram_text.specs.Base64Field.{base64, reading, IsField, HasUsualBase64}
+use Rattle.scram_text.specs.Parts.{SpellsField}
+use Rattle.scram_text.proofs.lemmas.Parts.{both}
+
+-- no element of a list without commas is a comma, nor is 0, which is what an index past the end reads
+symbol_lacks : (symbols : List ℕ) (k : ℕ) → LacksComma symbols → not (is_comma (slice_index symbols k)) ≡ true
+symbol_lacks [] k h = refl
+symbol_lacks (c ∷ symbols) zero h = (both (not (is_comma c)) (list_all (λ c. not (is_comma c)) symbols) h).0
+symbol_lacks (c ∷ symbols) (suc k) h =
+    symbol_lacks symbols k (both (not (is_comma c)) (list_all (λ c. not (is_comma c)) symbols) h).1
+
+-- the 64 symbols
+abbrev table : List ℕ
+table = standard.encode_table
+
+standard_symbol : (k : ℕ) → not (is_comma (slice_index table k)) ≡ true
+standard_symbol k = symbol_lacks table k refl
+
+symbols_lack : (bytes : List ℕ) → LacksComma (encode_symbols table bytes)
+unfolding encode_symbols
+symbols_lack [] = refl
+symbols_lack (a ∷ []) = rw (standard_symbol (a / 4), standard_symbol (a % 4 * 16)) refl
+symbols_lack (a ∷ b ∷ []) = rw (standard_symbol (a / 4), standard_symbol (a % 4 * 16 + b / 16), standard_symbol (b % 16 * 4)) refl
+symbols_lack (a ∷ b ∷ c ∷ rest) =
+    rw (standard_symbol (a / 4), standard_symbol (a % 4 * 16 + b / 16), standard_symbol (b % 16 * 4 + c / 64), standard_symbol (c % 64))
+    (symbols_lack rest)
+
+padding_lacks : (n : ℕ) → LacksComma (replicate n 61)
+padding_lacks zero = refl
+padding_lacks (suc n) = padding_lacks n
+
+-- no text of the engine has a comma
+pub base64_lacks : (bytes : List ℕ) → LacksComma (base64 bytes)
+unfolding base64
+base64_lacks bytes =
+    rw (
+      list_all-append (λ c. not (is_comma c)) (encode_symbols table bytes) (replicate (padding_len (length bytes)) 61),
+      symbols_lack bytes,
+      padding_lacks (padding_len (length bytes)),
+    ) refl
+
+padded_length : (n : ℕ) → unpadded_len n + padding_len n ≡ 4 * ((n + 2) / 3)
+padded_length n = omega arith
+
+pub length-base64 : (bytes : List ℕ) → length (base64 bytes) ≡ 4 * ((length bytes + 2) / 3)
+unfolding base64
+length-base64 bytes =
+    length-append (encode_symbols table bytes) (replicate (padding_len (length bytes)) 61)
+    ∙ rw (length-encode_symbols table bytes, length-replicate) (padded_length (length bytes))
+
+-- a text of bytes is decoded to them
+pub base64_back : (bytes : List ℕ) → IsBytes bytes → reading (base64 bytes) ≡ Ok bytes
+unfolding reading base64
+base64_back bytes fits = decode_of-encode_of standard bytes refl fits
+
+-- a text that is decoded is the text of what it is decoded to
+pub base64_read : (text bytes : List ℕ) → IsBytes text → reading text ≡ Ok bytes → text ≡ base64 bytes
+unfolding reading base64
+base64_read text bytes fits read = decode_of_strict standard text bytes (refl, refl) fits read
+
+pub usual_base64_lem : HasUsualBase64
+usual_base64_lem bytes fits least most =
+    (record { spelled = refl; back = base64_back bytes fits; no_comma = base64_lacks bytes }, length-base64 bytes)
+
+-- what was decoded to 1 to `most` bytes is a field
+pub read_field : (most : ℕ) (text bytes : List ℕ) → IsBytes text → decode_of standard text ≡ Ok bytes
+    → 1 ≤ length bytes → length bytes ≤ most → IsField most bytes × (text ≡ base64 bytes)
+unfolding reading
+read_field most text bytes fits read least within =
+    let spelled : text ≡ base64 bytes = base64_read text bytes fits read in (
+      record {
+        at_least = least;
+        at_most = within;
+        field = record {
+          spelled = refl;
+          back = subst (λ (t : List ℕ). reading t ≡ Ok bytes) spelled read;
+          no_comma = base64_lacks bytes;
+        };
+      },
+      spelled,
+    )
+
+-- the bytes of a field are those that it is decoded to
+pub field_read : (most : ℕ) (text bytes : List ℕ) → decode_of standard text ≡ Ok bytes → SpellsField most text → IsField most bytes
+unfolding reading
+field_read most text bytes read (spelt, spelled, field) =
+    let also = subst (λ (t : List ℕ). reading t ≡ Ok spelt) (sym spelled) field.field.back in
+    let same : spelt ≡ bytes = cc (also, read) in
+    subst (IsField most) same field
+
+pub field_error : (most : ℕ) (text : List ℕ) (e : DecodeError) → decode_of standard text ≡ Err e → SpellsField most text → ⊥
+unfolding reading
+field_error most text e read (spelt, spelled, field) =
+    let also = subst (λ (t : List ℕ). reading t ≡ Ok spelt) (sym spelled) field.field.back in
+    cc (also, read)
+
+-- the text of at most 64 bytes has at most 88 characters
+pub short_text : (text bytes : List ℕ) → text ≡ base64 bytes → IsField 64 bytes → length text ≤ 88
+short_text text bytes spelled field =
+    let whole : length text ≡ length (base64 bytes) = ap length spelled in
+    omega (arith, whole, length-base64 bytes, field.at_most)
+
+-- bytes of a length within the limits fit a field
+pub field_of_bytes : (most : ℕ) (bytes : List ℕ) → IsBytes bytes → 1 ≤ length bytes → length bytes ≤ most → IsField most bytes
+field_of_bytes most bytes fits least within = record {
+  at_least = least;
+  at_most = within;
+  field = record { spelled = refl; back = base64_back bytes fits; no_comma = base64_lacks bytes };
+}

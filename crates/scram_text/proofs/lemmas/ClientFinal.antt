@@ -1,0 +1,156 @@
+-- The parts of client-final: they are read in one way, and a text that has them has no fault.
+use Rattle.std.proofs.Common.{◌≡◌, inr, ℕ, ◌+◌, List, [], ◌∷◌, ◌++◌, length, replicate, refl, sym, ◌∙◌, ap, arith, length-append, subst}
+use Rattle.std.specs.Prelude.{codes, IfOk, IfErr, IsOkAnd}
+use Rattle.std.specs.declared.result.Result.{Result}
+use Rattle.std.specs.declared.result.Result.TheVariants.{Ok, Err}
+use Rattle.std.proofs.lemmas.List.Splits.{join_with_byte-slice_split}
+use Rattle.scram_text.specs.Limits.{longest_channel, longest_nonce}
+use Rattle.scram_text.specs.Class.{IsNonce}
+use Rattle.scram_text.specs.Base64Field.{base64, IsField}
+use Rattle.scram_text.specs.Parts.{parts, joined, AreExtensions}
+use Rattle.scram_text.specs.Messages.{ClientFinalParts, client_final_without_proof, client_final_text, IsClientFinal}
+use Rattle.scram_text.specs.Faults.{Fits, fault, places, IsExtensionMisfit, IsPartFault, IsClientFinalFault}
+use Rattle.scram_text.specs.Shown.{ShowsClientFinal}
+use Rattle.scram_text.specs.declared.client_final.ClientFinal.{ClientFinal}
+use Rattle.scram_text.specs.declared.fault.TextFault.{TextFault}
+use Rattle.scram_text.specs.declared.fault.TextWhy.TheVariants.{Channel, Nonce, Extension, Proof}
+use Rattle.scram_text.proofs.lemmas.Parts.{parts-append, parts_whole, misfit_here, misfit_later}
+use Rattle.scram_text.proofs.lemmas.Places.{AllFit, fits_cons, fits_end, places_of, misfit-append, misfit_after, fit_after, no_fault}
+use Rattle.scram_text.proofs.lemmas.Places.{nonce_lacks, extensions_lack, parts-joined, last_once, field_fits, field_once}
+
+-- the parts of the message that these parts make
+abbrev pub final_parts : ClientFinalParts → List (List ℕ)
+final_parts p =
+    (codes "c=" ++ base64 p.channel) ∷ (codes "r=" ++ p.nonce) ∷ (p.extensions ++ (codes "p=" ++ base64 p.proof) ∷ [])
+
+-- the front has a part for each of its pieces
+front_parts : (p : ClientFinalParts) → IsField longest_channel p.channel → IsNonce longest_nonce p.nonce → AreExtensions p.extensions
+    → parts (client_final_without_proof p) ≡ (codes "c=" ++ base64 p.channel) ∷ (codes "r=" ++ p.nonce) ∷ p.extensions
+unfolding client_final_without_proof
+front_parts p channel nonce extensions =
+    parts-joined (codes "c=" ++ base64 p.channel) ((codes "r=" ++ p.nonce) ∷ p.extensions)
+    (channel.field.no_comma, (nonce_lacks longest_nonce p.nonce nonce, extensions_lack p.extensions extensions))
+
+-- a message is cut into its parts
+pub parts_final : (text : List ℕ) (p : ClientFinalParts) → IsClientFinal text p → parts text ≡ final_parts p
+unfolding client_final_text
+parts_final text p is =
+    rw (is.spelled) (rw (
+      parts-append (client_final_without_proof p) (codes "p=" ++ base64 p.proof),
+      front_parts p is.channel is.nonce is.extensions,
+      parts_whole (codes "p=" ++ base64 p.proof) is.proof.field.no_comma,
+    ) refl)
+
+parts_once : (p q : ClientFinalParts) → p.channel ≡ q.channel → p.nonce ≡ q.nonce → p.extensions ≡ q.extensions → p.proof ≡ q.proof → p ≡ q
+parts_once p q channel nonce extensions proof =
+    λ i. record { channel = channel i; nonce = nonce i; extensions = extensions i; proof = proof i }
+
+-- a text is a message with one list of parts
+pub client_final_once : (text : List ℕ) (p q : ClientFinalParts) → IsClientFinal text p → IsClientFinal text q → p ≡ q
+client_final_once text p q is also =
+    let same : final_parts p ≡ final_parts q = sym (parts_final text p is) ∙ parts_final text q also in
+    let channels : base64 p.channel ≡ base64 q.channel = cc same in
+    let nonces : p.nonce ≡ q.nonce = cc same in
+    let rest : p.extensions ++ (codes "p=" ++ base64 p.proof) ∷ [] ≡ q.extensions ++ (codes "p=" ++ base64 q.proof) ∷ [] = cc same in
+    let ends = last_once p.extensions q.extensions _ _ rest in
+    let proofs : base64 p.proof ≡ base64 q.proof = cc (ends.1) in
+    let channel = field_once longest_channel p.channel q.channel is.channel also.channel channels in
+    let proof = field_once 64 p.proof q.proof is.proof also.proof proofs in
+    parts_once p q channel nonces ends.0 proof
+
+-- the places of as many parts as these
+pub final_places : (channel nonce proof : List ℕ) (extensions : List (List ℕ))
+    → places (Channel ∷ Nonce ∷ []) (Proof ∷ []) (length (channel ∷ nonce ∷ (extensions ++ proof ∷ [])))
+    ≡ Channel ∷ Nonce ∷ (replicate (length extensions) Extension ++ Proof ∷ [])
+final_places channel nonce proof extensions =
+    places_of (Channel ∷ Nonce ∷ []) (Proof ∷ []) _ (length extensions) (omega (arith, length-append extensions (proof ∷ [])))
+
+final_fit : (channel nonce proof : List ℕ) (extensions : List (List ℕ))
+    → Fits longest_nonce Channel channel → Fits longest_nonce Nonce nonce → AreExtensions extensions → Fits longest_nonce Proof proof
+    → AllFit longest_nonce (places (Channel ∷ Nonce ∷ []) (Proof ∷ []) (length (channel ∷ nonce ∷ (extensions ++ proof ∷ []))))
+    (channel ∷ nonce ∷ (extensions ++ proof ∷ []))
+final_fit channel nonce proof extensions is_channel is_nonce are is_proof =
+    rw (final_places channel nonce proof extensions)
+    (fits_cons longest_nonce Channel _ channel _ is_channel (fits_cons longest_nonce Nonce _ nonce _ is_nonce
+    (fit_after longest_nonce (Proof ∷ []) extensions (proof ∷ []) are
+    (fits_cons longest_nonce Proof [] proof [] is_proof (fits_end longest_nonce [])))))
+
+-- the parts of a message fit their places
+pub client_final_fit : (p : ClientFinalParts) → IsField longest_channel p.channel → IsNonce longest_nonce p.nonce
+    → AreExtensions p.extensions → IsField 64 p.proof
+    → AllFit longest_nonce (places (Channel ∷ Nonce ∷ []) (Proof ∷ []) (length (final_parts p))) (final_parts p)
+client_final_fit p channel nonce extensions proof =
+    final_fit _ _ _ p.extensions (field_fits 99 longest_channel _ p.channel refl channel) (p.nonce, refl, nonce) extensions
+    (field_fits 112 64 _ p.proof refl proof)
+
+-- a message has no fault
+pub client_final_no_fault : (text : List ℕ) (p : ClientFinalParts) (f : TextFault) → IsClientFinal text p → IsClientFinalFault text f → ⊥
+client_final_no_fault text p f is =
+    no_fault longest_nonce (Channel ∷ Nonce ∷ []) (Proof ∷ []) text (final_parts p) f is.short is.is_text (parts_final text p is)
+    (omega (arith, length-append p.extensions ((codes "p=" ++ base64 p.proof) ∷ [])))
+    (client_final_fit p is.channel is.nonce is.extensions is.proof)
+
+-- the texts that the pieces make
+pub client_final_spelled : (text front last channel_part nonce_part : List ℕ) (p : ClientFinalParts)
+    → text ≡ front ++ 44 ∷ last → parts front ≡ channel_part ∷ nonce_part ∷ p.extensions
+    → channel_part ≡ codes "c=" ++ base64 p.channel → nonce_part ≡ codes "r=" ++ p.nonce → last ≡ codes "p=" ++ base64 p.proof
+    → (front ≡ client_final_without_proof p) × (text ≡ client_final_text p)
+unfolding client_final_without_proof client_final_text
+client_final_spelled text front last channel_part nonce_part p whole cut is_channel is_nonce is_proof =
+    let pieces : channel_part ∷ nonce_part ∷ p.extensions ≡ (codes "c=" ++ base64 p.channel) ∷ (codes "r=" ++ p.nonce)
+    ∷ p.extensions = cc (is_channel, is_nonce) in
+    let front_is : front ≡ client_final_without_proof p = sym (join_with_byte-slice_split 44 front) ∙ ap joined (cut ∙ pieces) in
+    (front_is, rw (whole, front_is, is_proof) refl)
+
+-- the parts that were found are all that a text can have
+pub client_final_only : (text : List ℕ) (r : Result ClientFinal TextFault)
+    → IfOk r (λ m. (p : ClientFinalParts) × IsClientFinal text p × ShowsClientFinal m p) → IfErr r (λ f. IsClientFinalFault text f)
+    → (p : ClientFinalParts) → IsClientFinal text p → IsOkAnd r (λ m. ShowsClientFinal m p)
+client_final_only text (Ok m) found fault p is =
+    subst (λ (q : ClientFinalParts). ShowsClientFinal m q) (client_final_once text found.0 p found.1 is) found.2
+client_final_only text (Err f) found fault p is = client_final_no_fault text p f is fault
+
+-- the faults of the parts, from the left
+pub channel_fault : (channel nonce proof : List ℕ) (extensions : List (List ℕ)) → (Fits longest_nonce Channel channel → ⊥)
+    → IsPartFault longest_nonce (Channel ∷ Nonce ∷ []) (Proof ∷ []) (channel ∷ nonce ∷ (extensions ++ proof ∷ [])) (fault 0 Channel)
+channel_fault channel nonce proof extensions no_channel =
+    inr (
+      omega (arith, length-append extensions (proof ∷ [])),
+      rw (final_places channel nonce proof extensions)
+          (misfit_here longest_nonce 0 Channel _ channel _ no_channel),
+    )
+
+pub nonce_fault : (channel nonce proof : List ℕ) (extensions : List (List ℕ)) → Fits longest_nonce Channel channel
+    → (Fits longest_nonce Nonce nonce → ⊥)
+    → IsPartFault longest_nonce (Channel ∷ Nonce ∷ []) (Proof ∷ []) (channel ∷ nonce ∷ (extensions ++ proof ∷ [])) (fault 1 Nonce)
+nonce_fault channel nonce proof extensions is_channel no_nonce =
+    inr (
+      omega (arith, length-append extensions (proof ∷ [])),
+      rw (final_places channel nonce proof extensions)
+          (misfit_later longest_nonce 0 Channel _ channel _ _ is_channel (misfit_here longest_nonce 1 Nonce _ nonce _ no_nonce)),
+    )
+
+pub extension_fault : (channel nonce proof : List ℕ) (extensions : List (List ℕ)) (f : TextFault)
+    → Fits longest_nonce Channel channel → Fits longest_nonce Nonce nonce → IsExtensionMisfit 2 extensions f
+    → IsPartFault longest_nonce (Channel ∷ Nonce ∷ []) (Proof ∷ []) (channel ∷ nonce ∷ (extensions ++ proof ∷ [])) f
+extension_fault channel nonce proof extensions f is_channel is_nonce misfit =
+    inr (
+      omega (arith, length-append extensions (proof ∷ [])),
+      rw (final_places channel nonce proof extensions)
+          (misfit_later longest_nonce 0 Channel _ channel _ f is_channel (misfit_later longest_nonce 1 Nonce _ nonce _ f is_nonce
+          (misfit-append longest_nonce (replicate (length extensions) Extension) (Proof ∷ []) 2 extensions (proof ∷ []) f
+          (misfit longest_nonce)))),
+    )
+
+pub proof_fault : (channel nonce proof : List ℕ) (extensions : List (List ℕ)) (k : ℕ)
+    → Fits longest_nonce Channel channel → Fits longest_nonce Nonce nonce → AreExtensions extensions → (Fits longest_nonce Proof proof → ⊥)
+    → k ≡ 2 + length extensions
+    → IsPartFault longest_nonce (Channel ∷ Nonce ∷ []) (Proof ∷ []) (channel ∷ nonce ∷ (extensions ++ proof ∷ [])) (fault k Proof)
+proof_fault channel nonce proof extensions k is_channel is_nonce are no_proof at =
+    inr (
+      omega (arith, length-append extensions (proof ∷ [])),
+      rw (final_places channel nonce proof extensions)
+          (misfit_later longest_nonce 0 Channel _ channel _ _ is_channel (misfit_later longest_nonce 1 Nonce _ nonce _ _ is_nonce
+          (misfit_after longest_nonce (Proof ∷ []) 2 k extensions (proof ∷ []) _ at are
+          (misfit_here longest_nonce k Proof [] proof [] no_proof)))),
+    )

@@ -1,0 +1,240 @@
+-- Messages as they are composed: each is the text of its parts, and is a text.
+use Rattle.std.proofs.Common.{◌≡◌, ℕ, ◌≤◌, List, [], ◌∷◌, ◌++◌, length, length-append, refl, sym, ◌∙◌, ap, arith, subst, append-nil}
+use Rattle.std.proofs.Common.{append_assoc, true}
+use Rattle.std.specs.Prelude.{codes, decimal, option_map, IfSome}
+use Rattle.std.specs.declared.option.Option.{Option}
+use Rattle.std.specs.declared.option.Option.TheVariants.{None, Some}
+use Rattle.std.proofs.lemmas.List.Splits.{join_with_byte-slice_split}
+use Rattle.base64.specs.GeneralPurpose.{IsBytes}
+use Rattle.scram_text.specs.Limits.{longest_message, longest_nonce, longest_nonce_part}
+use Rattle.scram_text.specs.Class.{IsText, IsPlainName, IsNoncePart}
+use Rattle.scram_text.specs.Name.{IsSaslName, name_spelling}
+use Rattle.scram_text.specs.Base64Field.{base64, IsField}
+use Rattle.scram_text.specs.Parts.{parts, joined, is_flag, authzid_text}
+use Rattle.scram_text.specs.Messages.{header_text, bare_text, client_first_text, IsClientFirst, server_first_text, IsServerFirst}
+use Rattle.scram_text.specs.Messages.{ClientFinalParts, client_final_without_proof, client_final_text, IsClientFinal, VerifierOrError}
+use Rattle.scram_text.specs.Messages.{verified, failed, verifier_or_error_text, IsVerifierOrError, server_final_text, IsServerFinal}
+use Rattle.scram_text.specs.Shown.{flag_text}
+use Rattle.scram_text.specs.Draft.{after_comma}
+use Rattle.scram_text.specs.Written.{extension_parts, client_first_of, CanBeClientFirst, server_first_of, CanBeServerFirst, client_final_of}
+use Rattle.scram_text.specs.Written.{CanBeClientFinal, CanBeWithoutProof, IsWithoutProof, server_final_of, CanBeTold, CanBeServerFinal}
+use Rattle.scram_text.specs.declared.client_first.Flag.{Flag}
+use Rattle.scram_text.specs.declared.client_final.ClientFinalWithoutProof.{ClientFinalWithoutProof}
+use Rattle.scram_text.specs.declared.client_first.Flag.TheVariants.{NoBinding, NotOffered, Binding}
+use Rattle.scram_text.proofs.lemmas.Parts.{parts_count}
+use Rattle.scram_text.proofs.lemmas.Names.{spelling_saslname}
+use Rattle.scram_text.proofs.lemmas.Texts.{text_nil, cb_name_text, text-append, plain_text, nonce_text, spelling_text, count_text}
+use Rattle.scram_text.proofs.lemmas.Texts.{base64_text}
+
+pub joined_cons : (piece : List ℕ) (pieces : List (List ℕ)) → 1 ≤ length pieces → joined (piece ∷ pieces) ≡ piece ++ 44 ∷ joined pieces
+joined_cons piece [] some = absurd (omega (arith, some))
+joined_cons piece (next ∷ pieces) some = refl
+
+-- a comma and the extensions follow, where there are any
+pub joined_after : (piece extensions : List ℕ) → joined (piece ∷ extension_parts extensions) ≡ piece ++ after_comma extensions
+joined_after piece [] = sym (append-nil piece)
+joined_after piece (c ∷ text) =
+    joined_cons piece (parts (c ∷ text)) (omega (arith, parts_count (c ∷ text)))
+    ∙ ap (λ (t : List ℕ). piece ++ 44 ∷ t) (join_with_byte-slice_split 44 (c ∷ text))
+
+after_text : (extensions : List ℕ) → IsText extensions → IsText (after_comma extensions)
+after_text [] is = is
+after_text (c ∷ text) is = text-append (44 ∷ []) (c ∷ text) (plain_text (44 ∷ []) refl) is
+
+-- client-final
+
+flat_without_proof : (a b c n e : List ℕ) → (((a ++ b) ++ c) ++ n) ++ e ≡ (a ++ b) ++ (c ++ (n ++ e))
+flat_without_proof a b c n e = simp append_assoc
+
+pub without_proof_composed : (channel nonce extensions proof : List ℕ)
+    → (((codes "c=" ++ base64 channel) ++ codes ",r=") ++ nonce) ++ after_comma extensions
+    ≡ client_final_without_proof (client_final_of channel nonce extensions proof)
+unfolding client_final_without_proof
+without_proof_composed channel nonce extensions proof =
+    flat_without_proof (codes "c=") (base64 channel) (codes ",r=") nonce (after_comma extensions)
+    ∙ ap (λ (t : List ℕ). (codes "c=" ++ base64 channel) ++ 44 ∷ t) (sym (joined_after (codes "r=" ++ nonce) extensions))
+
+pub without_proof_text : (channel nonce extensions proof : List ℕ) → IsBytes channel → CanBeWithoutProof channel nonce extensions
+    → IsText (client_final_without_proof (client_final_of channel nonce extensions proof))
+without_proof_text channel nonce extensions proof bytes can =
+    let lead = text-append (codes "c=") (base64 channel) (plain_text (codes "c=") refl) (base64_text channel bytes) in
+    let middle = text-append _ nonce (text-append _ (codes ",r=") lead (plain_text (codes ",r=") refl))
+    (nonce_text longest_nonce nonce can.nonce_class) in
+    subst IsText (without_proof_composed channel nonce extensions proof)
+    (text-append _ (after_comma extensions) middle (after_text extensions can.extensions_class.is_text))
+
+-- the proof follows the text before it
+
+pub with_proof_composed : (p : ClientFinalParts) (front proof : List ℕ) → front ≡ client_final_without_proof p → p.proof ≡ proof
+    → (front ++ codes ",p=") ++ base64 proof ≡ client_final_text p
+unfolding client_final_text
+with_proof_composed p front proof held same =
+    append_assoc front (codes ",p=") (base64 proof) ∙ (λ i. held i ++ (codes ",p=" ++ base64 (sym same i)))
+
+with_proof_text : (p : ClientFinalParts) → IsText (client_final_without_proof p) → IsBytes p.proof → IsText (client_final_text p)
+unfolding client_final_text
+with_proof_text p front bytes =
+    text-append (client_final_without_proof p) (codes ",p=" ++ base64 p.proof) front
+    (text-append (codes ",p=") (base64 p.proof) (plain_text (codes ",p=") refl) (base64_text p.proof bytes))
+
+pub with_proof_related : (w : ClientFinalWithoutProof) (p : ClientFinalParts) (proof : List ℕ) → IsWithoutProof w p → p.proof ≡ proof
+    → IsBytes proof → IsField 64 proof → length (client_final_text p) ≤ longest_message → IsClientFinal (client_final_text p) p
+with_proof_related w p proof is same bytes field short = record {
+  spelled = refl;
+  channel = is.channel;
+  nonce = is.nonce;
+  extensions = is.extensions;
+  proof = subst (IsField 64) (sym same) field;
+  is_text = with_proof_text p is.is_text (subst IsBytes (sym same) bytes);
+  short = short;
+}
+
+-- the message is longer than the text before its proof
+pub with_proof_longer : (channel nonce extensions proof : List ℕ)
+    → length (client_final_without_proof (client_final_of channel nonce extensions []))
+    ≤ length (client_final_text (client_final_of channel nonce extensions proof))
+unfolding client_final_text client_final_without_proof
+with_proof_longer channel nonce extensions proof =
+    omega (
+      arith,
+      length-append (client_final_without_proof (client_final_of channel nonce extensions proof))
+          (44 ∷ (codes "p=" ++ base64 proof)),
+    )
+
+pub client_final_related : (channel nonce extensions proof : List ℕ) → IsBytes channel → IsBytes proof
+    → CanBeClientFinal channel nonce extensions proof
+    → length (client_final_text (client_final_of channel nonce extensions proof)) ≤ longest_message
+    → IsClientFinal (client_final_text (client_final_of channel nonce extensions proof)) (client_final_of channel nonce extensions proof)
+client_final_related channel nonce extensions proof channel_bytes proof_bytes can short = record {
+  spelled = refl;
+  channel = can.channel_class;
+  nonce = can.nonce_class;
+  extensions = can.extensions_class.each;
+  proof = can.proof_class;
+  is_text = with_proof_text (client_final_of channel nonce extensions proof)
+      (without_proof_text channel nonce extensions proof channel_bytes (record {
+        channel_class = can.channel_class;
+        nonce_class = can.nonce_class;
+        extensions_class = can.extensions_class;
+      })) proof_bytes;
+  short = short;
+}
+
+-- server-first
+
+flat_server : (a n s v i k e : List ℕ) → (((((a ++ n) ++ s) ++ v) ++ i) ++ k) ++ e ≡ (a ++ n) ++ (s ++ (v ++ (i ++ (k ++ e))))
+flat_server a n s v i k e = simp append_assoc
+
+pub server_first_composed : (nonce salt : List ℕ) (count : ℕ) (extensions : List ℕ)
+    → (((((codes "r=" ++ nonce) ++ codes ",s=") ++ base64 salt) ++ codes ",i=") ++ decimal count) ++ after_comma extensions
+    ≡ server_first_text (server_first_of nonce salt count extensions)
+unfolding server_first_text
+server_first_composed nonce salt count extensions =
+    flat_server (codes "r=") nonce (codes ",s=") (base64 salt) (codes ",i=") (decimal count) (after_comma extensions)
+    ∙ ap (λ (t : List ℕ). (codes "r=" ++ nonce) ++ 44 ∷ ((codes "s=" ++ base64 salt) ++ 44 ∷ t))
+    (sym (joined_after (codes "i=" ++ decimal count) extensions))
+
+pub server_first_related : (nonce salt : List ℕ) (count : ℕ) (extensions : List ℕ) → IsBytes salt
+    → CanBeServerFirst nonce salt count extensions
+    → length (server_first_text (server_first_of nonce salt count extensions)) ≤ longest_message
+    → IsServerFirst (server_first_text (server_first_of nonce salt count extensions)) (server_first_of nonce salt count extensions)
+server_first_related nonce salt count extensions bytes can short =
+    let lead = text-append (codes "r=") nonce (plain_text (codes "r=") refl) (nonce_text longest_nonce nonce can.nonce_class) in
+    let salted = text-append _ (base64 salt) (text-append _ (codes ",s=") lead (plain_text (codes ",s=") refl)) (base64_text salt bytes) in
+    let counted = text-append _ (decimal count) (text-append _ (codes ",i=") salted (plain_text (codes ",i=") refl))
+    (count_text count can.count_class) in
+    let whole = text-append _ (after_comma extensions) counted (after_text extensions can.extensions_class.is_text) in record {
+      spelled = refl;
+      mext = tt;
+      nonce = can.nonce_class;
+      salt = can.salt_class;
+      count = can.count_class;
+      extensions = can.extensions_class.each;
+      is_text = subst IsText (server_first_composed nonce salt count extensions) whole;
+      short = short;
+    }
+
+-- server-final
+
+pub server_final_composed : (outcome : VerifierOrError) (extensions : List ℕ)
+    → verifier_or_error_text outcome ++ after_comma extensions ≡ server_final_text (server_final_of outcome extensions)
+unfolding server_final_text
+server_final_composed outcome extensions = sym (joined_after (verifier_or_error_text outcome) extensions)
+
+pub signature_text : (signature : List ℕ) → IsBytes signature → IsText (codes "v=" ++ base64 signature)
+signature_text signature bytes = text-append (codes "v=") (base64 signature) (plain_text (codes "v=") refl) (base64_text signature bytes)
+
+pub error_text : (value : List ℕ) → IsText value → IsText (codes "e=" ++ value)
+error_text value is = text-append (codes "e=") value (plain_text (codes "e=") refl) is
+
+told_class : (outcome : VerifierOrError) → CanBeTold outcome → IsVerifierOrError outcome
+told_class (verified signature) can = can
+told_class (failed value) can = can.0
+
+pub server_final_related : (outcome : VerifierOrError) (extensions : List ℕ) → IsText (verifier_or_error_text outcome)
+    → CanBeServerFinal outcome extensions → length (server_final_text (server_final_of outcome extensions)) ≤ longest_message
+    → IsServerFinal (server_final_text (server_final_of outcome extensions)) (server_final_of outcome extensions)
+server_final_related outcome extensions told can short =
+    let whole = text-append _ (after_comma extensions) told (after_text extensions can.extensions_class.is_text) in record {
+      spelled = refl;
+      outcome = told_class outcome can.outcome_class;
+      extensions = can.extensions_class.each;
+      is_text = subst IsText (server_final_composed outcome extensions) whole;
+      short = short;
+    }
+
+-- client-first
+
+flat_first : (f c a d l n r o e : List ℕ)
+    → ((((((f ++ c) ++ a) ++ (d ++ l)) ++ n) ++ r) ++ o) ++ e ≡ (f ++ (c ++ (a ++ d))) ++ ((l ++ n) ++ (r ++ (o ++ e)))
+flat_first f c a d l n r o e = simp append_assoc
+
+pub client_first_composed : (flag : Flag) (authzid : Option (List ℕ)) (name nonce extensions : List ℕ)
+    → ((((((flag_text flag ++ codes ",") ++ authzid_text (option_map name_spelling authzid)) ++ codes ",n=") ++ name_spelling name)
+    ++ codes ",r=") ++ nonce) ++ after_comma extensions
+    ≡ client_first_text (client_first_of flag authzid name nonce extensions)
+unfolding client_first_text header_text bare_text
+client_first_composed flag authzid name nonce extensions =
+    flat_first (flag_text flag) (codes ",") (authzid_text (option_map name_spelling authzid)) (codes ",") (codes "n=") (name_spelling name)
+    (codes ",r=") nonce (after_comma extensions)
+    ∙ ap (λ (t : List ℕ). (flag_text flag ++ 44 ∷ (authzid_text (option_map name_spelling authzid) ++ 44 ∷ []))
+    ++ ((codes "n=" ++ name_spelling name) ++ 44 ∷ t))
+    (sym (joined_after (codes "r=" ++ nonce) extensions))
+
+authzid_class : (authzid : Option (List ℕ)) → IfSome authzid IsPlainName → IfSome (option_map name_spelling authzid) IsSaslName
+authzid_class None is = tt
+authzid_class (Some name) is = spelling_saslname name is.at_least
+
+authzid_is_text : (authzid : Option (List ℕ)) → IfSome authzid IsPlainName → IsText (authzid_text (option_map name_spelling authzid))
+authzid_is_text None is = text_nil
+authzid_is_text (Some name) is =
+    text-append (codes "a=") (name_spelling name) (plain_text (codes "a=") refl) (spelling_text name is.each)
+
+flag_is_text : (flag : Flag) → is_flag (flag_text flag) ≡ true → IsText (flag_text flag)
+flag_is_text NoBinding is = plain_text (codes "n") refl
+flag_is_text NotOffered is = plain_text (codes "y") refl
+flag_is_text (Binding name) is = text-append (codes "p=") name.now (plain_text (codes "p=") refl) (cb_name_text name.now is)
+
+pub client_first_related : (flag : Flag) (authzid : Option (List ℕ)) (name nonce extensions : List ℕ)
+    → IfSome authzid IsPlainName → IsPlainName name → IsNoncePart nonce → CanBeClientFirst flag extensions
+    → length (client_first_text (client_first_of flag authzid name nonce extensions)) ≤ longest_message
+    → IsClientFirst (client_first_text (client_first_of flag authzid name nonce extensions))
+    (client_first_of flag authzid name nonce extensions)
+client_first_related flag authzid name nonce extensions is_authzid is_name is_nonce can short =
+    let flagged = text-append (flag_text flag) (codes ",") (flag_is_text flag can.flag_class) (plain_text (codes ",") refl) in
+    let authorised = text-append _ (authzid_text (option_map name_spelling authzid)) flagged (authzid_is_text authzid is_authzid) in
+    let named = text-append _ (name_spelling name) (text-append _ (codes ",n=") authorised (plain_text (codes ",n=") refl))
+    (spelling_text name is_name.each) in
+    let fresh = text-append _ nonce (text-append _ (codes ",r=") named (plain_text (codes ",r=") refl))
+    (nonce_text longest_nonce_part nonce is_nonce) in
+    let whole = text-append _ (after_comma extensions) fresh (after_text extensions can.extensions_class.is_text) in record {
+      spelled = refl;
+      flag = can.flag_class;
+      authzid = authzid_class authzid is_authzid;
+      mext = tt;
+      name = spelling_saslname name is_name.at_least;
+      nonce = is_nonce;
+      extensions = can.extensions_class.each;
+      is_text = subst IsText (client_first_composed flag authzid name nonce extensions) whole;
+      short = short;
+    }

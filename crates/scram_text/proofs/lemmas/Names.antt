@@ -1,0 +1,149 @@
+-- A spelling is read in one way, from the left, and is a saslname.
+use Rattle.std.proofs.Common.{◌≡◌, ◌≢◌, ◌⊎◌, inl, inr, ℕ, ◌*◌, ◌≤◌, List, [], ◌∷◌, ◌++◌, length, refl, sym, ◌∙◌, arith, append_assoc}
+use Rattle.std.proofs.Common.{append-nil, true, false, not, eqb}
+use Rattle.std.specs.Prelude.{codes}
+use Rattle.std.proofs.lemmas.Bool.Decides.{eqb_tells}
+use Rattle.std.proofs.lemmas.List.Folds.{list_all-append}
+use Rattle.scram_text.specs.Class.{is_comma}
+use Rattle.scram_text.specs.Name.{IsSaslName, LacksComma, escape, name_spelling, is_escaped}
+
+-- different numbers are not equal by the test
+pub other_than : (a b : ℕ) → a ≢ b → eqb a b ≡ false
+other_than a b differ = elim (eqb_tells a b) [
+  | inl same ↦ absurd (differ same.1)
+  | inr other ↦ other.0
+]
+
+-- the three forms of a byte's spelling
+pub escape_cases : (c : ℕ) → ((c ≡ 44) × (escape c ≡ codes "=2C"))
+    ⊎ (((c ≡ 61) × (escape c ≡ codes "=3D")) ⊎ ((c ≢ 44) × (c ≢ 61) × (escape c ≡ c ∷ [])))
+escape_cases c = elim (eqb_tells c 44) [
+  | inl comma ↦ inl (comma.1, rw comma.0 refl)
+  | inr other ↦ elim (eqb_tells c 61) [
+    | inl equals ↦ inr (inl (equals.1, rw (other.0, equals.0) refl))
+    | inr neither ↦ inr (inr (other.1, neither.1, rw (other.0, neither.0) refl))
+  ]
+]
+
+-- equal lists have equal heads and equal tails
+pub heads : (a b : ℕ) (x y : List ℕ) → a ∷ x ≡ b ∷ y → (a ≡ b) × (x ≡ y)
+heads a b x y e = (cc, cc)
+
+heads_3 : (a b c a' b' c' : ℕ) (x y : List ℕ) → a ∷ b ∷ c ∷ x ≡ a' ∷ b' ∷ c' ∷ y → (b ≡ b') × (x ≡ y)
+heads_3 a b c a' b' c' x y e = (cc, cc)
+
+-- the first byte that a spelling spells
+pub escape_first : (b c : ℕ) (x y : List ℕ) → escape b ++ x ≡ escape c ++ y → (b ≡ c) × (x ≡ y)
+escape_first b c x y e = elim (escape_cases b) [
+  | inl p ↦ elim (escape_cases c) [
+    | inl q ↦ (p.0 ∙ sym q.0, (heads_3 61 50 67 61 50 67 x y (rw (p.1, q.1) at e)).1)
+    | inr r ↦ elim r [
+      | inl q ↦ let h = (heads_3 61 50 67 61 51 68 x y (rw (p.1, q.1) at e)).0 in absurd (omega arith)
+      | inr q ↦ let h = (heads 61 c (50 ∷ 67 ∷ x) y (rw (p.1, q.2) at e)).0 in absurd (q.1 (sym h))
+    ]
+  ]
+  | inr s ↦ elim s [
+    | inl p ↦ elim (escape_cases c) [
+      | inl q ↦ let h = (heads_3 61 51 68 61 50 67 x y (rw (p.1, q.1) at e)).0 in absurd (omega arith)
+      | inr r ↦ elim r [
+        | inl q ↦ (p.0 ∙ sym q.0, (heads_3 61 51 68 61 51 68 x y (rw (p.1, q.1) at e)).1)
+        | inr q ↦ let h = (heads 61 c (51 ∷ 68 ∷ x) y (rw (p.1, q.2) at e)).0 in absurd (q.1 (sym h))
+      ]
+    ]
+    | inr p ↦ elim (escape_cases c) [
+      | inl q ↦ let h = (heads b 61 x (50 ∷ 67 ∷ y) (rw (p.2, q.1) at e)).0 in absurd (p.1 h)
+      | inr r ↦ elim r [
+        | inl q ↦ let h = (heads b 61 x (51 ∷ 68 ∷ y) (rw (p.2, q.1) at e)).0 in absurd (p.1 h)
+        | inr q ↦ heads b c x y (rw (p.2, q.2) at e)
+      ]
+    ]
+  ]
+]
+
+-- the spelling of a byte is not empty
+pub escape_nonempty : (b : ℕ) (x : List ℕ) → escape b ++ x ≡ [] → ⊥
+escape_nonempty b x e = elim (escape_cases b) [
+  | inl p ↦ let h = rw p.1 at e in cc h
+  | inr s ↦ elim s [
+    | inl p ↦ let h = rw p.1 at e in cc h
+    | inr p ↦ let h = rw p.2 at e in cc h
+  ]
+]
+
+cons_both : (b c : ℕ) (x y : List ℕ) → b ≡ c → x ≡ y → c ∷ y ≡ b ∷ x
+cons_both b c x y first rest = cc
+
+-- where the spelling of the first bytes was read, the rest spells the others
+pub spelling_rest : (front rest name : List ℕ) → name_spelling front ++ rest ≡ name_spelling name
+    → (more : List ℕ) × (name ≡ front ++ more) × (rest ≡ name_spelling more)
+spelling_rest [] rest name e = (name, refl, e)
+spelling_rest (b ∷ front) rest [] e = absurd (escape_nonempty b (name_spelling front ++ rest) (rw append_assoc at e))
+spelling_rest (b ∷ front) rest (c ∷ name) e =
+    let first = escape_first b c (name_spelling front ++ rest) (name_spelling name) (rw append_assoc at e) in
+    let more = spelling_rest front rest name first.1 in
+    (more.0, cons_both b c (front ++ more.0) name first.0 (sym more.1), more.2)
+
+-- a saslname spells one name
+pub name_once : (one other : List ℕ) → name_spelling one ≡ name_spelling other → one ≡ other
+name_once one other e =
+    let found = spelling_rest one [] other (append-nil (name_spelling one) ∙ e) in
+    elim found.0 as (λ more. other ≡ one ++ more → [] ≡ name_spelling more → one ≡ other) [
+      | [] ↦ λ same _. sym (same ∙ append-nil one)
+      | c ∷ more ↦ λ _ none. absurd (escape_nonempty c (name_spelling more) (sym none))
+    ] found.1 found.2
+
+escape_lacks : (c : ℕ) → LacksComma (escape c)
+escape_lacks c = elim (escape_cases c) [
+  | inl p ↦ rw p.1 refl
+  | inr s ↦ elim s [
+    | inl p ↦ rw p.1 refl
+    | inr p ↦ rw (p.2, other_than c 44 p.0) refl
+  ]
+]
+
+spelling_lacks : (name : List ℕ) → LacksComma (name_spelling name)
+spelling_lacks [] = refl
+spelling_lacks (c ∷ name) =
+    rw (list_all-append (λ b. not (is_comma b)) (escape c) (name_spelling name), escape_lacks c, spelling_lacks name) refl
+
+escaped_before : (c : ℕ) (rest : List ℕ) → is_escaped rest ≡ true → is_escaped (escape c ++ rest) ≡ true
+escaped_before c rest is = elim (escape_cases c) [
+  | inl p ↦ rw p.1 is
+  | inr s ↦ elim s [
+    | inl p ↦ rw p.1 is
+    | inr p ↦ rw (p.2, other_than c 61 p.1) is
+  ]
+]
+
+spelling_escaped : (name : List ℕ) → is_escaped (name_spelling name) ≡ true
+spelling_escaped [] = refl
+spelling_escaped (c ∷ name) = escaped_before c (name_spelling name) (spelling_escaped name)
+
+spelling_some : (name : List ℕ) → 1 ≤ length name → 1 ≤ length (name_spelling name)
+spelling_some [] some = absurd (omega (arith, some))
+spelling_some (c ∷ name) some = elim (escape_cases c) [
+  | inl p ↦ rw p.1 (omega arith)
+  | inr s ↦ elim s [
+    | inl p ↦ rw p.1 (omega arith)
+    | inr p ↦ rw p.2 (omega arith)
+  ]
+]
+
+-- the spelling of a name is a saslname
+pub spelling_saslname : (name : List ℕ) → 1 ≤ length name → IsSaslName (name_spelling name)
+spelling_saslname name some = record {
+  at_least = spelling_some name some;
+  no_comma = spelling_lacks name;
+  escaped = spelling_escaped name;
+}
+
+-- a spelling is at most three times as long as its name
+pub length-spelling : (name : List ℕ) → length (name_spelling name) ≤ 3 * length name
+length-spelling [] = omega arith
+length-spelling (c ∷ name) = elim (escape_cases c) [
+  | inl p ↦ rw p.1 (omega (arith, length-spelling name))
+  | inr s ↦ elim s [
+    | inl p ↦ rw p.1 (omega (arith, length-spelling name))
+    | inr p ↦ rw p.2 (omega (arith, length-spelling name))
+  ]
+]

@@ -1,0 +1,178 @@
+-- Parts and their places, in each of the messages.
+use Rattle.std.proofs.Common.{◌≡◌, inl, inr, ℕ, ◌+◌, ◌-◌, ◌≤◌, Bool, true, false, List, [], ◌∷◌, ◌++◌, length, replicate, refl, sym, ◌∙◌}
+use Rattle.std.proofs.Common.{ap, arith, subst}
+use Rattle.std.specs.List.{AllByRecursion, list_all, zip}
+use Rattle.std.proofs.lemmas.Bool.{cases_Bool, eqb-true, both_ways}
+use Rattle.std.proofs.lemmas.List.{append_assoc}
+use Rattle.scram_text.specs.Limits.{longest_message}
+use Rattle.scram_text.specs.Class.{is_comma, is_printable, IsNonce, IsText}
+use Rattle.scram_text.specs.Name.{LacksComma}
+use Rattle.scram_text.specs.Base64Field.{base64, IsField}
+use Rattle.scram_text.specs.Parts.{parts, joined, AreExtensions, IsHeaded, SpellsField}
+use Rattle.scram_text.specs.Faults.{Fits, IsFirstMisfit, IsPartFault, IsFault, places}
+use Rattle.scram_text.specs.declared.fault.TextFault.{TextFault}
+use Rattle.scram_text.specs.declared.fault.TextWhy.{TextWhy}
+use Rattle.scram_text.specs.declared.fault.TextWhy.TheVariants.{Extension}
+use Rattle.scram_text.proofs.lemmas.Parts.{both, parts_whole, parts_front, misfit_later}
+use Rattle.scram_text.proofs.lemmas.Rows.{none_unmet}
+
+-- each part fits its place, as far as there are both
+unfoldable pub AllFit : ℕ → List TextWhy → List (List ℕ) → Type 0
+AllFit most later pieces = AllByRecursion (λ row. Fits most row.0 row.1) (zip later pieces)
+
+pub fits_cons : (most : ℕ) (place : TextWhy) (later : List TextWhy) (part : List ℕ) (pieces : List (List ℕ))
+    → Fits most place part → AllFit most later pieces → AllFit most (place ∷ later) (part ∷ pieces)
+unfolding AllFit
+fits_cons most place later part pieces fits fit = (fits, fit)
+
+pub fits_end : (most : ℕ) (pieces : List (List ℕ)) → AllFit most [] pieces
+unfolding AllFit
+fits_end most pieces = tt
+
+-- where each part fits, none is the first that does not
+pub no_misfit : (most : ℕ) (later : List TextWhy) (k : ℕ) (pieces : List (List ℕ)) (f : TextFault)
+    → AllFit most later pieces → IsFirstMisfit most later k pieces f → ⊥
+unfolding AllFit
+no_misfit most later k pieces f fit misfit =
+    none_unmet (λ row. Fits most row.0 row.1) (zip later pieces) (f.why, misfit.part) fit misfit.first
+
+-- more places and parts after these
+zip-append : {A B : Type 0} (xs more : List A) (ys others : List B)
+    → (rest : List (A × B)) × (zip (xs ++ more) (ys ++ others) ≡ zip xs ys ++ rest)
+zip-append [] more ys others = (zip more (ys ++ others), refl)
+zip-append (x ∷ xs) more [] others = (zip (x ∷ xs ++ more) others, refl)
+zip-append (x ∷ xs) more (y ∷ ys) others =
+    let later = zip-append xs more ys others in (later.0, ap (λ rows. (x, y) ∷ rows) later.1)
+
+pub misfit-append : (most : ℕ) (later more : List TextWhy) (k : ℕ) (pieces others : List (List ℕ)) (f : TextFault)
+    → IsFirstMisfit most later k pieces f → IsFirstMisfit most (later ++ more) k (pieces ++ others) f
+misfit-append most later more k pieces others f misfit =
+    let (rest, rows) = zip-append later more pieces others in record {
+      part = misfit.part;
+      first = record {
+        before = misfit.first.before;
+        after = misfit.first.after ++ rest;
+        split = rows ∙ rw misfit.first.split (append_assoc misfit.first.before _ rest);
+        met = misfit.first.met;
+        unmet = misfit.first.unmet;
+      };
+      number = misfit.number;
+    }
+
+-- extensions before these parts
+pub misfit_after : (most : ℕ) (later : List TextWhy) (k j : ℕ) (extensions pieces : List (List ℕ)) (f : TextFault)
+    → j ≡ k + length extensions → AreExtensions extensions → IsFirstMisfit most later j pieces f
+    → IsFirstMisfit most (replicate (length extensions) Extension ++ later) k (extensions ++ pieces) f
+misfit_after most later k j [] pieces f at are misfit =
+    let same : j ≡ k = omega (arith, at) in subst (λ (i : ℕ). IsFirstMisfit most later i pieces f) same misfit
+misfit_after most later k j (part ∷ extensions) pieces f at are misfit =
+    misfit_later most k Extension _ part _ f are.0 (misfit_after most later (k + 1) j extensions pieces f (omega (arith, at)) are.1 misfit)
+
+pub fit_after : (most : ℕ) (later : List TextWhy) (extensions pieces : List (List ℕ))
+    → AreExtensions extensions → AllFit most later pieces
+    → AllFit most (replicate (length extensions) Extension ++ later) (extensions ++ pieces)
+unfolding AllFit
+fit_after most later [] pieces are fit = fit
+fit_after most later (part ∷ extensions) pieces are fit = (are.0, fit_after most later extensions pieces are.1 fit)
+
+-- the places of parts with these extensions between
+pub places_of : (front back : List TextWhy) (n middle : ℕ) → n ≡ length front + length back + middle
+    → places front back n ≡ front ++ (replicate middle Extension ++ back)
+places_of front back n middle count =
+    let same : n - (length front + length back) ≡ middle = omega (arith, count) in rw same refl
+
+-- a fault of the parts is one of the text
+pub fault_of : (most : ℕ) (front back : List TextWhy) (text : List ℕ) (pieces : List (List ℕ)) (f : TextFault)
+    → length text ≤ longest_message → IsText text → parts text ≡ pieces → IsPartFault most front back pieces f
+    → IsFault most front back text f
+fault_of most front back text pieces f short is_text cut misfit =
+    inr (short, is_text, subst (λ (ps : List (List ℕ)). IsPartFault most front back ps f) (sym cut) misfit)
+
+-- a fault of the parts is one of the text, where the places follow from the parts
+pub fault_at : (most : ℕ) (front : List (List ℕ) → List TextWhy) (text : List ℕ) (pieces : List (List ℕ)) (f : TextFault)
+    → length text ≤ longest_message → IsText text → parts text ≡ pieces → IsPartFault most (front pieces) [] pieces f
+    → IsFault most (front (parts text)) [] text f
+fault_at most front text pieces f short is_text cut misfit =
+    inr (short, is_text, subst (λ (ps : List (List ℕ)). IsPartFault most (front ps) [] ps f) (sym cut) misfit)
+
+-- a text whose parts fit has no fault
+pub no_fault : (most : ℕ) (front back : List TextWhy) (text : List ℕ) (pieces : List (List ℕ)) (f : TextFault)
+    → length text ≤ longest_message → IsText text → parts text ≡ pieces → length front + length back ≤ length pieces
+    → AllFit most (places front back (length pieces)) pieces → IsFault most front back text f → ⊥
+no_fault most front back text pieces f short is_text cut enough fit faulty = elim faulty [
+  | inl whole ↦ elim whole [
+    | inl long ↦ omega (arith, short, long.0)
+    | inr no_text ↦ no_text.1 is_text
+  ]
+  | inr in_parts ↦
+      let misfit = rw cut at in_parts.2 in elim misfit [
+        | inl missing ↦ omega (arith, enough, missing.0)
+        | inr first ↦ no_misfit most (places front back (length pieces)) 0 pieces f fit first.1
+      ]
+]
+
+-- a text whose parts fit has no fault, where the places follow from the parts
+pub no_fault_at : (most : ℕ) (front : List (List ℕ) → List TextWhy) (text : List ℕ) (pieces : List (List ℕ)) (f : TextFault)
+    → length text ≤ longest_message → IsText text → parts text ≡ pieces → length (front pieces) ≤ length pieces
+    → AllFit most (places (front pieces) [] (length pieces)) pieces → IsFault most (front (parts text)) [] text f → ⊥
+no_fault_at most front text pieces f short is_text cut enough fit faulty =
+    no_fault most (front pieces) [] text pieces f short is_text cut (omega (arith, enough)) fit
+    (subst (λ (ps : List (List ℕ)). IsFault most (front ps) [] text f) cut faulty)
+
+-- bytes of a class that has no comma
+pub class_lacks : (test : ℕ → Bool) (bytes : List ℕ) → test 44 ≡ false → list_all test bytes ≡ true → LacksComma bytes
+class_lacks test [] no_comma h = refl
+class_lacks test (c ∷ bytes) no_comma h =
+    let each = both (test c) (list_all test bytes) h in
+    elim (cases_Bool (is_comma c)) [
+      | inl hit ↦ absurd (both_ways (test 44) no_comma (rw (eqb-true c 44 hit) at each.0))
+      | inr miss ↦ rw miss (class_lacks test bytes no_comma each.1)
+    ]
+
+pub nonce_lacks : (most : ℕ) (nonce : List ℕ) → IsNonce most nonce → LacksComma nonce
+nonce_lacks most nonce class = class_lacks is_printable nonce refl class.each
+
+pub extensions_lack : (extensions : List (List ℕ)) → AreExtensions extensions → AllByRecursion LacksComma extensions
+extensions_lack [] are = tt
+extensions_lack (part ∷ extensions) are = (are.0.no_comma, extensions_lack extensions are.1)
+
+-- pieces without commas are cut as they were joined
+pub parts-joined : (piece : List ℕ) (pieces : List (List ℕ)) → AllByRecursion LacksComma (piece ∷ pieces)
+    → parts (joined (piece ∷ pieces)) ≡ piece ∷ pieces
+parts-joined piece [] lack = parts_whole piece lack.0
+parts-joined piece (next ∷ pieces) lack =
+    parts_front piece (joined (next ∷ pieces)) lack.0 ∙ ap (λ (ps : List (List ℕ)). piece ∷ ps) (parts-joined next pieces lack.1)
+
+pub parts-joined_list : (pieces : List (List ℕ)) → 1 ≤ length pieces → AllByRecursion LacksComma pieces → parts (joined pieces) ≡ pieces
+parts-joined_list [] some lack = absurd (omega (arith, some))
+parts-joined_list (piece ∷ pieces) some lack = parts-joined piece pieces lack
+
+-- a misfit at an index that is written in another way
+pub misfit_at : (most j k : ℕ) (later : List TextWhy) (pieces : List (List ℕ)) (f : TextFault) → j ≡ k
+    → IsFirstMisfit most later j pieces f → IsFirstMisfit most later k pieces f
+misfit_at most j k later pieces f same misfit = subst (λ (i : ℕ). IsFirstMisfit most later i pieces f) same misfit
+
+-- equal lists have equal last elements, and are equal before them
+pub last_once : (xs ys : List (List ℕ)) (x y : List ℕ) → xs ++ x ∷ [] ≡ ys ++ y ∷ [] → (xs ≡ ys) × (x ≡ y)
+last_once [] [] x y same = (refl, cc)
+last_once [] (b ∷ []) x y same = absurd (cc same)
+last_once [] (b ∷ c ∷ ys) x y same = absurd (cc same)
+last_once (a ∷ []) [] x y same = absurd (cc same)
+last_once (a ∷ c ∷ xs) [] x y same = absurd (cc same)
+last_once (a ∷ xs) (b ∷ ys) x y same =
+    let rest : xs ++ x ∷ [] ≡ ys ++ y ∷ [] = cc same in
+    let later = last_once xs ys x y rest in (cc (same, later.0), later.1)
+
+-- a part is a field by the text of its bytes
+pub field_fits : (letter most : ℕ) (part bytes : List ℕ) → part ≡ letter ∷ 61 ∷ base64 bytes → IsField most bytes
+    → IsHeaded letter (SpellsField most) part
+field_fits letter most part bytes spelled field = (base64 bytes, spelled, (bytes, refl, field))
+
+-- a text is the base64 of one list of bytes
+pub field_once : (most : ℕ) (one other : List ℕ) → IsField most one → IsField most other → base64 one ≡ base64 other → one ≡ other
+field_once most one other is also same =
+    let read = rw same at is.field.back in let read_also = also.field.back in cc (read, read_also)
+
+-- lists with different heads are different
+pub heads_differ : (a b : ℕ) (x y : List ℕ) → a ∷ x ≡ b ∷ y → (a ≡ b → ⊥) → ⊥
+heads_differ a b x y same differ = differ (cc same)

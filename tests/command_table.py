@@ -1,0 +1,223 @@
+"""What the scripts on all commands share: each command with words and an input that it takes, what it prints for them, and what the
+book has after each of its saves, worked out by Python from RFC 4226, RFC 5802 and RFC 7677."""
+import copy
+import os
+import pathlib
+import re
+import shutil
+import stat
+import subprocess
+import tomllib
+from typing import NamedTuple
+
+import suite
+from checks import equal
+from expected import AUDITS, keys_of, numbered
+from suite import CODES, KEYS_OF_PENCIL, NONCES, PROGRAM, SALT, SECRET
+
+# RFC 5802's user with RFC 4226's token, of which two codes have failed.
+BOOK = (AUDITS / "hotp.toml").read_text().replace("failures = 0", "failures = 2")
+LOG = (AUDITS / "sha1.log").read_text()
+ACCEPTED, GONE = "".join(LOG.splitlines(True)[:6]), "C GONE\nE\n"
+AUTH, RESP = LOG.splitlines()[2][2:], LOG.splitlines()[4][2:]
+RANDOM = bytes(range(64))
+
+
+def parsed_book(text):
+    """What a book says, whichever of its keys are left out."""
+    book = tomllib.loads(text)
+    for account in book["accounts"].values():
+        account.setdefault("act_as", [])
+        if "token" in account:
+            account["token"].setdefault("sync_ahead", 0)
+    return book
+
+
+def with_token(book, **fields):
+    """A book whose token has these values."""
+    changed = copy.deepcopy(book)
+    changed["accounts"]["user"]["token"].update(fields)
+    return changed
+
+
+def new_account(salts):
+    """The account that `enrol` makes with these salts, of the password `pencil`."""
+    tables = {"act_as": []}
+    for function, salt in zip(["sha1", "sha256"], salts):
+        stored, server = keys_of(function, b"pencil", salt, 1)
+        tables[function] = {"salt": salt.hex(), "count": 1, "stored": stored, "server": server}
+    return tables
+
+
+def with_account(book):
+    """A book to which `enrol` has added the account `new`: RANDOM begins with its salts."""
+    changed = copy.deepcopy(book)
+    changed["accounts"]["new"] = new_account([RANDOM[:16], RANDOM[16:32]])
+    return changed
+
+
+def made_book():
+    """The book that `enrol` makes where there is none: RANDOM begins with its key for decoys, and the salts follow."""
+    accounts = {"new": new_account([RANDOM[32:48], RANDOM[48:]])}
+    return {"format": 1, "decoy_key": RANDOM[:32].hex(), "decoy_count": 4096, "accounts": accounts}
+
+
+def after_codes(book, count):
+    """A book before and after each of so many codes, which all pass."""
+    return [book] + [with_token(book, next=number, failures=0) for number in range(1, count + 1)]
+
+
+class Command(NamedTuple):
+    """A command, its words but for the paths, its input, what it prints where all is well, and the book before and after
+    each save, or None where there is none."""
+
+    name: str
+    words: list
+    text: str
+    printed: str
+    books: list
+
+    def in_folder(self, folder):
+        """The whole words, with the paths of files of this folder."""
+        paths = {name: os.path.join(folder, name) for name in ["book", "log", "random", "socket"]}
+        return [PROGRAM, self.name, *[word.format(**paths) for word in self.words]]
+
+    def saves_told(self, printed):
+        """How many saves are told by what was printed."""
+        if self.name in ("login", "hall"):
+            return printed.startswith("SCRAMLOG") + printed.count(" PASS ")
+        return len(re.findall(r"^(?:PASS .*|enrolled new|unlocked user)\n", printed, re.M)) if len(self.books) > 1 else 0
+
+
+def events(count):
+    """Events of a hall: a login and so many codes; and its log."""
+    sent = [f"line 1 5 {AUTH}", f"line 1 5 {RESP}", *[f"line 1 5 CODE {code}" for code in CODES[:count]], "gone 1 5"]
+    text = "".join(f"{line}\n" for line in ["open 3rfcNHYJY1ZVvWVs7j", *sent])
+    return text, numbered(login_log(count))
+
+
+def login_log(count):
+    """The log of a login with so many codes."""
+    return ACCEPTED + "".join(f"C CODE {code}\nS PASS 5 {number}\n" for number, code in enumerate(CODES[:count])) + GONE
+
+
+def commands(count=2):
+    """All commands. Those that take codes are sent so many."""
+    book, codes = parsed_book(BOOK), "".join(f"{code}\n" for code in CODES[:count])
+    on = ["--book", "{book}", "--name"]
+    login = [*on, "user", "--socket", "{socket}", "--mechanism", "SCRAM-SHA-1", *NONCES, "--moment", "5"]
+    heard, log = events(count)
+    return [
+        Command("keys", ["--mechanism", "SCRAM-SHA-1", "--salt", SALT, "--count", "4096"], "pencil\n", KEYS_OF_PENCIL, [book]),
+        Command("code", ["--secret", SECRET, "--counter", "0"], "", f"{CODES[0]}\n", [book]),
+        Command("enrol", [*on, "new", "--count", "1", "--random", "{random}"], "pencil\n", "enrolled new\n",
+                [book, with_account(book)]),
+        Command("verify", [*on, "user", "--moment", "5"], codes, "".join(f"PASS 5 {at}\n" for at in range(count)),
+                after_codes(book, count)),
+        Command("unlock", [*on, "user"], "", "unlocked user\n", [book, with_token(book, failures=0)]),
+        Command("login", login, f"pencil\n{codes}", login_log(count), [book, *after_codes(book, count)]),
+        Command("hall", ["--book", "{book}"], heard, log, [book, *after_codes(book, count)]),
+        Command("audit", ["--book", "{book}", "--log", "{log}"], "", "clean sessions=1 accepted=1 codes=0\n", [book]),
+        Command("upgrade", ["--log", "{log}"], "", numbered(LOG), [book]),
+    ]
+
+
+def command_of(name, count=2):
+    """The command of this name."""
+    [found] = [command for command in commands(count) if command.name == name]
+    return found
+
+
+def new_book():
+    """`enrol` where there is no book yet."""
+    return command_of("enrol")._replace(books=[None, made_book()])
+
+
+def prepare(folder, command, mode=0o600):
+    """Makes the log, the random file and the book, unless the command is to make that, in a folder that had files of another run."""
+    here = pathlib.Path(folder)
+    for name in os.listdir(folder):
+        if (here / name).is_dir():
+            shutil.rmtree(here / name)
+        else:
+            (here / name).unlink()
+    if command.books[0] is not None:
+        (here / "book").write_text(BOOK)
+        (here / "book").chmod(mode)
+    (here / "log").write_text(LOG)
+    (here / "random").write_bytes(RANDOM)
+
+
+def left(folder):
+    """What is in a folder beside the files that every run finds there."""
+    return set(os.listdir(folder)) - {"book", "log", "random"}
+
+
+def run(command, folder, **how):
+    """Runs a command on the files of a folder, with its input unless another is given: its status, output and faults."""
+    given = {"stdout": subprocess.PIPE, "stderr": subprocess.PIPE, **how}
+    if "stdin" not in given:
+        given.setdefault("input", command.text.encode())
+    done = subprocess.run(command.in_folder(folder), timeout=60, **given)
+    return done.returncode, *((text or b"").decode() for text in (done.stdout, done.stderr))
+
+
+def book_of(folder):
+    """What the book of a folder says, or None where there is none; its text where that is no book."""
+    path = pathlib.Path(folder, "book")
+    if not path.exists():
+        return None
+    try:
+        return parsed_book(path.read_text())
+    except tomllib.TOMLDecodeError:
+        return path.read_text()
+
+
+def is_untouched(folder, command, mode=0o600):
+    """Whether the book is, byte for byte and in its mode, as it was, or there still is none."""
+    path = pathlib.Path(folder, "book")
+    if command.books[0] is None:
+        return not os.path.lexists(path)
+    return path.read_text() == BOOK and stat.S_IMODE(path.stat().st_mode) == mode
+
+
+def is_kept(folder, command, printed):
+    """Whether the book is whole, has each change that was told and at most one more, and only its owner can read it."""
+    saved = command.saves_told(printed)
+    path = pathlib.Path(folder, "book")
+    if path.exists() and stat.S_IMODE(path.stat().st_mode) != 0o600:
+        return False
+    return book_of(folder) in command.books[saved:saved + 2] and (len(command.books) > 1 or is_untouched(folder, command))
+
+
+def is_done(folder, command):
+    """Whether all that the command has to save is saved, and it left no file beside."""
+    return is_kept(folder, command, command.printed) and book_of(folder) == command.books[-1] and left(folder) == set()
+
+
+def audited(folder, before, log):
+    """Compares what an audit says of a log of one login, by the book of this text: as many codes passed as the log says."""
+    book = pathlib.Path(folder, "book")
+    after = book.read_text()
+    book.write_text(before)
+    pathlib.Path(folder, "log").write_text(log)
+    answer = run(command_of("audit"), folder)
+    equal(answer, (0, f"clean sessions=1 accepted=1 codes={log.count(' PASS ')}\n", ""), log)
+    book.write_text(after)
+
+
+def printed_begins_clean(folder, printed):
+    """Whether a log of `login` or `hall` is at fault in no line that it has, whole or not, by the book that it began with."""
+    before = pathlib.Path(folder, "before")
+    before.write_text(BOOK)
+    is_clean = suite.begins_clean(before, printed)
+    before.unlink()
+    return is_clean
+
+
+def is_front(command, printed):
+    """Whether this begins what the command prints; or is the log of a desk or a hall that halted at the code that it judged last, or
+    that of a desk which could hear its client no more."""
+    ends = {"login": r"(?:C CODE \d+\nS HALT|C GONE\nE)\n\Z", "hall": r"1 C CODE \d+\n1 S HALT\n\Z"}
+    front = re.sub(ends[command.name], "", printed) if command.name in ends else printed
+    return command.printed.startswith(front)

@@ -1,0 +1,77 @@
+"""What several scripts compare with or begin from, worked out by Python and not by the program: codes, keys, salts of decoys, the texts
+of the tables' rows, logs with numbers, and orders of turns; and where the recorded logs, books and vectors are."""
+import hashlib
+import hmac
+import itertools
+import pathlib
+
+from checks import equal
+
+DATA = pathlib.Path(__file__).resolve().parent / "data"
+# Recorded logs, the books that they are judged by, and the table cases.csv.
+AUDITS = DATA / "audits"
+# Books, and the table cases.csv of their faults.
+BOOK_FAULTS = DATA / "book_faults"
+# keys.csv and codes.csv: keys and codes that other software made.
+VECTORS = DATA / "vectors"
+
+
+def code(secret, counter, digits=6, function="sha1"):
+    """The code of a counter (RFC 4226, section 5.3; RFC 6238 for other hash functions)."""
+    tag = hmac.digest(secret, counter.to_bytes(8, "big"), function)
+    at = tag[-1] & 15
+    return f"{(int.from_bytes(tag[at:at + 4], 'big') & 0x7FFFFFFF) % 10**digits:0{digits}}"
+
+
+def keys_of(function, password, salt, count):
+    """The stored key and the server key of a password, as hexadecimal text (RFC 5802, section 3)."""
+    salted = hashlib.pbkdf2_hmac(function, password, salt, count)
+    stored = hashlib.new(function, hmac.digest(salted, b"Client Key", function))
+    return stored.hexdigest(), hmac.digest(salted, b"Server Key", function).hex()
+
+
+def proved(function, client, server, auth_message):
+    """The proof and the signature of a login with this AuthMessage, by the client's key and the server's (RFC 5802, section 3)."""
+    mask = hmac.digest(hashlib.new(function, client).digest(), auth_message, function)
+    return bytes(one ^ other for one, other in zip(client, mask)), hmac.digest(server, auth_message, function)
+
+
+# The key for decoys of the books.
+DECOY_KEY = bytes(range(32))
+
+
+def decoy_salt(name):
+    """The salt that a name without an account is shown for SCRAM-SHA-1: this project's form, as docs/PROMISES.md has it."""
+    return hmac.digest(DECOY_KEY, b"SCRAM-SHA-1\0" + name.encode(), "sha256")[:16]
+
+
+def orders_of_turns():
+    """All orders of three turns of each of three sessions."""
+    orders = sorted(set(itertools.permutations([0, 0, 0, 1, 1, 1, 2, 2, 2])))
+    equal(len(orders), 1680)
+    return orders
+
+
+def spelled(text):
+    """The bytes that a cell of a table spells."""
+    return text.encode("latin-1").decode("unicode_escape").encode("latin-1")
+
+
+def edited(text, row):
+    """A text in which `old` of a table's row, which is there once, is replaced by `new`, and then `old2` by `new2`."""
+    for old, new in [(row["old"], row["new"]), (row["old2"], row["new2"])]:
+        if old:
+            equal(text.count(spelled(old)), 1, f"{row}: what is replaced does not stand there once")
+            text = text.replace(spelled(old), spelled(new))
+    return text
+
+
+def numbered(log):
+    """A log of version 1 as one of version 2."""
+    first, *lines = log.splitlines(keepends=True)
+    equal(first, "SCRAMLOG 1\n", log)
+    session, upgraded = 1, ["SCRAMLOG 2\n"]
+    for line in lines:
+        upgraded.append(f"{session} {line}")
+        session += line == "E\n"
+    return "".join(upgraded)

@@ -1,0 +1,66 @@
+#!/usr/bin/env python3
+"""Installs the built program by `make install`, below folders of its own.
+
+Usage: install.py PROGRAM
+
+Wherever DESTDIR and PREFIX lead, also where a name has a space, the program is the one file that comes there. One that is not built, or
+is older than its sources, is refused. Needs `make`.
+"""
+import os
+import pathlib
+import shutil
+import stat
+import subprocess
+
+import suite
+from checks import equal, holds
+from suite import PROGRAM
+
+TOP = pathlib.Path(__file__).resolve().parent.parent
+REFUSED = "The program is not built, or is older than its sources: run make build first."
+# What make takes from the environment: where to install, and what a make above it, such as that of `make test`, was told.
+OF_MAKE = {"DESTDIR", "PREFIX", "MAKEFLAGS", "MFLAGS", "MAKELEVEL"}
+ENVIRONMENT = {name: value for name, value in os.environ.items() if name not in OF_MAKE}
+
+
+def install(program, **folders):
+    """Installs a program with these variables."""
+    words = ["make", "install", *(f"{name}={value}" for name, value in {"PROGRAM": program, **folders}.items())]
+    return subprocess.run(words, cwd=TOP, env=ENVIRONMENT, stdin=subprocess.DEVNULL, capture_output=True, text=True, timeout=60)
+
+
+def files_of(folder):
+    """The files below a folder."""
+    return [path for path in folder.rglob("*") if not path.is_dir()]
+
+
+def installed(folder):
+    """The program is there with its bytes, for all to run and for its owner to write, and no other file is."""
+    program = shutil.copy(PROGRAM, folder)
+    for name, folders, place in [
+        ("plain", {"DESTDIR": "{}"}, "usr/local"),
+        ("with a space", {"DESTDIR": "{}"}, "usr/local"),
+        ("both", {"DESTDIR": "{}", "PREFIX": "/srv/one of two"}, "srv/one of two"),
+        ("of a user", {"PREFIX": "{}/.local"}, ".local"),
+    ]:
+        to = pathlib.Path(folder, name)
+        done = install(program, **{variable: value.format(to) for variable, value in folders.items()})
+        equal((done.returncode, done.stderr), (0, ""), name)
+        path = to / place / "bin" / "scramotp"
+        equal(files_of(to), [path], name)
+        equal(stat.S_IMODE(path.stat().st_mode), 0o755, name)
+        holds(path.read_bytes() == pathlib.Path(PROGRAM).read_bytes(), name, "another program is there")
+
+
+def refused(folder):
+    """A program that is not there, or is older than its sources, is not installed."""
+    to, old = pathlib.Path(folder, "to"), shutil.copy(PROGRAM, pathlib.Path(folder, "old"))
+    os.utime(old, (0, 0))
+    for program in [f"{folder}/none", old]:
+        done = install(program, DESTDIR=to)
+        equal((done.returncode, done.stdout), (2, ""), program, done.stderr)
+        holds(REFUSED in done.stderr.splitlines(), program, done.stderr)
+        equal(files_of(to), [], program)
+
+
+suite.run_all([installed, refused])
