@@ -1,6 +1,6 @@
 -- A book as accounts by their names, in byte order of the names: the account at a name, and books in which one account
 -- changes. Of each change it is also said what becomes of the accounts as a map from names.
-use Rattle.std.specs.Prelude.{ℕ, ◌≡◌, List, Option}
+use Rattle.std.specs.Prelude.{ℕ, ◌≡◌, List, Option, None}
 use Rattle.std.specs.Option.{option_map_or}
 use Rattle.std.specs.FinMap as map
 use Rattle.std.specs.FinMap.{FinMap, from_entries}
@@ -60,8 +60,9 @@ abbrev pub IsChanged : BookFields → List ℕ → (AccountFields → AccountFie
 IsChanged old name change = Becomes (with_changed old name change) (map_changed (accounts_of old) name change)
 
 -- this account is added at a name that is free, and nothing else changes
-abbrev pub IsAdded : BookFields → List ℕ → AccountFields → BookFields → Type 0
-IsAdded old name account = Becomes (with_account old name account) (map.insert (accounts_of old) name account)
+pub record IsAdded (old : BookFields) (name : List ℕ) (account : AccountFields) (new : BookFields) : Type 0 where
+  pub free : account_at old name ≡ None
+  pub added : Becomes (with_account old name account) (map.insert (accounts_of old) name account) new
 
 -- the account of this name, where there is one, is removed, and nothing else changes
 abbrev pub IsRemoved : BookFields → List ℕ → BookFields → Type 0

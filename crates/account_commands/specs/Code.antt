@@ -1,5 +1,5 @@
 -- The code that the words of the command `code` ask for.
-use Rattle.std.specs.Prelude.{◌≡◌, ◌⊎◌, ℕ, suc, ◌≤◌, List, [], ◌∷◌, Ok}
+use Rattle.std.specs.Prelude.{◌≡◌, ◌⊎◌, ℕ, ◌≤◌, ◌<◌, List, [], ◌∷◌, Ok}
 use Rattle.std.specs.Fmt.{decimal}
 use Rattle.std.specs.declared.option.Option.TheVariants.{None, Some}
 use Rattle.hex.specs.Hex.{decode_of}
@@ -25,7 +25,7 @@ IsCodeFor (Time t) digits secret code =
 -- there is no code: the moment is before t0
 abbrev pub IsTooEarly : MovingFactor → Type 0
 IsTooEarly (Counter counter) = ⊥
-IsTooEarly (Time t) = suc t.moment ≤ t.t0
+IsTooEarly (Time t) = t.moment < t.t0
 
 -- what the words ask a code for: a counter, or else a moment, with the hash function and the steps that they give
 abbrev pub IsFactorAsked : ArgMatches → MovingFactor → Type 0

@@ -1,6 +1,6 @@
 -- What becomes of a held book and of its store.
 use Rattle.std.specs.Prelude.{ℕ, ◌≡◌, ◌≤◌, ◌<◌, ◌⊎◌, true, false, List, [], ◌∷◌, ◌++◌, length, codes, string_bytes}
-use Rattle.std.specs.Prelude.{Option, is_some, None, Some, IfSome, MatchOption}
+use Rattle.std.specs.Prelude.{Option, is_some, None, Some, MatchOption}
 use Rattle.std.specs.Str.{byte}
 use Rattle.std.specs.Io.KnownBytes.{Appends}
 use Rattle.otp_core.specs.Attempt.{CodeTexts}
@@ -14,7 +14,7 @@ use Rattle.account_book.specs.Accounts.{account_at, IsAdded}
 use Rattle.account_book.specs.Enrolled.{enrolled}
 use Rattle.account_book.specs.SavedBooks.{needs_save, SavesBook, WasSaved}
 use Rattle.account_book.specs.Store.{StoreFacts, IsFailedSave}
-use Rattle.account_book.specs.Tokens.{IsAttempt, IsUnlocked, token_at}
+use Rattle.account_book.specs.Tokens.{IsAnswered, IsUnlocked, token_at}
 use Rattle.book_file.specs.Text.{IsRead, IsWritten}
 use Rattle.book_file.specs.declared.file.TheConstants.{MOST_BOOK}
 use Rattle.clap.specs.declared.parser.matches.ArgMatches.{ArgMatches}
@@ -63,14 +63,14 @@ abbrev pub IsFaultOfText : {File : Type 0} → (bytes_of : File → Option (List
 IsFaultOfText bytes_of fault =
     (text : List ℕ) × (found : BookFault) × IsRead bytes_of text × IsFirstFault text found × (fault ≡ of_book found)
 
--- the fault of a book whose file gives no bytes: the file of this path can't be read; a file can't be written, and which one is
--- not said; or memory ran out
+-- the fault of a book that can't be held: the file of this path can't be read; a file can't be written, and which one is not said; or
+-- memory ran out
 abbrev pub CannotHold : (path : List ℕ) → Fault → Type 0
 CannotHold path (CannotRead file) = string_bytes file ≡ path
 CannotHold path (CannotWrite file) = Unit {0}
 CannotHold path fault = fault ≡ NoMemory
 
--- the fault of a book that can't be held or read: its file gives no bytes, or those that were read are no book
+-- the fault of a book that can't be held or read; where it can't be read, the bytes of its file are no book
 abbrev pub IsUnheld : {File : Type 0} → (bytes_of : File → Option (List ℕ)) → (path : List ℕ) → Fault → Type 0
 IsUnheld bytes_of path fault = CannotHold path fault ⊎ IsFaultOfText bytes_of fault
 
@@ -85,19 +85,12 @@ IsTokenUnlocked name old new = (is_some (token_at old name) ≡ true) × IsUnloc
 -- an account with the keys of a password, under a name that had none, is added
 abbrev pub IsEnrolled : NewAccount → Salts → BookFields → BookFields → Type 0
 IsEnrolled account salts old new =
-    (account_at old account.name ≡ None)
-    × IsAdded old account.name (enrolled account.password salts.sha1 salts.sha256 account.count) new
-
--- the reply is due to what was sent at a moment by the token of the account of this name, and the book is this one after it
-pub record IsAttemptAnswered (old : BookFields) (name : List ℕ) (moment : ℕ) (said : CodeTexts) (reply : Reply) (new : BookFields)
-    : Type 0 where
-  pub there : is_some (token_at old name) ≡ true
-  pub due : IfSome (token_at old name) (λ token. IsAttempt old name token moment said reply new)
+    IsAdded old account.name (enrolled account.password salts.sha1 salts.sha256 account.count) new
 
 -- the reply is due, and the book after it is saved where the reply needs that; else the store is as it was
 pub record IsReplySaved (IsStored : List ℕ → Type 0) (old : HeldFacts) (name : List ℕ) (moment : ℕ) (said : CodeTexts) (reply : Reply)
     (new : HeldFacts) : Type 0 where
-  pub due : IsAttemptAnswered old.book name moment said reply new.book
+  pub due : IsAnswered old.book name moment said (Some reply) new.book
   pub saved : needs_save (Some reply) ≡ true → IsBookSaved IsStored old.store new.book new.store
   pub unasked : needs_save (Some reply) ≡ false → new.store ≡ old.store
 
@@ -105,7 +98,7 @@ pub record IsReplySaved (IsStored : List ℕ → Type 0) (old : HeldFacts) (name
 abbrev pub IsReplyUnsaved : (old : HeldFacts) → (name : List ℕ) → (moment : ℕ) → CodeTexts → (new : HeldFacts) → Type 0
 IsReplyUnsaved old name moment said new =
     (new ≡ old)
-    ⊎ ((reply : Reply) × IsAttemptAnswered old.book name moment said reply new.book × IsBookUnsaved old.store new.book new.store)
+    ⊎ ((reply : Reply) × IsAnswered old.book name moment said (Some reply) new.book × IsBookUnsaved old.store new.book new.store)
 
 -- the token of this name is unlocked, and the book is saved
 pub record IsUnlockSaved (IsStored : List ℕ → Type 0) (name : List ℕ) (old new : HeldFacts) : Type 0 where

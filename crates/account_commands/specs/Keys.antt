@@ -6,7 +6,7 @@ use Rattle.std.specs.Io.KnownBytes.{Appends}
 use Rattle.hex.specs.Hex.{encode_lower, decode_of}
 use Rattle.clap.specs.declared.parser.matches.ArgMatches.{ArgMatches}
 use Rattle.mac_core.specs.declared.mechanism.Mechanism.{Mechanism}
-use Rattle.mac_core.specs.Mechanism.{name_of, hi_by, client_key_by, stored_key_by, server_key_by}
+use Rattle.mac_core.specs.Mechanism.{name_of, password_stored_key, password_server_key}
 use Rattle.scram_text.specs.Class.{IsPassword}
 use Rattle.command_line.specs.declared.fault.Fault.{Fault}
 use Rattle.command_line.specs.declared.fault.Fault.TheVariants.{CannotWriteOutput}
@@ -19,10 +19,8 @@ use Rattle.command_words.specs.Values.{given_value}
 -- hexadecimal, each after its name and an equals sign
 abbrev pub printed_keys : Mechanism → (password salt : List ℕ) → (count : ℕ) → List ℕ
 printed_keys mechanism password salt count =
-    let salted = hi_by mechanism password salt count in
-    let stored = stored_key_by mechanism (client_key_by mechanism salted) in
-    let server = server_key_by mechanism salted in
-    codes "stored=" ++ (encode_lower stored ++ (byte "\n" ∷ codes "server=" ++ (encode_lower server ++ byte "\n" ∷ [])))
+    codes "stored=" ++ (encode_lower (password_stored_key mechanism password salt count)
+    ++ (byte "\n" ∷ codes "server=" ++ (encode_lower (password_server_key mechanism password salt count) ++ byte "\n" ∷ [])))
 
 -- the keys of the password that is the first line of the input are printed, by the mechanism, salt and count that the words give
 pub record PrintsKeysAsked (words : ArgMatches) (input old new : Option (List ℕ)) : Type 0 where

@@ -6,12 +6,12 @@ ghost use Rattle.book_format.specs.Trees.{IsBookText};
 ghost use Rattle.book_format.specs.declared.fault.BookFault.{BookFault};
 ghost use Rattle.account_book.specs.Accounts.{account_at};
 ghost use Rattle.account_book.specs.SavedBooks.{needs_save};
-ghost use Rattle.account_book.specs.Tokens.{token_at};
+ghost use Rattle.account_book.specs.Tokens.{token_at, IsAnswered};
 ghost use Rattle.book_file.specs.Text.{IsRead};
 ghost use Rattle.otp_core.specs.Sent.{texts_of};
 ghost use Rattle.command_line.specs.Fault.{IsTokenFault, IsUnwritten, of_book};
 ghost use Rattle.account_commands.specs.HeldBook.{held_shown, CannotBeSaved, CannotHold, IsBookSaved, IsBookUnsaved, IsChangeUnsaved};
-ghost use Rattle.account_commands.specs.HeldBook.{IsEnrolled, IsAttemptAnswered, IsReadBook, IsReplyUnsaved, IsTokenUnlocked, IsUnheld};
+ghost use Rattle.account_commands.specs.HeldBook.{IsEnrolled, IsReadBook, IsReplyUnsaved, IsTokenUnlocked, IsUnheld};
 ghost use Rattle.account_commands.specs.HeldBook.{IsUnlockSaved, LacksToken};
 
 use crate::new_account::{NewAccount, Salts};
@@ -270,7 +270,7 @@ impl<'a, S: BookStore> HeldBook<'a, S> {
         moment: Moment,
         sent: Sent<'_>,
     ) -> Result<Reply, Fault>
-        ensures due { IfOk result (λ reply. IsAttemptAnswered self.old.book name.now moment (texts_of sent.entry) reply self.new.book) }
+        ensures due { IfOk result (λ reply. IsAnswered self.old.book name.now moment (texts_of sent.entry) (Some reply) self.new.book) }
         ensures saved { IfOk result (λ reply. needs_save (Some reply) ≡ true
             → IsBookSaved S.IsStored (S.facts self.old.store) self.new.book (S.facts self.new.store)) }
         ensures locked { IfOk result (λ reply. needs_save (Some reply) ≡ false → self.new.store ≡ self.old.store) }

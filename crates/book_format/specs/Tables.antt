@@ -5,6 +5,7 @@ use Rattle.std.specs.Str.{bytes_eq}
 use Rattle.toml.specs.Data.{Data, string, integer, table, Members, get_member}
 use Rattle.mac_core.specs.Mechanism.{length_by}
 use Rattle.mac_core.specs.declared.mechanism.Mechanism.TheVariants.{ScramSha1, ScramSha256}
+use Rattle.scram_text.specs.Limits.{longest_salt}
 use Rattle.scram_text.specs.Parts.{most_count}
 use Rattle.otp_core.specs.Ranges.{least_secret, most_secret, least_digits, most_digits, last_moment, most_counter, most_look_ahead}
 use Rattle.otp_core.specs.Ranges.{most_sync_ahead, longest_step, most_steps, most_drift, most_limit}
@@ -25,7 +26,7 @@ abbrev pub mech : ℕ → Table MechKeys
 mech len = record {
   marks = [];
   rows =
-      row "salt" (bytes Salt 1 64) (λ m. m.salt)
+      row "salt" (bytes Salt 1 longest_salt) (λ m. m.salt)
       ∷ row "count" (number Count 1 most_count) (λ m. m.count)
       ∷ row "stored" (bytes KeyLength len len) (λ m. m.keys.stored.items)
       ∷ row "server" (bytes KeyLength len len) (λ m. m.keys.server.items)

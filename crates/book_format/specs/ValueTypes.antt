@@ -6,6 +6,7 @@ use Rattle.std.specs.List.{AllByRecursion, list_all}
 use Rattle.hex.specs.Hex.{decode_of, encode_lower}
 use Rattle.toml.specs.Data.{Data, string, integer, array, table, Items, no_items, item, Members, as_str}
 use Rattle.toml.specs.View.{items_of}
+use Rattle.scram_text.specs.Limits.{longest_name}
 use Rattle.scram_text.specs.Class.{is_plain, IsPlainName}
 use Rattle.otp_core.specs.Hash.{hash_name, hash_named}
 use Rattle.otp_core.specs.declared.hash.OtpHash.{OtpHash}
@@ -14,7 +15,7 @@ use Rattle.book_format.specs.Rows.{◌>>=◌, demand, table_of, ValueType}
 use Rattle.book_format.specs.declared.fault.BookWhy.{BookWhy}
 use Rattle.book_format.specs.declared.fault.BookWhy.TheVariants.{Key, Name, Token}
 
--- the type of values whose V is what is read of them
+-- a type of values by its reader: a V is the value of what is read as V
 abbrev pub value_type : {V : Type 0} → (Data → Result V BookWhy) → (V → Data) → ValueType V
 value_type read write = record { Is = λ d v. read d ≡ Ok v; read = read; write = write }
 
@@ -79,7 +80,7 @@ item_count (item d ds) = item_count ds + 1
 
 -- the name, where it is plain
 abbrev pub plain_name_of : List ℕ → Result (List ℕ) BookWhy
-plain_name_of name = such (nat_le 1 (length name) && nat_le (length name) 255 && list_all is_plain name) name Name
+plain_name_of name = such (nat_le 1 (length name) && nat_le (length name) longest_name && list_all is_plain name) name Name
 
 -- the names in a list of texts
 unfoldable pub names_in : Items → Result (List (List ℕ)) BookWhy

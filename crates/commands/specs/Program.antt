@@ -50,8 +50,8 @@ abbrev pub PrintsText : (status : ℕ) → (old new : Option (List ℕ)) → Typ
 PrintsText status old new = ((status ≡ 0) × ((text : List ℕ) × Appends old new text)) ⊎ (status ≡ 3)
 
 -- what is done at an error of this kind, of the words of a command line: at one of memory the status is 3; where help or the version
--- is asked for, a text is printed, with status 0, or 3 where that fails; at any other the status is 2, or 3 where memory runs out. Where
--- no help or version is asked for, nothing is printed
+-- is asked for, a text is printed, with status 0, or 3 where that fails; at any other the status is 2 or 3. Where no help or
+-- version is asked for, nothing is printed
 abbrev pub Explains : ErrorKind → (status : ℕ) → (old new : Option (List ℕ)) → Type 0
 Explains kind.OutOfMemory status old new = (status ≡ 3) × (new ≡ old)
 Explains kind.DisplayHelp status old new = PrintsText status old new
@@ -63,8 +63,8 @@ abbrev pub found_in : (line : List Text) → Option (Text × List Row)
 found_in line = subcommand_of program line
 
 -- what is wrong with a command line, as clap reads it: memory runs out, or it has one of these kinds
-abbrev pub IsErrorOf : (line : List Text) → ErrorKind → Type 0
-IsErrorOf line error = (error ≡ kind.OutOfMemory) ⊎ IsAmong error (fault_of program line)
+abbrev pub IsWordsError : (line : List Text) → ErrorKind → Type 0
+IsWordsError line error = (error ≡ kind.OutOfMemory) ⊎ IsAmong error (fault_of program line)
 
 -- what a run does, where files have these bytes, and this was written to them
 module _ {File : Type 0} (bytes_of written_to : File → Option (List ℕ)) where
@@ -132,4 +132,4 @@ module _ {File : Type 0} (bytes_of written_to : File → Option (List ℕ)) wher
   EndsRun line status input old new =
       ((fault_of program line ≡ [])
       × ((ended : Result ℕ Fault) × (status ≡ exit_status ended) × EndsCommand (found_in line) ended input old new))
-      ⊎ ((error : ErrorKind) × IsErrorOf line error × Explains error status old new)
+      ⊎ ((error : ErrorKind) × IsWordsError line error × Explains error status old new)

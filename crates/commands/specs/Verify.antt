@@ -16,9 +16,9 @@ use Rattle.log_grammar.specs.Lines.{reply_text}
 use Rattle.clap.specs.declared.parser.matches.ArgMatches.{ArgMatches}
 use Rattle.command_line.specs.Fault.{IsTokenFault}
 use Rattle.command_line.specs.declared.fault.Fault.{Fault}
-use Rattle.command_line.specs.declared.fault.Fault.TheVariants.{BadValue, CannotWriteOutput, NoMemory}
+use Rattle.command_line.specs.declared.fault.Fault.TheVariants.{CannotWriteOutput, NoMemory}
 use Rattle.command_line.specs.declared.value.OptionName.TheVariants as option
-use Rattle.account_commands.specs.BadValues.{Refuses}
+use Rattle.account_commands.specs.BadValues.{HasBadValue}
 use Rattle.account_commands.specs.HeldBook.{HeldFacts, held_shown, IsReadBook, IsReplySaved, IsReplyUnsaved, IsUnheld}
 use Rattle.account_commands.specs.HeldBook.{LacksToken}
 use Rattle.account_commands.specs.Input.{LinesInTurn, IsUnread}
@@ -92,16 +92,10 @@ module _ (IsStored : List ℕ → Type 0) where
       × LinesInTurn (AnswersLine name moment) input (line ∷ last) old all_passed there
       × FailsAtLine path name moment line there fault new)
 
--- the name or the moment that the words give is none, and that is the fault
-abbrev pub IsBadWord : ArgMatches → Fault → Type 0
-IsBadWord words fault =
-    ((fault ≡ BadValue option.Name) × Refuses option.Name (given_value words option.Name))
-    ⊎ ((fault ≡ BadValue option.Moment) × Refuses option.Moment (given_value words option.Moment))
-
--- a run of `verify` does not begin: a word is bad, the book can't be held or read, or a book that was read has no token for the name
+-- a run of `verify` does not begin: an option refuses its value, the book can't be held or read, or a book that was read has no token for the name
 abbrev pub CannotBegin : {File : Type 0} → (bytes_of : File → Option (List ℕ)) → ArgMatches → Fault → Type 0
 CannotBegin bytes_of words fault =
-    IsBadWord words fault ⊎ (IsUnheld bytes_of (given_value words option.Book) fault
+    HasBadValue (option.Name ∷ option.Moment ∷ []) words fault ⊎ (IsUnheld bytes_of (given_value words option.Book) fault
     ⊎ ((text : List ℕ) × (book : BookFields) × IsReadBook bytes_of text book
     × LacksToken (account_at book (given_value words option.Name)) fault))
 

@@ -54,6 +54,15 @@ stored_key_by mechanism = stored_key (hash_by mechanism)
 abbrev pub server_key_by : Mechanism → List ℕ → List ℕ
 server_key_by mechanism = server_key (hash_by mechanism) 64
 
+-- StoredKey of a password (RFC 5802, section 3)
+abbrev pub password_stored_key : Mechanism → (password salt : List ℕ) → (count : ℕ) → List ℕ
+password_stored_key mechanism password salt count =
+    stored_key_by mechanism (client_key_by mechanism (hi_by mechanism password salt count))
+
+-- ServerKey of a password
+abbrev pub password_server_key : Mechanism → (password salt : List ℕ) → (count : ℕ) → List ℕ
+password_server_key mechanism password salt count = server_key_by mechanism (hi_by mechanism password salt count)
+
 -- the running MAC stands for this key and text under the mechanism
 abbrev pub IsScramMac : Mechanism → ScramMac → List ℕ → List ℕ → Type 0
 IsScramMac ScramSha1 (BySha1 mac) key text =

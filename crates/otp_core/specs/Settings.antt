@@ -12,7 +12,7 @@ use Rattle.otp_core.specs.declared.token.kinds.TotpFields.{TotpFields}
 use Rattle.otp_core.specs.declared.token.kinds.TokenFields.{TokenFields}
 use Rattle.otp_core.specs.declared.token.kinds.TokenFields.TheVariants.{Hotp, Totp}
 
--- a setting that has a range, and that it is in it
+-- a setting, and what its range asks of it
 pub record Ranged : Type 1 where
   pub setting : Setting
   pub IsIn : Type 0

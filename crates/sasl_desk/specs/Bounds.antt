@@ -6,21 +6,25 @@ use Rattle.log_grammar.specs.Lines.{longest_log_line}
 abbrev pub most_line_bytes : ℕ
 most_line_bytes = longest_log_line + 1
 
--- the most bytes that a call sends, and that it adds to a log: three lines
+-- the most lines that a call adds to a log
+abbrev pub most_call_lines : ℕ
+most_call_lines = 3
+
+-- the most bytes that a call sends, and that it adds to a log
 abbrev pub most_bytes_of_call : ℕ
-most_bytes_of_call = 3 * most_line_bytes
+most_bytes_of_call = most_call_lines * most_line_bytes
 
 -- the most digits of a number below 2^64
 abbrev pub most_u64_digits : ℕ
 most_u64_digits = 20
 
--- the most bytes of a session's number and the space after it
+-- the most bytes of a number below 2^64 and the space after it: one more than a session's number needs
 abbrev pub most_prefix : ℕ
 most_prefix = most_u64_digits + 1
 
 -- the most bytes that a call adds to a log whose lines have numbers
 abbrev pub most_numbered_bytes_of_call : ℕ
-most_numbered_bytes_of_call = 3 * (most_line_bytes + most_prefix)
+most_numbered_bytes_of_call = most_call_lines * (most_line_bytes + most_prefix)
 
 -- the vector has no room reserved for so many bytes more
 abbrev pub LacksRoomFor : {Z : Type 0} → Vec ℕ Z → (bytes : ℕ) → Type 0

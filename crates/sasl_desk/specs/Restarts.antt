@@ -1,22 +1,16 @@
 -- What happens to a book over its life: runs of desks and of halls, one after another, and what is done with it between them.
 use Rattle.std.specs.Prelude.{ℕ, ◌≡◌, ◌⊎◌, List, [], ◌∷◌, ◌++◌, reverse}
-use Rattle.std.specs.declared.option.Option.TheVariants.{None}
 use Rattle.book_format.specs.Account.{AccountFields}
 use Rattle.book_format.specs.Book.{BookFields}
-use Rattle.account_book.specs.Accounts.{account_at, IsAdded}
+use Rattle.account_book.specs.Accounts.{IsAdded}
 use Rattle.account_book.specs.Store.{StoreFacts}
 use Rattle.account_book.specs.Tokens.{IsUnlocked}
-use Rattle.log_grammar.specs.Books.{accounts_in}
 use Rattle.log_grammar.specs.LoggedReply.{LoggedReply}
-use Rattle.log_grammar.specs.Places.{Place}
-use Rattle.log_grammar.specs.Demands.{demands}
-use Rattle.log_grammar.specs.Begins.{Begins}
-use Rattle.log_grammar.specs.Numbered.{Numbered, SpellsNumbered}
-use Rattle.log_grammar.specs.Versions.{most_open}
+use Rattle.log_grammar.specs.Numbered.{Numbered}
 use Rattle.sasl_desk.specs.Keeper.{IsAttemptJudged}
-use Rattle.sasl_desk.specs.Runs.{Call, run_lines}
+use Rattle.sasl_desk.specs.Runs.{Call}
 use Rattle.sasl_desk.specs.Desks.{IsDeskAfter, all_spent}
-use Rattle.sasl_desk.specs.Halls.{HallFields, hall_lines, IsHallAfter}
+use Rattle.sasl_desk.specs.Halls.{HallFields, IsHallAfter}
 use Rattle.sasl_desk.specs.Spent.{spent_by}
 use Rattle.sasl_desk.specs.declared.desk.Desk.{Desk}
 
@@ -24,7 +18,6 @@ use Rattle.sasl_desk.specs.declared.desk.Desk.{Desk}
 pub record Run : Type 0 where
   pub start : BookFields
   pub calls : List Call
-  pub place : Place
   pub told : List LoggedReply
   pub left : BookFields
 
@@ -34,14 +27,13 @@ pub record Run : Type 0 where
 pub record IsDeskRunOf {S : Type 0} (facts : S → StoreFacts) (IsStored : List ℕ → Type 0) (r : Run) : Type 0 where
   pub desk : Desk S
   pub stands : IsDeskAfter facts IsStored r.start r.calls desk
-  pub begins : Begins (demands (accounts_in r.start)) (run_lines r.calls) r.place r.told
+  pub tells : r.told ≡ stands.told
   pub leaves : (r.left ≡ desk.keeper.book) ⊎ ((t : LoggedReply) × IsAttemptJudged desk.keeper.book t r.left)
 
 -- the calls that a hall has answered, and what its log tells
 pub record HallRun : Type 0 where
   pub start : BookFields
   pub calls : List (Numbered Call)
-  pub places : ℕ → Place
   pub told : List LoggedReply
   pub left : BookFields
 
@@ -50,7 +42,7 @@ pub record HallRun : Type 0 where
 pub record IsHallRunOf {S : Type 0} (facts : S → StoreFacts) (IsStored : List ℕ → Type 0) (r : HallRun) : Type 0 where
   pub hall : HallFields S
   pub stands : IsHallAfter facts IsStored r.start r.calls hall
-  pub spelled : SpellsNumbered most_open (demands (accounts_in r.start)) (hall_lines r.calls) r.places r.told
+  pub tells : r.told ≡ stands.told
   pub leaves : (r.left ≡ hall.keeper.book) ⊎ ((t : LoggedReply) × IsAttemptJudged hall.keeper.book t r.left)
 
 -- a desk that began with the book has answered the calls, and leaves this book where it stops
@@ -66,7 +58,7 @@ IsHallRunLeaving facts IsStored start calls left =
     (r : HallRun) × IsHallRunOf facts IsStored r × (r.start ≡ start) × (r.calls ≡ calls) × (r.left ≡ left)
 
 -- what happens to a book: a desk or a hall runs with it, from the text that the store held when the run began to the one that
--- it holds when the run has stopped; its token judges an attempt of an account, without a desk; the token of an account is
+-- it holds when the run has stopped; the token of an account judges an attempt, without a desk; the token of an account is
 -- unlocked; an account is added
 pub data Change : Type 0 where
   desk_ran : (r : Run) → Change
@@ -81,7 +73,7 @@ IsChange facts IsStored (desk_ran r) old new = IsDeskRunOf facts IsStored r × (
 IsChange facts IsStored (hall_ran r) old new = IsHallRunOf facts IsStored r × (r.start ≡ old) × (r.left ≡ new)
 IsChange facts IsStored (judged t) old new = IsAttemptJudged old t new
 IsChange facts IsStored (unlocked name) old new = IsUnlocked old name new
-IsChange facts IsStored (added name account) old new = (account_at old name ≡ None) × IsAdded old name account new
+IsChange facts IsStored (added name account) old new = IsAdded old name account new
 
 -- changes, the latest first, each of the book that the one before left, from the first book to the last
 abbrev pub AreChanges : {S : Type 0} → (S → StoreFacts) → (IsStored : List ℕ → Type 0) → BookFields → List Change → BookFields → Type 0

@@ -167,7 +167,7 @@ pub record FailsInGreeting {S : Type 0} (facts : S → StoreFacts) (IsStored : L
   pub unread : new.input ≡ old.input
   pub undone : IsUndone facts IsStored (greets own) old.desk new.desk old.wire new.wire old.log new.log fault
 
--- a turn was not served, for this reason. All turns before it were.
+-- a turn was not served, for this reason, and the desk had not halted before it. All turns before it were served.
 pub record FailsInTurn {S : Type 0} (facts : S → StoreFacts) (IsStored : List ℕ → Type 0) (IsNow : ℕ → Type 0) (own : List ℕ)
     (old new : Service S) (fault : ServeFault) : Type 0 where
   pub middle : Service S
@@ -175,7 +175,8 @@ pub record FailsInTurn {S : Type 0} (facts : S → StoreFacts) (IsStored : List 
   pub few : length turns < most_turns
   pub served : IsServedUpTo facts IsStored IsNow own turns old middle
   pub moment : ℕ
-  pub is_now : (fault ≡ Halted → ⊥) → IsNow moment
+  pub goes_on : fault ≢ Halted
+  pub is_now : IsNow moment
   pub undone : IsTurnFault facts IsStored moment middle new fault
 
 -- the turns were used up, and the client could not be taken for gone, for this reason

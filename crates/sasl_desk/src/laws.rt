@@ -22,8 +22,7 @@ pub mod hall;
 
 use account_book::BookStore;
 use account_book::laws::{added_is_apart, tokens_are_apart};
-use log_grammar::laws::{goes_on_by_no_other, has_one_reading};
-use log_grammar::numbered::has_one_numbered_reading;
+use log_grammar::laws::goes_on_by_no_other;
 use otp_core::laws::{begins_with_itself, candidates_are_new, legal_histories_join};
 
 /// What was spent stays spent over every reply, and the counters that a reply uses are others, and are spent then.
@@ -122,8 +121,6 @@ pub fn no_counter_passes_twice<S: BookStore>()
     begins_with_itself();
     candidates_are_new();
     spent_stays_spent();
-    has_one_reading();
-    has_one_numbered_reading();
     tokens_are_apart();
     added_is_apart();
 }

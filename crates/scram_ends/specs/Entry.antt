@@ -1,7 +1,7 @@
 -- What a server keeps of an account for one mechanism, and what both ends make of a password.
 use Rattle.std.specs.Prelude.{ℕ, List, option_map}
 use Rattle.std.specs.declared.option.Option.{Option}
-use Rattle.mac_core.specs.Mechanism.{hi_by, client_key_by, stored_key_by, server_key_by}
+use Rattle.mac_core.specs.Mechanism.{password_stored_key, password_server_key}
 use Rattle.mac_core.specs.declared.mechanism.Mechanism.{Mechanism}
 use Rattle.mac_core.specs.declared.keys.ScramKeys.{ScramKeys}
 use Rattle.scram_ends.specs.declared.keys_view.KeysView.{KeysView}
@@ -27,8 +27,7 @@ keys_of keys = record { stored = keys.stored.items; server = keys.server.items }
 abbrev pub entry_of : KeysView → Entry
 entry_of view = record { salt = view.salt; count = view.count; keys = option_map keys_of view.keys; act_as = view.act_as.now }
 
--- the keys of a password: those of its SaltedPassword (RFC 5802, section 3)
+-- the keys of a password (RFC 5802, section 3)
 abbrev pub password_keys : Mechanism → List ℕ → List ℕ → ℕ → Keys
 password_keys m password salt count =
-    let salted = hi_by m password salt count in
-    record { stored = stored_key_by m (client_key_by m salted); server = server_key_by m salted }
+    record { stored = password_stored_key m password salt count; server = password_server_key m password salt count }

@@ -24,7 +24,7 @@ pub(crate) fn write_challenge<A: Allocator>(
     requires nonce { IsNonce longest_nonce nonce.now }
     requires count { 1 ≤ count }
     ensures appended { IsAppended result out.old out.new (server_first_text (server_first_of nonce.now salt.now count [])) }
-    ensures related { let p = server_first_of nonce.now salt.now count [] in
+    ensures is_message { let p = server_first_of nonce.now salt.now count [] in
         OnOk result (IsServerFirst (server_first_text p) p) }
     ensures unwritable { IsErrOf result WriteFault.Unwritable → ⊥ }
     ensures over_limit { IsErrOf result WriteFault.OverLimit → ⊥ }
@@ -49,7 +49,7 @@ pub(crate) fn write_judgement<A: Allocator>(
     out: &mut Vec<u8, A>,
 ) -> Result<(), WriteFault>
     ensures appended { IsAppended result out.old out.new (due_text (due_of judged.now)) }
-    ensures related { let d = due_of judged.now in
+    ensures is_message { let d = due_of judged.now in
         OnOk result (IsServerFinal (due_text d) (final_due d)) }
     // An empty signature could not be written, but no key makes one.
     ensures unwritable { IsErrOf result WriteFault.Unwritable
@@ -67,7 +67,7 @@ pub(crate) fn write_judgement<A: Allocator>(
 fn write_signature<A: Allocator>(signature: &[u8], out: &mut Vec<u8, A>) -> Result<(), WriteFault>
     requires { length signature.now ≤ 64 }
     ensures appended { IsAppended result out.old out.new (due_text (accept signature.now)) }
-    ensures related { let d = accept signature.now in
+    ensures is_message { let d = accept signature.now in
         OnOk result (IsServerFinal (due_text d) (final_due d)) }
     ensures unwritable { IsErrOf result WriteFault.Unwritable → length signature.now ≡ 0 }
     ensures over_limit { IsErrOf result WriteFault.OverLimit → ⊥ }
@@ -79,7 +79,7 @@ fn write_signature<A: Allocator>(signature: &[u8], out: &mut Vec<u8, A>) -> Resu
 
 fn write_refusal<A: Allocator>(refusal: Refusal, out: &mut Vec<u8, A>) -> Result<(), WriteFault>
     ensures appended { IsAppended result out.old out.new (due_text (refuse refusal)) }
-    ensures related { let d = refuse refusal in
+    ensures is_message { let d = refuse refusal in
         OnOk result (IsServerFinal (due_text d) (final_due d)) }
     ensures unwritable { IsErrOf result WriteFault.Unwritable → ⊥ }
     ensures over_limit { IsErrOf result WriteFault.OverLimit → ⊥ }

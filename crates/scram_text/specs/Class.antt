@@ -3,7 +3,7 @@
 use Rattle.std.specs.Prelude.{ℕ, ◌≤◌, nat_le, ◌==◌, Bool, not, ◌&&◌, ◌||◌, IsTrue, List, length}
 use Rattle.std.specs.List.{list_all}
 use Rattle.std.specs.Str.{IsUtf8, byte}
-use Rattle.scram_text.specs.Limits.{longest_nonce_part}
+use Rattle.scram_text.specs.Limits.{longest_name, longest_nonce_part, longest_password, longest_salt}
 
 -- the byte of a comma, which separates the parts of a message
 abbrev pub is_comma : ℕ → Bool
@@ -37,11 +37,11 @@ pub record IsRunOf (test : ℕ → Bool) (most : ℕ) (bytes : List ℕ) : Type 
 
 -- a name in plain bytes: 1 to 255 of %x20-7E
 abbrev pub IsPlainName : List ℕ → Type 0
-IsPlainName name = IsRunOf is_plain 255 name
+IsPlainName name = IsRunOf is_plain longest_name name
 
 -- a password: 1 to 1024 bytes of %x20-7E
 abbrev pub IsPassword : List ℕ → Type 0
-IsPassword password = IsRunOf is_plain 1024 password
+IsPassword password = IsRunOf is_plain longest_password password
 
 -- a nonce of at most so many characters: 1*(printable)
 abbrev pub IsNonce : ℕ → List ℕ → Type 0
@@ -54,7 +54,7 @@ IsNoncePart nonce = IsNonce longest_nonce_part nonce
 -- a salt: 1 to 64 bytes
 pub record IsSalt (salt : List ℕ) : Type 0 where
   pub at_least : 1 ≤ length salt
-  pub at_most : length salt ≤ 64
+  pub at_most : length salt ≤ longest_salt
 
 -- a text: UTF-8, with no NUL in it. The value-chars of a message are the characters of such a text
 -- except the comma, and its value-safe-chars those except `=` too.

@@ -4,7 +4,7 @@ use Rattle.std.specs.Prelude.{ℕ, ◌≡◌, ◌<◌, ◌≤◌, ◌+◌, ◌-�
 use Rattle.std.specs.List.{zip}
 use Rattle.std.specs.Str.{byte}
 use Rattle.std.specs.declared.option.Option.{Option}
-use Rattle.scram_text.specs.Limits.{longest_channel, longest_message, longest_nonce, longest_nonce_part}
+use Rattle.scram_text.specs.Limits.{longest_channel, longest_message, longest_nonce, longest_nonce_part, longest_salt, longest_tag}
 use Rattle.scram_text.specs.Rows.{IsFirstUnmet}
 use Rattle.scram_text.specs.Class.{IsNonce, IsText}
 use Rattle.scram_text.specs.Name.{IsSaslName}
@@ -59,12 +59,12 @@ Fits most Authzid part = IsAuthzid part
 Fits most Mandatory part = IsHeaded (byte "m") IsValue part
 Fits most Name part = IsHeaded (byte "n") IsSaslName part
 Fits most Nonce part = IsHeaded (byte "r") (IsNonce most) part
-Fits most Salt part = IsHeaded (byte "s") (SpellsField 64) part
+Fits most Salt part = IsHeaded (byte "s") (SpellsField longest_salt) part
 Fits most Count part = IsHeaded (byte "i") SpellsCount part
 Fits most Channel part = IsHeaded (byte "c") (SpellsField longest_channel) part
 Fits most Extension part = IsExtension part
-Fits most Proof part = IsHeaded (byte "p") (SpellsField 64) part
-Fits most Verifier part = IsHeaded (byte "v") (SpellsField 64) part
+Fits most Proof part = IsHeaded (byte "p") (SpellsField longest_tag) part
+Fits most Verifier part = IsHeaded (byte "v") (SpellsField longest_tag) part
 Fits most ErrorValue part = IsHeaded (byte "e") IsValue part
 
 -- the fault is of the first part that does not fit its place, with parts counted from k

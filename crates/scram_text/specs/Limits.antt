@@ -1,5 +1,5 @@
--- How long the texts of a login may be, in bytes. RFC 5802 sets no limits: these are this library's.
-use Rattle.std.specs.Prelude.{ℕ}
+-- How long the texts of a login and their parts may be, in bytes. RFC 5802 sets no limits: these are this library's.
+use Rattle.std.specs.Prelude.{ℕ, ◌+◌}
 
 -- the most of a message
 abbrev pub longest_message : ℕ
@@ -16,3 +16,23 @@ longest_nonce = 512
 -- the most that a channel field holds, decoded: the base64 of more is longer than a message
 abbrev pub longest_channel : ℕ
 longest_channel = 1536
+
+-- the most of a name, as plain bytes
+abbrev pub longest_name : ℕ
+longest_name = 255
+
+-- the most of a password
+abbrev pub longest_password : ℕ
+longest_password = 1024
+
+-- the most of a salt, decoded
+abbrev pub longest_salt : ℕ
+longest_salt = 64
+
+-- the most of a proof or a signature, decoded
+abbrev pub longest_tag : ℕ
+longest_tag = 64
+
+-- the most parts of a message: one more than it can have commas
+abbrev pub most_parts : ℕ
+most_parts = longest_message + 1

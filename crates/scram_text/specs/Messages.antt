@@ -4,7 +4,7 @@
 use Rattle.std.specs.Prelude.{ℕ, ◌≡◌, ◌≤◌, Bool, ◌||◌, IsTrue, List, [], ◌∷◌, ◌++◌, length, codes, decimal, IfSome, is_some}
 use Rattle.std.specs.Str.{byte}
 use Rattle.std.specs.declared.option.Option.{Option}
-use Rattle.scram_text.specs.Limits.{longest_channel, longest_message, longest_nonce, longest_nonce_part}
+use Rattle.scram_text.specs.Limits.{longest_channel, longest_message, longest_nonce, longest_nonce_part, longest_salt, longest_tag}
 use Rattle.scram_text.specs.Class.{IsNonce, IsText}
 use Rattle.scram_text.specs.Name.{IsSaslName}
 use Rattle.scram_text.specs.Base64Field.{base64, IsField}
@@ -75,7 +75,7 @@ pub record IsServerFirst (text : List ℕ) (p : ServerFirstParts) : Type 0 where
   pub spelled : text ≡ server_first_text p
   pub mext : IfSome p.mext IsValue
   pub nonce : IsNonce longest_nonce p.nonce
-  pub salt : IsField 64 p.salt
+  pub salt : IsField longest_salt p.salt
   pub count : IsCount p.count
   pub extensions : AreExtensions p.extensions
   pub is_text : IsText text
@@ -107,7 +107,7 @@ pub record IsClientFinal (text : List ℕ) (p : ClientFinalParts) : Type 0 where
   pub channel : IsField longest_channel p.channel
   pub nonce : IsNonce longest_nonce p.nonce
   pub extensions : AreExtensions p.extensions
-  pub proof : IsField 64 p.proof
+  pub proof : IsField longest_tag p.proof
   pub is_text : IsText text
   pub short : length text ≤ longest_message
 
@@ -128,7 +128,7 @@ verifier_or_error_text (failed value) = codes "e=" ++ value
 
 -- a signature of 1 to 64 bytes, or an error value of one or more value-chars
 abbrev pub IsVerifierOrError : VerifierOrError → Type 0
-IsVerifierOrError (verified signature) = IsField 64 signature
+IsVerifierOrError (verified signature) = IsField longest_tag signature
 IsVerifierOrError (failed value) = IsValue value
 
 -- server-final-message = (server-error / verifier) ["," extensions], as "v=rmF9pqV8S7suAoZWja4dJRkFsKQ="

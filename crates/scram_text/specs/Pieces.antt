@@ -1,4 +1,4 @@
--- What the readers cut a message into before they read its parts.
+-- What the readers cut a message into before they read its parts. For private functions alone: no public contract cites this file.
 use Rattle.std.specs.Prelude.{◌≡◌, ◌≤◌, ◌+◌, [], ◌∷◌, ◌++◌, List, ℕ, length, IfSome, is_some}
 use Rattle.std.specs.Str.{byte}
 use Rattle.std.specs.Option.{option_copied}
@@ -6,7 +6,7 @@ use Rattle.scram_text.specs.Class.{IsText, IsNonce}
 use Rattle.scram_text.specs.Name.{IsSaslName}
 use Rattle.scram_text.specs.Messages.{ClientFirstParts, bare_parts, client_first_mandatory}
 use Rattle.std.specs.declared.option.Option.{Option}
-use Rattle.scram_text.specs.Limits.{longest_message, longest_nonce_part}
+use Rattle.scram_text.specs.Limits.{longest_message, longest_nonce_part, most_parts}
 use Rattle.scram_text.specs.Parts.{parts, parts_of_some, mext_parts, joined, IsValue, is_headed, AreExtensions}
 use Rattle.scram_text.specs.Faults.{IsFirstMisfit, places, first_of, marked_places}
 use Rattle.scram_text.specs.declared.client_final.Pieces.{Pieces}
@@ -27,7 +27,7 @@ pub record IsCutFinal (message : List ℕ) (pieces : Pieces) : Type 0 where
   pub cut_whole : parts message ≡ pieces.channel.now ∷ pieces.nonce.now
       ∷ (parts_of_some (option_copied pieces.rest) ++ pieces.proof.now ∷ [])
   pub count : pieces.count ≡ length (parts message)
-  pub few : length (parts message) ≤ 2049
+  pub few : length (parts message) ≤ most_parts
   pub channel_len : length pieces.channel.now ≤ longest_message
 
 -- parts are a mandatory extension, where they begin with "m=", and the others
@@ -50,7 +50,7 @@ pub record IsCutServer (message : List ℕ) (pieces : ServerPieces) : Type 0 whe
       ∷ parts_of_some (option_copied pieces.rest)) mext
   pub is_marked : pieces.marked ≡ is_some mext
   pub index : pieces.index ≡ length (mext_parts mext)
-  pub few : length (parts message) ≤ 2049
+  pub few : length (parts message) ≤ most_parts
 
 -- the parts of a text that may be client-first
 pub record IsCutFirst (message : List ℕ) (pieces : FirstPieces) : Type 0 where
@@ -60,7 +60,7 @@ pub record IsCutFirst (message : List ℕ) (pieces : FirstPieces) : Type 0 where
   pub header_parts : pieces.header.now ≡ pieces.flag.now ++ byte "," ∷ (pieces.authzid.now ++ byte "," ∷ [])
   pub cut : parts message ≡ pieces.flag.now ∷ pieces.authzid.now ∷ parts pieces.bare.now
   pub enough : length (marked_places (parts pieces.bare.now) []) + 2 ≤ length (parts pieces.bare.now)
-  pub few : length (parts message) ≤ 2049
+  pub few : length (parts message) ≤ most_parts
 
 -- the parts of a text that may be client-first-bare, with parts counted from 2
 pub record IsCutBare (bare : List ℕ) (pieces : BarePieces) : Type 0 where

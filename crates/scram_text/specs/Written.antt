@@ -3,7 +3,7 @@
 use Rattle.std.specs.Prelude.{ℕ, ◌≡◌, List, [], ◌∷◌, IsTrue, option_map}
 use Rattle.std.specs.declared.option.Option.{Option}
 use Rattle.std.specs.declared.option.Option.TheVariants.{None}
-use Rattle.scram_text.specs.Limits.{longest_channel, longest_nonce}
+use Rattle.scram_text.specs.Limits.{longest_channel, longest_nonce, longest_salt, longest_tag}
 use Rattle.scram_text.specs.Class.{IsNonce, IsText}
 use Rattle.scram_text.specs.Name.{name_spelling}
 use Rattle.scram_text.specs.Base64Field.{IsField}
@@ -53,7 +53,7 @@ server_first_of nonce salt count extensions = record {
 -- the arguments for server-first are in their classes
 pub record CanBeServerFirst (nonce salt : List ℕ) (count : ℕ) (extensions : List ℕ) : Type 0 where
   pub nonce_class : IsNonce longest_nonce nonce
-  pub salt_class : IsField 64 salt
+  pub salt_class : IsField longest_salt salt
   pub count_class : IsCount count
   pub extensions_class : IsExtensionText extensions
 
@@ -71,7 +71,7 @@ pub record CanBeClientFinal (channel nonce extensions proof : List ℕ) : Type 0
   pub channel_class : IsField longest_channel channel
   pub nonce_class : IsNonce longest_nonce nonce
   pub extensions_class : IsExtensionText extensions
-  pub proof_class : IsField 64 proof
+  pub proof_class : IsField longest_tag proof
 
 -- the arguments for client-final without its proof are in their classes
 pub record CanBeWithoutProof (channel nonce extensions : List ℕ) : Type 0 where
@@ -94,7 +94,7 @@ server_final_of outcome extensions = record { outcome = outcome; extensions = ex
 
 -- an outcome is in its class: an error value is a text as well
 abbrev pub CanBeTold : VerifierOrError → Type 0
-CanBeTold (verified signature) = IsField 64 signature
+CanBeTold (verified signature) = IsField longest_tag signature
 CanBeTold (failed value) = IsValue value × IsText value
 
 -- the arguments for server-final are in their classes

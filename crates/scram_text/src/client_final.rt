@@ -8,7 +8,7 @@
 //! as `c=biws,r=abcdef,p=v0X8v3Bz2T0CJGbJQyF0X+HI4Ts=`. The last part is the proof, even where an
 //! extension is named `p`.
 ghost use Rattle.std.specs.Prelude.{◌≡◌, ◌≤◌, ◌<◌, ◌+◌, ◌↔◌, ℕ, List, [], ◌++◌, length, IsTrue, IfOk, IfErr, OnOk, IsOkAnd, IsErrOf};
-ghost use Rattle.scram_text.specs.Limits.{longest_message};
+ghost use Rattle.scram_text.specs.Limits.{longest_message, longest_tag};
 ghost use Rattle.scram_text.specs.Class.{IsText};
 ghost use Rattle.scram_text.specs.Base64Field.{IsField};
 ghost use Rattle.scram_text.specs.Messages.{ClientFinalParts, client_final_without_proof, client_final_text, IsClientFinal};
@@ -21,7 +21,7 @@ ghost use Rattle.scram_text.specs.Appended.{UnchangedOnErr, IsAppended, LacksRoo
 
 use crate::draft::MessageDraft;
 use crate::fault::{TextFault, TextWhy, WriteFault};
-use crate::{LONGEST_CHANNEL, LONGEST_MESSAGE, LONGEST_NONCE, class, cut, field};
+use crate::{LONGEST_CHANNEL, LONGEST_MESSAGE, LONGEST_NONCE, LONGEST_TAG, class, cut, field};
 use arrayvec::ArrayVec;
 use mac_core::Tag;
 use std::alloc::Allocator;
@@ -194,11 +194,11 @@ impl ClientFinalWithoutProof {
     ) -> Result<(), WriteFault>
         ensures ok { (p : ClientFinalParts) → IsWithoutProof self p → p.proof ≡ proof.now.items
             → OnOk result (out.new.items ≡ out.old.items ++ client_final_text p) }
-        ensures related { (p : ClientFinalParts) → IsWithoutProof self p → p.proof ≡ proof.now.items
+        ensures is_message { (p : ClientFinalParts) → IsWithoutProof self p → p.proof ≡ proof.now.items
             → OnOk result (IsClientFinal (client_final_text p) p) }
         ensures unchanged { UnchangedOnErr result out.old out.new }
-        ensures unwritable { IsErrOf result WriteFault.Unwritable → IsField 64 proof.now.items → ⊥ }
-        ensures over_limit { IsErrOf result WriteFault.OverLimit → IsField 64 proof.now.items
+        ensures unwritable { IsErrOf result WriteFault.Unwritable → IsField longest_tag proof.now.items → ⊥ }
+        ensures over_limit { IsErrOf result WriteFault.OverLimit → IsField longest_tag proof.now.items
             × ((p : ClientFinalParts) → IsWithoutProof self p → p.proof ≡ proof.now.items
             → longest_message < length (client_final_text p)) }
         ensures no_memory { IsErrOf result WriteFault.NoMemory
@@ -207,17 +207,17 @@ impl ClientFinalWithoutProof {
             × LacksRoom out.old (client_final_text p) }
     {
         let proof = proof.as_slice();
-        if !field::is_field(proof, 64) {
+        if !field::is_field(proof, LONGEST_TAG) {
             return Err(WriteFault::Unwritable);
         }
         self.with_proof(proof).append_to(out)
     }
 
     fn with_proof(self, proof: &[u8]) -> MessageDraft
-        requires { IsField 64 proof.now }
+        requires { IsField longest_tag proof.now }
         ensures draft { (p : ClientFinalParts) → IsWithoutProof self p → p.proof ≡ proof.now
             → IsDraftOf result (client_final_text p) }
-        ensures related { (p : ClientFinalParts) → IsWithoutProof self p → p.proof ≡ proof.now
+        ensures is_message { (p : ClientFinalParts) → IsWithoutProof self p → p.proof ≡ proof.now
             → length (client_final_text p) ≤ longest_message → IsClientFinal (client_final_text p) p }
     {
         let mut draft = MessageDraft::of(self.text);
@@ -266,7 +266,7 @@ pub fn write_client_final<A: Allocator>(
 ) -> Result<(), WriteFault>
     ensures appended { IsAppended result out.old out.new
         (client_final_text (client_final_of channel.now nonce.now extensions.now proof.now.items)) }
-    ensures related { let p = client_final_of channel.now nonce.now extensions.now proof.now.items in
+    ensures is_message { let p = client_final_of channel.now nonce.now extensions.now proof.now.items in
         OnOk result (IsClientFinal (client_final_text p) p) }
     ensures unwritable { IsErrOf result WriteFault.Unwritable
         → CanBeClientFinal channel.now nonce.now extensions.now proof.now.items → ⊥ }
@@ -277,7 +277,7 @@ pub fn write_client_final<A: Allocator>(
         IsErrOf result WriteFault.NoMemory → IsClientFinal (client_final_text p) p
         × LacksRoom out.old (client_final_text p) }
 {
-    if !field::is_field(proof.as_slice(), 64) {
+    if !field::is_field(proof.as_slice(), LONGEST_TAG) {
         return Err(WriteFault::Unwritable);
     }
     match ClientFinalWithoutProof::new(channel, nonce, extensions) {

@@ -10,7 +10,7 @@
 ghost use Rattle.std.specs.Prelude.{◌≡◌, ◌≤◌, ◌<◌, ◌+◌, [], length, IfOk, IfErr, IfSome, OnOk, IsTrue, IsOkAnd, IsErrOf, false};
 ghost use Rattle.std.specs.Prelude.{MatchOption};
 ghost use Rattle.std.specs.Option.{option_copied};
-ghost use Rattle.scram_text.specs.Limits.{longest_message};
+ghost use Rattle.scram_text.specs.Limits.{longest_message, most_parts};
 ghost use Rattle.scram_text.specs.Name.{IsSaslName};
 ghost use Rattle.scram_text.specs.Parts.{parts, is_flag, authzid_text};
 ghost use Rattle.scram_text.specs.Messages.{ClientFirstParts, client_first_text, IsClientFirst};
@@ -190,7 +190,7 @@ struct Bare<'a> {
 
 fn read_bare(bare: &[u8]) -> Result<Bare<'_>, TextFault>
     requires enough { length (marked_places (parts bare.now) []) + 2 ≤ length (parts bare.now) }
-    requires few { length (parts bare.now) ≤ 2049 }
+    requires few { length (parts bare.now) ≤ most_parts }
     ensures found { IfOk result (λ m. (p : ClientFirstParts) × IsBare (parts bare.now) p
         × ShowsBare m p) }
     ensures fault { IfErr result (λ f. IsBareMisfit (parts bare.now) f) }
@@ -258,7 +258,7 @@ pub fn write_client_first<A: Allocator>(
 ) -> Result<(), WriteFault>
     ensures appended { IsAppended result out.old out.new (client_first_text
         (client_first_of flag.entry (option_copied authzid.entry) name.now nonce.now extensions.now)) }
-    ensures related { let p = client_first_of flag.entry (option_copied authzid.entry) name.now nonce.now extensions.now in
+    ensures is_message { let p = client_first_of flag.entry (option_copied authzid.entry) name.now nonce.now extensions.now in
         OnOk result (IsClientFirst (client_first_text p) p) }
     ensures unwritable { IsErrOf result WriteFault.Unwritable
         → CanBeClientFirst flag.entry extensions.now → ⊥ }
@@ -295,7 +295,7 @@ fn draft_of(
     requires { CanBeClientFirst flag.now extensions.now }
     ensures draft { IsDraftOf result (client_first_text
         (client_first_of flag.now (option_copied authzid.entry) name.now nonce.now extensions.now)) }
-    ensures related { let p = client_first_of flag.now (option_copied authzid.entry) name.now nonce.now extensions.now in
+    ensures is_message { let p = client_first_of flag.now (option_copied authzid.entry) name.now nonce.now extensions.now in
         length (client_first_text p) ≤ longest_message → IsClientFirst (client_first_text p) p }
 {
     let mut draft = flagged(flag);

@@ -4,7 +4,7 @@ ghost use Rattle.std.specs.Prelude.{is_some, OnOk, IfErr, MatchOption, true, fal
 ghost use Rattle.std.specs.Str.{byte};
 ghost use Rattle.std.specs.Option.{option_copied};
 ghost use Rattle.std.specs.declared.option.Option.{Option};
-ghost use Rattle.scram_text.specs.Limits.{longest_message};
+ghost use Rattle.scram_text.specs.Limits.{longest_message, most_parts};
 ghost use Rattle.scram_text.specs.Class.{is_comma, IsText};
 ghost use Rattle.scram_text.specs.Name.{LacksComma};
 ghost use Rattle.scram_text.specs.Parts.{parts, parts_of_some, joined, is_headed, is_attribute, AreExtensions, have_mandatory};
@@ -21,7 +21,7 @@ pub(crate) fn count_parts(message: &[u8]) -> Result<usize, TextFault>
     ensures short { IfOk result (λ _. length message.now ≤ longest_message) }
     ensures is_text { IfOk result (λ _. IsText message.now) }
     ensures count { IfOk result (λ count. count ≡ length (parts message.now)) }
-    ensures few { OnOk result (length (parts message.now) ≤ 2049) }
+    ensures few { OnOk result (length (parts message.now) ≤ most_parts) }
     ensures fault { IfErr result (λ f. IsWholeFault message.now f) }
 {
     if message.len() > LONGEST_MESSAGE {

@@ -2,7 +2,7 @@
 ghost use Rattle.std.specs.Prelude.{◌≡◌, ◌≤◌, ℕ, List, ◌∷◌, ◌++◌, length, take, decimal, codes, IfNone, IfSome, IsTrue, ◌↔◌};
 ghost use Rattle.std.specs.Str.{byte};
 ghost use Rattle.base64.specs.Decode.{decoded_estimate};
-ghost use Rattle.scram_text.specs.Limits.{longest_channel, longest_message};
+ghost use Rattle.scram_text.specs.Limits.{longest_channel, longest_message, longest_salt, longest_tag};
 ghost use Rattle.scram_text.specs.Class.{IsNonce};
 ghost use Rattle.scram_text.specs.Name.{IsSaslName, LacksComma};
 ghost use Rattle.scram_text.specs.Base64Field.{base64, IsField};
@@ -113,9 +113,9 @@ pub(crate) fn channel_of(part: &[u8]) -> Option<ArrayVec<u8, LONGEST_CHANNEL>>
 
 /// The bytes of a part that is a letter, `=` and the base64 of 1 to 64 bytes.
 pub(crate) fn tag_of(part: &[u8], letter: u8) -> Option<Tag>
-    ensures none { IfNone result (IsHeaded letter (SpellsField 64) part.now → ⊥) }
+    ensures none { IfNone result (IsHeaded letter (SpellsField longest_tag) part.now → ⊥) }
     ensures spelled { IfSome result (λ tag. part.now ≡ letter ∷ byte "=" ∷ base64 tag.items) }
-    ensures class { IfSome result (λ tag. IsField 64 tag.items) }
+    ensures class { IfSome result (λ tag. IsField longest_tag tag.items) }
 {
     let text = cut::headed(part, letter)?;
     short_field(text)
@@ -123,9 +123,9 @@ pub(crate) fn tag_of(part: &[u8], letter: u8) -> Option<Tag>
 
 /// The salt of a part that is `s=` and the base64 of 1 to 64 bytes.
 pub(crate) fn salt_of(part: &[u8]) -> Option<Salt>
-    ensures none { IfNone result (IsHeaded (byte "s") (SpellsField 64) part.now → ⊥) }
+    ensures none { IfNone result (IsHeaded (byte "s") (SpellsField longest_salt) part.now → ⊥) }
     ensures spelled { IfSome result (λ salt. part.now ≡ codes "s=" ++ base64 salt) }
-    ensures class { IfSome result (λ salt. IsField 64 salt) }
+    ensures class { IfSome result (λ salt. IsField longest_salt salt) }
 {
     let bytes = tag_of(part, b's')?;
     Salt::new(bytes.as_slice())
@@ -142,12 +142,12 @@ fn long_field(text: &[u8]) -> Option<ArrayVec<u8, LONGEST_CHANNEL>>
     Some(copy_of(&buffer[..size]))
 }
 
-// A text of more than 88 characters is the base64 of no field of 64 bytes.
+// The bytes of a tag's base64. A text of more than 88 characters is the base64 of no 64 bytes.
 #[tactic(auto, using(crate::proofs::lemmas::Base64::short_text))]
 fn short_field(text: &[u8]) -> Option<Tag>
-    ensures none { IfNone result (SpellsField 64 text.now → ⊥) }
+    ensures none { IfNone result (SpellsField longest_tag text.now → ⊥) }
     ensures spelled { IfSome result (λ field. text.now ≡ base64 field.items) }
-    ensures class { IfSome result (λ field. IsField 64 field.items) }
+    ensures class { IfSome result (λ field. IsField longest_tag field.items) }
 {
     if text.len() > 88 {
         return None;

@@ -56,3 +56,15 @@ pub const LONGEST_NONCE: usize = 512;
 
 /// The most bytes that a channel field holds, decoded: the base64 of more is longer than a message.
 pub const LONGEST_CHANNEL: usize = 1536;
+
+/// The most bytes of a name.
+pub const LONGEST_NAME: usize = 255;
+
+/// The most bytes of a password.
+pub const LONGEST_PASSWORD: usize = 1024;
+
+/// The most bytes of a salt.
+pub const LONGEST_SALT: usize = 64;
+
+/// The most bytes of a proof or a signature.
+pub const LONGEST_TAG: usize = 64;

@@ -2,13 +2,14 @@
 ghost use Rattle.std.specs.Prelude.{◌≡◌, ◌≤◌, ℕ, List, [], ◌++◌, length, ◌↔◌, IsTrue, not, ◌<◌, ◌+◌, IfSome, IfNone, IfErr, MatchOption};
 ghost use Rattle.std.specs.Option.{SomeIff};
 ghost use Rattle.std.specs.List.{list_all};
+ghost use Rattle.scram_text.specs.Limits.{longest_name};
 ghost use Rattle.scram_text.specs.Class.{IsPlainName, is_comma};
 ghost use Rattle.scram_text.specs.Name.{IsSaslName, LacksComma, SpellsName, escape, name_spelling, is_escaped, ends_escape};
 ghost use Rattle.scram_text.specs.Appended.{IsAppended, LacksRoom};
 
-use crate::class;
 use crate::draft::MessageDraft;
 use crate::fault::WriteFault;
+use crate::{LONGEST_NAME, class};
 use arrayvec::ArrayVec;
 use mac_core::copy_of;
 use std::alloc::Allocator;
@@ -18,7 +19,7 @@ use std::marker::Model;
 /// order of their bytes, as `Z`, `a`, `a.`, `aa`. Contracts see a name as its bytes.
 #[derive(PartialEq, Eq, PartialOrd, Ord, Drop)]
 pub struct PlainName {
-    bytes: ArrayVec<u8, 255>,
+    bytes: ArrayVec<u8, LONGEST_NAME>,
 }
 
 impl Model for PlainName {
@@ -36,7 +37,7 @@ impl PlainName {
     pub fn new(bytes: &[u8]) -> Option<PlainName>
         ensures { SomeIff result (IsPlainName bytes.now) bytes.now }
     {
-        if !class::is_plain_run(bytes, 255) {
+        if !class::is_plain_run(bytes, LONGEST_NAME) {
             return None;
         }
         Some(PlainName {
@@ -119,11 +120,11 @@ impl<'a> SaslText<'a> {
 }
 
 // The bytes of the name, or None where there are more than 255.
-fn unescaped(spelled: &[u8]) -> Option<ArrayVec<u8, 255>>
+fn unescaped(spelled: &[u8]) -> Option<ArrayVec<u8, LONGEST_NAME>>
     requires escaped { IsTrue (is_escaped spelled.now) }
     requires no_comma { LacksComma spelled.now }
     ensures some { IfSome result (λ name. SpellsName name.items spelled.now) }
-    ensures none { IfNone result ((name : List ℕ) → length name ≤ 255
+    ensures none { IfNone result ((name : List ℕ) → length name ≤ longest_name
         → SpellsName name spelled.now → ⊥) }
 {
     let mut name = ArrayVec::new();
@@ -194,7 +195,7 @@ fn ends_escape(text: &[u8]) -> bool
 /// reserved for the spelling; `out` is then unchanged.
 pub fn write_name<A: Allocator>(name: &PlainName, out: &mut Vec<u8, A>) -> Result<(), WriteFault>
     ensures appended { IsAppended result out.old out.new (name_spelling name.now) }
-    ensures related { IsSaslName (name_spelling name.now) }
+    ensures is_saslname { IsSaslName (name_spelling name.now) }
     ensures no_memory { IfErr result (λ f. (f ≡ WriteFault.NoMemory)
         × LacksRoom out.old (name_spelling name.now)) }
 {

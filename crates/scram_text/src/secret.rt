@@ -3,7 +3,7 @@ ghost use Rattle.std.specs.Prelude.{◌≡◌, ℕ, List};
 ghost use Rattle.std.specs.Option.{SomeIff};
 ghost use Rattle.scram_text.specs.Class.{IsPassword, IsNoncePart, IsSalt};
 
-use crate::{LONGEST_NONCE_PART, class};
+use crate::{LONGEST_NONCE_PART, LONGEST_PASSWORD, LONGEST_SALT, class};
 use arrayvec::ArrayVec;
 use mac_core::copy_of;
 use std::marker::Model;
@@ -12,7 +12,7 @@ use std::marker::Model;
 /// Contracts see it as its bytes.
 #[derive(Drop)]
 pub struct Password {
-    bytes: ArrayVec<u8, 1024>,
+    bytes: ArrayVec<u8, LONGEST_PASSWORD>,
 }
 
 impl Model for Password {
@@ -28,7 +28,7 @@ impl Password {
     pub fn new(bytes: &[u8]) -> Option<Password>
         ensures { SomeIff result (IsPassword bytes.now) bytes.now }
     {
-        if !class::is_plain_run(bytes, 1024) {
+        if !class::is_plain_run(bytes, LONGEST_PASSWORD) {
             return None;
         }
         Some(Password {
@@ -85,7 +85,7 @@ impl NoncePart {
 /// A salt: 1 to 64 bytes. Contracts see it as its bytes.
 #[derive(Drop)]
 pub struct Salt {
-    bytes: ArrayVec<u8, 64>,
+    bytes: ArrayVec<u8, LONGEST_SALT>,
 }
 
 impl Model for Salt {
@@ -101,7 +101,7 @@ impl Salt {
     pub fn new(bytes: &[u8]) -> Option<Salt>
         ensures { SomeIff result (IsSalt bytes.now) bytes.now }
     {
-        if bytes.is_empty() || 64 < bytes.len() {
+        if bytes.is_empty() || LONGEST_SALT < bytes.len() {
             return None;
         }
         Some(Salt {

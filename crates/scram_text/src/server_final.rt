@@ -7,7 +7,7 @@
 //! as `v=rmF9pqV8S7suAoZWja4dJRkFsKQ=` or `e=invalid-proof`.
 ghost use Rattle.std.specs.Prelude.{◌≡◌, ◌≤◌, ◌<◌, ◌+◌, ◌↔◌, ◌++◌, length, codes, IsTrue, IfOk, IfErr, OnOk, IsOkAnd, IsErrOf};
 ghost use Rattle.std.specs.Str.{byte};
-ghost use Rattle.scram_text.specs.Limits.{longest_message, longest_nonce};
+ghost use Rattle.scram_text.specs.Limits.{longest_message, longest_nonce, longest_tag};
 ghost use Rattle.scram_text.specs.Class.{IsText};
 ghost use Rattle.scram_text.specs.Name.{LacksComma};
 ghost use Rattle.scram_text.specs.Base64Field.{base64};
@@ -21,7 +21,7 @@ ghost use Rattle.scram_text.specs.Appended.{IsAppended, LacksRoom};
 
 use crate::draft::MessageDraft;
 use crate::fault::{TextFault, TextWhy, WriteFault};
-use crate::{class, cut, field};
+use crate::{LONGEST_TAG, class, cut, field};
 use mac_core::Tag;
 use std::alloc::Allocator;
 
@@ -126,7 +126,7 @@ pub fn write_server_final<A: Allocator>(
 ) -> Result<(), WriteFault>
     ensures appended { IsAppended result out.old out.new
         (server_final_text (server_final_of (verifier_or_error_of outcome.entry) extensions.now)) }
-    ensures related { let p = server_final_of (verifier_or_error_of outcome.entry) extensions.now in
+    ensures is_message { let p = server_final_of (verifier_or_error_of outcome.entry) extensions.now in
         OnOk result (IsServerFinal (server_final_text p) p) }
     ensures unwritable { IsErrOf result WriteFault.Unwritable
         → CanBeServerFinal (verifier_or_error_of outcome.entry) extensions.now → ⊥ }
@@ -147,7 +147,7 @@ fn is_tellable(outcome: &FinalResult<'_>) -> bool
     ensures { IsTrue result ↔ CanBeTold (verifier_or_error_of outcome.now) }
 {
     match outcome {
-        FinalResult::Verifier(signature) => field::is_field(signature.as_slice(), 64),
+        FinalResult::Verifier(signature) => field::is_field(signature.as_slice(), LONGEST_TAG),
         FinalResult::ErrorValue(value) => field::is_value(value) && class::is_text(value),
     }
 }
@@ -155,7 +155,7 @@ fn is_tellable(outcome: &FinalResult<'_>) -> bool
 fn draft_of(outcome: &FinalResult<'_>, extensions: &[u8]) -> MessageDraft
     requires { CanBeServerFinal (verifier_or_error_of outcome.now) extensions.now }
     ensures draft { IsDraftOf result (server_final_text (server_final_of (verifier_or_error_of outcome.now) extensions.now)) }
-    ensures related { let p = server_final_of (verifier_or_error_of outcome.now) extensions.now in
+    ensures is_message { let p = server_final_of (verifier_or_error_of outcome.now) extensions.now in
         length (server_final_text p) ≤ longest_message → IsServerFinal (server_final_text p) p }
 {
     let mut draft = told(outcome);
@@ -176,7 +176,7 @@ fn told(outcome: &FinalResult<'_>) -> MessageDraft
 
 // "v=" base64
 fn verifier(signature: &[u8]) -> MessageDraft
-    requires { length signature.now ≤ 64 }
+    requires { length signature.now ≤ longest_tag }
     ensures draft { IsDraftOf result (codes "v=" ++ base64 signature.now) }
     ensures is_text { IsText (codes "v=" ++ base64 signature.now) }
 {

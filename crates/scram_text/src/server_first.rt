@@ -18,7 +18,7 @@ ghost use Rattle.scram_text.specs.Appended.{IsAppended, LacksRoom};
 use crate::draft::MessageDraft;
 use crate::fault::{TextFault, TextWhy, WriteFault};
 use crate::secret::Salt;
-use crate::{LONGEST_NONCE, class, cut, field};
+use crate::{LONGEST_NONCE, LONGEST_SALT, class, cut, field};
 use std::alloc::Allocator;
 
 /// A server-first message that was read. Slices are slices of the message.
@@ -140,7 +140,7 @@ pub fn write_server_first<A: Allocator>(
 ) -> Result<(), WriteFault>
     ensures appended { IsAppended result out.old out.new
         (server_first_text (server_first_of nonce.now salt.now count extensions.now)) }
-    ensures related { let p = server_first_of nonce.now salt.now count extensions.now in
+    ensures is_message { let p = server_first_of nonce.now salt.now count extensions.now in
         OnOk result (IsServerFirst (server_first_text p) p) }
     ensures unwritable { IsErrOf result WriteFault.Unwritable
         → CanBeServerFirst nonce.now salt.now count extensions.now → ⊥ }
@@ -162,7 +162,7 @@ fn is_writable(nonce: &[u8], salt: &[u8], count: u32, extensions: &[u8]) -> bool
     ensures { IsTrue result ↔ CanBeServerFirst nonce.now salt.now count extensions.now }
 {
     class::is_nonce(nonce, LONGEST_NONCE)
-        && field::is_field(salt, 64)
+        && field::is_field(salt, LONGEST_SALT)
         && field::is_count(count)
         && cut::are_extensions(extensions)
 }
@@ -170,7 +170,7 @@ fn is_writable(nonce: &[u8], salt: &[u8], count: u32, extensions: &[u8]) -> bool
 fn draft_of(nonce: &[u8], salt: &[u8], count: u32, extensions: &[u8]) -> MessageDraft
     requires { CanBeServerFirst nonce.now salt.now count extensions.now }
     ensures draft { IsDraftOf result (server_first_text (server_first_of nonce.now salt.now count extensions.now)) }
-    ensures related { let p = server_first_of nonce.now salt.now count extensions.now in
+    ensures is_message { let p = server_first_of nonce.now salt.now count extensions.now in
         length (server_first_text p) ≤ longest_message → IsServerFirst (server_first_text p) p }
 {
     let mut draft = MessageDraft::new();

@@ -108,10 +108,13 @@ added_lookup es name account other =
     ∙ ap (cond (is_at (name_cmp name) other) (Some account)) (looked_up other es)
 
 pub is_added : (old : BookFields) (name : List ℕ) (account : AccountFields) (new : BookFields)
-    → new ≡ with_account old name account → IsAdded old name account new
-is_added old name account new same = record {
-  book = same;
-  accounts = ap accounts_of same ∙ put_map old.accounts _ name account (added_lookup old.accounts name account);
+    → account_at old name ≡ None → new ≡ with_account old name account → IsAdded old name account new
+is_added old name account new free same = record {
+  free = free;
+  added = record {
+    book = same;
+    accounts = ap accounts_of same ∙ put_map old.accounts _ name account (added_lookup old.accounts name account);
+  };
 }
 
 pub added_is_apart : AddedIsApart

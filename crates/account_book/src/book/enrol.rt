@@ -1,5 +1,5 @@
 //! Adds an account with a password.
-ghost use Rattle.std.specs.Prelude.{◌≡◌, ◌≤◌, None, IfErr, OnOk, OnErr, MatchOption};
+ghost use Rattle.std.specs.Prelude.{◌≡◌, ◌≤◌, IfErr, OnOk, OnErr, MatchOption};
 ghost use Rattle.hex.specs.Hex.{IsBytes};
 ghost use Rattle.mac_core.specs.Mechanism.{length_by};
 ghost use Rattle.book_format.specs.Account.{AreKeys};
@@ -51,7 +51,6 @@ impl Book {
     ) -> Result<(), EnrolFault>
         requires { 1 ≤ count }
         ensures added { OnOk result (IsAdded self.old name.now (enrolled password.now salt1.now salt256.now count) self.new) }
-        ensures free { OnOk result (account_at self.old name.now ≡ None) }
         ensures refused { IfErr result (λ fault. MatchOption (account_at self.old name.now)
             (fault ≡ EnrolFault.NoMemory) (λ account. fault ≡ EnrolFault.NameTaken)) }
         ensures err { OnErr result (self.new ≡ self.old) }

@@ -17,7 +17,7 @@ use Rattle.command_line.specs.declared.fault.Fault.TheVariants.{CannotWriteOutpu
 use Rattle.command_words.specs.Commands.CommandName.{Keys, Enrol, Code, Verify, Unlock, Login, Hall, Audit, Upgrade}
 use Rattle.command_words.specs.Commands.{CommandName, NamesCommand, program, word_of}
 use Rattle.command_words.proofs.lemmas.Naming.{names_command}
-use Rattle.commands.specs.Program.{EndsCommand, EndsRun, HasDone, IsErrorOf, Names, RunsCommand, RunsUntil, StopsAt, exit_status, found_in}
+use Rattle.commands.specs.Program.{EndsCommand, EndsRun, HasDone, IsWordsError, Names, RunsCommand, RunsUntil, StopsAt, exit_status, found_in}
 
 -- how a command ends, by what is known of its answer and of its fault
 pub ends_as : {T : Type 0} {P : T → Type 0} {S : Fault → Type 0} (Q : T → Type 0) (R : Fault → Type 0) (ended : Result T Fault)
@@ -141,7 +141,7 @@ names_one app line matches is has fails =
 -- what is wrong with a line that is not
 pub error_of : (app : App) (line : List Text) (error : Error) → app ≡ program
     → (is_simple_and_free app ≡ true → HasKind (fault_of app line) error)
-    → IsErrorOf line (kind_of error)
+    → IsWordsError line (kind_of error)
 error_of app line error is fails =
     subst (λ (a : App). HasKind (fault_of a line) error) is (fails (ap is_simple_and_free is ∙ is_free_program))
 

@@ -3,6 +3,5 @@ use Rattle.sasl_desk.proofs.laws.no_counter_passes_twice.Goals as goal
 
 pub returns : goal.returns
 returns g c =
-    spent_over_changes c.begins_with_itself.ensures c.spent_stays_spent.ensures c.has_one_reading.ensures c.has_one_numbered_reading.ensures
-    c.tokens_are_apart.ensures
+    spent_over_changes c.begins_with_itself.ensures c.spent_stays_spent.ensures c.tokens_are_apart.ensures
     c.candidates_are_new.ensures c.added_is_apart.ensures g.S.BookStore.facts g.S.BookStore.IsStored

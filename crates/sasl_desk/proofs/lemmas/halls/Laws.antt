@@ -265,8 +265,8 @@ run_to : {S : Type 0} (facts : S → StoreFacts) (IsStored : List ℕ → Type 0
     → (left ≡ hall.keeper.book) ⊎ ((t : LoggedReply) × IsAttemptJudged hall.keeper.book t left)
     → IsHallRunLeaving facts IsStored start calls left
 run_to facts IsStored start calls hall s left leaves = (
-  record { start = start; calls = calls; places = s.places; told = s.told; left = left },
-  record { hall = hall; stands = s; spelled = s.spelled; leaves = leaves },
+  record { start = start; calls = calls; told = s.told; left = left },
+  record { hall = hall; stands = s; tells = refl; leaves = leaves },
   refl,
   refl,
   refl,

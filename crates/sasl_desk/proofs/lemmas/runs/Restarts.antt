@@ -8,14 +8,14 @@ use Rattle.account_book.specs.Store.{StoreFacts}
 use Rattle.account_book.specs.Laws.{TokensAreApart, AddedIsApart}
 use Rattle.otp_core.specs.Laws.{BeginsWithItself, CandidatesAreNew}
 use Rattle.log_grammar.specs.Books.{accounts_in}
-use Rattle.log_grammar.specs.laws.LogLaws.{LogsHaveOneReading, GoesOnByNoOther}
+use Rattle.log_grammar.specs.laws.LogLaws.{GoesOnByNoOther}
 use Rattle.log_grammar.specs.Lines.{LogLine, said, halt, log_text, log_bytes}
 use Rattle.log_grammar.specs.LoggedReply.{LoggedReply}
 use Rattle.log_grammar.specs.Places.{Place, MayEnd, got_code, halted}
 use Rattle.log_grammar.specs.Demands.{Accounts, Demands, demands}
 use Rattle.log_grammar.specs.state_machine.Steps.{IsTransition}
 use Rattle.log_grammar.specs.Begins.{Begins, AreLines}
-use Rattle.log_grammar.specs.Versions.{most_open, IsFront, IsClean}
+use Rattle.log_grammar.specs.Versions.{IsFront, IsClean}
 use Rattle.log_grammar.proofs.lemmas.kinds.ShownByLines.{lines_front, lines_clean}
 use Rattle.log_grammar.proofs.lemmas.headline_laws.OfSessions.{are_lines, each_lacks}
 use Rattle.sasl_desk.specs.Keeper.{IsAttemptJudged}
@@ -24,8 +24,6 @@ use Rattle.sasl_desk.specs.Runs.{Call, run_lines}
 use Rattle.sasl_desk.specs.Saved.{IsLogSaved}
 use Rattle.sasl_desk.specs.Spent.{AreDifferent, IsCounterSpent, AreSpent, spent_by, SpentStaysSpent}
 use Rattle.sasl_desk.specs.Desks.{HoldsBook, IsLostAfter, IsStoredAt, IsStateAt, all_spent, IsDeskAfter, phase_of, session_phase}
-use Rattle.log_grammar.specs.laws.NumberedLaws.{HasOneNumberedReading}
-use Rattle.sasl_desk.specs.Halls.{hall_lines}
 use Rattle.sasl_desk.specs.Restarts.{Run, IsDeskRunOf, HallRun, IsHallRunOf, IsRunLeaving, Change, desk_ran, hall_ran, judged, unlocked}
 use Rattle.sasl_desk.specs.Restarts.{added, IsChange, AreChanges, spent_by_change, spent_in}
 use Rattle.sasl_desk.specs.declared.desk.Desk.{Desk}
@@ -126,13 +124,12 @@ spent_after_told itself stays old new t ps one spent =
     (told_after old new t one (accounts_in old) [] self) spent
 
 -- what was spent after one run
-spent_after_run : BeginsWithItself → SpentStaysSpent → LogsHaveOneReading
+spent_after_run : BeginsWithItself → SpentStaysSpent
     → {S : Type 0} (facts : S → StoreFacts) (IsStored : List ℕ → Type 0) (r : Run) (ps : List (List ℕ × ℕ))
     → IsDeskRunOf facts IsStored r → AreSpent ps r.start → AreSpent (all_spent (reverse r.told) ++ ps) r.left
-spent_after_run itself stays once facts IsStored r ps run spent =
+spent_after_run itself stays facts IsStored r ps run spent =
     let s = run.stands in
-    let same = once (accounts_in r.start) (run_lines r.calls) s.place r.place s.told r.told s.begins run.begins in
-    let own = subst (λ (t : List LoggedReply). AreSpent (all_spent (reverse t) ++ ps) run.desk.keeper.book) same.1 (s.spent ps spent) in
+    let own = subst (λ (t : List LoggedReply). AreSpent (all_spent (reverse t) ++ ps) run.desk.keeper.book) (sym run.tells) (s.spent ps spent) in
     elim run.leaves [
       | inl left ↦ subst (λ (b : BookFields). AreSpent (all_spent (reverse r.told) ++ ps) b) (sym left) own
       | inr (t, one) ↦
@@ -141,13 +138,12 @@ spent_after_run itself stays once facts IsStored r ps run spent =
     ]
 
 -- what was spent after one run of a hall
-spent_after_hall : BeginsWithItself → SpentStaysSpent → HasOneNumberedReading
+spent_after_hall : BeginsWithItself → SpentStaysSpent
     → {S : Type 0} (facts : S → StoreFacts) (IsStored : List ℕ → Type 0) (r : HallRun) (ps : List (List ℕ × ℕ))
     → IsHallRunOf facts IsStored r → AreSpent ps r.start → AreSpent (all_spent (reverse r.told) ++ ps) r.left
-spent_after_hall itself stays once facts IsStored r ps run spent =
+spent_after_hall itself stays facts IsStored r ps run spent =
     let s = run.stands in
-    let same = once most_open (accounts_in r.start) (hall_lines r.calls) s.places r.places s.told r.told s.spelled run.spelled in
-    let own = subst (λ (t : List LoggedReply). AreSpent (all_spent (reverse t) ++ ps) run.hall.keeper.book) same.1 (s.spent ps spent) in
+    let own = subst (λ (t : List LoggedReply). AreSpent (all_spent (reverse t) ++ ps) run.hall.keeper.book) (sym run.tells) (s.spent ps spent) in
     elim run.leaves [
       | inl left ↦ subst (λ (b : BookFields). AreSpent (all_spent (reverse r.told) ++ ps) b) (sym left) own
       | inr (t, one) ↦
@@ -156,36 +152,36 @@ spent_after_hall itself stays once facts IsStored r ps run spent =
     ]
 
 -- what was spent after a change
-spent_after : BeginsWithItself → SpentStaysSpent → LogsHaveOneReading → HasOneNumberedReading → TokensAreApart → CandidatesAreNew
+spent_after : BeginsWithItself → SpentStaysSpent → TokensAreApart → CandidatesAreNew
     → AddedIsApart → {S : Type 0} (facts : S → StoreFacts) (IsStored : List ℕ → Type 0)
     (c : Change) (old new : BookFields) (ps : List (List ℕ × ℕ)) → IsChange facts IsStored c old new → AreSpent ps old
     → AreSpent (spent_by_change c ++ ps) new
-spent_after itself stays once numbered_once apart fresh added_apart facts IsStored (desk_ran r) old new ps (run, start, left) spent =
+spent_after itself stays apart fresh added_apart facts IsStored (desk_ran r) old new ps (run, start, left) spent =
     subst (λ (b : BookFields). AreSpent (all_spent (reverse r.told) ++ ps) b) left
-    (spent_after_run itself stays once facts IsStored r ps run (subst (λ (b : BookFields). AreSpent ps b) (sym start) spent))
-spent_after itself stays once numbered_once apart fresh added_apart facts IsStored (hall_ran r) old new ps (run, start, left) spent =
+    (spent_after_run itself stays facts IsStored r ps run (subst (λ (b : BookFields). AreSpent ps b) (sym start) spent))
+spent_after itself stays apart fresh added_apart facts IsStored (hall_ran r) old new ps (run, start, left) spent =
     subst (λ (b : BookFields). AreSpent (all_spent (reverse r.told) ++ ps) b) left
-    (spent_after_hall itself stays numbered_once facts IsStored r ps run (subst (λ (b : BookFields). AreSpent ps b) (sym start) spent))
-spent_after itself stays once numbered_once apart fresh added_apart facts IsStored
+    (spent_after_hall itself stays facts IsStored r ps run (subst (λ (b : BookFields). AreSpent ps b) (sym start) spent))
+spent_after itself stays apart fresh added_apart facts IsStored
     (judged t) old new ps one spent = spent_after_told itself stays old new t ps one spent
-spent_after itself stays once numbered_once apart fresh added_apart facts IsStored
+spent_after itself stays apart fresh added_apart facts IsStored
     (unlocked name) old new ps changed spent = unlocks_keep apart fresh old new name ps changed spent
-spent_after itself stays once numbered_once apart fresh added_apart facts IsStored (added name account) old new ps (free, is) spent =
-    added_keeps added_apart old new name account ps free is spent
+spent_after itself stays apart fresh added_apart facts IsStored (added name account) old new ps is spent =
+    added_keeps added_apart old new name account ps is spent
 
 -- what was spent after any number of changes
-pub spent_over_changes : BeginsWithItself → SpentStaysSpent → LogsHaveOneReading → HasOneNumberedReading → TokensAreApart → CandidatesAreNew
+pub spent_over_changes : BeginsWithItself → SpentStaysSpent → TokensAreApart → CandidatesAreNew
     → AddedIsApart → {S : Type 0}
     (facts : S → StoreFacts) (IsStored : List ℕ → Type 0) (first : BookFields) (changes : List Change) (last : BookFields)
     (ps : List (List ℕ × ℕ)) → AreChanges facts IsStored first changes last
     → AreSpent ps first → AreSpent (spent_in changes ++ ps) last
-spent_over_changes itself stays once numbered_once apart fresh added_apart facts IsStored first [] last ps same spent = subst
+spent_over_changes itself stays apart fresh added_apart facts IsStored first [] last ps same spent = subst
     (λ (b : BookFields). AreSpent ps b) (sym same) spent
-spent_over_changes itself stays once numbered_once apart fresh added_apart facts IsStored first (c ∷ before) last ps
+spent_over_changes itself stays apart fresh added_apart facts IsStored first (c ∷ before) last ps
     (middle, earlier, change) spent =
-    let until = spent_over_changes itself stays once numbered_once apart fresh added_apart facts IsStored first before middle ps earlier spent in
+    let until = spent_over_changes itself stays apart fresh added_apart facts IsStored first before middle ps earlier spent in
     subst (λ (l : List (List ℕ × ℕ)). AreSpent l last) (sym (append_assoc (spent_by_change c) (spent_in before) ps))
-    (spent_after itself stays once numbered_once apart fresh added_apart facts IsStored c middle last (spent_in before ++ ps) change until)
+    (spent_after itself stays apart fresh added_apart facts IsStored c middle last (spent_in before ++ ps) change until)
 
 -- the store holds the book, or it failed in its last save
 pub held_or_lost : (IsStored : List ℕ → Type 0) (accounts : Accounts) (calls : List Call) (place : Place) (book : BookFields)
@@ -224,8 +220,8 @@ run_to : {S : Type 0} (facts : S → StoreFacts) (IsStored : List ℕ → Type 0
     → (left ≡ desk.keeper.book) ⊎ ((t : LoggedReply) × IsAttemptJudged desk.keeper.book t left)
     → IsRunLeaving facts IsStored start calls left
 run_to facts IsStored start calls desk s left leaves = (
-  record { start = start; calls = calls; place = s.place; told = s.told; left = left },
-  record { desk = desk; stands = s; begins = s.begins; leaves = leaves },
+  record { start = start; calls = calls; told = s.told; left = left },
+  record { desk = desk; stands = s; tells = refl; leaves = leaves },
   refl,
   refl,
   refl,

@@ -138,11 +138,10 @@ spent_with apart old name account free other counter used =
 
 -- and where an account is added
 pub added_keeps : AddedIsApart → (old new : BookFields) (name : List ℕ) (account : AccountFields) (ps : List (List ℕ × ℕ))
-    → account_at old name ≡ None
     → IsAdded old name account new → AreSpent ps old → AreSpent ps new
-added_keeps apart old new name account ps free added spent = record {
+added_keeps apart old new name account ps is spent = record {
   different = spent.different;
   spent = all_stay (λ p. IsCounterSpent old p.0 p.1) (λ p. IsCounterSpent new p.0 p.1)
-      (λ p used. subst (λ (b : BookFields). IsCounterSpent b p.0 p.1) (sym added.book)
-      (spent_with apart old name account free p.0 p.1 used)) ps spent.spent;
+      (λ p used. subst (λ (b : BookFields). IsCounterSpent b p.0 p.1) (sym is.added.book)
+      (spent_with apart old name account is.free p.0 p.1 used)) ps spent.spent;
 }

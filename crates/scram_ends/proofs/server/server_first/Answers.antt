@@ -15,7 +15,7 @@ returns-in-Ok-write_challenge-clause-ok g c =
     let server_first : List ℕ = server_first_text (server_first_of (c.in-Ok.taken.nonce.now ++ c.args.own.now) e.salt e.count []) in
     let is_challenge : IsServerFirst server_first (server_first_of (c.in-Ok.taken.nonce.now ++ c.args.own.now) e.salt e.count []) =
     subst (λ (n : List ℕ). IsServerFirst (server_first_text (server_first_of n e.salt e.count []))
-    (server_first_of n e.salt e.count [])) nonce c.in-Ok-write_challenge.ensures.related in
+    (server_first_of n e.salt e.count [])) nonce c.in-Ok-write_challenge.ensures.is_message in
     let opens = challenge_opens e c.args.client_first.now c.args.own.now server_first
     (c.in-Ok.taken.nonce.now ++ c.args.own.now) taken.0 c.in-Ok.taken taken.1 taken.2 refl c.bytes.ensures.fits.at_least is_challenge in
     let written : c.write_challenge.new.out.items ≡ c.args.out.now.items ++ server_first =

@@ -12,7 +12,7 @@ returns-clause-draft c =
     (client_first_composed c.args.flag.now (option_copied c.args.authzid) c.args.name.now c.args.nonce.now c.args.extensions.now)
     (c.add_extensions.ensures _ (rw c.bytes.ensures.value at (c.add-4.ensures _ named)))
 
-pub returns-clause-related : goal.returns-clause-related
-returns-clause-related c = λ short.
+pub returns-clause-is_message : goal.returns-clause-is_message
+returns-clause-is_message c = λ short.
     client_first_related c.args.flag.now (option_copied c.args.authzid) c.args.name.now c.args.nonce.now c.args.extensions.now
     c.add_authzid.ensures.plain c.add_name.ensures.plain c.bytes.ensures.fits c.requires short

@@ -7,8 +7,8 @@ use Rattle.scram_text.specs.declared.fault.WriteFault.TheVariants.{Unwritable, O
 use Rattle.scram_text.proofs.lemmas.Names.{length-spelling, spelling_saslname}
 use Rattle.scram_text.proofs.name.write_name.Goals as goal
 
-pub returns-clause-related : goal.returns-clause-related
-returns-clause-related g c = spelling_saslname c.args.name.now c.add_name.ensures.plain.at_least
+pub returns-clause-is_saslname : goal.returns-clause-is_saslname
+returns-clause-is_saslname g c = spelling_saslname c.args.name.now c.add_name.ensures.plain.at_least
 
 -- of three faults two are excluded, so a fault is NoMemory
 memory_alone : {T : Type 0} (r : Result T WriteFault) (Room : Type 0) → (r ≡ Err Unwritable → ⊥) → (r ≡ Err OverLimit → ⊥)

@@ -10,6 +10,6 @@ returns-clause-draft c =
     (server_final_composed (verifier_or_error_of c.args.outcome.now) c.args.extensions.now)
     (c.add_extensions.ensures _ c.told-draft.ensures.draft)
 
-pub returns-clause-related : goal.returns-clause-related
-returns-clause-related c = λ short.
+pub returns-clause-is_message : goal.returns-clause-is_message
+returns-clause-is_message c = λ short.
     server_final_related (verifier_or_error_of c.args.outcome.now) c.args.extensions.now c.told-draft.ensures.is_text c.requires short

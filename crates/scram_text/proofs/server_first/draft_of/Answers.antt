@@ -11,7 +11,7 @@ returns-clause-draft c =
     (server_first_composed c.args.nonce.now c.args.salt.now c.args.count c.args.extensions.now)
     (c.add_extensions.ensures _ (rw c.from.ensures at (c.add_decimal.ensures _ (c.add-4.ensures _ salted))))
 
-pub returns-clause-related : goal.returns-clause-related
-returns-clause-related c = λ short.
+pub returns-clause-is_message : goal.returns-clause-is_message
+returns-clause-is_message c = λ short.
     let salt : IsBytes c.args.salt.now = λ i. omega (arith, c.type_inv.salt i) in
     server_first_related c.args.nonce.now c.args.salt.now c.args.count c.args.extensions.now salt c.requires short

@@ -20,4 +20,4 @@ invariant_of-self-inside c =
     }
 
 pub returns-in-Ok-clause-added : goal.returns-in-Ok-clause-added
-returns-in-Ok-clause-added c = is_added _ _ _ _ (search rules)
+returns-in-Ok-clause-added c = is_added _ _ _ _ (search rules) (search rules)

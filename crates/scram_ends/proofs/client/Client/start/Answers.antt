@@ -43,10 +43,10 @@ copy_of-requires-2 g c =
     (client_first_text first) c.len-start.result
     c.deref.ensures.value c.in_ok-write_client_first.ensures.appended.0 start in
     let shows = c.in-Ok.ensures.only first
-    (subst (λ (client_first : List ℕ). IsClientFirst client_first first) (sym written) c.in_ok-write_client_first.ensures.related) in (
+    (subst (λ (client_first : List ℕ). IsClientFirst client_first first) (sym written) c.in_ok-write_client_first.ensures.is_message) in (
       omega arith,
       header_fits c.args.name.now authzid c.args.nonce.now (client_first_text first) c.in-Ok.message.header.now first
           (honest_first authzid c.args.name.now c.args.nonce.now
-          (client_first_text first) c.are_in_class.ensures.authzid c.are_in_class.ensures.name c.in_ok-write_client_first.ensures.related)
+          (client_first_text first) c.are_in_class.ensures.authzid c.are_in_class.ensures.name c.in_ok-write_client_first.ensures.is_message)
           shows.header,
     )

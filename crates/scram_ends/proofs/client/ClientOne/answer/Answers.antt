@@ -64,5 +64,5 @@ returns-clause-ok g c = λ l p started is shows.
           header c.args.challenge.now.nonce.now c.args.challenge.now.salt c.as_slice.result.now proof c.args.challenge.now.count p started is
           c.as_slice-header.ensures.value shows.nonce shows.salt shows.count (c.as_slice.ensures final composed)
           (c.prove-answer.ensures.proof started.first started.bare) (c.prove-answer.ensures.expected started.first started.bare)
-          (c.in_ok-write_with_proof.ensures.related final composed refl),
+          (c.in_ok-write_with_proof.ensures.is_message final composed refl),
     )

@@ -11,7 +11,7 @@ returns-in-Ok-clause-valid g c = λ l stands.
     let d = due_of c.verdict_on-judged.result in (
       due_text d,
       c.in-Ok.ensures.appended.0,
-      rw c.verdict.ensures (valid_iff l c.args.client_final.now d (c.verdict_on-judged.ensures l stands) c.in-Ok.ensures.related),
+      rw c.verdict.ensures (valid_iff l c.args.client_final.now d (c.verdict_on-judged.ensures l stands) c.in-Ok.ensures.is_message),
     )
 
 pub returns-in-Err-clause-memory : goal.returns-in-Err-clause-memory

@@ -10,7 +10,7 @@ returns-clause-draft c = λ p is same.
     (with_proof_composed p c.args.self.text.items c.args.proof.now is.held same)
     (c.add_base64.ensures _ (c.add.ensures _ c.of-draft.ensures))
 
-pub returns-clause-related : goal.returns-clause-related
-returns-clause-related c = λ p is same short.
+pub returns-clause-is_message : goal.returns-clause-is_message
+returns-clause-is_message c = λ p is same short.
     let bytes : IsBytes c.args.proof.now = λ i. omega (arith, c.type_inv.proof i) in
     with_proof_related c.args.self p c.args.proof.now is same bytes c.requires short
