@@ -4,7 +4,7 @@ ghost use Rattle.scram_text.specs.Class.{IsNoncePart};
 ghost use Rattle.book_format.specs.Book.{BookFields};
 ghost use Rattle.log_grammar.specs.Versions.{IsClean, IsFront};
 ghost use Rattle.sasl_desk.specs.Desks.{phase_of};
-ghost use Rattle.sasl_desk.specs.declared.desk.state.Phase.TheVariants as Phase;
+ghost use Rattle.sasl_desk.specs.declared.session.phase.Phase.TheVariants as Phase;
 ghost use Rattle.commands.specs.declared.login.client_end.Stage.{Stage};
 ghost use Rattle.account_commands.specs.HeldBook.{IsReadBook};
 ghost use Rattle.account_commands.specs.BadValues.{HasBadPassword};

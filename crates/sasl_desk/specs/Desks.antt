@@ -24,8 +24,8 @@ use Rattle.sasl_desk.specs.declared.turn.AfterTurn.TheVariants as left
 use Rattle.sasl_desk.specs.declared.desk.Desk.{Desk}
 use Rattle.sasl_desk.specs.declared.desk.state.State.{State}
 use Rattle.sasl_desk.specs.declared.desk.state.State.TheVariants.{Closed, Open, Halted}
-use Rattle.sasl_desk.specs.declared.desk.state.Phase.{Phase}
-use Rattle.sasl_desk.specs.declared.desk.state.Phase.TheVariants as phase
+use Rattle.sasl_desk.specs.declared.session.phase.Phase.{Phase}
+use Rattle.sasl_desk.specs.declared.session.phase.Phase.TheVariants as phase
 
 -- the phase of an open session, by what its client may do
 abbrev pub session_phase : Session → Phase

@@ -26,23 +26,23 @@ use Rattle.sasl_desk.specs.Spent.{AreSpent}
 use Rattle.sasl_desk.specs.declared.keeper.Keeper.{Keeper}
 use Rattle.sasl_desk.specs.declared.hall.Hall.{Hall}
 use Rattle.sasl_desk.specs.declared.hall.guest.Guest.{Guest}
-use Rattle.sasl_desk.specs.declared.desk.state.Phase.{Phase}
-use Rattle.sasl_desk.specs.declared.desk.state.Phase.TheVariants as phase
+use Rattle.sasl_desk.specs.declared.session.phase.Phase.{Phase}
+use Rattle.sasl_desk.specs.declared.session.phase.Phase.TheVariants as phase
 
 -- a hall: its keeper, its guests, in whichever order, how many numbers it has given, and whether it has halted
 pub record HallFields (S : Type 0) : Type 0 where
   pub keeper : Keeper S
   pub guests : List Guest
-  pub given : ℕ
+  pub begun : ℕ
   pub is_halted : Bool
 
 -- a hall of these parts
-abbrev pub hall_of : {S : Type 0} → Keeper S → (guests : List Guest) → (given : ℕ) → (is_halted : Bool) → HallFields S
-hall_of keeper guests given is_halted = record { keeper = keeper; guests = guests; given = given; is_halted = is_halted }
+abbrev pub hall_of : {S : Type 0} → Keeper S → (guests : List Guest) → (begun : ℕ) → (is_halted : Bool) → HallFields S
+hall_of keeper guests begun is_halted = record { keeper = keeper; guests = guests; begun = begun; is_halted = is_halted }
 
 -- what a hall is
 abbrev pub hall_shown : {S : Type 0} → Hall S → HallFields S
-hall_shown hall = hall_of hall.keeper hall.seats hall.given hall.is_halted
+hall_shown hall = hall_of hall.keeper hall.seats hall.begun hall.is_halted
 
 -- the lines of a log after its first, after these calls, the latest of which comes first: each call's lines have the number of
 -- its session
@@ -93,8 +93,8 @@ pub record IsHallAfter {S : Type 0} (facts : S → StoreFacts) (IsStored : List 
   pub spelled : SpellsNumbered most_open (demands (accounts_in start)) (hall_lines calls) places told
   pub writable : AllByRecursion IsNumberedWritable (hall_lines calls)
   -- the numbers that were given are 1, 2, and so on
-  pub given : hall.given ≡ begun (hall_lines calls)
-  pub last_number : hall.given ≤ last_session_number
+  pub given : hall.begun ≡ begun (hall_lines calls)
+  pub last_number : hall.begun ≤ last_session_number
   -- each open session has one guest, and no other number has any
   pub guests : (n : ℕ) → count_by (is_of n) hall.guests ≡ open_at (places n)
   pub open_are : length hall.guests + closed_in (hall_lines calls) ≡ begun (hall_lines calls)
@@ -133,7 +133,7 @@ pub record IsSameHall {S : Type 0} (old new : HallFields S) : Type 0 where
   pub book : new.keeper.book ≡ old.keeper.book
   pub store : new.keeper.store ≡ old.keeper.store
   pub guests : IsPermutation old.guests new.guests
-  pub given : new.given ≡ old.given
+  pub begun : new.begun ≡ old.begun
   pub halted : new.is_halted ≡ old.is_halted
 
 -- what a call of a session did: it added lines, and the hall that had answered some calls has answered this one, too

@@ -1,37 +1,37 @@
 -- What is read of a client in a turn.
-use Rattle.std.specs.Prelude.{ℕ, ◌≡◌, ◌⊎◌, List, [], ◌∷◌}
+use Rattle.std.specs.Prelude.{ℕ, ◌≡◌, List, [], ◌∷◌}
 use Rattle.sasl_log.specs.Source.{SourceFacts}
-use Rattle.sasl_log.specs.TextRead.{IsReadToLf, IsReadToEnd, IsReadTooFar, IsReadToFault}
+use Rattle.sasl_log.specs.TextRead.{TextRead}
+use Rattle.sasl_log.specs.declared.text.LineEnd.{LineEnd}
+use Rattle.sasl_log.specs.declared.text.LineEnd.TheVariants.{ByLf, ByTheEnd, TooLong, ByFault}
 use Rattle.log_grammar.specs.Lines.{longest_line}
 use Rattle.sasl_desk.specs.Events.{ClientEvent, sends, goes_away}
-use Rattle.sasl_desk.specs.declared.serving.line.ClientLineEnd.{ClientLineEnd}
-use Rattle.sasl_desk.specs.declared.serving.line.ClientLineEnd.TheVariants.{ByLf, TooLong, Over}
 
--- a line, without its LF; more bytes than a line may have, with no LF among them; or what was left before the input ended
--- or a read failed
-pub data LineRead : Type 0 where
-  line : (text : List ℕ) → LineRead
-  too_long : (text : List ℕ) → LineRead
-  over : (rest : List ℕ) → LineRead
+-- bytes without an LF, and how they end: with an LF, with the input, with a read that failed, or not yet, where they are more
+-- than a line may have
+pub record LineRead : Type 0 where
+  pub text : List ℕ
+  pub ended : LineEnd
 
--- what was read, by its bytes and how they end
-abbrev pub line_read : List ℕ → ClientLineEnd → LineRead
-line_read text ByLf = line text
-line_read text TooLong = too_long text
-line_read text Over = over text
+-- these bytes, which end so
+abbrev pub line_read : List ℕ → LineEnd → LineRead
+line_read text ended = record { text = text; ended = ended }
 
 -- this was read of a source, and nothing after it: a line that is not too long, and its LF; one byte more than a line may have,
 -- without an LF; or no more bytes than a line may have, without an LF, after which the input ended or a read failed
-abbrev pub ReadsLine : SourceFacts → LineRead → SourceFacts → Type 0
-ReadsLine old (line text) new = IsReadToLf longest_line old text new
-ReadsLine old (too_long text) new = IsReadTooFar longest_line old text new
-ReadsLine old (over rest) new = IsReadToEnd longest_line old rest new ⊎ IsReadToFault longest_line old rest new
+pub record ReadsLine (old : SourceFacts) (read : LineRead) (new : SourceFacts) : Type 0 where
+  pub text_read : TextRead longest_line old read.text read.ended new
 
--- what the client did: it sent the bytes, also where they are too many, or it has gone away
+-- what a client did whose bytes end so: it sent them, also where they are too many, or it has gone away
+abbrev pub event_by : List ℕ → LineEnd → ClientEvent
+event_by text ByLf = sends text
+event_by text TooLong = sends text
+event_by text ByTheEnd = goes_away
+event_by text ByFault = goes_away
+
+-- what the client did, by what was read of it
 abbrev pub event_read : LineRead → ClientEvent
-event_read (line text) = sends text
-event_read (too_long text) = sends text
-event_read (over rest) = goes_away
+event_read read = event_by read.text read.ended
 
 -- what was read, one after the other, the latest of which comes first
 abbrev pub ReadsLines : SourceFacts → List LineRead → SourceFacts → Type 0

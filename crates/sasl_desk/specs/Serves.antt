@@ -1,6 +1,6 @@
 -- How a client is served: its lines are read, the desk answers them, and what the desk writes goes to the log and to the
 -- client.
-use Rattle.std.specs.Prelude.{ℕ, ◌≡◌, ◌⊎◌, ◌+◌, ◌<◌, ◌≤◌, true, List, [], ◌∷◌, ◌++◌, length, filter}
+use Rattle.std.specs.Prelude.{ℕ, ◌≡◌, ◌≢◌, ◌⊎◌, ◌+◌, ◌<◌, ◌≤◌, true, List, [], ◌∷◌, ◌++◌, length, filter}
 use Rattle.std.specs.Io.KnownBytes.{Appends}
 use Rattle.std.specs.List.{AllByRecursion}
 use Rattle.book_format.specs.Book.{BookFields}
@@ -17,7 +17,7 @@ use Rattle.sasl_desk.specs.Runs.{Asked, greets, hears, Call, call_of}
 use Rattle.sasl_desk.specs.Desks.{IsDeskAfter, IsSame, phase_of, is_saving}
 use Rattle.sasl_desk.specs.Outputs.{AreWritten}
 use Rattle.sasl_desk.specs.declared.desk.Desk.{Desk}
-use Rattle.sasl_desk.specs.declared.desk.state.Phase.TheVariants as phase
+use Rattle.sasl_desk.specs.declared.session.phase.Phase.TheVariants as phase
 use Rattle.sasl_desk.specs.declared.fault.ServeFault.{ServeFault}
 use Rattle.sasl_desk.specs.declared.fault.ServeFault.TheVariants.{Halted, Unwritable, NoMemory, WriteFault, LogFault}
 

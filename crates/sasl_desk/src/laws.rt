@@ -15,7 +15,7 @@ ghost use Rattle.sasl_desk.specs.Saved.{IsLogSaved};
 ghost use Rattle.sasl_desk.specs.Serves.{LongTextsAreBad};
 ghost use Rattle.sasl_desk.specs.Spent.{SpentStaysSpent, AreSpent};
 ghost use Rattle.sasl_desk.specs.declared.desk.Desk.{Desk};
-ghost use Rattle.sasl_desk.specs.declared.desk.state.Phase.TheVariants as phase;
+ghost use Rattle.sasl_desk.specs.declared.session.phase.Phase.TheVariants as phase;
 ghost use Rattle.sasl_desk.specs.Turns.{DueLinesStand, BadLinesStand, GoneClientsStand};
 
 pub mod hall;

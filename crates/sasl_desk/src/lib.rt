@@ -19,11 +19,11 @@ mod write;
 
 pub use account_book::{Book, BookStore};
 pub use clock::Clock;
-pub use desk::{Desk, Phase};
+pub use desk::Desk;
 pub use fault::{DeskFault, ServeFault};
 pub use hall::Hall;
 pub use keeper::{CodeJudged, Keeper};
 pub use otp_core::{Moment, Reply, Sent};
 pub use serving::{serve, serve_turn};
-pub use session::{Answer, Event, Heard, Recorded, Saying, Session, Turn, Waiting};
+pub use session::{Answer, Event, Heard, Phase, Recorded, Saying, Session, Turn, Waiting};
 pub use write::{MOST_BYTES, MOST_NUMBERED_BYTES};

@@ -19,6 +19,7 @@ mod answer;
 mod first;
 mod hear;
 mod line;
+mod phase;
 mod turn;
 mod waiting;
 
@@ -27,6 +28,7 @@ use hear::{departed, hear_code, hear_final, hear_first, hear_offered, spoiled};
 use line::client_line;
 use log_grammar::laws::is_one_line;
 use mac_core::Mechanism;
+pub use phase::Phase;
 use sasl_log::ClientLine;
 use scram_text::{NoncePart, PlainName};
 use std::alloc::{Allocator, Global};

@@ -15,7 +15,7 @@ use Rattle.sasl_desk.specs.Events.{ClientEvent, sends, goes_away}
 use Rattle.std.specs.declared.option.Option.TheVariants.{None}
 use Rattle.sasl_desk.specs.Halls.{phase_in, HallFields, hall_of, hall_shown, hall_bytes, numbered_bytes, IsHallAfter, AnswersIn, IsSameHall}
 use Rattle.sasl_desk.specs.Runs.{Asked, hears, Call, call_of}
-use Rattle.sasl_desk.specs.declared.desk.state.Phase.{Phase}
+use Rattle.sasl_desk.specs.declared.session.phase.Phase.{Phase}
 use Rattle.sasl_desk.specs.declared.hall.Hall.{Hall}
 use Rattle.sasl_desk.proofs.lemmas.halls.Laws.{hall_bytes_next}
 use Rattle.sasl_desk.proofs.lemmas.halls.Turns.{stands_reordered}
@@ -49,14 +49,14 @@ call_for n (sends text) moment lines = (refl, refl)
 call_for n goes_away moment lines = (refl, refl)
 
 -- nothing was heard: the hall is the same, with its guests in whichever order, and the log took nothing
-same_hall : {S : Type 0} (old new : HallFields S) → IsSameHall old new → new ≡ hall_of old.keeper new.guests old.given old.is_halted
+same_hall : {S : Type 0} (old new : HallFields S) → IsSameHall old new → new ≡ hall_of old.keeper new.guests old.begun old.is_halted
 same_hall {S} old new same =
     let book = ap (λ (b : BookFields). hall_of
-    (record { book = b; store = new.keeper.store }) new.guests new.given new.is_halted) same.book in
-    let store = ap (λ (s : S). hall_of (record { book = old.keeper.book; store = s }) new.guests new.given new.is_halted) same.store in
-    let given = ap (λ (n : ℕ). hall_of old.keeper new.guests n new.is_halted) same.given in
-    let halted = ap (λ (b : Bool). hall_of old.keeper new.guests old.given b) same.halted in
-    book ∙ (store ∙ (given ∙ halted))
+    (record { book = b; store = new.keeper.store }) new.guests new.begun new.is_halted) same.book in
+    let store = ap (λ (s : S). hall_of (record { book = old.keeper.book; store = s }) new.guests new.begun new.is_halted) same.store in
+    let begun = ap (λ (n : ℕ). hall_of old.keeper new.guests n new.is_halted) same.begun in
+    let halted = ap (λ (b : Bool). hall_of old.keeper new.guests old.begun b) same.halted in
+    book ∙ (store ∙ (begun ∙ halted))
 
 -- a hall that stays the same, up to the order of its guests, while its log takes nothing has heard no event more
 pub same_in_log : {S : Type 0} (facts : S → StoreFacts) (IsStored : List ℕ → Type 0) (old new : Hall S) (log log' : SinkFacts)
@@ -66,7 +66,7 @@ same_in_log {S} facts IsStored old new log log' same unlogged start before earli
   calls = l.calls;
   heard = l.heard;
   stands = subst (λ (h : HallFields S). IsHallAfter facts IsStored start l.calls h) (sym (same_hall (hall_shown old) (hall_shown new) same))
-      (stands_reordered facts IsStored start l.calls old.keeper old.seats new.seats old.given old.is_halted same.guests l.stands);
+      (stands_reordered facts IsStored start l.calls old.keeper old.seats new.seats old.begun old.is_halted same.guests l.stands);
   logged = subst (λ (k : SinkFacts). Appends before k.given (hall_bytes l.calls)) (sym unlogged) l.logged;
 }
 

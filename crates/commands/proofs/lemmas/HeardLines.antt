@@ -13,7 +13,7 @@ use Rattle.sasl_log.specs.Sink.{SinkFacts}
 use Rattle.sasl_desk.specs.Halls.{HallFields, hall_shown, hall_lines, hall_bytes, phase_in, IsPhaseIn, IsStay, IsHallAfter}
 use Rattle.sasl_desk.specs.Runs.{Call}
 use Rattle.sasl_desk.specs.Saved.{AreLinesSaved}
-use Rattle.sasl_desk.specs.declared.desk.state.Phase.{Phase}
+use Rattle.sasl_desk.specs.declared.session.phase.Phase.{Phase}
 use Rattle.sasl_desk.specs.declared.hall.Hall.{Hall}
 use Rattle.commands.specs.Hall.{InputEvent, opens, says, goes, IsBadEvent, IsBadAfter, AreCallsFor, IsHallLogOf, Hears, HearsLine}
 use Rattle.commands.specs.Hall.{HearsUpTo, HearsFirstLines, MeetsBadEvent, PrintsHallLog, PrintsToBadEvent}

@@ -6,3 +6,4 @@ pub mod TurnBytes
 pub mod Paths
 pub mod DueRecords
 pub mod Writable
+pub mod NotDue

@@ -1,46 +1,7 @@
 //! Where a desk stands.
-use crate::session::Session;
+use crate::session::{Phase, Session};
 use crate::turn::AfterTurn;
 use scram_text::NoncePart;
-
-/// Where a session stands, and what may come next.
-#[derive(Clone, Copy, Debug, PartialEq, Eq)]
-pub enum Phase {
-    /// The session is over; at a desk none is open, and the next client can be greeted.
-    Closed,
-
-    /// The mechanisms were offered: AUTH is due.
-    WaitAuth,
-
-    /// The empty challenge was sent: RESP with the client-first message is due.
-    WaitFirst,
-
-    /// The client was challenged: RESP with the client-final message is due.
-    WaitFinal,
-
-    /// The login was accepted: the client may send codes.
-    WaitCode,
-
-    /// The desk or hall has halted: every `greet` and `client` answers 72.
-    Halted,
-}
-
-impl Phase {
-    ghost use Rattle.std.specs.Prelude.{◌≡◌};
-    ghost use Rattle.sasl_desk.specs.Desks.{session_phase};
-
-    /// The phase of an open session.
-    pub(crate) fn of(session: &Session) -> Phase
-        ensures { result ≡ session_phase session.now }
-    {
-        match session {
-            Session::Offered => Phase::WaitAuth,
-            Session::WaitsFirst(_) => Phase::WaitFirst,
-            Session::WaitsFinal(_) => Phase::WaitFinal,
-            Session::WaitsCode(_) => Phase::WaitCode,
-        }
-    }
-}
 
 /// The session that is open, with the server's part of its nonce; or none.
 #[derive(Drop)]

@@ -95,9 +95,7 @@ pub(crate) fn hear_offered<'a, A: Allocator>(
             }
         }
         ClientLine::Abort => Ok(aborted()),
-        ClientLine::Resp(_) => Ok(spoiled()),
-        ClientLine::Code(_) => Ok(spoiled()),
-        ClientLine::Sync(_, _) => Ok(spoiled()),
+        _ => Ok(spoiled()),
     }
 }
 
@@ -130,10 +128,7 @@ pub(crate) fn hear_first<'a, A: Allocator>(
             }
         }
         ClientLine::Abort => Ok(aborted()),
-        ClientLine::Auth(_) => Ok(spoiled()),
-        ClientLine::AuthWith(_, _) => Ok(spoiled()),
-        ClientLine::Code(_) => Ok(spoiled()),
-        ClientLine::Sync(_, _) => Ok(spoiled()),
+        _ => Ok(spoiled()),
     }
 }
 
@@ -163,10 +158,7 @@ pub(crate) fn hear_final<'a, A: Allocator>(
             }
         }
         ClientLine::Abort => Ok(aborted()),
-        ClientLine::Auth(_) => Ok(spoiled()),
-        ClientLine::AuthWith(_, _) => Ok(spoiled()),
-        ClientLine::Code(_) => Ok(spoiled()),
-        ClientLine::Sync(_, _) => Ok(spoiled()),
+        _ => Ok(spoiled()),
     }
 }
 
@@ -183,8 +175,6 @@ pub(crate) fn hear_code<'a>(name: PlainName, line: ClientLine<'a>) -> Heard<'a>
         ClientLine::Code(text) => Heard::Asks(name, Sent::One(text)),
         ClientLine::Sync(first, second) => Heard::Asks(name, Sent::Two(first, second)),
         ClientLine::Abort => Heard::Answered(aborted()),
-        ClientLine::Auth(_) => Heard::Answered(spoiled()),
-        ClientLine::AuthWith(_, _) => Heard::Answered(spoiled()),
-        ClientLine::Resp(_) => Heard::Answered(spoiled()),
+        _ => Heard::Answered(spoiled()),
     }
 }

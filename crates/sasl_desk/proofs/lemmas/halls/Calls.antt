@@ -43,8 +43,8 @@ use Rattle.sasl_desk.specs.declared.keeper.CodeJudged.{CodeJudged}
 use Rattle.sasl_desk.specs.declared.keeper.CodeJudged.TheVariants.{Replied, Lost}
 use Rattle.sasl_desk.specs.declared.session.Session.{Session}
 use Rattle.sasl_desk.specs.declared.session.Session.TheVariants.{Offered, WaitsFirst, WaitsFinal, WaitsCode}
-use Rattle.sasl_desk.specs.declared.desk.state.Phase.{Phase}
-use Rattle.sasl_desk.specs.declared.desk.state.Phase.TheVariants as phase
+use Rattle.sasl_desk.specs.declared.session.phase.Phase.{Phase}
+use Rattle.sasl_desk.specs.declared.session.phase.Phase.TheVariants as phase
 use Rattle.sasl_desk.specs.declared.turn.AfterTurn.{AfterTurn}
 use Rattle.sasl_desk.specs.declared.turn.AfterTurn.TheVariants.{Going, Over, Halted}
 use Rattle.sasl_desk.proofs.lemmas.halls.Paths.{ends_of, turn_of_turns, turn_closed, path_on, reply_on}
@@ -379,6 +379,6 @@ same_reordered keeper guests others given is_halted new same is = record {
   book = is.book;
   store = is.store;
   guests = IsPermutation-trans guests others new.guests same is.guests;
-  given = is.given;
+  begun = is.begun;
   halted = is.halted;
 }

@@ -13,7 +13,7 @@ use Rattle.log_grammar.specs.laws.LogLaws.{GoesOnByALine}
 use Rattle.log_grammar.specs.Lines.{LogLine, said, heard, mechs, replies, halt, asking, log_bytes}
 use Rattle.log_grammar.specs.Words.{offered_names}
 use Rattle.log_grammar.specs.LoggedReply.{LoggedReply, logged_reply_of}
-use Rattle.log_grammar.specs.Places.{Place, waits_code, halted}
+use Rattle.log_grammar.specs.Places.{Place, waits_code}
 use Rattle.sasl_desk.specs.Events.{ClientEvent}
 use Rattle.sasl_desk.specs.Keeper.{IsAttemptJudged, IsJudged}
 use Rattle.sasl_desk.specs.Sessions.{IsSessionAt, IsRecord, recorded_shown, said_lines, end_lines, lines_of_answer, turn_lines}
@@ -28,9 +28,9 @@ use Rattle.sasl_desk.specs.declared.keeper.CodeJudged.{CodeJudged}
 use Rattle.sasl_desk.specs.declared.keeper.CodeJudged.TheVariants.{Replied, Lost}
 use Rattle.sasl_desk.specs.declared.desk.Desk.{Desk}
 use Rattle.sasl_desk.specs.declared.desk.state.State.{State}
-use Rattle.sasl_desk.specs.declared.desk.state.State.TheVariants.{Closed, Open, Halted}
+use Rattle.sasl_desk.specs.declared.desk.state.State.TheVariants.{Closed, Open}
 use Rattle.sasl_desk.specs.declared.session.Session.{Session}
-use Rattle.sasl_desk.specs.declared.desk.state.Phase.TheVariants as phase
+use Rattle.sasl_desk.specs.declared.session.phase.Phase.TheVariants as phase
 use Rattle.sasl_desk.specs.declared.session.Session.TheVariants.{Offered, WaitsFirst, WaitsFinal, WaitsCode}
 use Rattle.sasl_desk.specs.declared.session.turn.Recorded.{Recorded}
 use Rattle.sasl_desk.specs.declared.session.turn.Recorded.TheVariants as recorded

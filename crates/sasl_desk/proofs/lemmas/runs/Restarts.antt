@@ -29,7 +29,7 @@ use Rattle.sasl_desk.specs.Restarts.{added, IsChange, AreChanges, spent_by_chang
 use Rattle.sasl_desk.specs.declared.desk.Desk.{Desk}
 use Rattle.sasl_desk.specs.declared.desk.state.State.{State}
 use Rattle.sasl_desk.specs.declared.desk.state.State.TheVariants.{Closed, Open, Halted}
-use Rattle.sasl_desk.specs.declared.desk.state.Phase.TheVariants as phase
+use Rattle.sasl_desk.specs.declared.session.phase.Phase.TheVariants as phase
 use Rattle.sasl_desk.specs.declared.session.Session.{Session}
 use Rattle.sasl_desk.specs.declared.session.Session.TheVariants.{Offered, WaitsFirst, WaitsFinal, WaitsCode}
 use Rattle.sasl_desk.proofs.lemmas.turns.Keepers.{told_due, told_after}

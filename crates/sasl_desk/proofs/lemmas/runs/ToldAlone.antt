@@ -6,7 +6,7 @@ use Rattle.scram_ends.specs.Opening.{IsOpening}
 use Rattle.scram_ends.specs.Stages.{challenged_login}
 use Rattle.scram_ends.specs.Verdict.{Due, accept, refuse, IsDue}
 use Rattle.log_grammar.specs.Lines.{LogLine, said, cont, accepts, refuses}
-use Rattle.log_grammar.specs.Places.{Place, between, offered, got_first, waits_final, got_final, waits_code, over}
+use Rattle.log_grammar.specs.Places.{Place, between, got_first, waits_final, got_final, waits_code}
 use Rattle.log_grammar.specs.Demands.{Accounts, IsVerdict, demands}
 use Rattle.log_grammar.specs.state_machine.Steps.{IsTransition}
 use Rattle.sasl_desk.specs.Alone.{IsSameRequest, HaveSameRequests, up_to_acceptance, HaveSameEntries}

@@ -1,0 +1,41 @@
+//! Where a session stands, as those who serve its client see it.
+use crate::session::Session;
+
+/// Where a session stands, and what may come next.
+#[derive(Clone, Copy, Debug, PartialEq, Eq)]
+pub enum Phase {
+    /// The session is over; at a desk none is open, and the next client can be greeted.
+    Closed,
+
+    /// The mechanisms were offered: AUTH is due.
+    WaitAuth,
+
+    /// The empty challenge was sent: RESP with the client-first message is due.
+    WaitFirst,
+
+    /// The client was challenged: RESP with the client-final message is due.
+    WaitFinal,
+
+    /// The login was accepted: the client may send codes.
+    WaitCode,
+
+    /// The desk or hall has halted: every `greet` and `client` answers 72.
+    Halted,
+}
+
+impl Phase {
+    ghost use Rattle.std.specs.Prelude.{◌≡◌};
+    ghost use Rattle.sasl_desk.specs.Desks.{session_phase};
+
+    /// The phase of an open session.
+    pub(crate) fn of(session: &Session) -> Phase
+        ensures { result ≡ session_phase session.now }
+    {
+        match session {
+            Session::Offered => Phase::WaitAuth,
+            Session::WaitsFirst(_) => Phase::WaitFirst,
+            Session::WaitsFinal(_) => Phase::WaitFinal,
+            Session::WaitsCode(_) => Phase::WaitCode,
+        }
+    }
+}
