@@ -8,6 +8,7 @@ ghost use Rattle.command_words.specs.Values.{value_of};
 ghost use Rattle.account_commands.specs.Printed.{PrintsNothing};
 
 use crate::moving_factor::{MovingFactor, Steps};
+use crate::output::print_line;
 use clap::ArgMatches;
 use command_line::value::OptionName;
 use command_line::{Fault, value};
@@ -16,18 +17,22 @@ use otp_core::{Code, Digits, LONGEST_STEP, MOST_COUNTER, OtpHash, Secret, step};
 use std::alloc::Global;
 use std::io::Write;
 
-// The code of a secret, or BeforeFirstStep where the moment is before t0.
-fn answer(secret: &Secret, digits: Digits, factor: &MovingFactor) -> Result<Code, Fault>
-    ensures ok { IfOk result (λ code. IsCodeFor factor.now digits secret.now code) }
-    ensures err { IfErr result (λ fault. (fault ≡ Fault.BeforeFirstStep) × IsTooEarly factor.now) }
+/// Judges the options in their order and prints the code. Faults: BadValue, NoCounterOrMoment and
+/// BeforeFirstStep, in this order, CannotWriteOutput and NoMemory.
+pub fn code<O: Write>(alloc: Global, words: &ArgMatches<'_>, output: &mut O) -> Result<(), Fault>
+    ensures printed { OnOk result ((code : List ℕ) × IsCodeAsked words.now code
+        × Appends (O.contents output.old) (O.contents output.new) (code ++ byte "\n" ∷ [])) }
+    ensures err { IfErr result (λ fault. PrintsNothing fault (O.contents output.old) (O.contents output.new)) }
+    ensures why { IfErr result (CannotPrintCode words.now) }
+    ensures early { IsErrOf result Fault.BeforeFirstStep → IsAskedTooEarly words.now }
+    ensures nothing { IsErrOf result Fault.NoCounterOrMoment
+        → (value_of words.now OptionName.Counter ≡ None) × (value_of words.now OptionName.Moment ≡ None) }
 {
-    match factor {
-        MovingFactor::Counter(counter) => Ok(OtpHash::Sha1.hotp(secret, *counter, digits)),
-        MovingFactor::Time(steps) => match step(steps.moment, steps.t0, steps.step) {
-            Some(counter) => Ok(steps.hash.hotp(secret, counter, digits)),
-            None => Err(Fault::BeforeFirstStep),
-        },
-    }
+    let secret = value::secret(alloc, given(words, OptionName::Secret))?;
+    let digits = value::digits(given(words, OptionName::Digits))?;
+    let factor = read_options(words)?;
+    let code = code_for(&secret, digits, &factor)?;
+    print_line(code.text(), output)
 }
 
 // Judges the options that say which code is meant, in their order.
@@ -66,28 +71,16 @@ fn read_options(words: &ArgMatches<'_>) -> Result<MovingFactor, Fault>
     }
 }
 
-/// Judges the options in their order and prints the code. Faults: BadValue, NoCounterOrMoment and
-/// BeforeFirstStep, in this order, CannotWriteOutput and NoMemory.
-pub fn code<O: Write>(alloc: Global, words: &ArgMatches<'_>, output: &mut O) -> Result<(), Fault>
-    ensures printed { OnOk result ((code : List ℕ) × IsCodeAsked words.now code
-        × Appends (O.contents output.old) (O.contents output.new) (code ++ byte "\n" ∷ [])) }
-    ensures err { IfErr result (λ fault. PrintsNothing fault (O.contents output.old) (O.contents output.new)) }
-    ensures why { IfErr result (CannotPrintCode words.now) }
-    ensures early { IsErrOf result Fault.BeforeFirstStep → IsAskedTooEarly words.now }
-    ensures nothing { IsErrOf result Fault.NoCounterOrMoment
-        → (value_of words.now OptionName.Counter ≡ None) × (value_of words.now OptionName.Moment ≡ None) }
+// The code of a secret, or BeforeFirstStep where the moment is before t0.
+fn code_for(secret: &Secret, digits: Digits, factor: &MovingFactor) -> Result<Code, Fault>
+    ensures ok { IfOk result (λ code. IsCodeFor factor.now digits secret.now code) }
+    ensures err { IfErr result (λ fault. (fault ≡ Fault.BeforeFirstStep) × IsTooEarly factor.now) }
 {
-    let secret = value::secret(alloc, given(words, OptionName::Secret))?;
-    let digits = value::digits(given(words, OptionName::Digits))?;
-    let factor = read_options(words)?;
-    let code = answer(&secret, digits, &factor)?;
-    print_code(code.text(), output)
-}
-
-// Prints a code and an LF. The only fault is CannotWriteOutput.
-fn print_code<O: Write>(code: &str, output: &mut O) -> Result<(), Fault>
-    ensures printed { OnOk result (Appends (O.contents output.old) (O.contents output.new) (code.now ++ byte "\n" ∷ [])) }
-    ensures err { IfErr result (λ fault. fault ≡ Fault.CannotWriteOutput) }
-{
-    writeln!(output, "{code}").map_err(|_| Fault::CannotWriteOutput)
+    match factor {
+        MovingFactor::Counter(counter) => Ok(OtpHash::Sha1.hotp(secret, *counter, digits)),
+        MovingFactor::Time(steps) => match step(steps.moment, steps.t0, steps.step) {
+            Some(counter) => Ok(steps.hash.hotp(secret, counter, digits)),
+            None => Err(Fault::BeforeFirstStep),
+        },
+    }
 }

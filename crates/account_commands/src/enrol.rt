@@ -10,13 +10,14 @@ ghost use Rattle.account_commands.specs.Input.{IsFirstLine};
 ghost use Rattle.command_words.specs.Values.{given_value};
 ghost use Rattle.account_commands.specs.Printed.{PrintsNothing};
 
-use crate::done::print_done;
-use crate::held_book::{HeldBook, Seen};
+use crate::held_book::HeldBook;
 use crate::new_account::{NewAccount, Salts};
-use crate::progress::TerminalOutput;
-use crate::prompt::{PASSWORD, TerminalInput, ask};
+use crate::open_book::Seen;
+use crate::output::print_done;
+use crate::prompt::{PASSWORD, ask};
 use crate::random::Random;
-use crate::{held_book, input};
+use crate::terminal::{TerminalInput, TerminalOutput};
+use crate::{held_book, input, open_book};
 use account_book::Book;
 use book_file::{BookFile, FileStore, Lockable};
 use clap::ArgMatches;
@@ -56,7 +57,7 @@ where
 {
     let asked = read_account(rt.alloc(), words, input, faults)?;
     let path = given(words, OptionName::Book);
-    let seen = held_book::read_and_release(rt, path, faults)?;
+    let seen = open_book::read_and_release(rt, path, faults)?;
     let mut random = Random::open(rt, given(words, OptionName::Random))?;
     let (book, text) = seen_or_new(rt.alloc(), seen, &mut random)?;
     let salts = two_salts(&mut random)?;
@@ -145,10 +146,10 @@ where
         Some(_) => BookFile::hold(rt, path),
         None => BookFile::hold_or_make(rt, path),
     };
-    let (file, found) = held_book::text_held(rt, path, held, faults)?;
+    let (file, found) = open_book::file_and_text(rt, path, held, faults)?;
     match found {
         Some(found) if text.as_ref() != Some(&found) => {
-            let mut held = held_book::read_held(alloc, file, found, path)?;
+            let mut held = open_book::read_held(alloc, file, found, path)?;
             held.enrol(alloc, asked, salts)
         }
         _ => {

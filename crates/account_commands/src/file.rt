@@ -3,16 +3,27 @@ ghost use Rattle.std.specs.Prelude.{IfErr};
 ghost use Rattle.account_commands.specs.File.{IsFileUnread};
 
 use command_line::Fault;
-use std::fs;
+use std::alloc::Global;
 use std::fs::Files;
+use std::{fs, io};
 
 /// Opens the file at `path` to be read. Faults: CannotRead where it can't be opened, and NoMemory.
-#[tactic(auto, using(crate::proofs::lemmas::HeldFaults::file_unread))]
 pub fn open_file<R: Files + AllocGlobal>(rt: &R, path: &str) -> Result<R::File, Fault>
     ensures err { IfErr result (IsFileUnread path.now) }
 {
     match fs::open(rt, path) {
         Ok(file) => Ok(file),
-        Err(error) => Err(Fault::of_reading(String::from_str(rt.alloc(), path)?, &error)),
+        Err(error) => Err(unread(rt.alloc(), path, &error)),
+    }
+}
+
+/// The fault of a file at `path` that can't be read: CannotRead, or NoMemory, also where there is none for the path.
+#[tactic(auto, using(crate::proofs::lemmas::HeldFaults::file_unread))]
+pub fn unread(alloc: Global, path: &str, error: &io::Error) -> Fault
+    ensures { IsFileUnread path.now result }
+{
+    match String::from_str(alloc, path) {
+        Ok(file) => Fault::of_reading(file, error),
+        Err(_) => Fault::NoMemory,
     }
 }

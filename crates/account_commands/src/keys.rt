@@ -8,8 +8,9 @@ ghost use Rattle.account_commands.specs.Keys.{printed_keys, CannotPrintKeys, Pri
 ghost use Rattle.account_commands.specs.Printed.{PrintsNothing};
 
 use crate::input;
-use crate::progress::TerminalOutput;
-use crate::prompt::{PASSWORD, TerminalInput, ask};
+use crate::output::print;
+use crate::prompt::{PASSWORD, ask};
+use crate::terminal::{TerminalInput, TerminalOutput};
 use clap::ArgMatches;
 use command_line::value::OptionName;
 use command_line::{Fault, value};
@@ -19,27 +20,24 @@ use scram_text::{Password, Salt};
 use std::alloc::Global;
 use std::io::{BufRead, Write};
 
-// The two lines to print for a password line, or BadPassword where the line is no password.
-fn answer(
+/// Judges the options in their order, reads the password, and prints its keys. At a terminal it asks for the
+/// password first. Faults: BadValue and BadPassword, in this order, CannotReadInput, CannotWriteOutput and NoMemory.
+pub fn keys<I: TerminalInput, O: Write, E: TerminalOutput>(
     alloc: Global,
-    mechanism: Mechanism,
-    salt: &Salt,
-    count: u32,
-    line: &[u8],
-) -> Result<String, Fault>
-    requires { 1 ≤ count }
-    ensures ok { IfOk result (λ text. IsPassword line.now
-        × (string_bytes text ≡ printed_keys mechanism line.now salt.now count)) }
-    ensures err { IfErr result (λ fault. (fault ≡ Fault.NoMemory)
-        ⊎ ((fault ≡ Fault.BadPassword) × (IsPassword line.now → ⊥))) }
+    words: &ArgMatches<'_>,
+    input: &mut I,
+    output: &mut O,
+    faults: &mut E,
+) -> Result<(), Fault>
+    ensures ok { OnOk result (PrintsKeysAsked words.now (I.remaining input.old) (O.contents output.old) (O.contents output.new)) }
+    ensures err { IfErr result (λ fault. PrintsNothing fault (O.contents output.old) (O.contents output.new)) }
+    ensures why { IfErr result (CannotPrintKeys words.now (I.remaining input.old)) }
 {
-    let Some(password) = Password::new(line) else {
-        return Err(Fault::BadPassword);
-    };
-    let keys = mechanism.scram_keys(password.bytes(), salt.bytes(), count);
-    let stored = hex::encode(alloc, keys.stored.as_slice())?;
-    let server = hex::encode(alloc, keys.server.as_slice())?;
-    Ok(format!(in alloc; "stored={stored}\nserver={server}\n")?)
+    let mechanism = value::mechanism(given(words, OptionName::Mechanism))?;
+    let salt = value::salt(alloc, given(words, OptionName::Salt))?;
+    let count = value::count(given(words, OptionName::Count))?;
+    ask(input, faults, PASSWORD);
+    print_keys(alloc, mechanism, &salt, count, input, output)
 }
 
 // Reads the password line and prints its keys.
@@ -63,28 +61,29 @@ fn print_keys<I: BufRead, O: Write>(
     ensures unprinted { IfErr result (λ fault. PrintsNothing fault (O.contents output.old) (O.contents output.new)) }
 {
     let line = input::first_line(alloc, input)?;
-    let text = answer(alloc, mechanism, salt, count, line.as_slice())?;
-    output
-        .write_all(text.as_bytes())
-        .map_err(|_| Fault::CannotWriteOutput)
+    let text = keys_text(alloc, mechanism, salt, count, line.as_slice())?;
+    print(text.as_bytes(), output)
 }
 
-/// Judges the options in their order, reads the password, and prints its keys. At a terminal it asks for the
-/// password first. Faults: BadValue and BadPassword, in this order, CannotReadInput, CannotWriteOutput and NoMemory.
-pub fn keys<I: TerminalInput, O: Write, E: TerminalOutput>(
+// The two lines to print for a password line, or BadPassword where the line is no password.
+fn keys_text(
     alloc: Global,
-    words: &ArgMatches<'_>,
-    input: &mut I,
-    output: &mut O,
-    faults: &mut E,
-) -> Result<(), Fault>
-    ensures ok { OnOk result (PrintsKeysAsked words.now (I.remaining input.old) (O.contents output.old) (O.contents output.new)) }
-    ensures err { IfErr result (λ fault. PrintsNothing fault (O.contents output.old) (O.contents output.new)) }
-    ensures why { IfErr result (CannotPrintKeys words.now (I.remaining input.old)) }
+    mechanism: Mechanism,
+    salt: &Salt,
+    count: u32,
+    line: &[u8],
+) -> Result<String, Fault>
+    requires { 1 ≤ count }
+    ensures ok { IfOk result (λ text. IsPassword line.now
+        × (string_bytes text ≡ printed_keys mechanism line.now salt.now count)) }
+    ensures err { IfErr result (λ fault. (fault ≡ Fault.NoMemory)
+        ⊎ ((fault ≡ Fault.BadPassword) × (IsPassword line.now → ⊥))) }
 {
-    let mechanism = value::mechanism(given(words, OptionName::Mechanism))?;
-    let salt = value::salt(alloc, given(words, OptionName::Salt))?;
-    let count = value::count(given(words, OptionName::Count))?;
-    ask(input, faults, PASSWORD);
-    print_keys(alloc, mechanism, &salt, count, input, output)
+    let Some(password) = Password::new(line) else {
+        return Err(Fault::BadPassword);
+    };
+    let keys = mechanism.scram_keys(password.bytes(), salt.bytes(), count);
+    let stored = hex::encode(alloc, keys.stored.as_slice())?;
+    let server = hex::encode(alloc, keys.server.as_slice())?;
+    Ok(format!(in alloc; "stored={stored}\nserver={server}\n")?)
 }

@@ -1,9 +1,8 @@
 //! The commands over accounts: `keys`, `code`, `enrol` and `unlock`; and what other commands use too: the book that a run
-//! holds, lines of the input, prompts, the progress of a long read, random bytes and files.
+//! holds, lines of the input, what is printed, terminals, prompts, random bytes and files.
 #![tactic(auto)]
 
 pub mod code;
-mod done;
 pub mod enrol;
 pub mod file;
 pub mod held_book;
@@ -11,7 +10,9 @@ pub mod input;
 pub mod keys;
 pub mod moving_factor;
 pub mod new_account;
-pub mod progress;
+pub mod open_book;
+pub mod output;
 pub mod prompt;
 pub mod random;
+pub mod terminal;
 pub mod unlock;

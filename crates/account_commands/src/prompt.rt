@@ -2,9 +2,9 @@
 ghost use Rattle.std.specs.Prelude.{◌≡◌, ◌&&◌, true, false, OnOk};
 ghost use Rattle.std.specs.Io.KnownBytes.{Appends};
 
-use crate::progress::TerminalOutput;
+use crate::terminal::{TerminalInput, TerminalOutput};
 use std::io;
-use std::io::{BufRead, BufReader, IsTerminal, Read, Write};
+use std::io::Write;
 
 /// What `keys` and `enrol` wait for.
 pub const PASSWORD: &str = "Type the password and press Enter; it is shown as you type.\n";
@@ -18,18 +18,6 @@ pub const LOGIN: &str =
 
 /// What `hall` waits for.
 pub const EVENTS: &str = "Type one event a line: open, line or gone; Ctrl-D ends.\n";
-
-/// Where input is read, which may be a terminal.
-pub trait TerminalInput: BufRead {
-    /// Whether it is a terminal, where someone types.
-    fn is_terminal(&self) -> bool;
-}
-
-impl<R: Read + IsTerminal + Drop> TerminalInput for BufReader<R> {
-    fn is_terminal(&self) -> bool {
-        self.get_ref().is_terminal()
-    }
-}
 
 /// Says on `faults` what is waited for, where `input` and `faults` are both terminals. Elsewhere it writes nothing.
 /// That it can't be said is no fault.

@@ -3,7 +3,7 @@ ghost use Rattle.std.specs.Prelude.{◌≡◌, IfErr, IfOk};
 ghost use Rattle.std.specs.Io.KnownBytes.{Consumes};
 ghost use Rattle.account_commands.specs.File.{IsFileUnread};
 
-use crate::file::open_file;
+use crate::file::{open_file, unread};
 use command_line::Fault;
 use std::alloc::Global;
 use std::fs::Files;
@@ -36,7 +36,6 @@ impl<'a, F: Read + Drop> Random<'a, F> {
 
     /// The next `N` bytes of the file. CannotRead where it has fewer, and where a read fails; NoMemory
     /// where memory runs out.
-    #[tactic(auto, using(crate::proofs::lemmas::HeldFaults::file_unread))]
     pub fn bytes<const N: usize>(&mut self) -> Result<[u8; N], Fault>
         ensures next { IfOk result (λ bytes. Consumes (F.remaining self.old.file) (F.remaining self.new.file) bytes) }
         ensures err { IfErr result (IsFileUnread self.old.path.now) }
@@ -45,7 +44,7 @@ impl<'a, F: Read + Drop> Random<'a, F> {
         let mut bytes = [0u8; N];
         match self.file.read_exact(&mut bytes) {
             Ok(()) => Ok(bytes),
-            Err(error) => Err(Fault::of_reading(String::from_str(self.alloc, self.path)?, &error)),
+            Err(error) => Err(unread(self.alloc, self.path, &error)),
         }
     }
 }

@@ -3,8 +3,8 @@ ghost use Rattle.std.specs.Prelude.{OnOk, IfErr};
 ghost use Rattle.account_commands.specs.HeldBook.{CannotUnlock, UnlocksAsked};
 ghost use Rattle.account_commands.specs.Printed.{PrintsNothing};
 
-use crate::done::print_done;
-use crate::held_book;
+use crate::open_book;
+use crate::output::print_done;
 use book_file::Lockable;
 use clap::ArgMatches;
 use command_line::value::OptionName;
@@ -34,7 +34,7 @@ where
     ensures why { IfErr result (CannotUnlock R.File.remaining words.now) }
 {
     let name = value::name(given(words, OptionName::Name))?;
-    let mut held = held_book::open(rt, given(words, OptionName::Book), faults)?;
+    let mut held = open_book::open(rt, given(words, OptionName::Book), faults)?;
     held.unlock(rt.alloc(), &name)?;
     print_done("unlocked", name.text(), output)
 }

@@ -82,7 +82,7 @@ MaySay client (Begun one) told said new =
 MaySay client (Proved two) told said new = ⊥
 MaySay client Over told said new = ⊥
 
--- the client has sent its proof, and the line accepts it with the signature that the client expects: the service has the
+-- the client has sent its proof, and the line accepts it with the signature that the client expects: the server has the
 -- account's keys (RFC 5802, section 5)
 abbrev pub ShowsKeys : Stage → (line : List ℕ) → Type 0
 ShowsKeys (Proved client) line = (message : List ℕ) × IsLine line (from_server (accepts message))
@@ -108,7 +108,7 @@ pub record IsOfUser (user : User) (nonce password : List ℕ) (login : Answered)
   pub is_nonce : login.nonce ≡ nonce
   pub is_password : login.password ≡ password
 
--- the service has shown that it has the account's keys: of what the client is told, which the log has, the last line accepts a
+-- the server has shown that it has the account's keys: of what the client is told, which the log has, the last line accepts a
 -- login of this user, and bears the signature that the keys of the password make over the login's messages (RFC 5802, section 3)
 pub record IsLoggedIn (user : User) (nonce password : List ℕ) (old new : Talked) : Type 0 where
   pub login : Answered

@@ -91,16 +91,12 @@ IsCallFor (goes session moment) c = (c.number ≡ session) × (c.value.asked ≡
 abbrev pub AreCallsFor : List InputEvent → List (Numbered Call) → Type 0
 AreCallsFor events calls = AllZip IsCallFor events calls
 
--- these lines say these events, in their order
-abbrev pub AreSaid : List (List ℕ) → List InputEvent → Type 0
-AreSaid lines events = AllZip SaysEvent lines events
-
 -- what the lines of an input say, in their order, but for the last of them, which are these
 pub record SaysEvents (input : Option (List ℕ)) (last : List (List ℕ)) : Type 0 where
   pub lines : List (List ℕ)
   pub events : List InputEvent
   pub are : IfSome input (λ bytes. AreLinesOf bytes (lines ++ last))
-  pub said : AreSaid lines events
+  pub said : AllZip SaysEvent lines events
 
 -- what a hall hears, where this is known of its store, and these are the texts that are stored
 module _ {S : Type 0} (facts : S → StoreFacts) (IsStored : List ℕ → Type 0) where

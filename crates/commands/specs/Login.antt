@@ -106,7 +106,7 @@ abbrev pub sent_for : List ℕ → CodeTexts → List ℕ
 sent_for line (TwoTexts first second) = line ++ byte "\n" ∷ []
 sent_for line (OneText text) = codes "CODE " ++ (take (longest_line + 1) line ++ byte "\n" ∷ [])
 
--- the service says that a code has passed
+-- the server says that a code has passed
 abbrev pub IsPassLine : List ℕ → Type 0
 IsPassLine line = (moment counter : ℕ) × IsLine line (from_server (replies moment (Some (Pass counter))))
 
@@ -144,7 +144,7 @@ HasSavedLog IsStored IsNow IsOfKind book own before after =
     (log : List ℕ) × IsOfKind (accounts_in book) log × IsRunLog (accounts_in book) own IsNow log × Appends before after log
     × IsLogSaved IsStored book log
 
--- the client is logged in, each line passes, and then the service says nothing more
+-- the client is logged in, each line passes, and then the server says nothing more
 pub record TalkPasses (user : User) (nonce password : List ℕ) (input : Option (List ℕ)) (old new : Talked) : Type 0 where
   pub last : Talked
   pub passes : IsInAndPasses user nonce password input old last

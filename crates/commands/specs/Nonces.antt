@@ -17,11 +17,11 @@ IsNonceOf None random nonce = (length random ≡ 18) × (nonce ≡ base64 random
 abbrev pub TakesNonce : (old : Option (List ℕ)) → (given : Option (List ℕ)) → (nonce : List ℕ) → (new : Option (List ℕ)) → Type 0
 TakesNonce old given nonce new = (random : List ℕ) × IsNonceOf given random nonce × Consumes old new random
 
--- a source of random bytes loses those of two nonces, one after the other: no byte is in both
-abbrev pub TakesNonces : (old : Option (List ℕ)) → (first second : Option (List ℕ)) → (nonces : List ℕ × List ℕ) → (new : Option (List ℕ))
-    → Type 0
-TakesNonces old first second nonces new =
-    (there : Option (List ℕ)) × TakesNonce old first nonces.0 there × TakesNonce there second nonces.1 new
+-- a source of random bytes loses those of the client's nonce and of the server's part, one after the other: no byte is in both
+abbrev pub TakesNonces : (old : Option (List ℕ)) → (given_client given_server : Option (List ℕ)) → (client server : List ℕ)
+    → (new : Option (List ℕ)) → Type 0
+TakesNonces old given_client given_server client server new =
+    (there : Option (List ℕ)) × TakesNonce old given_client client there × TakesNonce there given_server server new
 
 -- the client's nonce and the server's part of it are those that the words give; or each that they do not give is the base64 text of the
 -- next 18 bytes of a file
@@ -29,4 +29,4 @@ abbrev pub AreNonces : {File : Type 0} → (bytes_of : File → Option (List ℕ
 AreNonces {File} bytes_of words nonce own =
     ((value_of words option.ClientNonce ≡ Some nonce) × (value_of words option.ServerNonce ≡ Some own))
     ⊎ ((file : File) × (after : File)
-    × TakesNonces (bytes_of file) (value_of words option.ClientNonce) (value_of words option.ServerNonce) (nonce, own) (bytes_of after))
+    × TakesNonces (bytes_of file) (value_of words option.ClientNonce) (value_of words option.ServerNonce) nonce own (bytes_of after))

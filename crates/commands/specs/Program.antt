@@ -68,7 +68,7 @@ IsWordsError line error = (error ≡ kind.OutOfMemory) ⊎ IsAmong error (fault_
 
 -- what a run does, where files have these bytes, and this was written to them
 module _ {File : Type 0} (bytes_of written_to : File → Option (List ℕ)) where
-  -- a log of a service is printed; and where the answer is yes, it is one of a login that the words ask for, in which each code passes
+  -- a log of a server is printed; and where the answer is yes, it is one of a login that the words ask for, in which each code passes
   abbrev pub LogsIn : ArgMatches → (input old : Option (List ℕ)) → (passed : Bool) → (new : Option (List ℕ)) → Type 0
   LogsIn words input old passed new =
       PrintsLogin bytes_of written_to words IsClean old new × (passed ≡ true → PrintsPassesAsked bytes_of words input old new)

@@ -14,7 +14,7 @@ pub record LogSays (old new : Option (List ℕ)) (said : List ℕ) : Type 0 wher
   pub logged : Appends old new (log_bytes lines)
   pub says : wire_bytes lines ≡ said
 
--- what a client has said to the service, what it is still to be told, and what stands in the log, where these are known
+-- what a client has said to the server, what it is still to be told, and what stands in the log, where these are known
 pub record Talked : Type 0 where
   pub said : Option (List ℕ)
   pub untold : Option (List ℕ)

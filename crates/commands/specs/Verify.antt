@@ -92,10 +92,12 @@ module _ (IsStored : List ℕ → Type 0) where
       × LinesInTurn (AnswersLine name moment) input (line ∷ last) old all_passed there
       × FailsAtLine path name moment line there fault new)
 
--- a run of `verify` does not begin: an option refuses its value, the book can't be held or read, or a book that was read has no token for the name
+-- a run of `verify` does not begin: an option refuses its value, the book can't be held or read, or a book that was read has no token
+-- for the name
 abbrev pub CannotBegin : {File : Type 0} → (bytes_of : File → Option (List ℕ)) → ArgMatches → Fault → Type 0
 CannotBegin bytes_of words fault =
-    HasBadValue (option.Name ∷ option.Moment ∷ []) words fault ⊎ (IsUnheld bytes_of (given_value words option.Book) fault
+    HasBadValue (option.Name ∷ option.Moment ∷ []) words fault
+    ⊎ (IsUnheld bytes_of (given_value words option.Book) fault
     ⊎ ((text : List ℕ) × (book : BookFields) × IsReadBook bytes_of text book
     × LacksToken (account_at book (given_value words option.Name)) fault))
 

@@ -8,11 +8,11 @@ mod logged_hall;
 
 use crate::printed_log::PrintedLog;
 use account_book::BookStore;
-use account_commands::held_book;
 use account_commands::held_book::HeldBook;
 use account_commands::input::Lines;
-use account_commands::progress::TerminalOutput;
-use account_commands::prompt::{EVENTS, TerminalInput, ask};
+use account_commands::open_book;
+use account_commands::prompt::{EVENTS, ask};
+use account_commands::terminal::{TerminalInput, TerminalOutput};
 use book_file::Lockable;
 use clap::ArgMatches;
 use command_line::Fault;
@@ -51,7 +51,7 @@ where
         → RunsToBadEvent R.File.remaining R.File.contents (I.remaining input.old) (O.contents output) (O.contents result.1) }
     ensures why { IfErr result.0 (CannotRunHall R.File.remaining words.now) }
 {
-    match held_book::open(rt, given(words, OptionName::Book), faults) {
+    match open_book::open(rt, given(words, OptionName::Book), faults) {
         Ok(held) => {
             ask(input, faults, EVENTS);
             hear_input(rt.alloc(), held, input, output)

@@ -10,11 +10,11 @@ mod hall;
 mod login;
 mod printed_log;
 mod program;
+mod progress;
 mod reply;
 mod sent;
 mod upgrade;
 mod verify;
 
-pub use account_commands::progress::TerminalOutput;
-pub use account_commands::prompt::TerminalInput;
+pub use account_commands::terminal::{TerminalInput, TerminalOutput};
 pub use program::{USAGE, run};

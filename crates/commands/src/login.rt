@@ -1,6 +1,5 @@
-//! The command `login`: logs a user in to a service over a book, and prints the service's log.
-ghost use Rattle.std.specs.Prelude.{◌≡◌, ◌⊎◌, true, ℕ, Bool, List, [], Option, Ok, Some, decimal, option_map, IfOk, IfErr, OnOk};
-ghost use Rattle.scram_text.specs.Class.{IsNoncePart};
+//! The command `login`: logs a user in to a server over a book, and prints the server's log.
+ghost use Rattle.std.specs.Prelude.{◌≡◌, ◌⊎◌, true, ℕ, Bool, List, [], Option, Ok, decimal, option_map, IfOk, IfErr, OnOk};
 ghost use Rattle.book_format.specs.Book.{BookFields};
 ghost use Rattle.log_grammar.specs.Versions.{IsClean, IsFront};
 ghost use Rattle.sasl_desk.specs.Desks.{phase_of};
@@ -12,7 +11,7 @@ ghost use Rattle.account_commands.specs.Input.{IsUnread, TakesLine};
 ghost use Rattle.command_words.specs.Values.{given_value, value_of};
 ghost use Rattle.commands.specs.Login.{IsDeskLog, StaysItsLog, StaysItsLogWith, IsLogAfterFault, IsLogAfterFaultWith, TalkPasses};
 ghost use Rattle.commands.specs.Login.{PrintsPasses, PrintsPassesAsked, IsGiven, IsUserAsked, HasSavedLog, PrintsLogin};
-ghost use Rattle.commands.specs.Login.{CannotLogIn, CannotPrepare, HasBadLoginValue, StopsTalking};
+ghost use Rattle.commands.specs.Login.{CannotLogIn, CannotPrepare, StopsTalking};
 ghost use Rattle.commands.specs.Nonces.{AreNonces};
 ghost use Rattle.commands.specs.Talked.{LogSays, talked_in};
 ghost use Rattle.commands.specs.PrintedLog.{StopsAfter};
@@ -22,23 +21,25 @@ mod clock;
 mod code_line;
 mod memory_sink;
 mod nonces;
+mod options;
 mod socket;
 mod talk;
 
 use crate::printed_log::PrintedLog;
 use account_book::BookStore;
-use account_commands::held_book;
 use account_commands::held_book::HeldBook;
 use account_commands::input::Lines;
-use account_commands::progress::TerminalOutput;
-use account_commands::prompt::{LOGIN, TerminalInput, ask};
+use account_commands::open_book;
+use account_commands::prompt::{LOGIN, ask};
+use account_commands::terminal::{TerminalInput, TerminalOutput};
 use book_file::{FileStore, Lockable};
 use clap::ArgMatches;
-use client_end::{ClientEnd, User};
+use client_end::ClientEnd;
 use clock::{GivenMoment, LoginClock};
+use command_line::Fault;
 use command_line::value::OptionName;
-use command_line::{Fault, value};
-use command_words::{given, optional};
+use command_words::given;
+use options::read_options;
 use otp_core::Moment;
 use sasl_desk::laws::{log_is_a_front, log_is_clean, log_is_saved};
 use sasl_log::{LONGEST_LINE, Sink, Source};
@@ -55,30 +56,21 @@ use talk::Talk;
 /// The most bytes of a line of the protocol with its LF; more are not read.
 const MOST_WITH_LF: usize = LONGEST_LINE + 1;
 
-// What the words say of a login.
-#[derive(Drop)]
-struct LoginOptions {
-    user: User,
-    client_nonce: Option<NoncePart>,
-    server_nonce: Option<NoncePart>,
-    moment: Option<Moment>,
-}
-
-// What a login begins with: the book, the client and the lines that it is to send, the service's part of the nonce, and the moment
+// What a login begins with: the book, the client and the lines that it is to send, the server's part of the nonce, and the moment
 // of all codes, where one is given.
 #[derive(Drop)]
 struct LoginSetup<'a, S, I> {
     held: HeldBook<'a, S>,
     client: ClientEnd,
     lines: Lines<'a, I>,
-    own: NoncePart,
+    server_nonce: NoncePart,
     moment: Option<Moment>,
 
     ghost silent: { client.stage ≡ Stage.Silent },
 }
 
 /// Judges the options in their order, reads the password, the book and the random bytes, makes the socket, and lets the client
-/// log in and send a code for each further input line. Prints the service's log, each line before the client is told of it; a
+/// log in and send a code for each further input line. Prints the server's log, each line before the client is told of it; a
 /// fault ends it where it stands. Returns whether the client was logged in and each code passed, and hands back the output. At a
 /// terminal it asks for the input. Faults: BadValue, CannotReadInput, BadPassword, CannotRead or CannotWrite where the book can't
 /// be held, BadBook, CannotRead of the random file, Socket, and CannotWrite where the book can't be saved, in this order, then
@@ -111,6 +103,7 @@ where
         Err(fault) => return (Err(fault), output),
     };
     match socket::open(rt, given(words, OptionName::Socket)) {
+        // `Brand` stands for `login.moment` (`ghosts-talk_over` in proofs/login/login/Invariants.antt).
         Ok((ends, _file)) => talk_over::<Brand, R, _, _, _>(rt, login, &ends, output),
         Err(fault) => (Err(fault), output),
     }
@@ -129,7 +122,7 @@ where
     I: TerminalInput,
     E: TerminalOutput,
     ensures user { IfOk result (λ login. IsUserAsked words.now login.client.user) }
-    ensures nonces { IfOk result (λ login. AreNonces R.File.remaining words.now login.client.nonce login.own) }
+    ensures nonces { IfOk result (λ login. AreNonces R.File.remaining words.now login.client.nonce login.server_nonce) }
     ensures moment { IfOk result (λ login. option_map decimal login.moment ≡ value_of words.now OptionName.Moment) }
     ensures password { IfOk result (λ login. (has_lf : Bool)
         × TakesLine (I.remaining input.old) login.client.password has_lf (I.remaining login.lines.input.now)) }
@@ -142,14 +135,14 @@ where
     ask(input, faults, LOGIN);
     let mut lines = Lines::new(input);
     let password = read_password(rt.alloc(), &mut lines)?;
-    let held = held_book::open(rt, given(words, OptionName::Book), faults)?;
+    let held = open_book::open(rt, given(words, OptionName::Book), faults)?;
     let random = given(words, OptionName::Random);
-    let (nonce, own) = nonces::both(rt, random, options.client_nonce, options.server_nonce)?;
+    let nonces = nonces::both(rt, random, options.client_nonce, options.server_nonce)?;
     Ok(LoginSetup {
         held,
-        client: ClientEnd::new(options.user, password, nonce),
+        client: ClientEnd::new(options.user, password, nonces.client),
         lines,
-        own,
+        server_nonce: nonces.server,
         moment: options.moment,
     })
 }
@@ -170,12 +163,12 @@ where
     O: Write + Drop,
     requires { login.moment ≡ G.moment }
     ensures ok { OnOk result.0
-        (HasSavedLog S.IsStored (IsGiven G.moment) IsClean login.entry.held.book login.entry.own
+        (HasSavedLog S.IsStored (IsGiven G.moment) IsClean login.entry.held.book login.entry.server_nonce
         (O.contents output) (O.contents result.1)) }
     ensures passes { result.0 ≡ Ok true → PrintsPasses login.entry.client.user login.entry.client.nonce login.entry.client.password
         (I.remaining login.entry.lines.input.now) (O.contents output) (O.contents result.1) }
     ensures err { IfErr result.0 (λ fault. StopsAfter fault (O.contents output) (O.contents result.1)
-        (HasSavedLog S.IsStored (IsGiven G.moment) IsFront login.entry.held.book login.entry.own
+        (HasSavedLog S.IsStored (IsGiven G.moment) IsFront login.entry.held.book login.entry.server_nonce
         (O.contents output) (O.contents result.1))) }
     ensures why { IfErr result.0 (StopsTalking login.entry.held.path.now) }
 {
@@ -183,7 +176,7 @@ where
         held,
         client,
         mut lines,
-        own,
+        server_nonce,
         moment,
     } = login;
     let alloc = rt.alloc();
@@ -192,7 +185,7 @@ where
     log_is_saved::<S>();
     match Talk::begin(alloc, held, ends.wires(), PrintedLog::new(output), clock) {
         Ok(mut talk) => {
-            let passed = converse(alloc, &mut talk, ends, own, client, &mut lines);
+            let passed = converse(alloc, &mut talk, ends, server_nonce, client, &mut lines);
             (passed, talk.into_log().into_output())
         }
         Err((log, fault)) => (Err(fault), log.into_output()),
@@ -205,7 +198,7 @@ fn converse<S, R, W, L, C, I>(
     alloc: Global,
     talk: &mut Talk<'_, S, R, W, L, C>,
     ends: &Ends,
-    own: NoncePart,
+    server_nonce: NoncePart,
     client: ClientEnd,
     lines: &mut Lines<'_, I>,
 ) -> Result<bool, Fault>
@@ -221,19 +214,19 @@ where
     ensures passes { result ≡ Ok true → TalkPasses client.user client.nonce client.password
         (I.remaining lines.old.input.now)
         (talked_in R.facts W.facts L.facts talk.old) (talked_in R.facts W.facts L.facts talk.new) }
-    ensures log { OnOk result (StaysItsLogWith S.facts S.IsStored C.IsNow own
+    ensures log { OnOk result (StaysItsLogWith S.facts S.IsStored C.IsNow server_nonce
         talk.old.desk (L.facts talk.old.log) talk.new.desk (L.facts talk.new.log)) }
     ensures closed { OnOk result (phase_of talk.new.desk.state ≡ Phase.Closed) }
-    ensures clean { OnOk result ((start : BookFields) (before : Option (List ℕ)) → IsDeskLog S.facts S.IsStored C.IsNow start before own
-        talk.old.desk (L.facts talk.old.log)
-        → HasSavedLog S.IsStored C.IsNow IsClean start own before (L.facts talk.new.log).given) }
-    ensures after_fault { IfErr result (IsLogAfterFaultWith S.facts S.IsStored C.IsNow own
+    ensures clean { OnOk result ((start : BookFields) (before : Option (List ℕ))
+        → IsDeskLog S.facts S.IsStored C.IsNow start before server_nonce talk.old.desk (L.facts talk.old.log)
+        → HasSavedLog S.IsStored C.IsNow IsClean start server_nonce before (L.facts talk.new.log).given) }
+    ensures after_fault { IfErr result (IsLogAfterFaultWith S.facts S.IsStored C.IsNow server_nonce
         talk.old.desk (L.facts talk.old.log) talk.new.desk (L.facts talk.new.log)) }
     ensures err { IfErr result (StopsTalking talk.old.path.now) }
 {
     log_is_clean::<S>();
     log_is_saved::<S>();
-    let passed = talk.log_in_and_send(alloc, own, client, lines)?;
+    let passed = talk.log_in_and_send(alloc, server_nonce, client, lines)?;
     hang_up(alloc, talk, ends)?;
     Ok(passed)
 }
@@ -269,53 +262,6 @@ where
         return Err(Fault::Socket);
     }
     Ok(())
-}
-
-// Judges the options that are not taken as they are, in their order.
-fn read_options(words: &ArgMatches<'_>) -> Result<LoginOptions, Fault>
-    ensures user { IfOk result (λ options. IsUserAsked words.now options.user) }
-    ensures nonce { IfOk result (λ options. options.client_nonce ≡ value_of words.now OptionName.ClientNonce) }
-    ensures own { IfOk result (λ options. options.server_nonce ≡ value_of words.now OptionName.ServerNonce) }
-    ensures moment { IfOk result (λ options. option_map decimal options.moment ≡ value_of words.now OptionName.Moment) }
-    ensures err { IfErr result (HasBadLoginValue words.now) }
-{
-    let name = value::name(given(words, OptionName::Name))?;
-    let mechanism = match optional(words, OptionName::Mechanism) {
-        Some(text) => Some(value::mechanism(text)?),
-        None => None,
-    };
-    let authzid = match optional(words, OptionName::As) {
-        Some(text) => Some(value::authzid(text)?),
-        None => None,
-    };
-    let client_nonce = optional_nonce(words, OptionName::ClientNonce)?;
-    let server_nonce = optional_nonce(words, OptionName::ServerNonce)?;
-    let moment = match optional(words, OptionName::Moment) {
-        Some(text) => Some(value::moment(OptionName::Moment, text)?),
-        None => None,
-    };
-    Ok(LoginOptions {
-        user: User {
-            mechanism,
-            name,
-            authzid,
-        },
-        client_nonce,
-        server_nonce,
-        moment,
-    })
-}
-
-// The nonce that an option gives, or None where it is not given. Answers BadValue where it is none.
-fn optional_nonce(words: &ArgMatches<'_>, option: OptionName) -> Result<Option<NoncePart>, Fault>
-    ensures ok { IfOk result (λ nonce. nonce ≡ value_of words.now option) }
-    ensures err { IfErr result (λ fault. (fault ≡ Fault.BadValue option)
-        × ((text : List ℕ) × (value_of words.now option ≡ Some text) × (IsNoncePart text → ⊥))) }
-{
-    match optional(words, option) {
-        Some(text) => Ok(Some(value::nonce(option, text)?)),
-        None => Ok(None),
-    }
 }
 
 // Reads the first line, which is the password. BadPassword also where there is no line.

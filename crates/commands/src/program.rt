@@ -14,8 +14,8 @@ use crate::verify::verify;
 use account_commands::code::code;
 use account_commands::enrol::enrol;
 use account_commands::keys::keys;
-use account_commands::progress::TerminalOutput;
-use account_commands::prompt::TerminalInput;
+use account_commands::output::print_and_flush;
+use account_commands::terminal::{TerminalInput, TerminalOutput};
 use account_commands::unlock::unlock;
 use book_file::Lockable;
 use clap::error::ErrorKind;
@@ -82,22 +82,19 @@ where
         return (refuse(alloc, words, faults), output);
     }
     let mut output = output;
-    match print(alloc, error, &mut output) {
+    match print_help(alloc, error, &mut output) {
         Ok(()) => (0, output),
         Err(fault) => (report(alloc, faults, fault), output),
     }
 }
 
 // Prints the help or the version that `error` has, and flushes it. Faults: CannotWriteOutput and NoMemory.
-fn print<O: Write>(alloc: Global, error: &Error, output: &mut O) -> Result<(), Fault>
+fn print_help<O: Write>(alloc: Global, error: &Error, output: &mut O) -> Result<(), Fault>
     ensures ok { OnOk result ((text : List ℕ) × Appends (O.contents output.old) (O.contents output.new) text) }
     ensures err { IfErr result (λ fault. status_of fault ≡ 3) }
 {
     let text = format!(in alloc; "{error}")?;
-    output
-        .write_all(text.as_bytes())
-        .map_err(|_| Fault::CannotWriteOutput)?;
-    output.flush().map_err(|_| Fault::CannotWriteOutput)
+    print_and_flush(text.as_bytes(), output)
 }
 
 // Says what is wrong with words that are not understood. Returns USAGE, or the status of NoMemory.

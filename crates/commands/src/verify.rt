@@ -7,11 +7,12 @@ ghost use Rattle.commands.specs.Verify.{AnswersAllLines, AnswersFirstLines, Veri
 use crate::reply;
 use crate::sent::sent_by;
 use account_book::{BookStore, Reply};
-use account_commands::held_book;
 use account_commands::held_book::HeldBook;
 use account_commands::input::Lines;
-use account_commands::progress::TerminalOutput;
-use account_commands::prompt::{CODES, TerminalInput, ask};
+use account_commands::open_book;
+use account_commands::output::print_and_flush;
+use account_commands::prompt::{CODES, ask};
+use account_commands::terminal::{TerminalInput, TerminalOutput};
 use book_file::Lockable;
 use clap::ArgMatches;
 use command_line::value::OptionName;
@@ -50,7 +51,7 @@ where
     let alloc = rt.alloc();
     let name = value::name(given(words, OptionName::Name))?;
     let moment = value::moment(OptionName::Moment, given(words, OptionName::Moment))?;
-    let mut held = held_book::open(rt, given(words, OptionName::Book), faults)?;
+    let mut held = open_book::open(rt, given(words, OptionName::Book), faults)?;
     held.check_token(&name)?;
     ask(input, faults, CODES);
     answer_lines(alloc, &mut held, &name, moment, input, output)
@@ -118,8 +119,5 @@ fn print_reply<O: Write>(
 {
     let line = reply::text_of(alloc, moment, Some(reply))?;
     let text = format!(in alloc; "{line}\n")?;
-    output
-        .write_all(text.as_bytes())
-        .map_err(|_| Fault::CannotWriteOutput)?;
-    output.flush().map_err(|_| Fault::CannotWriteOutput)
+    print_and_flush(text.as_bytes(), output)
 }

@@ -13,7 +13,7 @@ use Rattle.book_format.specs.declared.fault.BookFault.{BookFault}
 use Rattle.book_format.specs.declared.fault.BookWhy.TheVariants as why
 use Rattle.command_line.specs.Fault.{of_why, of_book}
 use Rattle.command_line.specs.declared.fault.Fault.{Fault}
-use Rattle.command_line.specs.declared.fault.Fault.TheVariants.{BadBook, CannotRead, NoMemory}
+use Rattle.command_line.specs.declared.fault.Fault.TheVariants.{BadBook, CannotRead, CannotWrite, NoMemory}
 use Rattle.account_commands.specs.File.{IsFileUnread}
 use Rattle.account_commands.specs.HeldBook.{CannotHold, IsUnheld}
 
@@ -38,6 +38,12 @@ unread path kind file fault named memory plain = read_fault (CannotHold path) ki
 pub file_unread : (path : List ℕ) (kind : ErrorKind) (file : _) (fault : Fault) → string_bytes file ≡ path
     → (kind ≡ OutOfMemory → fault ≡ NoMemory) → (kind ≢ OutOfMemory → fault ≡ CannotRead file) → IsFileUnread path fault
 file_unread path kind file fault named memory plain = read_fault (IsFileUnread path) kind file fault refl named memory plain
+
+-- of the book's file too
+pub held_unread : (path : List ℕ) (fault : Fault) → IsFileUnread path fault → CannotHold path fault
+held_unread path (CannotRead file) is = is
+held_unread path (CannotWrite file) is = tt
+held_unread path fault is = is
 
 -- memory ran out
 pub out_of_memory : {File : Type 0} (bytes_of : File → Option (List ℕ)) (path : List ℕ) (fault : Fault) → fault ≡ NoMemory

@@ -36,7 +36,7 @@ pub enum Next {
     /// It says this line, which has its LF.
     Says(Vec<u8>),
 
-    /// It is logged in: the service has shown that it has the account's keys.
+    /// It is logged in: the server has shown that it has the account's keys.
     IsIn,
 
     /// It ends the login.
@@ -52,7 +52,7 @@ enum Stage {
     // It has sent its first message, and waits for the challenge.
     Begun(ClientOne),
 
-    // It has sent its proof, and waits for the service's signature.
+    // It has sent its proof, and waits for the server's signature.
     Proved(ClientTwo),
 
     // It has logged in, or ended the login.
@@ -102,7 +102,9 @@ impl ClientEnd {
                 let challenge = message.bytes(alloc).map_err(|_| Fault::NoMemory)?;
                 self.prove(alloc, client, challenge.as_slice())
             }
-            (Stage::Proved(client), ServerLine::Accepts(message)) => check(alloc, client, message),
+            (Stage::Proved(client), ServerLine::Accepts(message)) => check_signature(
+                alloc, client, message,
+            ),
             _ => Ok(Next::Leaves),
         }
     }
@@ -128,7 +130,7 @@ impl ClientEnd {
         };
         self.stage = Stage::Begun(client);
         let word = format!(in alloc; "AUTH {} :", mechanism.name())?;
-        Ok(Next::Says(line_of(alloc, word.as_bytes(), message.as_slice())?))
+        Ok(Next::Says(message_line(alloc, word.as_bytes(), message.as_slice())?))
     }
 
     // Answers a challenge with the proof.
@@ -145,7 +147,7 @@ impl ClientEnd {
         match client.first(&self.password, challenge, &mut message) {
             Ok(client) => {
                 self.stage = Stage::Proved(client);
-                Ok(Next::Says(line_of(alloc, b"RESP :", message.as_slice())?))
+                Ok(Next::Says(message_line(alloc, b"RESP :", message.as_slice())?))
             }
             Err(OneRefused::Spent(_)) => Ok(Next::Leaves),
             Err(OneRefused::Back(_, _)) => Err(Fault::NoMemory),
@@ -153,8 +155,8 @@ impl ClientEnd {
     }
 }
 
-// Whether the client is in, by the message with which the service accepts it.
-fn check(alloc: Global, client: ClientTwo, message: Payload<'_>) -> Result<Next, Fault>
+// Whether the client is in, by the message with which the server accepts it.
+fn check_signature(alloc: Global, client: ClientTwo, message: Payload<'_>) -> Result<Next, Fault>
     ensures is_in { IfOk result (λ next. next ≡ Next.IsIn
         → (l : Answered) (x : IsExpecting client l) → IsAuthentic message.entry x.signature) }
     ensures silent { IfOk result (λ next. IfSays next (λ said. ⊥)) }
@@ -172,7 +174,7 @@ fn check(alloc: Global, client: ClientTwo, message: Payload<'_>) -> Result<Next,
 }
 
 // The line of this front and this message, with its LF. The only fault is NoMemory.
-fn line_of(alloc: Global, front: &[u8], message: &[u8]) -> Result<Vec<u8>, Fault>
+fn message_line(alloc: Global, front: &[u8], message: &[u8]) -> Result<Vec<u8>, Fault>
     ensures ok { IfOk result (λ line. line.items ≡ front.now ++ (escaped message.now ++ byte "\n" ∷ [])) }
     ensures err { IfErr result (λ fault. fault ≡ Fault.NoMemory) }
 {

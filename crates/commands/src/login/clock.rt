@@ -6,12 +6,12 @@ use otp_core::Moment;
 use std::marker::{Brand, PhantomData};
 use std::time::{Clock, SystemTime, UNIX_EPOCH};
 
-/// The moment that was given, where one was, as a type: so what is proved over any clock can name it. Who calls such code says which it
-/// is.
+/// The moment of `--moment`, or None, as a type, so that contracts over any clock can name it.
 pub trait GivenMoment {
     ghost moment: { Option ℕ };
 }
 
+// `Brand` is the marker type at which a caller picks the moment, in its proof. This None only makes `Brand` such a type: it is not used.
 impl GivenMoment for Brand {
     ghost moment = { None };
 }

@@ -19,13 +19,13 @@ pub fn code_line(alloc: Global, line: &[u8]) -> Result<Vec<u8>, Fault>
     ensures err { IfErr result (λ fault. fault ≡ Fault.NoMemory) }
 {
     match sent_by(line) {
-        Sent::One(_) => line_of(alloc, b"CODE ", line),
-        Sent::Two(_, _) => line_of(alloc, b"", line),
+        Sent::One(_) => code_text_line(alloc, b"CODE ", line),
+        Sent::Two(_, _) => code_text_line(alloc, b"", line),
     }
 }
 
 // The line of this front and as much of this text as a line and its LF may have, with its LF. Nothing more is ever read.
-fn line_of(alloc: Global, front: &[u8], text: &[u8]) -> Result<Vec<u8>, Fault>
+fn code_text_line(alloc: Global, front: &[u8], text: &[u8]) -> Result<Vec<u8>, Fault>
     ensures ok { IfOk result (λ line. line.items ≡ front.now ++ (take MOST_WITH_LF text.now ++ byte "\n" ∷ [])) }
     ensures err { IfErr result (λ fault. fault ≡ Fault.NoMemory) }
 {

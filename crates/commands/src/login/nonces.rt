@@ -12,24 +12,35 @@ use std::alloc::Global;
 use std::fs::Files;
 use std::io::Read;
 
-/// The client's nonce and the service's part of it. Each that is not given is the base64 text of the next 18 bytes of the
-/// file at `path`, which is opened only where one is needed; the client's comes first. Faults: CannotRead and NoMemory.
+/// The two nonces of a login.
+#[derive(Drop)]
+pub struct Nonces {
+    /// The client's nonce.
+    pub client: NoncePart,
+
+    /// The server's part of the nonce.
+    pub server: NoncePart,
+}
+
+/// Both nonces. Each that is not given is the base64 text of the next 18 bytes of the file at `path`, which is opened only where one is
+/// needed; the client's comes first. Faults: CannotRead and NoMemory.
 pub fn both<R: Files + AllocGlobal>(
     rt: &R,
     path: &str,
     client: Option<NoncePart>,
-    service: Option<NoncePart>,
-) -> Result<(NoncePart, NoncePart), Fault>
+    server: Option<NoncePart>,
+) -> Result<Nonces, Fault>
     // Both are given, or a file gives the bytes of each that is not, one after the other.
-    ensures ok { IfOk result (λ nonces. ((client ≡ Some nonces.0) × (service ≡ Some nonces.1))
-        ⊎ ((file : R.File) × (after : R.File) × TakesNonces (R.File.remaining file) client service nonces (R.File.remaining after))) }
+    ensures ok { IfOk result (λ nonces. ((client ≡ Some nonces.client) × (server ≡ Some nonces.server))
+        ⊎ ((file : R.File) × (after : R.File)
+        × TakesNonces (R.File.remaining file) client server nonces.client nonces.server (R.File.remaining after))) }
     ensures err { IfErr result (IsFileUnread path.now) }
 {
-    match (client, service) {
-        (Some(client), Some(service)) => Ok((client, service)),
-        (client, service) => {
+    match (client, server) {
+        (Some(client), Some(server)) => Ok(Nonces { client, server }),
+        (client, server) => {
             let mut random = Random::open(rt, path)?;
-            both_from(rt.alloc(), client, service, &mut random)
+            both_from(rt.alloc(), client, server, &mut random)
         }
     }
 }
@@ -38,16 +49,16 @@ pub fn both<R: Files + AllocGlobal>(
 fn both_from<F: Read + Drop>(
     alloc: Global,
     client: Option<NoncePart>,
-    service: Option<NoncePart>,
+    server: Option<NoncePart>,
     random: &mut Random<'_, F>,
-) -> Result<(NoncePart, NoncePart), Fault>
+) -> Result<Nonces, Fault>
     ensures ok { IfOk result (λ nonces.
-        TakesNonces (F.remaining random.old.file) client service nonces (F.remaining random.new.file)) }
+        TakesNonces (F.remaining random.old.file) client server nonces.client nonces.server (F.remaining random.new.file)) }
     ensures err { IfErr result (IsFileUnread random.old.path.now) }
 {
     let client = given_or_random(alloc, client, random)?;
-    let service = given_or_random(alloc, service, random)?;
-    Ok((client, service))
+    let server = given_or_random(alloc, server, random)?;
+    Ok(Nonces { client, server })
 }
 
 // The nonce that is given, or one of the next random bytes.

@@ -57,8 +57,8 @@ pub struct Ends {
     // The client's end.
     of_client: UnixStream,
 
-    // The service's.
-    of_service: UnixStream,
+    // The server's.
+    of_server: UnixStream,
 }
 
 /// One end of a connection: where it reads, and where it writes.
@@ -77,8 +77,8 @@ pub struct Wires<R, W> {
     /// The client's end.
     pub of_client: Wire<R, W>,
 
-    /// The service's.
-    pub of_service: Wire<R, W>,
+    /// The server's.
+    pub of_server: Wire<R, W>,
 }
 
 impl Ends {
@@ -86,11 +86,11 @@ impl Ends {
     pub fn wires(&self) -> Wires<OverRead<&UnixStream>, OverWrite<&UnixStream>> {
         Wires {
             of_client: wire_of(&self.of_client),
-            of_service: wire_of(&self.of_service),
+            of_server: wire_of(&self.of_server),
         }
     }
 
-    /// Ends what the client says, so that the service reads to the end of it. The only fault is Socket.
+    /// Ends what the client says, so that the server reads to the end of it. The only fault is Socket.
     pub fn hang_up(&self) -> Result<(), Fault>
         ensures { IfErr result (λ fault. fault ≡ Fault.Socket) }
     {
@@ -152,11 +152,11 @@ fn is_free<R: Files>(rt: &R, path: &str) -> bool {
 fn connect<R: Net>(rt: &R, path: &str, listener: &UnixListener) -> io::Result<Ends> {
     listener.set_nonblocking(true)?;
     let of_client = UnixStream::connect(rt, path)?;
-    let (of_service, _) = listener.accept()?;
+    let (of_server, _) = listener.accept()?;
     of_client.set_nonblocking(true)?;
-    of_service.set_nonblocking(true)?;
+    of_server.set_nonblocking(true)?;
     Ok(Ends {
         of_client,
-        of_service,
+        of_server,
     })
 }

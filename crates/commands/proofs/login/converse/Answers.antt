@@ -8,7 +8,7 @@ use Rattle.commands.proofs.login.converse.Goals as goal
 pub returns-in_err-hang_up-clause-after_fault : goal.returns-in_err-hang_up-clause-after_fault
 returns-in_err-hang_up-clause-after_fault g c =
     handed_on c.from_residual-in_err-hang_up.result _
-    (IsLogAfterFaultWith g.S.BookStore.facts g.S.BookStore.IsStored g.C.Clock.IsNow c.args.own c.args.talk.now.desk
+    (IsLogAfterFaultWith g.S.BookStore.facts g.S.BookStore.IsStored g.C.Clock.IsNow c.args.server_nonce c.args.talk.now.desk
     (g.L.Sink.facts c.args.talk.now.log) c.hang_up.new.talk.desk (g.L.Sink.facts c.hang_up.new.talk.log))
     c.from_residual-in_err-hang_up.ensures.1
     (fails_with g.S.BookStore.facts g.S.BookStore.IsStored g.C.Clock.IsNow _ _ _ _ _ _ _ _ c.in_ok-passed.ensures.log c.in_err-hang_up.ensures.after_fault)

@@ -11,8 +11,8 @@ returns-in-Ok-clause-ok g c =
     let before = ap (λ (f : SinkFacts). f.given) c.new.ensures in
     let after = c.into_output.ensures ∙ ap (λ (l : PrintedLog _). g.O.Write.contents l.output) c.into_log.ensures in
     on_ok_weaker c.converse-passed.result
-    (printed_clean g.S.BookStore.facts g.S.BookStore.IsStored _ _ c.args.login.own _ _ _ _ _ _ before after
-    (c.in-Ok.ensures.log c.args.login.own))
+    (printed_clean g.S.BookStore.facts g.S.BookStore.IsStored _ _ c.args.login.server_nonce _ _ _ _ _ _ before after
+    (c.in-Ok.ensures.log c.args.login.server_nonce))
     c.converse-passed.ensures.clean
 
 pub returns-in-Ok-clause-err : goal.returns-in-Ok-clause-err

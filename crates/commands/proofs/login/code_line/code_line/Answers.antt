@@ -11,11 +11,11 @@ returns-in-Two-clause-ok c =
     let says = rw c.in-Two.is at c.sent_by.ensures in
     let short = says.short in
     let whole = take_all 6201 c.args.line.now (omega (arith, short)) in
-    IfOk-weaker c.line_of-in-Two.result _ _
+    IfOk-weaker c.code_text_line-in-Two.result _ _
     (λ said is. (
       TwoTexts c.in-Two.field-0.now c.in-Two.field-1.now,
       says,
       subst
           (λ (text : List ℕ). said.items ≡ text ++ byte "\n" ∷ []) whole is,
     ))
-    c.line_of-in-Two.ensures.ok
+    c.code_text_line-in-Two.ensures.ok

@@ -22,13 +22,13 @@ returns-in-Proved-Accepts-clause-is_in c =
     let stage : c.args.self.now.stage ≡ Proved c.in-Proved-Accepts.client = sym c.in-Proved-Accepts.ensures.value in
     let line : IsLine c.args.line.now (from_server (accepts c.in-Proved-Accepts.message)) =
     rw (c.in-Ok-FromServer.field-0-is, c.in-Proved-Accepts.is-1) at c.in-Ok-FromServer.ensures.ok in
-    IfOk-weaker c.check.result _ _
+    IfOk-weaker c.check_signature.result _ _
     (λ next shows is. subst (λ (s : Stage). ShowsKeys s c.args.line.now) (sym stage) (c.in-Proved-Accepts.message, line, shows is))
-    c.check.ensures.is_in
+    c.check_signature.ensures.is_in
 
 pub returns-in-Proved-Accepts-clause-says : goal.returns-in-Proved-Accepts-clause-says
 returns-in-Proved-Accepts-clause-says c =
-    silence_may_be c.args.self.now c.args.self.now.stage _ c.args.line.now c.check.result c.check.ensures.silent
+    silence_may_be c.args.self.now c.args.self.now.stage _ c.args.line.now c.check_signature.result c.check_signature.ensures.silent
 
 pub returns-in-Silent-Mechs-clause-says : goal.returns-in-Silent-Mechs-clause-says
 returns-in-Silent-Mechs-clause-says c =
@@ -67,4 +67,4 @@ returns-in-Proved-Accepts-clause-leaves c =
     let stage : c.args.self.now.stage ≡ Proved c.in-Proved-Accepts.client = sym c.in-Proved-Accepts.ensures.value in
     let line : IsLine c.args.line.now (from_server (accepts c.in-Proved-Accepts.message)) =
     rw (c.in-Ok-FromServer.field-0-is, c.in-Proved-Accepts.is-1) at c.in-Ok-FromServer.ensures.ok in
-    leaves_unproved c.args.self.now c.in-Proved-Accepts.client c.args.line.now c.in-Proved-Accepts.message c.check.result stage line c.check.ensures.leaves
+    leaves_unproved c.args.self.now c.in-Proved-Accepts.client c.args.line.now c.in-Proved-Accepts.message c.check_signature.result stage line c.check_signature.ensures.leaves

@@ -14,8 +14,8 @@ returns-in-Ok-clause-says c = λ login started.
       answerable = answerable.1;
       client_final = client_final;
       waits = waits;
-      line = subst (λ (text : List ℕ). c.in_ok-line_of-in-Ok.field-0.items ≡ codes "RESP :"
-          ++ (escaped text ++ byte "\n" ∷ [])) message c.in_ok-line_of-in-Ok.ensures.ok;
+      line = subst (λ (text : List ℕ). c.in_ok-message_line-in-Ok.field-0.items ≡ codes "RESP :"
+          ++ (escaped text ++ byte "\n" ∷ [])) message c.in_ok-message_line-in-Ok.ensures.ok;
     }
 
 pub returns-in-Err-Spent-clause-leaves : goal.returns-in-Err-Spent-clause-leaves

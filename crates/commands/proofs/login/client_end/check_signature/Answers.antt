@@ -1,6 +1,6 @@
 use Rattle.std.proofs.Common.{◌≡◌, sym, subst, rules, ℕ, List}
 use Rattle.scram_ends.specs.Login.{IsAuthentic}
-use Rattle.commands.proofs.login.client_end.check.Goals as goal
+use Rattle.commands.proofs.login.client_end.check_signature.Goals as goal
 
 pub returns-in-Ok-last-clause-is_in : goal.returns-in-Ok-last-clause-is_in
 returns-in-Ok-last-clause-is_in c =

@@ -1,24 +1,13 @@
 //! How far a log was read, shown to someone who waits at a terminal.
 ghost use Rattle.std.specs.Prelude.{◌≡◌};
 
+use account_commands::terminal::TerminalOutput;
 use std::io;
-use std::io::{BufWriter, IsTerminal, Read, Write};
+use std::io::{Read, Write};
 use std::time::{Clock, Instant};
 
 /// The seconds in which nothing is shown.
 const QUIET: u64 = 2;
-
-/// Where faults are written, which may be a terminal.
-pub trait TerminalOutput: Write {
-    /// Whether it is a terminal, where someone may be waiting.
-    fn is_terminal(&self) -> bool;
-}
-
-impl<W: Write + IsTerminal + Drop> TerminalOutput for BufWriter<W> {
-    fn is_terminal(&self) -> bool {
-        self.get_ref().is_terminal()
-    }
-}
 
 /// Shows someone who waits at a terminal how many lines and bytes were read: on one line, after two seconds, anew each second.
 #[derive(Drop)]

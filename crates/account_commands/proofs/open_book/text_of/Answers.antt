@@ -1,7 +1,7 @@
 use Rattle.std.proofs.Common.{rules}
 use Rattle.book_file.specs.Text.{IsRead}
 use Rattle.account_commands.proofs.lemmas.HeldFaults.{no_utf8}
-use Rattle.account_commands.proofs.held_book.text_of.Goals as goal
+use Rattle.account_commands.proofs.open_book.text_of.Goals as goal
 
 pub returns-clause-err : goal.returns-clause-err
 returns-clause-err g c =

@@ -1,0 +1,41 @@
+//! What a command prints.
+ghost use Rattle.std.specs.Prelude.{◌≡◌, ◌++◌, ◌∷◌, [], OnOk, IfErr};
+ghost use Rattle.std.specs.Str.{byte};
+ghost use Rattle.std.specs.Io.KnownBytes.{Appends};
+
+use command_line::Fault;
+use std::io::Write;
+
+/// Prints this text. The only fault is CannotWriteOutput.
+pub fn print<O: Write>(text: &[u8], output: &mut O) -> Result<(), Fault>
+    ensures printed { OnOk result (Appends (O.contents output.old) (O.contents output.new) text.now) }
+    ensures err { IfErr result (λ fault. fault ≡ Fault.CannotWriteOutput) }
+{
+    output.write_all(text).map_err(|_| Fault::CannotWriteOutput)
+}
+
+/// Prints this text and flushes it. The only fault is CannotWriteOutput.
+pub fn print_and_flush<O: Write>(text: &[u8], output: &mut O) -> Result<(), Fault>
+    ensures printed { OnOk result (Appends (O.contents output.old) (O.contents output.new) text.now) }
+    ensures err { IfErr result (λ fault. fault ≡ Fault.CannotWriteOutput) }
+{
+    print(text, output)?;
+    output.flush().map_err(|_| Fault::CannotWriteOutput)
+}
+
+/// Prints this line and an LF. The only fault is CannotWriteOutput.
+pub fn print_line<O: Write>(line: &str, output: &mut O) -> Result<(), Fault>
+    ensures printed { OnOk result (Appends (O.contents output.old) (O.contents output.new) (line.now ++ byte "\n" ∷ [])) }
+    ensures err { IfErr result (λ fault. fault ≡ Fault.CannotWriteOutput) }
+{
+    writeln!(output, "{line}").map_err(|_| Fault::CannotWriteOutput)
+}
+
+/// Prints what was done, as `enrolled`, to the account of this name. The only fault is CannotWriteOutput.
+pub fn print_done<O: Write>(done: &str, name: &str, output: &mut O) -> Result<(), Fault>
+    ensures printed { OnOk result (Appends (O.contents output.old) (O.contents output.new)
+        (done.now ++ (byte " " ∷ name.now ++ byte "\n" ∷ []))) }
+    ensures err { IfErr result (λ fault. fault ≡ Fault.CannotWriteOutput) }
+{
+    writeln!(output, "{done} {name}").map_err(|_| Fault::CannotWriteOutput)
+}

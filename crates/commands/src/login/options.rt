@@ -1,0 +1,76 @@
+//! The options of a login, judged.
+ghost use Rattle.std.specs.Prelude.{◌≡◌, ℕ, List, Some, decimal, option_map, IfOk, IfErr};
+ghost use Rattle.scram_text.specs.Class.{IsNoncePart};
+ghost use Rattle.command_words.specs.Values.{value_of};
+ghost use Rattle.commands.specs.Login.{IsUserAsked, HasBadLoginValue};
+
+use crate::login::client_end::User;
+use clap::ArgMatches;
+use command_line::value::OptionName;
+use command_line::{Fault, value};
+use command_words::{given, optional};
+use otp_core::Moment;
+use scram_text::NoncePart;
+
+/// What the words say of a login.
+#[derive(Drop)]
+pub struct LoginOptions {
+    /// Who logs in, and how.
+    pub user: User,
+
+    /// The client's nonce, where it is given.
+    pub client_nonce: Option<NoncePart>,
+
+    /// The server's part of the nonce, where it is given.
+    pub server_nonce: Option<NoncePart>,
+
+    /// The moment of all codes, where it is given.
+    pub moment: Option<Moment>,
+}
+
+/// Judges the options that are not taken as they are, in their order. The only fault is BadValue.
+pub fn read_options(words: &ArgMatches<'_>) -> Result<LoginOptions, Fault>
+    ensures user { IfOk result (λ options. IsUserAsked words.now options.user) }
+    ensures client_nonce { IfOk result (λ options. options.client_nonce ≡ value_of words.now OptionName.ClientNonce) }
+    ensures server_nonce { IfOk result (λ options. options.server_nonce ≡ value_of words.now OptionName.ServerNonce) }
+    ensures moment { IfOk result (λ options. option_map decimal options.moment ≡ value_of words.now OptionName.Moment) }
+    ensures err { IfErr result (HasBadLoginValue words.now) }
+{
+    let name = value::name(given(words, OptionName::Name))?;
+    let mechanism = match optional(words, OptionName::Mechanism) {
+        Some(text) => Some(value::mechanism(text)?),
+        None => None,
+    };
+    let authzid = match optional(words, OptionName::As) {
+        Some(text) => Some(value::authzid(text)?),
+        None => None,
+    };
+    let client_nonce = optional_nonce(words, OptionName::ClientNonce)?;
+    let server_nonce = optional_nonce(words, OptionName::ServerNonce)?;
+    let moment = match optional(words, OptionName::Moment) {
+        Some(text) => Some(value::moment(OptionName::Moment, text)?),
+        None => None,
+    };
+    Ok(LoginOptions {
+        user: User {
+            mechanism,
+            name,
+            authzid,
+        },
+        client_nonce,
+        server_nonce,
+        moment,
+    })
+}
+
+// The nonce that an option gives, or None where it is not given. Answers BadValue where it is none.
+fn optional_nonce(words: &ArgMatches<'_>, option: OptionName) -> Result<Option<NoncePart>, Fault>
+    ensures ok { IfOk result (λ nonce. nonce ≡ value_of words.now option) }
+    ensures err { IfErr result (λ fault. (fault ≡ Fault.BadValue option)
+        × ((text : List ℕ) × (value_of words.now option ≡ Some text) × (IsNoncePart text → ⊥))) }
+{
+    match optional(words, option) {
+        Some(text) => Ok(Some(value::nonce(option, text)?)),
+        None => Ok(None),
+    }
+}
