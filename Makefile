@@ -5,8 +5,12 @@ DESTDIR ?=
 CPU ?= x86-64-v2
 JOBS ?= $(shell nproc)
 PROGRAM = crates/scramotp/out/scramotp
+# The kit by which all is proved, as rt version prints it; README.md and docs/PROMISES.md name it too.
+KIT = rattle-kit-13f logic dac8208d650f15bf
 # What the program stands on.
 LIBRARIES = mac_core otp_core scram_text scram_ends book_format account_book book_file command_line command_words log_grammar sasl_log sasl_desk account_commands commands
+# What is installed beside it.
+TOOLS = $(addprefix tools/,check-code drop-tables edit-book find-key from-verifier serve-hall)
 SOURCES = crates.txt HANDLES $(shell find crates \( -name out -prune \) -o \( -name '*.rt' -o -name '*.antt' \) -print)
 # Succeeds where the program is built and newer than its sources.
 IS_FRESH = test -x $(PROGRAM) && test -z "$$(find $(SOURCES) -newer $(PROGRAM))"
@@ -15,13 +19,14 @@ EXAMPLE = keys --mechanism SCRAM-SHA-1 --salt 4125c247e43ab1e93c6dff76 --count 4
 # The processors that the program was last built for; rt ci builds it for the default ones.
 BUILT_FOR := $(shell cat crates/scramotp/out/built_for 2>/dev/null || echo x86-64-v2)
 
-.PHONY: help run build libraries install test fuzz bench clean kit tools FORCE
+.PHONY: help run build libraries install test fuzz bench clean kit this_kit needed FORCE
 
 help:
 	@echo 'make run      prints the keys of the example in RFC 5802, also before anything is built'
 	@echo 'make build    proves the program and leaves it at $(PROGRAM);'
 	@echo '              CPU=x86-64-v3 builds it for newer processors'
-	@echo 'make install  copies the built program to $$(DESTDIR)$$(PREFIX)/bin'
+	@echo 'make install  copies the built program to $$(DESTDIR)$$(PREFIX)/bin,'
+	@echo '              and its tools to $$(DESTDIR)$$(PREFIX)/share/scramotp'
 	@echo 'make test     the gate: every proof, test and run, wrong bodies, and tests of the built program'
 	@echo 'make fuzz     gives the built program random input, for some minutes'
 	@echo 'make bench    compares speeds with OpenSSL, with Python, and with oathtool'
@@ -71,8 +76,10 @@ FORCE:
 install:
 	@$(IS_FRESH) || { echo 'The program is not built, or is older than its sources: run make build first.' >&2; exit 1; }
 	install -D -m 755 $(PROGRAM) "$(DESTDIR)$(PREFIX)/bin/scramotp"
+	install -D -m 755 -t "$(DESTDIR)$(PREFIX)/share/scramotp" $(TOOLS)
 
-test: kit tools
+test: this_kit needed
+	python3 tests/documents.py
 	rt ci
 	python3 tests/edits.py --built
 	$(MAKE) build
@@ -81,7 +88,7 @@ test: kit tools
 # Each run begins from another seed, which it prints: make fuzz SEED=7 tries the same input again.
 SEED := $(or $(SEED),$(shell date +%s))
 COUNT ?= 5000
-fuzz: build
+fuzz: needed build
 	@echo 'SEED=$(SEED) COUNT=$(COUNT)'
 	python3 tests/fuzz.py $(PROGRAM) $(SEED) $(COUNT)
 
@@ -101,9 +108,15 @@ clean:
 kit:
 	@command -v rt >/dev/null || { echo 'rt, the command of the Rattle kit, is not on your PATH' >&2; exit 1; }
 
+# The documents name the kit by which all was proved. Another kit proves all anew, and may refuse what that one proved.
+this_kit: kit
+	@found="$$(rt version)"; test "$$found" = '$(KIT)' || \
+		echo "The documents name the kit $(KIT), and this is $$found. Once all passes with it, change KIT in the Makefile." >&2
+
 # What else the tests need; they would miss it only after the proofs.
-tools:
+needed:
 	@missing=; \
-	for it in cc bash xxd flock; do command -v $$it >/dev/null || missing="$$missing $$it"; done; \
-	python3 -c 'import sys; sys.exit(sys.version_info < (3, 11))' 2>/dev/null || missing="$$missing python3 (3.11 or newer)"; \
-	test -z "$$missing" || { echo "make test also needs these on your PATH:$$missing" >&2; exit 1; }
+	for it in cc bash xxd flock; do command -v $$it >/dev/null || missing="$$missing, $$it on your PATH"; done; \
+	python3 -c 'import sys; sys.exit(sys.version_info < (3, 11))' 2>/dev/null || missing="$$missing, python3 (3.11 or newer) on your PATH"; \
+	id -u nobody >/dev/null 2>&1 || missing="$$missing, a user nobody"; \
+	test -z "$$missing" || { echo "The tests need, and this machine lacks: $${missing#, }" >&2; exit 1; }

@@ -10,12 +10,17 @@ start of the program and the reading of the book.
 """
 import base64
 import hashlib
-import hmac
 import os
 import pathlib
 import subprocess
 import sys
 import tempfile
+
+from timed import exactly, processor
+
+sys.path.append(str(pathlib.Path(__file__).resolve().parent.parent / "tests"))
+
+from expected import code, login_keys, proved
 
 LOGINS = 142_000
 FEW = 1_000
@@ -26,16 +31,8 @@ SALT = b"0123456789ab"
 SECRET = b"12345678901234567890"
 HASHES = {"sha1": "SCRAM-SHA-1", "sha256": "SCRAM-SHA-256"}
 COUNT = 4096
-
-
-def keys(table):
-    """ClientKey, StoredKey and ServerKey of the password `pencil` (RFC 5802, section 3)."""
-    salted = hashlib.pbkdf2_hmac(table, b"pencil", SALT, COUNT)
-    client = hmac.digest(salted, b"Client Key", table)
-    return client, hashlib.new(table, client).digest(), hmac.digest(salted, b"Server Key", table)
-
-
-KEYS = {table: keys(table) for table in HASHES}
+# ClientKey and ServerKey of the password.
+KEYS = {table: login_keys(table, b"pencil", SALT, COUNT) for table in HASHES}
 
 
 def text_of(data):
@@ -46,9 +43,10 @@ def book(names, token):
     """A book in which each name has both mechanisms' keys, and a token where one is wanted."""
     parts = [f'format = 1\ndecoy_key = "{bytes(range(32)).hex()}"\ndecoy_count = {COUNT}\n']
     for name in names:
-        for table, (_, stored, server) in KEYS.items():
+        for table, (client, server) in KEYS.items():
+            stored = hashlib.new(table, client).hexdigest()
             parts.append(f'[accounts.{name}.{table}]\nsalt = "{SALT.hex()}"\ncount = {COUNT}\n')
-            parts.append(f'stored = "{stored.hex()}"\nserver = "{server.hex()}"\n')
+            parts.append(f'stored = "{stored}"\nserver = "{server.hex()}"\n')
         if token:
             parts.append(f'[accounts.{name}.token]\nkind = "hotp"\nsecret = "{SECRET.hex()}"\ndigits = 6\n')
             parts.append("next = 0\nlook_ahead = 3\nlimit = 3\nfailures = 0\n")
@@ -57,20 +55,17 @@ def book(names, token):
 
 def login(table, name, number):
     """The lines of a login that is accepted, from MECHS to OK."""
-    client, stored, server = KEYS[table]
     nonce = text_of(hashlib.md5(f"c{number}".encode()).digest() + b"!!")
     whole = nonce + text_of(hashlib.md5(f"s{number}".encode()).digest() + b"!!")
     bare, front = f"n={name},r={nonce}", f"c=biws,r={whole}"
     challenge = f"r={whole},s={text_of(SALT)},i={COUNT}"
-    signed = f"{bare},{challenge},{front}".encode()
-    signature = hmac.digest(stored, signed, table)
-    proof = bytes(a ^ b for a, b in zip(client, signature))
+    proof, signature = proved(table, *KEYS[table], f"{bare},{challenge},{front}".encode())
     return (
         "S MECHS SCRAM-SHA-256 SCRAM-SHA-1\n"
         f"C AUTH {HASHES[table]} :n,,{bare}\n"
         f"S CONT :{challenge}\n"
         f"C RESP :{front},p={text_of(proof)}\n"
-        f"S OK :v={text_of(hmac.digest(server, signed, table))}\n"
+        f"S OK :v={text_of(signature)}\n"
     )
 
 
@@ -102,33 +97,11 @@ def at_once(count, open_sessions):
     return "".join(lines), f"clean sessions={count} accepted={count} codes=0\n"
 
 
-def code(counter):
-    """The HOTP code of six digits (RFC 4226, section 5.3)."""
-    mac = hmac.digest(SECRET, counter.to_bytes(8, "big"), "sha1")
-    at = mac[-1] & 15
-    return f"{(int.from_bytes(mac[at:at + 4], 'big') & 0x7fffffff) % 10**6:06}"
-
-
 def of_codes(names):
-    codes = "".join(f"C CODE {code(counter)}\nS PASS {counter} {counter}\n" for counter in range(CODES))
+    codes = "".join(f"C CODE {code(SECRET, counter)}\nS PASS {counter} {counter}\n" for counter in range(CODES))
     sessions = (login("sha256", name, i) + codes + "C GONE\nE\n" for i, name in enumerate(names))
     count = len(names)
     return "SCRAMLOG 1\n" + "".join(sessions), f"clean sessions={count} accepted={count} codes={count * CODES}\n"
-
-
-def same(words, got, want):
-    if got != want:
-        sys.exit(f"{words}: {got!r}, not {want!r}")
-
-
-def seconds(words, want):
-    """The processor time of one run that prints `want`."""
-    child = subprocess.Popen(words, stdout=subprocess.PIPE, text=True)
-    printed = child.stdout.read()
-    _, status, used = os.wait4(child.pid, 0)
-    child.returncode = status
-    same(words, (status, printed), (0, want))
-    return used.ru_utime + used.ru_stime
 
 
 def peak(words, log, want):
@@ -138,7 +111,8 @@ def peak(words, log, want):
     child.stdin.flush()
     status = pathlib.Path(f"/proc/{child.pid}/status").read_text()
     printed, _ = child.communicate()
-    same(words, (child.returncode, printed.decode()), (0, want))
+    if (child.returncode, printed.decode()) != (0, want):
+        sys.exit(f"{words}: status {child.returncode}, {printed!r}, not {want!r}")
     return int(status.split("VmHWM:")[1].split()[0])
 
 
@@ -152,7 +126,7 @@ def best(program, folder, text, log, want):
     """The best of several turns."""
     (folder / "log").write_text(log)
     words = audit(program, folder, text, folder / "log")
-    return min(seconds(words, want) for _ in range(TURNS))
+    return min(processor(words, exactly(want)) for _ in range(TURNS))
 
 
 def main():

@@ -10,11 +10,12 @@ the code, writes the book and puts it in the place of the old one, synced. Wall 
 """
 import hashlib
 import os
-import subprocess
 import sys
 import tempfile
 import time
 import tomllib
+
+from timed import exactly, wall
 
 ACCOUNTS = 1000
 TURNS = 20
@@ -56,15 +57,6 @@ secret = "{SECRET.hex()}"
     return "".join(parts)
 
 
-def seconds(words, given, want):
-    begun = time.perf_counter()
-    done = subprocess.run(words, input=given, capture_output=True, text=True)
-    taken = time.perf_counter() - begun
-    if (done.returncode, done.stdout) != (0, want):
-        sys.exit(f"{words}: status {done.returncode}, {done.stdout!r}, {done.stderr!r}")
-    return taken
-
-
 def by_tomllib(content):
     begun = time.perf_counter()
     for _ in range(READINGS):
@@ -83,10 +75,10 @@ def times(program, bench, content):
             with open(book, "w") as file:
                 file.write(content)
             turns.append((
-                seconds([bench, "book", "0", book], "", "book 0 of 0\n"),
-                seconds([bench, "book", str(READINGS), book], "", f"book {READINGS} of {READINGS}\n"),
-                seconds(verify, "", ""),
-                seconds(verify, CODE + "\n", "PASS 5 0\n"),
+                wall([bench, "book", "0", book], exactly("book 0 of 0\n")),
+                wall([bench, "book", str(READINGS), book], exactly(f"book {READINGS} of {READINGS}\n")),
+                wall(verify, exactly("")),
+                wall(verify, exactly("PASS 5 0\n"), CODE + "\n"),
                 by_tomllib(content),
             ))
     return [min(column) for column in zip(*turns)]

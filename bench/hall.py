@@ -16,6 +16,7 @@ import tempfile
 import time
 
 from serve import LOGGED, book
+from timed import processor
 
 # Each of these is a multiple of 64.
 LOGINS = 200_000
@@ -31,24 +32,15 @@ def logged(count):
     return count * LOGGED + sum(LINES * (len(str(number)) + 1) for number in range(1, count + 1))
 
 
-def served(count, size):
-    return f"served {count} logged {size} sent "
-
-
-def seconds(words, want):
-    """The processor time of a run, whose output begins like this."""
-    child = subprocess.Popen(words, stdout=subprocess.PIPE, text=True)
-    printed = child.stdout.read()
-    _, child.returncode, used = os.wait4(child.pid, 0)
-    if child.returncode or not printed.startswith(want):
-        sys.exit(f"{words}: status {child.returncode}, {printed!r}, not {want!r}")
-    return used.ru_utime + used.ru_stime
+def seconds(bench, kind, count, size, path):
+    """The processor time of a run that serves so many logins, of which a log has so many bytes."""
+    return processor([bench, kind, str(count), path], lambda it: it.startswith(f"served {count} logged {size} sent "))
 
 
 def rate(bench, kind, size, path):
     """Logins a second."""
-    none = min(seconds([bench, kind, "0", path], served(0, 0)) for _ in range(TURNS))
-    all_of_them = min(seconds([bench, kind, str(LOGINS), path], served(LOGINS, size)) for _ in range(TURNS))
+    none = min(seconds(bench, kind, 0, 0, path) for _ in range(TURNS))
+    all_of_them = min(seconds(bench, kind, LOGINS, size, path) for _ in range(TURNS))
     return LOGINS / (all_of_them - none)
 
 

@@ -8,17 +8,16 @@ their ratio. Start-up is in both: of a process here, and of python3 with hashlib
 """
 import subprocess
 import sys
-import time
+
+from timed import anything, wall
 
 COUNT = 1_000_000
 TURNS = 7
 SALT = "4125c247e43ab1e93c6dff76"
 
 
-def seconds(words, **options):
-    begun = time.perf_counter()
-    subprocess.run(words, check=True, stdout=subprocess.DEVNULL, **options)
-    return time.perf_counter() - begun
+def seconds(words, given=""):
+    return wall(words, anything, given, subprocess.DEVNULL)
 
 
 def main():
@@ -26,7 +25,7 @@ def main():
     for mechanism, digest in (("SCRAM-SHA-1", "sha1"), ("SCRAM-SHA-256", "sha256")):
         words = [program, "keys", "--mechanism", mechanism, "--salt", SALT, "--count", str(COUNT)]
         line = f"import hashlib; hashlib.pbkdf2_hmac('{digest}', b'pencil', bytes.fromhex('{SALT}'), {COUNT})"
-        turns = [(seconds(words, input=b"pencil\n"), seconds([sys.executable, "-c", line])) for _ in range(TURNS)]
+        turns = [(seconds(words, "pencil\n"), seconds([sys.executable, "-c", line])) for _ in range(TURNS)]
         ours, openssl = (min(column) for column in zip(*turns))
         print(f"keys {mechanism} at {COUNT}: {ours:.3f} s, OpenSSL {openssl:.3f} s, ratio {ours / openssl:.2f}")
 

@@ -14,6 +14,8 @@ import subprocess
 import sys
 import time
 
+from timed import anything, wall
+
 COUNT = 300_000
 PYTHON_COUNT = 30_000
 CODES = 99_999
@@ -52,9 +54,7 @@ def by_python(kind, text):
 
 
 def seconds(words):
-    begun = time.perf_counter()
-    subprocess.run(words, check=True, stdout=subprocess.DEVNULL)
-    return time.perf_counter() - begun
+    return wall(words, anything, output=subprocess.DEVNULL)
 
 
 def main():

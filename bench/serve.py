@@ -10,19 +10,22 @@ synced. Best of several turns, without the time of a start.
 """
 import os
 import pathlib
-import subprocess
 import sys
 import tempfile
 import time
 
 from books import mechanism
+from timed import exactly, wall
+
+sys.path.append(str(pathlib.Path(__file__).resolve().parent.parent / "tests"))
+
+from expected import AUDITS, code
 
 LOGINS = 100_000
 CODES = 5_000  # one session has 10000 turns
 SAVED = 100
 TURNS = 5
 SECRET = b"12345678901234567890"
-AUDITS = pathlib.Path(__file__).parent.parent / "tests" / "data" / "audits"
 # A recorded session is all lines of its log but the first.
 LOGGED = len((AUDITS / "sha256.log").read_bytes()) - len("SCRAMLOG 1\n")
 NONCES = ["--client-nonce", "rOprNGfwEbeRWgbNEkqO", "--server-nonce", "%hvYDpWUa2RaTCAfuxFIlj)hNlF$k0"]
@@ -46,28 +49,14 @@ secret = "{SECRET.hex()}"
 {others}'''
 
 
-def run(words, given=None):
-    """How many seconds a run takes, and what it prints."""
-    begun = time.perf_counter()
-    done = subprocess.run(words, input=given, capture_output=True, text=True)
-    taken = time.perf_counter() - begun
-    if done.returncode or done.stderr:
-        sys.exit(f"{words}: status {done.returncode}, {done.stderr!r}")
-    return taken, done.stdout
-
-
-def best(words, check):
-    """The best seconds of several turns; each has to print what `check` is true of."""
-    turns = [run(words) for _ in range(TURNS)]
-    for _, printed in turns:
-        if not check(printed):
-            sys.exit(f"{words}: {printed!r} is not what it has to print")
-    return min(taken for taken, _ in turns)
+def best(words, is_due):
+    """The best seconds of several turns; each has to print what `is_due` is true of."""
+    return min(wall(words, is_due) for _ in range(TURNS))
 
 
 def over_memory(bench, path):
     """Logins a second, and codes a second."""
-    start = best([bench, "logins", "0", path], lambda it: it == "served 0 logged 0 sent 0\n")
+    start = best([bench, "logins", "0", path], exactly("served 0 logged 0 sent 0\n"))
     logins = best([bench, "logins", str(LOGINS), path], lambda it: it.startswith(f"served {LOGINS} logged {LOGINS * LOGGED} sent "))
     # of each code `C CODE` with six digits and `S PASS 5` with a counter are logged
     logged = LOGGED + sum(len(f"C CODE 000000\nS PASS 5 {counter}\n") for counter in range(CODES))
@@ -78,13 +67,11 @@ def over_memory(bench, path):
 def over_file(program, folder, text, codes):
     """The best seconds of a login with these codes, over a book that is a file."""
     words = [program, "login", "--book", f"{folder}/book", "--name", "user", "--socket", f"{folder}/socket", "--moment", "5", *NONCES]
+    given = "".join(f"{it}\n" for it in ["pencil", *codes])
     turns = []
     for _ in range(TURNS):
         pathlib.Path(folder, "book").write_text(text)
-        taken, printed = run(words, "".join(f"{it}\n" for it in ["pencil", *codes]))
-        if printed.count("\nS PASS 5 ") != len(codes):
-            sys.exit(f"{words}: not all of {len(codes)} codes pass: {printed!r}")
-        turns.append(taken)
+        turns.append(wall(words, lambda it: it.count("\nS PASS 5 ") == len(codes), given))
     return min(turns)
 
 
@@ -106,9 +93,7 @@ def synced(folder, size):
 
 def main():
     program, bench = sys.argv[1:]
-    codes = [run([program, "code", "--secret", SECRET.hex(), "--counter", str(at)])[1].strip() for at in range(SAVED)]
-    if codes[0] != "755224":
-        sys.exit(f"{program} code: {codes[0]!r}, not '755224'")
+    codes = [code(SECRET, at) for at in range(SAVED)]
     for accounts in (1, 1000):
         text = book(accounts)
         with tempfile.TemporaryDirectory() as folder:

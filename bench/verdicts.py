@@ -10,9 +10,10 @@ start.
 """
 import hashlib
 import hmac
-import subprocess
 import sys
 import time
+
+from timed import exactly, wall
 
 COUNT = 300_000
 PYTHON_COUNT = 30_000
@@ -35,19 +36,11 @@ def by_python(macs):
     return PYTHON_COUNT / (time.perf_counter() - begun)
 
 
-def seconds(words, want):
-    begun = time.perf_counter()
-    done = subprocess.run(words, check=True, capture_output=True, text=True)
-    if done.stdout != want:
-        sys.exit(f"{words}: {done.stdout!r}, not {want!r}")
-    return time.perf_counter() - begun
-
-
 def main():
     bench = sys.argv[1]
-    start = min(seconds([bench, "verdict", "1", FINAL], "accepted 1\n") for _ in range(TURNS))
+    start = min(wall([bench, "verdict", "1", FINAL], exactly("accepted 1\n")) for _ in range(TURNS))
     many = [bench, "verdict", str(COUNT), FINAL]
-    ours = min(seconds(many, f"accepted {COUNT}\n") for _ in range(TURNS)) - start
+    ours = min(wall(many, exactly(f"accepted {COUNT}\n")) for _ in range(TURNS)) - start
     two, four = (max(by_python(macs) for _ in range(TURNS)) for macs in (2, 4))
     print(f"verdicts: {COUNT / ours:,.0f} a second; by Python's hmac two HMACs and a hash {two:,.0f}, four {four:,.0f}")
 

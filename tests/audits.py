@@ -10,8 +10,6 @@ read; and a book that another run holds.
 """
 import base64
 import fcntl
-import hashlib
-import hmac
 import os
 import pathlib
 import re
@@ -22,8 +20,8 @@ import time
 import suite
 from audit_cases import TABLE, cases
 from checks import equal
-from expected import AUDITS, proved
-from suite import PROGRAM, SALT, audit_says, fault_text
+from expected import AUDITS, login_keys, proved
+from suite import PROGRAM, SALT, audit_says, fault_text, sleeps, until
 
 KEYS = AUDITS / "keys.toml"
 LOGIN = AUDITS / "sha1.log"
@@ -57,9 +55,7 @@ def rows_of_table(folder):
 
 def signed(challenge):
     """The proof and the signature of the first log's login to this challenge (RFC 5802, section 3)."""
-    salted = hashlib.pbkdf2_hmac("sha1", b"pencil", bytes.fromhex(SALT), 4096)
-    client = hmac.digest(salted, b"Client Key", "sha1")
-    server = hmac.digest(salted, b"Server Key", "sha1")
+    client, server = login_keys("sha1", b"pencil", bytes.fromhex(SALT), 4096)
     nonce = challenge.split(",")[0]
     joined = f"n=user,r=fyko+d2lbbFgONRv9qkxdawL,{challenge},c=biws,{nonce}".encode()
     return [base64.b64encode(data).decode() for data in proved("sha1", client, server, joined)]
@@ -125,6 +121,8 @@ def progress_on_a_terminal(folder):
         running = subprocess.Popen(words, stdin=subprocess.PIPE, stdout=subprocess.PIPE, stderr=end)
         running.stdin.write(HEADER + GONE)
         running.stdin.flush()
+        # The program counts its two seconds from when it begins to read, and sleeps once it has read what is there.
+        until(lambda: sleeps(running.pid))
         time.sleep(wait)
         running.stdin.write(GONE)
         running.stdin.close()

@@ -240,6 +240,34 @@ def full_output(folder):
     equal((token(book)["next"], token(book)["failures"]), (1, 0), "the token")
 
 
+def each_line(folder):
+    """Each line is a code as it is, whatever came before it; where one is refused the status says so."""
+    book, right = os.path.join(folder, "book"), CODES[0]
+    for text, status, printed in [
+        (f"000000\n{right}\n", 1, "FAIL 5\nPASS 5 0\n"),
+        (f"{right}\n000000", 1, "PASS 5 0\nFAIL 5\n"),
+        (f"{right}\r\n", 1, "FAIL 5\n"),
+        (f"\n{right}\n", 1, "FAIL 5\nPASS 5 0\n"),
+        (f"{right}\n", 0, "PASS 5 0\n"),
+        ("", 0, ""),
+    ]:
+        done = run("verify", {"book": put(book), **GOOD["verify"][0]}, text)
+        says(f"verify of {text!r}", done, status, printed)
+
+
+def random_bytes(folder):
+    """An account that is added to a book takes 16 bytes for each salt, SHA-1's first. The book keeps its key for decoys."""
+    book, random = put(os.path.join(folder, "book")), pathlib.Path(folder, "random")
+    random.write_bytes(bytes(range(64)))
+    before = read_book(book)
+    options, text, printed = GOOD["enrol"]
+    says("enrol", run("enrol", {"book": book, "random": random, **options}, text), 0, printed)
+    after = read_book(book)
+    salts = [after["accounts"]["new"][table]["salt"] for table in ["sha1", "sha256"]]
+    equal(salts, [bytes(range(16)).hex(), bytes(range(16, 32)).hex()], after)
+    equal(after["decoy_key"], before["decoy_key"], after)
+
+
 def unsaved(folder):
     """LOCKED saves nothing, nor does what is refused, nor an empty input."""
     book = put(os.path.join(folder, "book"), LOCKED)
@@ -419,6 +447,8 @@ TESTS = [
     longest,
     unwritable,
     full_output,
+    each_line,
+    random_bytes,
     unsaved,
     unlocked,
     names,

@@ -2,13 +2,15 @@
 """Checks that what the documents name is there: links and their sections, paths, and the names of the sources that they cite; that no
 test is left out; and that sizes are not stale.
 
-Usage: documents.py [PROGRAM]
+Usage: documents.py
 
 Each link between pages leads to a page and a section of it. Each path between backquotes is one of the repository, and each file of
 sources that is named is one of a crate. Each name that a page of promises has between backquotes is one of the sources. So is each of
 a page for maintainers, or one of a script, where it has no space. run.py runs each script of this folder that takes a program, and
-docs/TESTING.md names each script. The sizes of docs/PROMISES.md are about those of the sources. The program is not run.
+docs/TESTING.md names each script. The sizes of docs/PROMISES.md are about those of the sources, and docs/TESTING.md tells how many rows
+the tables of vectors and of faulty books have. The kit that the Makefile names is that of docs/PROMISES.md and README.md.
 """
+import csv
 import re
 from pathlib import Path
 
@@ -20,8 +22,11 @@ PAGES = [TOP / "README.md", TOP / "CONTRIBUTING.md", TOP / "CHANGELOG.md", *sort
 PROMISES = ["PROMISES.md", "LOG_PROMISES.md", "CONTRACTS.md"]
 MAINTAINERS = ["ARCHITECTURE.md", "DECISIONS.md", "MUTATIONS.md", "PROVING.md", "TIMES.md"]
 
+# The kit by which all was proved: its name, and what tells its logic from that of another.
+KIT = re.search(r"^KIT = (.+)$", (TOP / "Makefile").read_text(encoding="utf-8"), re.MULTILINE).group(1)
+
 # What pages of promises have between backquotes that no source has: an example of a name, and the kit's own identity.
-NOT_OF_THE_SOURCES = {"IsX", "rattle-kit-13f", "logic", "dac8208d650f15bf"}
+NOT_OF_THE_SOURCES = {"IsX", *KIT.split()}
 # What pages for maintainers have that no source and no script has: calls that are not made, types and options, and the beginning of
 # some names.
 NOT_OF_THE_REPOSITORY = {"shrink_to_fit", "wrapping_abs", "getxattr", "O_NOFOLLOW", "O_NONBLOCK", "read_", "read_until", "as_mut_slice"}
@@ -59,7 +64,7 @@ def broken_links(page):
 def missing_paths(page):
     """The paths of a page, from the repository's top, at which nothing is."""
     for number, line in prose(page):
-        for path in re.findall(r"`((?:bench|crates|docs|tests)/[\w./-]+)`", line):
+        for path in re.findall(r"`((?:bench|crates|docs|tests|tools)/[\w./-]+)`", line):
             is_of_any_crate = "NAME" in path
             is_built = "/out/" in path
             if not (is_of_any_crate or is_built or (TOP / path).exists()):
@@ -102,8 +107,8 @@ def unknown_names(page, paths, known, skipped=r"\.(rt|antt)$"):
 
 
 def words_of_scripts():
-    """The words of the tests, the benchmarks, the Makefile and the list of crates."""
-    files = [TOP / "Makefile", TOP / "crates.txt", *TOP.glob("tests/*.*"), *TOP.glob("bench/*.py")]
+    """The words of the tests, the benchmarks, the tools, the Makefile and the list of crates."""
+    files = [TOP / "Makefile", TOP / "crates.txt", *TOP.glob("tests/*.*"), *TOP.glob("bench/*.py"), *TOP.glob("tools/*")]
     return {word for file in files for word in re.findall(r"[\w-]+", file.read_text(encoding="utf-8"))}
 
 
@@ -121,20 +126,37 @@ def lines_of(*patterns):
     return sum(file.read_bytes().count(b"\n") for pattern in patterns for file in TOP.glob(pattern))
 
 
+def rows_of(table):
+    """How many rows a table of tests/data has."""
+    with open(TOP / "tests" / "data" / table, newline="", encoding="utf-8") as file:
+        return sum(1 for _ in csv.DictReader(file))
+
+
 def stale_sizes():
-    """The sizes that docs/PROMISES.md tells and that differ from those of the sources by more than one in fifty."""
-    told = (TOP / "docs" / "PROMISES.md").read_text(encoding="utf-8")
+    """The sizes that a page does not tell, or that are others: of the sources by more than one in fifty, of a table by any row."""
     libraries = re.search(r"^LIBRARIES = (.+)$", (TOP / "Makefile").read_text(encoding="utf-8"), re.MULTILINE).group(1).split()
     edits = len([*TOP.glob("crates/*/edits/*.edit"), *TOP.glob("crates/*/must-fail/*.edit")])
-    for form, size in [
-        (r"some\s+(\d+) of definitions", lines_of("crates/*/specs/**/*.antt")),
-        (r"some\s+(\d+) of code", lines_of(*(f"crates/{name}/src/**/*.rt" for name in [*libraries, "scramotp"]))),
-        (r"The\s+(\d+) lines of proofs", lines_of("crates/*/proofs/**/*.antt")),
-        (r"some\s+(\d+) wrong bodies", edits),
+    code = [f"crates/{name}/src/**/*.rt" for name in [*libraries, "scramotp"]]
+    for name, form, size, is_exact in [
+        ("PROMISES.md", r"some\s+(\d+) of definitions", lines_of("crates/*/specs/**/*.antt"), False),
+        ("PROMISES.md", r"some\s+(\d+) of code", lines_of(*code), False),
+        ("PROMISES.md", r"The\s+(\d+) lines of proofs", lines_of("crates/*/proofs/**/*.antt"), False),
+        ("PROMISES.md", r"some\s+(\d+) wrong bodies", edits, False),
+        ("TESTING.md", r"(\d+) rows of keys", rows_of("vectors/keys.csv"), True),
+        ("TESTING.md", r"(\d+) codes that oathtool made", rows_of("vectors/codes.csv"), True),
+        ("TESTING.md", r"`book_faults\.py`: (\d+) books", rows_of("book_faults/cases.csv"), True),
     ]:
-        number = int(re.search(form, told).group(1))
-        if 50 * abs(number - size) > size:
-            yield f"{number}, and not {size}: {form}"
+        told = re.search(form, (TOP / "docs" / name).read_text(encoding="utf-8"))
+        number = told and int(told.group(1))
+        if number is None or abs(number - size) > (0 if is_exact else size // 50):
+            yield f"{name}: {number}, and not {size}: {form}"
+
+
+def pages_of_another_kit():
+    """The pages that do not tell the kit: docs/PROMISES.md has to tell all of it, README.md its name."""
+    for page, told in [(TOP / "docs" / "PROMISES.md", KIT), (TOP / "README.md", KIT.split()[0])]:
+        if not any(name == told for _, name in quoted(page)):
+            yield f"{page.name}: {told}"
 
 
 def main():
@@ -149,7 +171,8 @@ def main():
     maintainers = [TOP / "docs" / name for name in MAINTAINERS]
     skipped = r"\.(rt|antt)$| |NAME"
     equal([fault for page in maintainers for fault in unknown_names(page, paths, known, skipped)], [], "names that nothing has")
-    equal(list(stale_sizes()), [], "sizes that docs/PROMISES.md has")
+    equal(list(stale_sizes()), [], "sizes that pages have")
+    equal(list(pages_of_another_kit()), [], "pages that do not name the kit of the Makefile")
     equal(list(untold_tests()), ["run.py"], "scripts that run.py does not run, or docs/TESTING.md does not name")
     print(f"documents.py: {len(PAGES)} pages name what is there")
 

@@ -23,11 +23,16 @@ def code(secret, counter, digits=6, function="sha1"):
     return f"{(int.from_bytes(tag[at:at + 4], 'big') & 0x7FFFFFFF) % 10**digits:0{digits}}"
 
 
+def login_keys(function, password, salt, count):
+    """The client's key and the server's of a password (RFC 5802, section 3)."""
+    salted = hashlib.pbkdf2_hmac(function, password, salt, count)
+    return hmac.digest(salted, b"Client Key", function), hmac.digest(salted, b"Server Key", function)
+
+
 def keys_of(function, password, salt, count):
     """The stored key and the server key of a password, as hexadecimal text (RFC 5802, section 3)."""
-    salted = hashlib.pbkdf2_hmac(function, password, salt, count)
-    stored = hashlib.new(function, hmac.digest(salted, b"Client Key", function))
-    return stored.hexdigest(), hmac.digest(salted, b"Server Key", function).hex()
+    client, server = login_keys(function, password, salt, count)
+    return hashlib.new(function, client).hexdigest(), server.hex()
 
 
 def proved(function, client, server, auth_message):

@@ -3,8 +3,8 @@
 
 Usage: install.py PROGRAM
 
-Wherever DESTDIR and PREFIX lead, also where a name has a space, the program is the one file that comes there. One that is not built, or
-is older than its sources, is refused. Needs `make`.
+Wherever DESTDIR and PREFIX lead, also where a name has a space, the program and the tools of tools/ come there, and no other file. A
+program that is not built, or is older than its sources, is refused. Needs `make`.
 """
 import os
 import pathlib
@@ -35,8 +35,9 @@ def files_of(folder):
 
 
 def installed(folder):
-    """The program is there with its bytes, for all to run and for its owner to write, and no other file is."""
+    """The program and the tools are there with their bytes, for all to run and for their owner to write, and no other file is."""
     program = shutil.copy(PROGRAM, folder)
+    tools = {path.name: path.read_bytes() for path in (TOP / "tools").iterdir()}
     for name, folders, place in [
         ("plain", {"DESTDIR": "{}"}, "usr/local"),
         ("with a space", {"DESTDIR": "{}"}, "usr/local"),
@@ -46,10 +47,12 @@ def installed(folder):
         to = pathlib.Path(folder, name)
         done = install(program, **{variable: value.format(to) for variable, value in folders.items()})
         equal((done.returncode, done.stderr), (0, ""), name)
-        path = to / place / "bin" / "scramotp"
-        equal(files_of(to), [path], name)
-        equal(stat.S_IMODE(path.stat().st_mode), 0o755, name)
-        holds(path.read_bytes() == pathlib.Path(PROGRAM).read_bytes(), name, "another program is there")
+        due = {to / place / "share" / "scramotp" / tool: text for tool, text in tools.items()}
+        due[to / place / "bin" / "scramotp"] = pathlib.Path(PROGRAM).read_bytes()
+        equal(sorted(files_of(to)), sorted(due), name)
+        for path, text in due.items():
+            equal(stat.S_IMODE(path.stat().st_mode), 0o755, path)
+            holds(path.read_bytes() == text, path, "another file is there")
 
 
 def refused(folder):

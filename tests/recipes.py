@@ -3,34 +3,38 @@
 
 Usage: recipes.py PROGRAM [OPERATING]
 
-Blocks are taken by their section and their language. Each is run by bash in a folder of its own that has an account book,
-with the program on the PATH, and then all of them in one folder in their order; of a unit of systemd the command and the
-credentials are used. Codes, keys and verifiers are those of RFC 4226 and RFC 7677, of keys.csv (made by Dovecot and GNU SASL), or of
-Python's hashlib. A block that no test runs is a fault. Takes the 30 seconds for which an edit waits for a book.
+Blocks are taken by their section and their language. Each is run by bash in a folder of its own that has an account book and a link to
+tools/, with the program on the PATH, and then all of them in one folder in their order; of a unit of systemd the command and the
+credentials are used. So each of the tools is tried, but for `serve-hall`, which serve_hall.py tries. Codes, keys and verifiers are those
+of RFC 4226 and RFC 7677, of keys.csv (made by Dovecot and GNU SASL), or of Python's hashlib. A block that no test runs is a fault. Takes
+the 30 seconds for which an edit waits for a book.
 """
 import base64
 import csv
 import fcntl
+import fnmatch
 import grp
 import os
 import re
 import shlex
 import signal
-import socket
 import subprocess
 import sys
 import time
 from concurrent.futures import ThreadPoolExecutor
 from pathlib import Path
 
-import clients
 import expected
 import suite
 from checks import equal, holds
 from expected import AUDITS, BOOK_FAULTS, VECTORS, keys_of
-from suite import BOOK_OF_USER, CODES, NOBODY, PROGRAM, ROOT, code, hotp, is_locked, is_root, read_book, seen, until
+from operating import TOOLS, book_of, does, environment, ran, start, with_tools
+from suite import BOOK_OF_USER, CODES, NOBODY, ROOT, code, hotp, is_locked, is_root, read_book, seen, until
 
 DOCUMENT = Path(sys.argv[2]) if len(sys.argv) > 2 else Path(__file__).resolve().parent.parent / "docs" / "OPERATING.md"
+# Where the document finds the tools, and the folder that it makes.
+INSTALLED = "/usr/local/share/scramotp"
+PLACE = "/var/lib/scramotp"
 NAME = "user@example.org"
 FOB = "fob@example.org"
 
@@ -61,48 +65,8 @@ def blocks(title, language="sh"):
     return [block for _, _, block in found]
 
 
-def environment(folder, **more):
-    commands = Path(folder, "bin")
-    commands.mkdir(exist_ok=True)
-    if not os.path.lexists(commands / "scramotp"):
-        os.symlink(PROGRAM, commands / "scramotp")
-    return {**os.environ, "PATH": f"{commands}:{os.environ['PATH']}", **more}
-
-
-def start(folder, block, **more):
-    streams = dict.fromkeys(["stdin", "stdout", "stderr"], subprocess.PIPE)
-    return subprocess.Popen(["bash", "-c", block], cwd=folder, env=environment(folder, **more), text=True, **streams)
-
-
-def ran(folder, block, text="", **more):
-    """The status, the output and the faults of a block, run by bash."""
-    run = start(folder, block, **more)
-    output, faults = run.communicate(text, timeout=60)
-    return run.returncode, output, faults
-
-
-def does(folder, block, text="", printed="", **more):
-    """Runs a block that is to succeed and to print this."""
-    equal(ran(folder, block, text, **more), (0, printed, ""), block)
-
-
-def book_of(folder):
-    return read_book(Path(folder, "book.toml"))
-
-
-def with_tools(folder, text):
-    """A folder with the two scripts that other recipes use, and a book with this text."""
-    _, *scripts = blocks("Set up")
-    for block in scripts:
-        does(folder, block)
-    book = Path(folder, "book.toml")
-    book.write_text(text)
-    book.chmod(0o600)
-    return book
-
-
 def enrolled(folder):
-    """A folder with the scripts, and a book with two accounts that have passwords."""
+    """A folder with the tools, and a book with two accounts that have passwords."""
     with_tools(folder, "").unlink()
     for name in [NAME, "other"]:
         enrol = f"scramotp enrol --book book.toml --name {name}"
@@ -225,13 +189,13 @@ def a_run_waits(folder):
 def many_at_once(folder):
     """Of edits and runs at the same time none loses what another has changed."""
     with_tools(folder, BOOK_OF_USER + hotp(look_ahead=9, limit=99))
-    edits = [f"tools/edit-book book.toml sh -c 'cat; echo \"[accounts.a{number}]\"'" for number in range(20)]
-    enrols = [f"scramotp enrol --book book.toml --name b{number} --count 1" for number in range(20)]
-    with ThreadPoolExecutor(40) as pool:
+    edits = [f"tools/edit-book book.toml sh -c 'cat; echo \"[accounts.a{number}]\"'" for number in range(8)]
+    enrols = [f"scramotp enrol --book book.toml --name b{number} --count 1" for number in range(8)]
+    with ThreadPoolExecutor(17) as pool:
         found = list(pool.map(lambda block: ran(folder, block, "pencil\n"), [*edits, *enrols, verify("user", *CODES[:6])]))
-    equal([status for status, _, _ in found], [0] * 41, found)
+    equal([status for status, _, _ in found], [0] * 17, found)
     accounts = book_of(folder)["accounts"]
-    equal(set(accounts), {"user", *(f"{kind}{number}" for kind in "ab" for number in range(20))}, sorted(accounts))
+    equal(set(accounts), {"user", *(f"{kind}{number}" for kind in "ab" for number in range(8))}, sorted(accounts))
     equal(accounts["user"]["token"]["next"], 6)
 
 
@@ -435,13 +399,12 @@ def verifiers_of_others(folder):
     """Verifiers that Dovecot and GNU SASL made come into a book as they are."""
     with open(VECTORS / "keys.csv", newline="", encoding="ascii") as table:
         rows = [row for row in csv.DictReader(table) if "doveadm" in row["source"]][::6]
-    script, into, _ = blocks("Keys from PostgreSQL and Dovecot")
+    into, _ = blocks("Keys from PostgreSQL and Dovecot")
     equal({row["mechanism"] for row in rows}, {"SCRAM-SHA-1", "SCRAM-SHA-256"}, rows)
     for number, row in enumerate(rows):
         of_row = Path(folder, str(number))
         of_row.mkdir()
         with_tools(of_row, BOOK_OF_USER)
-        does(of_row, script)
         fields = [row[name] for name in ["mechanism", "count", "salt_hex", "stored_hex", "server_hex"]]
         does(of_row, into, texts(*fields)[1] + "\n")
         table = {"SCRAM-SHA-1": "sha1", "SCRAM-SHA-256": "sha256"}[row["mechanism"]]
@@ -455,8 +418,7 @@ def a_verifier_there_and_back(folder):
     with_tools(folder, BOOK_OF_USER.replace("user", "other"))
     salt = base64.b64decode("W22ZaJ0SNY7soEsUEjb6gQ==").hex()
     both = texts("SCRAM-SHA-256", 4096, salt, *keys_of("sha256", b"pencil", bytes.fromhex(salt), 4096))
-    script, into, out = blocks("Keys from PostgreSQL and Dovecot")
-    does(folder, script)
+    into, out = blocks("Keys from PostgreSQL and Dovecot")
     does(folder, into, both[0] + "\n")
     does(folder, out, printed="\n".join(both) + "\n")
     does(folder, into.replace(NAME, "user"), both[0] + "\n")
@@ -471,176 +433,10 @@ def a_verifier_there_and_back(folder):
         equal(book_of(folder), before)
 
 
-def line_of(client):
-    """The next line that a client is told, without its LF; nothing where it is told no more."""
-    text = b""
-    while not text.endswith(b"\n"):
-        byte = client.recv(1)
-        if not byte:
-            return text.decode()
-        text += byte
-    return text[:-1].decode()
-
-
-def connected(folder):
-    """A client of the program that serves in this folder, once that listens."""
-    client = socket.socket(socket.AF_UNIX)
-    client.settimeout(20)
-
-    def is_connected():
-        try:
-            client.connect(str(Path(folder, "hall.sock")))
-        except (FileNotFoundError, ConnectionRefusedError):
-            return False
-        return True
-
-    until(is_connected)
-    return client
-
-
-def greeted(folder):
-    """Such a client, which was greeted."""
-    client = connected(folder)
-    equal(line_of(client), clients.MECHS[2:], "the greeting")
-    return client
-
-
-def begins_login(client, account):
-    """The client sends the first message of a login of this account."""
-    client.sendall(f"AUTH {account.mechanism} :{account.exchange('fyko', '').first}\n".encode())
-
-
-def logs_in(client, account):
-    """The rest of such a login."""
-    challenge = line_of(client).removeprefix("CONT :")
-    own = re.match(r"r=fyko([^,]{24}),", challenge)[1]
-    it = account.exchange("fyko", own)
-    equal(challenge, it.challenge, "the challenge")
-    client.sendall(f"RESP :{it.final}\n".encode())
-    equal(line_of(client), f"OK :v={it.signature}", "the login")
-
-
-def is_told(client, line, answer):
-    """The client sends a line, and its answer is of this form."""
-    client.sendall(f"{line}\n".encode())
-    told = line_of(client)
-    holds(re.fullmatch(answer, told), line, told)
-
-
-def serving_hall(folder, book, patience=60):
-    """The document's program over a book with this text. It waits so many seconds for a line."""
-    with_tools(folder, book)
-    [script] = blocks("Serve many logins with `hall`")
-    equal(script.count("\nPATIENCE = 60\n"), 1, "the seconds that it waits")
-    does(folder, script.replace("\nPATIENCE = 60\n", f"\nPATIENCE = {patience}\n"))
-    return start(folder, "umask 077; exec tools/serve-hall book.toml hall.sock hall.log")
-
-
-def stops(serving):
-    """Stops the program until it is told to continue."""
-    serving.send_signal(signal.SIGSTOP)
-    os.waitid(os.P_PID, serving.pid, os.WSTOPPED)
-
-
-def serves_until(serving, number, folder, answer):
-    """The program ends well at this signal. Its log is clean for the book that it began with: the audit's answer."""
-    serving.send_signal(number)
-    equal((serving.wait(timeout=20), serving.stdout.read(), serving.stderr.read()), (0, "", ""), "the end")
-    does(folder, "scramotp audit --book hall.log.toml --log hall.log", printed=f"{answer}\n")
-
-
-def a_hall_of_your_own(folder):
-    """Five clients: one logs in and sends a code, one sends a line that is too long, one asks for another mechanism, one goes away, and
-    one is gone before it is greeted."""
-    account = clients.Account("user", "SCRAM-SHA-256")
-    serving = serving_hall(folder, clients.book([account]))
-    good, long, other, away = [greeted(folder) for _ in range(4)]
-    away.close()
-    stops(serving)
-    connected(folder).close()
-    serving.send_signal(signal.SIGCONT)
-    begins_login(good, account)
-    long.sendall(b"x" * 7000 + b"\n")
-    equal([line_of(long), line_of(long)], ["NO :", ""], "a line that is too long")
-    other.sendall(b"AUTH PLAIN\n")
-    equal([line_of(other), line_of(other)], ["NO :", ""], "another mechanism")
-    logs_in(good, account)
-    is_told(good, f"CODE {account.code(0)}", r"PASS \d+ 0")
-    serves_until(serving, signal.SIGINT, folder, "clean sessions=5 accepted=1 codes=1")
-    equal(line_of(good), "", "the client is told no more")
-    equal([Path(folder, name).stat().st_mode & 0o777 for name in ["hall.log", "hall.log.toml"]], [0o600, 0o600], "the mode of the log")
-    equal(book_of(folder)["accounts"]["user"]["token"]["next"], 1, "the counter is used")
-
-
-def a_full_hall(folder):
-    """Where 64 clients are there the next is turned away, until one leaves. Who has no token can send codes all the same."""
-    account = clients.Account("bare", "SCRAM-SHA-256")
-    book, token, _ = clients.book([account]).partition('\n[accounts."bare".token]\n')
-    holds(token, "the token that is left out")
-    serving = serving_hall(folder, book)
-    guests = [greeted(folder) for _ in range(64)]
-    away = connected(folder)
-    equal([line_of(away), line_of(away)], ["BUSY", ""], "the 65th")
-    is_told(guests[0], "ABORT", "NO :")
-    equal(line_of(guests[0]), "", "one that has left")
-    last = greeted(folder)
-    begins_login(last, account)
-    logs_in(last, account)
-    for _ in range(2):
-        is_told(last, "CODE 755224", r"NOCODE \d+")
-    serves_until(serving, signal.SIGTERM, folder, "clean sessions=65 accepted=1 codes=0")
-
-
-def a_hall_that_halts(folder):
-    """Where a code can't be saved its client is told HALT, unless it is gone, and the program ends. Its log is clean all the same."""
-    account = clients.Account("user", "SCRAM-SHA-256")
-    for is_gone in [False, True]:
-        place = Path(folder, str(is_gone))
-        place.mkdir()
-        serving = serving_hall(place, clients.book([account]))
-        client, other = greeted(place), greeted(place)
-        begins_login(client, account)
-        logs_in(client, account)
-        Path(place, "book.toml.new").mkdir()
-        stops(serving)
-        client.sendall(f"CODE {account.code(0)}\n".encode())
-        if is_gone:
-            client.close()
-        serving.send_signal(signal.SIGCONT)
-        if not is_gone:
-            equal([line_of(client), line_of(client)], ["HALT", ""], "the code's client")
-        equal(line_of(other), "", "another client")
-        faults = ["scramotp: cannot write book.toml", "serve-hall: the book can't be saved"]
-        equal((serving.wait(timeout=20), sorted(serving.stderr.read().splitlines())), (1, faults), is_gone)
-        holds(not Path(place, "hall.sock").exists(), "the socket is left")
-        does(place, "scramotp audit --book hall.log.toml --log hall.log", printed="clean sessions=2 accepted=1 codes=0\n")
-
-
-def a_slow_client(folder):
-    """A client that sends byte after byte and no whole line is cut off."""
-    serving = serving_hall(folder, BOOK_OF_USER, patience=3)
-    slow = greeted(folder)
-    slow.settimeout(0.02)
-
-    def is_cut_off():
-        try:
-            slow.sendall(b"x")
-            return slow.recv(1) == b""
-        except TimeoutError:
-            return False
-        except OSError:
-            return True
-
-    until(is_cut_off)
-    serves_until(serving, signal.SIGINT, folder, "clean sessions=1 accepted=0 codes=0")
-
-
 def a_code_in_a_script(folder):
     """Only a code that passes lets in. A blank line is not asked for, and counts nowhere."""
     tokens = [hotp(look_ahead=0, limit=2, name=name) for name in ["user", "-x"]]
     with_tools(folder, BOOK_OF_USER + "".join(tokens) + "\n[accounts.bare]\n")
-    [script] = blocks("Verify a code in a script")
-    does(folder, script)
 
     def lets_in(text, name="user", book="book.toml"):
         return ran(folder, f"tools/check-code {book} {name}", text)[0]
@@ -663,6 +459,22 @@ def a_code_in_a_script(folder):
     silent.write_text("#!/bin/sh\n")
     silent.chmod(0o755)
     equal(ran(folder, 'PATH="$PWD/silent:$PATH" tools/check-code book.toml user', CODES[4])[0], 1)
+
+
+def a_code_of_a_service(folder):
+    """The words by which a service of another user runs `check-code` are those that the line for sudo allows. Here a stand-in for sudo runs
+    them as the same user."""
+    book = with_tools(folder, BOOK_OF_USER + hotp(look_ahead=0, limit=9))
+    page = DOCUMENT.read_text(encoding="utf-8").replace(INSTALLED, str(TOOLS)).replace(f"{PLACE}/book.toml", str(book))
+    [allowed] = re.findall(r"^`web ALL=\(scramotp\) NOPASSWD: (.*)`$", page, re.M)
+    [call] = re.findall(r"^`(printf .* \| sudo .*)`$", page, re.M)
+    sudo = Path(environment(folder)["PATH"].partition(":")[0], "sudo")
+    sudo.write_text('#!/bin/sh\n[ "$1 $2 $3" = "-n -u scramotp" ] && shift 3 && echo "$@" >asked && exec "$@"\n')
+    sudo.chmod(0o755)
+    for it, status in [(CODES[0], 0), (CODES[0], 1), ("000000", 1)]:
+        equal(ran(folder, f"code={it} name=user\n{call}"), (status, "", ""), it)
+        asked = Path(folder, "asked").read_text().removesuffix("\n")
+        holds(fnmatch.fnmatchcase(asked, allowed), asked, allowed)
 
 
 def faulty(row):
@@ -716,7 +528,7 @@ def a_backup(folder):
 
 def a_shell(folder):
     """As root, and with nobody for the user that is made: the folder is the user's alone, and the shell is the user's, in the folder."""
-    shell, *_ = blocks("Set up")
+    shell, _ = blocks("Set up")
     make_user, block = shell.split("\n", 1)
     equal(make_user, "useradd --system --user-group scramotp")
     if not is_root():
@@ -724,10 +536,20 @@ def a_shell(folder):
     os.chmod(folder, 0o711)
     place = os.path.realpath(Path(folder, "place"))
     group = grp.getgrgid(NOBODY.pw_gid).gr_name
-    for old, new in [("/var/lib/scramotp", place), ("-g scramotp", f"-g {group}"), ("scramotp", NOBODY.pw_name)]:
+    for old, new in [(PLACE, place), ("-g scramotp", f"-g {group}"), ("scramotp", NOBODY.pw_name)]:
         holds(old in block, old)
         block = block.replace(old, new)
     does(folder, block, "id -un; pwd; stat -c '%a %U' .\n", f"{NOBODY.pw_name}\n{place}\n700 {NOBODY.pw_name}\n")
+
+
+def every_tool(folder):
+    """The table of tools has each of them, with its usage, and the link leads to them."""
+    _, link = blocks("Set up")
+    does(folder, link.replace(INSTALLED, str(TOOLS)))
+    told = re.findall(r"^\| `(\S+) (.*?)` \|", DOCUMENT.read_text(encoding="utf-8").partition("## Folder and rights")[0], re.M)
+    equal({name for name, _ in told}, set(os.listdir(Path(folder, "tools"))), told)
+    for name, words in told:
+        holds(f"{name} {words}: " in Path(folder, "tools", name).read_text(encoding="utf-8"), name, words)
 
 
 def all_in_order(folder):
@@ -739,7 +561,7 @@ def all_in_order(folder):
     _, *found = [(title, block) for title, language, block in all_blocks() if language == "sh"]
     printed = []
     for title, block in found:
-        status, output, faults = ran(folder, LEAVES_NOTHING.format(block), inputs.get(title, ""))
+        status, output, faults = ran(folder, LEAVES_NOTHING.format(block.replace(INSTALLED, str(TOOLS))), inputs.get(title, ""))
         equal((status, faults), (0, ""), title, output)
         printed += output.splitlines()
     added, secret, ahead, changed, *verifiers = printed
@@ -800,13 +622,11 @@ TESTS = [
     verifiers_of_others,
     a_verifier_there_and_back,
     a_code_in_a_script,
+    a_code_of_a_service,
     keys_at_fault,
     a_backup,
     a_shell,
-    a_hall_of_your_own,
-    a_full_hall,
-    a_hall_that_halts,
-    a_slow_client,
+    every_tool,
     all_in_order,
     units,
     every_block,

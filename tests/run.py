@@ -33,6 +33,7 @@ TESTS = [
     "failed_saves.py",
     "hall.py",
     "hall_faults.py",
+    "serve_hall.py",
     "login.py",
     "audits.py",
     "sessions.py",
@@ -47,7 +48,6 @@ TESTS = [
     "install.py",
     "story.py",
     "formats.py",
-    "documents.py",
 ]
 
 

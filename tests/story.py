@@ -24,7 +24,7 @@ SHOWN = "#>"
 PASSWORD = "pencil\n"
 
 # What a story has to have, so that a test of half of it can't pass: each of these stands in a command.
-NEEDED = ["mkdir -m 0700 ", "read -rs ", "enrol ", "<<'END'", "base32", "verify ", "unlock ", "login ", "audit "]
+NEEDED = ["mkdir -m 0700 ", "read -rsp ", "enrol ", "<<'END'", "base32", "verify ", "unlock ", "login ", "audit "]
 
 
 def blocks(text, title):

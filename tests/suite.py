@@ -149,6 +149,12 @@ def sleeps(process):
         return file.read().rpartition(") ")[2][0] == "S"
 
 
+def taken(process):
+    """The seconds of processor time that a process has taken for itself so far, in steps of a hundredth."""
+    with open(f"/proc/{process}/stat", encoding="ascii", errors="replace") as file:
+        return int(file.read().rpartition(") ")[2].split()[11]) / os.sysconf("SC_CLK_TCK")
+
+
 def processor_time():
     """The seconds of processor time that the runs of this script have taken, each counted once it has ended."""
     times = os.times()

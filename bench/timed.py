@@ -1,0 +1,39 @@
+"""What the scripts of this folder share: how long a run takes. One that fails, or does not print what it should, ends the script."""
+import os
+import subprocess
+import sys
+import time
+
+
+def exactly(want):
+    """Whether a run has printed this and nothing else."""
+    return lambda printed: printed == want
+
+
+def anything(printed):
+    """Whatever a run has printed."""
+    return True
+
+
+def check(words, status, printed, faults, is_due):
+    if status or faults or not is_due(printed):
+        sys.exit(f"{words}: status {status}, {printed!r}, {faults!r}")
+
+
+def wall(words, is_due, given="", output=subprocess.PIPE):
+    """The seconds by the clock that a run with this input takes."""
+    begun = time.perf_counter()
+    done = subprocess.run(words, input=given, stdout=output, stderr=subprocess.PIPE, text=True)
+    taken = time.perf_counter() - begun
+    check(words, done.returncode, done.stdout, done.stderr, is_due)
+    return taken
+
+
+def processor(words, is_due):
+    """The seconds of processor time that a run takes."""
+    child = subprocess.Popen(words, stdout=subprocess.PIPE, text=True)
+    printed = child.stdout.read()
+    _, status, used = os.wait4(child.pid, 0)
+    child.returncode = os.waitstatus_to_exitcode(status)
+    check(words, child.returncode, printed, "", is_due)
+    return used.ru_utime + used.ru_stime

@@ -1,0 +1,49 @@
+"""What the scripts that run the tools share: the folder tools/, and blocks of shell in a folder that has a link to it and an account book,
+with the program on the PATH."""
+import os
+import subprocess
+from pathlib import Path
+
+from checks import equal
+from suite import PROGRAM, read_book
+
+TOOLS = Path(__file__).resolve().parent.parent / "tools"
+
+
+def environment(folder, **more):
+    commands = Path(folder, "bin")
+    commands.mkdir(exist_ok=True)
+    if not os.path.lexists(commands / "scramotp"):
+        os.symlink(PROGRAM, commands / "scramotp")
+    return {**os.environ, "PATH": f"{commands}:{os.environ['PATH']}", **more}
+
+
+def start(folder, block, **more):
+    streams = dict.fromkeys(["stdin", "stdout", "stderr"], subprocess.PIPE)
+    return subprocess.Popen(["bash", "-c", block], cwd=folder, env=environment(folder, **more), text=True, **streams)
+
+
+def ran(folder, block, text="", **more):
+    """The status, the output and the faults of a block, run by bash."""
+    run = start(folder, block, **more)
+    output, faults = run.communicate(text, timeout=60)
+    return run.returncode, output, faults
+
+
+def does(folder, block, text="", printed="", **more):
+    """Runs a block that is to succeed and to print this."""
+    equal(ran(folder, block, text, **more), (0, printed, ""), block)
+
+
+def with_tools(folder, text):
+    """A folder with a link to the tools, and a book with this text."""
+    link, book = Path(folder, "tools"), Path(folder, "book.toml")
+    if not link.is_symlink():
+        link.symlink_to(TOOLS)
+    book.write_text(text)
+    book.chmod(0o600)
+    return book
+
+
+def book_of(folder):
+    return read_book(Path(folder, "book.toml"))

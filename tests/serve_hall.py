@@ -1,0 +1,187 @@
+#!/usr/bin/env python3
+"""Connects clients to `tools/serve-hall`, which lets them into a hall, and audits the log that it leaves.
+
+Usage: serve_hall.py PROGRAM
+
+What the clients send and have to be told is worked out by Python's hashlib and hmac.
+"""
+import os
+import re
+import signal
+import socket
+from pathlib import Path
+
+import clients
+import suite
+from checks import equal, holds
+from operating import TOOLS, book_of, does, start, with_tools
+from suite import BOOK_OF_USER, until
+
+
+def line_of(client):
+    """The next line that a client is told, without its LF; nothing where it is told no more."""
+    text = b""
+    while not text.endswith(b"\n"):
+        byte = client.recv(1)
+        if not byte:
+            return text.decode()
+        text += byte
+    return text[:-1].decode()
+
+
+def connected(folder):
+    """A client of the program that serves in this folder, once that listens."""
+    client = socket.socket(socket.AF_UNIX)
+    client.settimeout(20)
+
+    def is_connected():
+        try:
+            client.connect(str(Path(folder, "hall.sock")))
+        except (FileNotFoundError, ConnectionRefusedError):
+            return False
+        return True
+
+    until(is_connected)
+    return client
+
+
+def greeted(folder):
+    """Such a client, which was greeted."""
+    client = connected(folder)
+    equal(line_of(client), clients.MECHS[2:], "the greeting")
+    return client
+
+
+def begins_login(client, account):
+    """The client sends the first message of a login of this account."""
+    client.sendall(f"AUTH {account.mechanism} :{account.exchange('fyko', '').first}\n".encode())
+
+
+def logs_in(client, account):
+    """The rest of such a login."""
+    challenge = line_of(client).removeprefix("CONT :")
+    own = re.match(r"r=fyko([^,]{24}),", challenge)[1]
+    it = account.exchange("fyko", own)
+    equal(challenge, it.challenge, "the challenge")
+    client.sendall(f"RESP :{it.final}\n".encode())
+    equal(line_of(client), f"OK :v={it.signature}", "the login")
+
+
+def is_told(client, line, answer):
+    """The client sends a line, and its answer is of this form."""
+    client.sendall(f"{line}\n".encode())
+    told = line_of(client)
+    holds(re.fullmatch(answer, told), line, told)
+
+
+def serving_hall(folder, book, tool="tools/serve-hall"):
+    """The tool over a book with this text."""
+    with_tools(folder, book)
+    return start(folder, f"umask 077; exec {tool} book.toml hall.sock hall.log")
+
+
+def stops(serving):
+    """Stops the program until it is told to continue."""
+    serving.send_signal(signal.SIGSTOP)
+    os.waitid(os.P_PID, serving.pid, os.WSTOPPED)
+
+
+def serves_until(serving, number, folder, answer):
+    """The program ends well at this signal. Its log is clean for the book that it began with: the audit's answer."""
+    serving.send_signal(number)
+    equal((serving.wait(timeout=20), serving.stdout.read(), serving.stderr.read()), (0, "", ""), "the end")
+    does(folder, "scramotp audit --book hall.log.toml --log hall.log", printed=f"{answer}\n")
+
+
+def a_hall_of_your_own(folder):
+    """Five clients: one logs in and sends a code, one sends a line that is too long, one asks for another mechanism, one goes away, and
+    one is gone before it is greeted."""
+    account = clients.Account("user", "SCRAM-SHA-256")
+    serving = serving_hall(folder, clients.book([account]))
+    good, long, other, away = [greeted(folder) for _ in range(4)]
+    away.close()
+    stops(serving)
+    connected(folder).close()
+    serving.send_signal(signal.SIGCONT)
+    begins_login(good, account)
+    long.sendall(b"x" * 7000 + b"\n")
+    equal([line_of(long), line_of(long)], ["NO :", ""], "a line that is too long")
+    other.sendall(b"AUTH PLAIN\n")
+    equal([line_of(other), line_of(other)], ["NO :", ""], "another mechanism")
+    logs_in(good, account)
+    is_told(good, f"CODE {account.code(0)}", r"PASS \d+ 0")
+    serves_until(serving, signal.SIGINT, folder, "clean sessions=5 accepted=1 codes=1")
+    equal(line_of(good), "", "the client is told no more")
+    equal([Path(folder, name).stat().st_mode & 0o777 for name in ["hall.log", "hall.log.toml"]], [0o600, 0o600], "the mode of the log")
+    equal(book_of(folder)["accounts"]["user"]["token"]["next"], 1, "the counter is used")
+
+
+def a_full_hall(folder):
+    """Where 64 clients are there the next is turned away, until one leaves. Who has no token can send codes all the same."""
+    account = clients.Account("bare", "SCRAM-SHA-256")
+    book, token, _ = clients.book([account]).partition('\n[accounts."bare".token]\n')
+    holds(token, "the token that is left out")
+    serving = serving_hall(folder, book)
+    guests = [greeted(folder) for _ in range(64)]
+    away = connected(folder)
+    equal([line_of(away), line_of(away)], ["BUSY", ""], "the 65th")
+    is_told(guests[0], "ABORT", "NO :")
+    equal(line_of(guests[0]), "", "one that has left")
+    last = greeted(folder)
+    begins_login(last, account)
+    logs_in(last, account)
+    for _ in range(2):
+        is_told(last, "CODE 755224", r"NOCODE \d+")
+    serves_until(serving, signal.SIGTERM, folder, "clean sessions=65 accepted=1 codes=0")
+
+
+def a_hall_that_halts(folder):
+    """Where a code can't be saved its client is told HALT, unless it is gone, and the program ends. Its log is clean all the same."""
+    account = clients.Account("user", "SCRAM-SHA-256")
+    for is_gone in [False, True]:
+        place = Path(folder, str(is_gone))
+        place.mkdir()
+        serving = serving_hall(place, clients.book([account]))
+        client, other = greeted(place), greeted(place)
+        begins_login(client, account)
+        logs_in(client, account)
+        Path(place, "book.toml.new").mkdir()
+        stops(serving)
+        client.sendall(f"CODE {account.code(0)}\n".encode())
+        if is_gone:
+            client.close()
+        serving.send_signal(signal.SIGCONT)
+        if not is_gone:
+            equal([line_of(client), line_of(client)], ["HALT", ""], "the code's client")
+        equal(line_of(other), "", "another client")
+        faults = ["scramotp: cannot write book.toml", "serve-hall: the book can't be saved"]
+        equal((serving.wait(timeout=20), sorted(serving.stderr.read().splitlines())), (1, faults), is_gone)
+        holds(not Path(place, "hall.sock").exists(), "the socket is left")
+        does(place, "scramotp audit --book hall.log.toml --log hall.log", printed="clean sessions=2 accepted=1 codes=0\n")
+
+
+def a_slow_client(folder):
+    """A client that sends byte after byte and no whole line is cut off; here after three seconds, by a copy of the tool."""
+    text = (TOOLS / "serve-hall").read_text(encoding="utf-8")
+    equal(text.count("\nPATIENCE = 60\n"), 1, "the seconds that it waits")
+    quick = Path(folder, "quick")
+    quick.write_text(text.replace("\nPATIENCE = 60\n", "\nPATIENCE = 3\n"), encoding="utf-8")
+    quick.chmod(0o755)
+    serving = serving_hall(folder, BOOK_OF_USER, "./quick")
+    slow = greeted(folder)
+    slow.settimeout(0.02)
+
+    def is_cut_off():
+        try:
+            slow.sendall(b"x")
+            return slow.recv(1) == b""
+        except TimeoutError:
+            return False
+        except OSError:
+            return True
+
+    until(is_cut_off)
+    serves_until(serving, signal.SIGINT, folder, "clean sessions=1 accepted=0 codes=0")
+
+
+suite.run_all([a_hall_of_your_own, a_full_hall, a_hall_that_halts, a_slow_client])
