@@ -1,5 +1,5 @@
 //! Where the text of a book is kept.
-ghost use Rattle.std.specs.Prelude.{ℕ, List, ⊤, OnOk, string_bytes};
+ghost use Rattle.std.specs.Prelude.{ℕ, List, OnOk, string_bytes};
 ghost use Rattle.account_book.specs.Store.{StoreFacts, IsSaveAnswered};
 
 use thiserror::Error;
@@ -22,7 +22,7 @@ pub trait BookStore {
     ghost facts: { Self → StoreFacts };
 
     // What holds of each text that a store of this type has saved.
-    ghost IsStored: { List ℕ → Type 0 } = { λ _. ⊤ };
+    ghost IsStored: { List ℕ → Type 0 } = { λ _. Unit {0} };
 
     /// Replaces the text that the store holds by `text`. After Ok it holds `text`. After Err it has failed,
     /// and holds `text` or the text from before; every later call is then Err and changes nothing. A store

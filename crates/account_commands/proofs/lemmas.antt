@@ -1,6 +1,3 @@
--- Lemmas: what the proofs of this crate and of those above it cite.
+-- Lemmas: what the proofs of this crate cite.
 pub mod EnrolFaults
-pub mod HeldFaults
-pub mod InputLines
-pub mod LinesInTurn
 pub mod Results

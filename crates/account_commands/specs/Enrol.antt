@@ -12,14 +12,14 @@ use Rattle.clap.specs.declared.parser.matches.ArgMatches.{ArgMatches}
 use Rattle.command_line.specs.Fault.{IsUnwritten}
 use Rattle.command_line.specs.declared.fault.Fault.{Fault}
 use Rattle.command_line.specs.declared.fault.Fault.TheVariants.{NameTaken, CannotWriteOutput}
-use Rattle.command_line.specs.declared.value.OptionName.TheVariants as option
-use Rattle.account_commands.specs.BadValues.{HasBadPassword, HasBadValue}
-use Rattle.account_commands.specs.File.{IsFileUnread}
-use Rattle.account_commands.specs.HeldBook.{IsEnrolled, IsReadBook, IsStoredShort, IsUnheld}
-use Rattle.account_commands.specs.Input.{IsFirstLine, IsUnread}
+use Rattle.command_line.specs.declared.option_name.OptionName.TheVariants as option
+use Rattle.command_io.specs.BadValues.{HasBadPassword, HasBadValue}
+use Rattle.command_io.specs.File.{IsFileUnread}
+use Rattle.command_io.specs.HeldBook.{IsEnrolled, IsReadBook, IsStoredShort, IsUnheld}
+use Rattle.command_io.specs.Input.{IsFirstLine, IsUnread}
 use Rattle.command_words.specs.Values.{given_value}
-use Rattle.account_commands.specs.declared.new_account.NewAccount.{NewAccount}
-use Rattle.account_commands.specs.declared.new_account.Salts.{Salts}
+use Rattle.command_io.specs.declared.new_account.NewAccount.{NewAccount}
+use Rattle.command_io.specs.declared.new_account.Salts.{Salts}
 
 -- a new book: it has no accounts, and its decoys have this key and 4096 iterations
 abbrev pub new_book : (decoy_key : List ℕ) → BookFields

@@ -10,9 +10,9 @@ use Rattle.mac_core.specs.Mechanism.{name_of, password_stored_key, password_serv
 use Rattle.scram_text.specs.Class.{IsPassword}
 use Rattle.command_line.specs.declared.fault.Fault.{Fault}
 use Rattle.command_line.specs.declared.fault.Fault.TheVariants.{CannotWriteOutput}
-use Rattle.command_line.specs.declared.value.OptionName.TheVariants as option
-use Rattle.account_commands.specs.BadValues.{HasBadPassword, HasBadValue}
-use Rattle.account_commands.specs.Input.{IsFirstLine, IsUnread}
+use Rattle.command_line.specs.declared.option_name.OptionName.TheVariants as option
+use Rattle.command_io.specs.BadValues.{HasBadPassword, HasBadValue}
+use Rattle.command_io.specs.Input.{IsFirstLine, IsUnread}
 use Rattle.command_words.specs.Values.{given_value}
 
 -- the two lines of `keys`: StoredKey and ServerKey of a password (RFC 5802, section 3) in lower-case

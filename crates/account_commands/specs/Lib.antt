@@ -1,8 +1,4 @@
-pub mod BadValues
+-- What `code`, `enrol` and `keys` do, and which faults end them.
 pub mod Code
 pub mod Enrol
-pub mod File
-pub mod HeldBook
-pub mod Input
 pub mod Keys
-pub mod Printed

@@ -5,13 +5,12 @@ ghost use Rattle.std.specs.Io.KnownBytes.{Appends};
 ghost use Rattle.account_commands.specs.Code.{IsCodeFor, IsTooEarly, IsFactorAsked, IsCodeAsked, IsAskedTooEarly};
 ghost use Rattle.account_commands.specs.Code.{CannotPrintCode, LacksFactor};
 ghost use Rattle.command_words.specs.Values.{value_of};
-ghost use Rattle.account_commands.specs.Printed.{PrintsNothing};
+ghost use Rattle.command_io.specs.Printed.{PrintsNothing};
 
-use crate::moving_factor::{MovingFactor, Steps};
-use crate::output::print_line;
+use crate::moving_factor::{MovingFactor, TotpTime};
 use clap::ArgMatches;
-use command_line::value::OptionName;
-use command_line::{Fault, value};
+use command_io::output::print_line;
+use command_line::{Fault, OptionName, value};
 use command_words::{given, optional};
 use otp_core::{Code, Digits, LONGEST_STEP, MOST_COUNTER, OtpHash, Secret, step};
 use std::alloc::Global;
@@ -61,7 +60,7 @@ fn read_options(words: &ArgMatches<'_>) -> Result<MovingFactor, Fault>
     )?;
     match (counter, moment) {
         (Some(counter), _) => Ok(MovingFactor::Counter(counter)),
-        (None, Some(moment)) => Ok(MovingFactor::Time(Steps {
+        (None, Some(moment)) => Ok(MovingFactor::Time(TotpTime {
             hash,
             moment,
             t0,
@@ -78,8 +77,8 @@ fn code_for(secret: &Secret, digits: Digits, factor: &MovingFactor) -> Result<Co
 {
     match factor {
         MovingFactor::Counter(counter) => Ok(OtpHash::Sha1.hotp(secret, *counter, digits)),
-        MovingFactor::Time(steps) => match step(steps.moment, steps.t0, steps.step) {
-            Some(counter) => Ok(steps.hash.hotp(secret, counter, digits)),
+        MovingFactor::Time(time) => match step(time.moment, time.t0, time.step) {
+            Some(counter) => Ok(time.hash.hotp(secret, counter, digits)),
             None => Err(Fault::BeforeFirstStep),
         },
     }

@@ -4,25 +4,24 @@ ghost use Rattle.std.specs.Fmt.{decimal};
 ghost use Rattle.scram_text.specs.Class.{IsPassword};
 ghost use Rattle.account_commands.specs.Enrol.{EnrolsAsked, IsReadOrNew, SavesAccount, TakesSalts};
 ghost use Rattle.account_commands.specs.Enrol.{CannotBeChanged, CannotEnrol, DescribesNoAccount, IsNameTakenIn};
-ghost use Rattle.account_commands.specs.File.{IsFileUnread};
-ghost use Rattle.account_commands.specs.HeldBook.{IsReadBook};
-ghost use Rattle.account_commands.specs.Input.{IsFirstLine};
+ghost use Rattle.command_io.specs.File.{IsFileUnread};
+ghost use Rattle.command_io.specs.HeldBook.{IsReadBook};
+ghost use Rattle.command_io.specs.Input.{IsFirstLine};
 ghost use Rattle.command_words.specs.Values.{given_value};
-ghost use Rattle.account_commands.specs.Printed.{PrintsNothing};
+ghost use Rattle.command_io.specs.Printed.{PrintsNothing};
 
-use crate::held_book::HeldBook;
-use crate::new_account::{NewAccount, Salts};
-use crate::open_book::Seen;
-use crate::output::print_done;
-use crate::prompt::{PASSWORD, ask};
-use crate::random::Random;
-use crate::terminal::{TerminalInput, TerminalOutput};
-use crate::{held_book, input, open_book};
 use account_book::Book;
 use book_file::{BookFile, FileStore, Lockable};
 use clap::ArgMatches;
-use command_line::value::OptionName;
-use command_line::{Fault, value};
+use command_io::held_book::HeldBook;
+use command_io::new_account::{NewAccount, Salts};
+use command_io::open_book::Seen;
+use command_io::output::print_done;
+use command_io::prompt::{PASSWORD, ask};
+use command_io::random::Random;
+use command_io::terminal::{TerminalInput, TerminalOutput};
+use command_io::{input, open_book};
+use command_line::{Fault, OptionName, value};
 use command_words::given;
 use scram_text::{Password, Salt};
 use std::alloc::Global;
@@ -141,7 +140,7 @@ where
         ⊎ CannotBeChanged R.File.remaining path.now fault) }
 {
     let alloc = rt.alloc();
-    held_book::add(alloc, &mut book, asked, salts)?;
+    asked.add_to(alloc, &mut book, salts)?;
     let held = match text {
         Some(_) => BookFile::hold(rt, path),
         None => BookFile::hold_or_make(rt, path),

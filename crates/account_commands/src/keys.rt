@@ -2,18 +2,17 @@
 ghost use Rattle.std.specs.Prelude.{◌≡◌, ◌≤◌, ◌⊎◌, ℕ, List, IfErr, IfOk, OnOk, string_bytes};
 ghost use Rattle.std.specs.Io.KnownBytes.{Appends};
 ghost use Rattle.scram_text.specs.Class.{IsPassword};
-ghost use Rattle.account_commands.specs.BadValues.{HasBadPassword};
-ghost use Rattle.account_commands.specs.Input.{IsFirstLine};
+ghost use Rattle.command_io.specs.BadValues.{HasBadPassword};
+ghost use Rattle.command_io.specs.Input.{IsFirstLine};
 ghost use Rattle.account_commands.specs.Keys.{printed_keys, CannotPrintKeys, PrintsKeysAsked};
-ghost use Rattle.account_commands.specs.Printed.{PrintsNothing};
+ghost use Rattle.command_io.specs.Printed.{PrintsNothing};
 
-use crate::input;
-use crate::output::print;
-use crate::prompt::{PASSWORD, ask};
-use crate::terminal::{TerminalInput, TerminalOutput};
 use clap::ArgMatches;
-use command_line::value::OptionName;
-use command_line::{Fault, value};
+use command_io::input;
+use command_io::output::print;
+use command_io::prompt::{PASSWORD, ask};
+use command_io::terminal::{TerminalInput, TerminalOutput};
+use command_line::{Fault, OptionName, value};
 use command_words::given;
 use mac_core::Mechanism;
 use scram_text::{Password, Salt};

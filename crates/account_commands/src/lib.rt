@@ -1,18 +1,10 @@
-//! The commands over accounts: `keys`, `code`, `enrol` and `unlock`; and what other commands use too: the book that a run
-//! holds, lines of the input, what is printed, terminals, prompts, random bytes and files.
+//! The commands over accounts: `keys`, `code`, `enrol` and `unlock`.
+//!
+//! The order in which a command tells its faults, and what it asks at a terminal, are tested: no clause says them.
 #![tactic(auto)]
 
 pub mod code;
 pub mod enrol;
-pub mod file;
-pub mod held_book;
-pub mod input;
 pub mod keys;
 pub mod moving_factor;
-pub mod new_account;
-pub mod open_book;
-pub mod output;
-pub mod prompt;
-pub mod random;
-pub mod terminal;
 pub mod unlock;

@@ -5,7 +5,7 @@ use otp_core::{Moment, OtpHash};
 
 /// A moment of TOTP, and how its steps are counted (RFC 6238, section 4).
 #[derive(Drop)]
-pub struct Steps {
+pub struct TotpTime {
     /// The hash function.
     pub hash: OtpHash,
 
@@ -28,5 +28,5 @@ pub enum MovingFactor {
     Counter(u64),
 
     /// The time of a TOTP code.
-    Time(Steps),
+    Time(TotpTime),
 }

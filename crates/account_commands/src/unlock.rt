@@ -1,14 +1,13 @@
 //! The command `unlock`: lets a token take codes again.
 ghost use Rattle.std.specs.Prelude.{OnOk, IfErr};
-ghost use Rattle.account_commands.specs.HeldBook.{CannotUnlock, UnlocksAsked};
-ghost use Rattle.account_commands.specs.Printed.{PrintsNothing};
+ghost use Rattle.command_io.specs.HeldBook.{CannotUnlock, UnlocksAsked};
+ghost use Rattle.command_io.specs.Printed.{PrintsNothing};
 
-use crate::open_book;
-use crate::output::print_done;
 use book_file::Lockable;
 use clap::ArgMatches;
-use command_line::value::OptionName;
-use command_line::{Fault, value};
+use command_io::open_book;
+use command_io::output::print_done;
+use command_line::{Fault, OptionName, value};
 use command_words::given;
 use std::fs::Files;
 use std::io::Write;

@@ -4,7 +4,7 @@ use Rattle.std.specs.IoError.{error_kind}
 use Rattle.std.specs.declared.io.Error.{Error}
 use Rattle.std.specs.declared.io.ErrorKind.TheVariants.{ResourceBusy}
 use Rattle.book_file.specs.declared.fault.HoldFault.{HoldFault}
-use Rattle.book_file.specs.declared.fault.HoldFault.TheVariants.{Unreadable, Missing, Unwritable, OfAnother, Held, InTheWay}
+use Rattle.book_file.specs.declared.fault.HoldFault.TheVariants.{Unreadable, Missing, Unwritable, OwnedByAnother, HeldByOthers, InTheWay}
 
 -- a fault of taking hold of a book. Where a missing book is to be made, Missing does not come; where none is made, Unwritable does
 -- not.
@@ -12,8 +12,8 @@ abbrev pub IsHoldFault : (makes : Bool) → HoldFault → Type 0
 IsHoldFault makes (Unreadable error) = Unit {0}
 IsHoldFault makes Missing = makes ≡ false
 IsHoldFault makes (Unwritable error) = makes ≡ true
-IsHoldFault makes OfAnother = Unit {0}
-IsHoldFault makes Held = Unit {0}
+IsHoldFault makes OwnedByAnother = Unit {0}
+IsHoldFault makes HeldByOthers = Unit {0}
 IsHoldFault makes (InTheWay path) = Unit {0}
 
 -- why no next text can be written: the error of the call that failed, where there is one; else the file's name is not free

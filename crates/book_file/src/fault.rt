@@ -19,10 +19,10 @@ pub enum HoldFault {
     Unwritable(io::Error),
 
     /// The book belongs to another user, and the one who runs is not root: a save could not keep its owner.
-    OfAnother,
+    OwnedByAnother,
 
     /// Other runs held the book for 30 seconds.
-    Held,
+    HeldByOthers,
 
     /// What has this path, where the next text of the book would be written, can't be removed.
     InTheWay(String),

@@ -91,10 +91,10 @@ where
     R: Files + Clock + AllocGlobal,
     R::File: Lockable,
 {
-    /// Takes hold of the book at `path`. Waits up to 30 seconds for other runs, then answers Held. Missing where
+    /// Takes hold of the book at `path`. Waits up to 30 seconds for other runs, then answers HeldByOthers. Missing where
     /// there is no file. Unreadable where the file is no plain file, where it has another name too (a save would
     /// leave the old text there), where it belongs to others in a folder that others may write, and where it or its
-    /// folder can't be opened or locked. OfAnother where a save could not keep the book's owner. InTheWay where the text
+    /// folder can't be opened or locked. OwnedByAnother where a save could not keep the book's owner. InTheWay where the text
     /// that a killed run left can't be removed.
     pub fn hold(rt: &'a R, path: &str) -> Result<BookFile<'a, R>, HoldFault>
         ensures { IfErr result (IsHoldFault false) }
@@ -119,7 +119,7 @@ where
         let is_shared = trust::is_shared(&folder.metadata()?);
         let (book, next) = match hold(rt, &paths, is_shared, makes)? {
             Held::Book(book) if !trust::can_give_owner(&book.state) => {
-                return Err(HoldFault::OfAnother);
+                return Err(HoldFault::OwnedByAnother);
             }
             Held::Book(book) => (Some(book), None),
             Held::Next(next) => (None, Some(next)),
@@ -236,7 +236,7 @@ where
 
 /// Reads the bytes of the book at `path` without a hold of it: a save replaces it whole. FileTooLarge where there
 /// are more than 16777216.
-pub fn read_unheld<R: Files + AllocGlobal>(rt: &R, path: &str) -> io::Result<Vec<u8>>
+pub fn read_without_lock<R: Files + AllocGlobal>(rt: &R, path: &str) -> io::Result<Vec<u8>>
     ensures most { IfOk result (λ bytes. vec_len bytes ≤ MOST_BOOK) }
     // They are all bytes of a file, where these are known.
     ensures all { IfOk result (λ bytes. IsRead R.File.remaining bytes.items) }

@@ -69,7 +69,7 @@ where
             break;
         }
     }
-    Err(HoldFault::Held)
+    Err(HoldFault::HeldByOthers)
 }
 
 // Opens the plain file of this name, or returns None where nothing has the name. Anything but a plain file is not
@@ -165,7 +165,7 @@ where
             break;
         }
     }
-    Err(HoldFault::Held)
+    Err(HoldFault::HeldByOthers)
 }
 
 // Makes and locks the file of the next text. None where another run has one.

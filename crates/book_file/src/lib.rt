@@ -29,6 +29,6 @@ mod trust;
 mod wait;
 
 pub use fault::HoldFault;
-pub use file::{BookFile, MOST_BOOK, read_unheld};
+pub use file::{BookFile, MOST_BOOK, read_without_lock};
 pub use lock::Lockable;
 pub use store::FileStore;

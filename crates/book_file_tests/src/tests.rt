@@ -143,7 +143,7 @@ fn one_run_at_a_time(rt: HostRuntime) -> Result<(), Fail> {
     let first = BookFile::hold_or_make(&rt, book.as_str());
     assert!(rt; first.is_ok());
     let second = BookFile::hold_or_make(&hasty, book.as_str());
-    assert!(rt; matches!(second, Err(HoldFault::Held)));
+    assert!(rt; matches!(second, Err(HoldFault::HeldByOthers)));
     assert_eq!(rt; hasty.monotonic()?, Duration::from_secs(30));
     drop(first);
     assert_eq!(rt; fs::read_dir(&rt, folder.as_str())?.count(), 0);
@@ -151,7 +151,7 @@ fn one_run_at_a_time(rt: HostRuntime) -> Result<(), Fail> {
     let mut first = held(&rt, book.as_str())?;
     for _ in 0..2 {
         let second = BookFile::hold(&hasty, book.as_str());
-        assert!(rt; matches!(second, Err(HoldFault::Held)));
+        assert!(rt; matches!(second, Err(HoldFault::HeldByOthers)));
         first.replace("new")?;
     }
     drop(first);

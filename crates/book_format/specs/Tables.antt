@@ -6,7 +6,7 @@ use Rattle.toml.specs.Data.{Data, string, integer, table, Members, get_member}
 use Rattle.mac_core.specs.Mechanism.{length_by}
 use Rattle.mac_core.specs.declared.mechanism.Mechanism.TheVariants.{ScramSha1, ScramSha256}
 use Rattle.scram_text.specs.Limits.{longest_salt}
-use Rattle.scram_text.specs.Parts.{most_count}
+use Rattle.scram_text.specs.Limits.{most_count}
 use Rattle.otp_core.specs.Ranges.{least_secret, most_secret, least_digits, most_digits, last_moment, most_counter, most_look_ahead}
 use Rattle.otp_core.specs.Ranges.{most_sync_ahead, longest_step, most_steps, most_drift, most_limit}
 use Rattle.otp_core.specs.declared.token.kinds.TokenFields.{TokenFields}

@@ -28,14 +28,14 @@ status_of CannotReadInput = 3
 status_of CannotWriteOutput = 3
 status_of NoMemory = 3
 
--- memory ran out, or the file of this name can't be written
-abbrev pub IsUnwritten : List ℕ → Fault → Type 0
+-- memory ran out, or the file of this path can't be written
+abbrev pub IsUnwritten : (path : List ℕ) → Fault → Type 0
 IsUnwritten path (CannotWrite file) = string_bytes file ≡ path
 IsUnwritten path fault = fault ≡ NoMemory
 
--- the fault of a change to the token of the account that was looked up, in the book whose file has this name:
+-- the fault of a change to the token of the account that was looked up, in the book whose file has this path:
 -- there is no account, it has no token, or the book can't be saved
-abbrev pub IsTokenFault : List ℕ → Option AccountFields → Fault → Type 0
+abbrev pub IsTokenFault : (path : List ℕ) → (found : Option AccountFields) → Fault → Type 0
 IsTokenFault path found fault = MatchOption found (fault ≡ NoSuchAccount)
     (λ account. MatchOption account.token (fault ≡ NoToken) (λ token. IsUnwritten path fault))
 

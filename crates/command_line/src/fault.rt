@@ -3,7 +3,8 @@ ghost use Rattle.std.specs.Prelude.{◌≡◌, ◌≢◌};
 ghost use Rattle.std.specs.IoError.{error_kind};
 ghost use Rattle.command_line.specs.Fault.{status_of};
 
-use crate::value::OptionName;
+use crate::option_name::OptionName;
+use crate::status::{FAILED, REFUSED, USAGE};
 use book_format::{BookFault, BookWhy};
 use std::alloc::AllocError;
 use std::io;
@@ -88,7 +89,7 @@ impl Fault {
         }
     }
 
-    /// The exit status: 1 for a refusal, 2 where the user can give other words, 3 for files, sockets, streams and memory.
+    /// The exit status: REFUSED, or USAGE where the user can give other words, or FAILED for files, sockets, streams and memory.
     pub fn status(&self) -> u8
         ensures { result ≡ status_of self.now }
     {
@@ -98,14 +99,14 @@ impl Fault {
             | Fault::NoSuchAccount
             | Fault::NoToken
             | Fault::BadBook(_)
-            | Fault::BadEvent => 1,
-            Fault::BadValue(_) | Fault::BadPassword | Fault::NoCounterOrMoment => 2,
+            | Fault::BadEvent => REFUSED,
+            Fault::BadValue(_) | Fault::BadPassword | Fault::NoCounterOrMoment => USAGE,
             Fault::CannotRead(_)
             | Fault::CannotWrite(_)
             | Fault::Socket
             | Fault::CannotReadInput
             | Fault::CannotWriteOutput
-            | Fault::NoMemory => 3,
+            | Fault::NoMemory => FAILED,
         }
     }
 }

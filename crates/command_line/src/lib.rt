@@ -2,9 +2,7 @@
 //! without its answer, with their texts and exit statuses, and how a text from outside is shown.
 //!
 //! ```rust
-//! use command_line::Fault;
-//! use command_line::value;
-//! use command_line::value::OptionName;
+//! use command_line::{Fault, OptionName, value};
 //!
 //! assert!(rt; value::within(OptionName::Step, "30", 1, 3600).is_ok_and(|step| step == 30));
 //! let fault: Fault = value::name("").err().ok_or("a name of no byte")?;
@@ -13,8 +11,11 @@
 #![tactic(auto)]
 
 mod fault;
+mod option_name;
+pub mod status;
 mod terminal_text;
 pub mod value;
 
 pub use fault::Fault;
+pub use option_name::OptionName;
 pub use terminal_text::TerminalText;

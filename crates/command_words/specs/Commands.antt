@@ -7,6 +7,11 @@ use Rattle.clap.specs.Words.{App, Row, Rule, Shape, Text, app_of, new_rule}
 use Rattle.clap.specs.declared.builder.action.ArgAction.TheVariants.{Set}
 use Rattle.clap.specs.declared.builder.command.Command.{Command}
 use Rattle.clap.specs.declared.builder.command.Command.TheViews.{out-Command as fields_of}
+use Rattle.command_line.specs.Options.{option_name}
+use Rattle.command_line.specs.declared.option_name.OptionName.{OptionName}
+use Rattle.command_line.specs.declared.option_name.OptionName.TheVariants.{Book, Log, Name, As, Socket, Random, ClientNonce, ServerNonce}
+use Rattle.command_line.specs.declared.option_name.OptionName.TheVariants.{Mechanism, Salt, Count, Secret, Digits, Counter, Moment, Hash}
+use Rattle.command_line.specs.declared.option_name.OptionName.TheVariants.{T0, Step}
 
 -- the commands
 pub data CommandName : Type 0 where
@@ -33,15 +38,15 @@ word_of Audit = codes "audit"
 word_of Upgrade = codes "upgrade"
 
 -- an option that takes one value, and may be left out
-abbrev pub option : (name : List ℕ) → Rule
-option name = record (new_rule name) { long = Some name; value_names = 1; action = Some Set }
+abbrev pub option : OptionName → Rule
+option name = record (new_rule (option_name name)) { long = Some (option_name name); value_names = 1; action = Some Set }
 
 -- an option that has to be given
-abbrev pub required : (name : List ℕ) → Rule
+abbrev pub required : OptionName → Rule
 required name = record (option name) { required = true }
 
 -- an option that has a default
-abbrev pub with_default : (name default : List ℕ) → Rule
+abbrev pub with_default : OptionName → (default : List ℕ) → Rule
 with_default name default = record (option name) { defaults = default ∷ [] }
 
 -- a command of this name, with these options
@@ -50,44 +55,44 @@ command name options = record (new_shape name) { rules = options }
 
 -- the options of `keys`
 abbrev pub keys_options : List Rule
-keys_options = required (codes "mechanism") ∷ required (codes "salt") ∷ required (codes "count") ∷ []
+keys_options = required Mechanism ∷ required Salt ∷ required Count ∷ []
 
 -- the options of `enrol`
 abbrev pub enrol_options : List Rule
-enrol_options = required (codes "book") ∷ required (codes "name") ∷ with_default (codes "count") (codes "4096")
-    ∷ with_default (codes "random") (codes "/dev/urandom") ∷ []
+enrol_options = required Book ∷ required Name ∷ with_default Count (codes "4096")
+    ∷ with_default Random (codes "/dev/urandom") ∷ []
 
 -- the options of `code`
 abbrev pub code_options : List Rule
-code_options = required (codes "secret") ∷ with_default (codes "digits") (codes "6") ∷ option (codes "counter")
-    ∷ option (codes "moment") ∷ with_default (codes "hash") (codes "sha1") ∷ with_default (codes "t0") (codes "0")
-    ∷ with_default (codes "step") (codes "30") ∷ []
+code_options = required Secret ∷ with_default Digits (codes "6") ∷ option Counter
+    ∷ option Moment ∷ with_default Hash (codes "sha1") ∷ with_default T0 (codes "0")
+    ∷ with_default Step (codes "30") ∷ []
 
 -- the options of `verify`
 abbrev pub verify_options : List Rule
-verify_options = required (codes "book") ∷ required (codes "name") ∷ required (codes "moment") ∷ []
+verify_options = required Book ∷ required Name ∷ required Moment ∷ []
 
 -- the options of `unlock`
 abbrev pub unlock_options : List Rule
-unlock_options = required (codes "book") ∷ required (codes "name") ∷ []
+unlock_options = required Book ∷ required Name ∷ []
 
 -- the options of `login`
 abbrev pub login_options : List Rule
-login_options = required (codes "book") ∷ required (codes "name") ∷ option (codes "mechanism") ∷ option (codes "as")
-    ∷ required (codes "socket") ∷ with_default (codes "random") (codes "/dev/urandom") ∷ option (codes "client-nonce")
-    ∷ option (codes "server-nonce") ∷ option (codes "moment") ∷ []
+login_options = required Book ∷ required Name ∷ option Mechanism ∷ option As
+    ∷ required Socket ∷ with_default Random (codes "/dev/urandom") ∷ option ClientNonce
+    ∷ option ServerNonce ∷ option Moment ∷ []
 
 -- the options of `hall`
 abbrev pub hall_options : List Rule
-hall_options = required (codes "book") ∷ []
+hall_options = required Book ∷ []
 
 -- the options of `audit`
 abbrev pub audit_options : List Rule
-audit_options = required (codes "book") ∷ required (codes "log") ∷ []
+audit_options = required Book ∷ required Log ∷ []
 
 -- the options of `upgrade`
 abbrev pub upgrade_options : List Rule
-upgrade_options = required (codes "log") ∷ []
+upgrade_options = required Log ∷ []
 
 -- the program: one of its commands has to be named, and none of them is `help`
 abbrev pub program : App

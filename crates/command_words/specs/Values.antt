@@ -4,7 +4,7 @@ use Rattle.std.specs.declared.option.Option.{Option}
 use Rattle.clap.specs.Matches.{found_of, first_value}
 use Rattle.clap.specs.declared.parser.matches.ArgMatches.{ArgMatches}
 use Rattle.command_line.specs.Options.{option_name}
-use Rattle.command_line.specs.declared.value.OptionName.{OptionName}
+use Rattle.command_line.specs.declared.option_name.OptionName.{OptionName}
 
 -- the value of an option, where the words give one or it has a default
 abbrev pub value_of : ArgMatches → OptionName → Option (List ℕ)

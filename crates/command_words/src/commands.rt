@@ -6,6 +6,7 @@ ghost use Rattle.command_words.specs.Commands.{code_options, verify_options, unl
 ghost use Rattle.command_words.specs.Commands.{upgrade_options};
 
 use clap::{Arg, ArgAction, Command};
+use command_line::OptionName;
 use std::alloc::{AllocError, Global};
 
 const STATUSES: &str =
@@ -53,7 +54,7 @@ Example:
 const VERIFY_NOTES: &str =
     "Each line of standard input is an attempt. Its reply is PASS, the moment and the counter that
 passed, or FAIL or LOCKED and the moment. PASS and FAIL are printed once the book is saved; LOCKED
-saves nothing. The book is locked until the input ends; other runs wait for it, up to 30 seconds.
+saves nothing. The run holds the book until the input ends; others wait for it, up to 30 seconds.
 Exit status 0 means that every reply was PASS, also where there was none.
 
 A line as `SYNC 399871 520489`, with two codes in a row, finds a HOTP token that ran ahead of the
@@ -111,14 +112,14 @@ const LOGIN_NOTES: &str =
 client is logged in. A line as `SYNC 399871 520489` is two codes in a row. Typed at a terminal, all
 is shown.
 
-Both ends run here: a service over the book, and a client. They talk through a socket, whose file is
+Both ends run here: a server over the book, and a client. They talk through a socket, whose file is
 made for this run and removed at its end. Put it into a folder that nobody else can enter; a file
 that is there already is a socket fault, also one that a killed run left. The client learns only
-what any service would tell it, and ends the login where the service does not show that it has the
+what any server would tell it, and ends the login where the server does not show that it has the
 account's keys.
 
-Prints the service's log, each line before the client is told of it. Codes are saved before they are
-told; the book is locked from its reading to the end of the input, and other runs wait for it, up to
+Prints the server's log, each line before the client is told of it. Codes are saved before they are
+told; the run holds the book to the end of the input, and other runs wait for it, up to
 30 seconds. Exit status 0 means that the login was accepted and every code passed.
 
 Nonces are made of 18 random bytes each, unless they are given: give them only to repeat a recorded
@@ -132,7 +133,7 @@ Example, after those of enrol and verify: a login and a code, and the audit of i
 
 const HALL_NOTES: &str = "Each line of standard input is an event:
 
-  open NONCE          a client comes; NONCE, fresh and random, is the service's part of the nonce
+  open NONCE          a client comes; NONCE, fresh and random, is the server's part of the nonce
   line N MOMENT TEXT  the client of session N sends a line: TEXT is the whole line, and MOMENT is in
                       seconds since 1970
   gone N MOMENT       the client of session N goes away
@@ -143,7 +144,7 @@ event and ends the run, with exit status 1.
 
 Prints the log, of version 2, each event's lines before the next event is read. What client N is to
 be told is in the lines that begin with its number and ` S `. Codes are saved before they are told;
-the book is locked from its reading to the end of the input, and other runs wait for it, up to 30
+the run holds the book to the end of the input, and other runs wait for it, up to 30
 seconds. Where the save of a code fails the log ends with that client's ` S HALT`, and the run with
 it. Where the first save fails nothing is printed.
 
@@ -156,10 +157,11 @@ Example, after that of enrol: two clients at a time, and the audit of their log
   scramotp audit --book logins/opened.toml --log logins/hall.txt";
 
 // An option that takes one value.
-fn option<'a>(alloc: Global, name: &'a str, value: &'a str, help: &'a str) -> Arg<'a>
-    ensures rule { rule_of result ≡ option name.now }
+fn option<'a>(alloc: Global, name: OptionName, value: &'a str, help: &'a str) -> Arg<'a>
+    ensures rule { rule_of result ≡ option name }
     ensures local { result.global ≡ false }
 {
+    let name: &'a str = name.name();
     Arg::new(alloc, name)
         .long(name)
         .value_name(value)
@@ -168,8 +170,8 @@ fn option<'a>(alloc: Global, name: &'a str, value: &'a str, help: &'a str) -> Ar
 }
 
 // An option that has to be given.
-fn required<'a>(alloc: Global, name: &'a str, value: &'a str, help: &'a str) -> Arg<'a>
-    ensures rule { rule_of result ≡ required name.now }
+fn required<'a>(alloc: Global, name: OptionName, value: &'a str, help: &'a str) -> Arg<'a>
+    ensures rule { rule_of result ≡ required name }
     ensures local { result.global ≡ false }
 {
     option(alloc, name, value, help).required(true)
@@ -178,43 +180,43 @@ fn required<'a>(alloc: Global, name: &'a str, value: &'a str, help: &'a str) -> 
 // An option that has a default.
 fn with_default<'a>(
     alloc: Global,
-    name: &'a str,
+    name: OptionName,
     value: &'a str,
     help: &'a str,
     default: &'a str,
 ) -> Arg<'a>
-    ensures rule { rule_of result ≡ with_default name.now default.now }
+    ensures rule { rule_of result ≡ with_default name default.now }
     ensures local { result.global ≡ false }
 {
     option(alloc, name, value, help).default_value(default)
 }
 
 fn book<'a>(alloc: Global) -> Arg<'a>
-    ensures rule { rule_of result ≡ required (codes "book") }
+    ensures rule { rule_of result ≡ required OptionName.Book }
     ensures local { result.global ≡ false }
 {
-    required(alloc, "book", "FILE", "The account book")
+    required(alloc, OptionName::Book, "FILE", "The account book")
 }
 
 fn name<'a>(alloc: Global) -> Arg<'a>
-    ensures rule { rule_of result ≡ required (codes "name") }
+    ensures rule { rule_of result ≡ required OptionName.Name }
     ensures local { result.global ≡ false }
 {
     required(
         alloc,
-        "name",
+        OptionName::Name,
         "NAME",
         "The account's name, 1 to 255 bytes from space to tilde",
     )
 }
 
 fn random<'a>(alloc: Global) -> Arg<'a>
-    ensures rule { rule_of result ≡ with_default (codes "random") (codes "/dev/urandom") }
+    ensures rule { rule_of result ≡ with_default OptionName.Random (codes "/dev/urandom") }
     ensures local { result.global ≡ false }
 {
     with_default(
         alloc,
-        "random",
+        OptionName::Random,
         "FILE",
         "Where random bytes are read",
         "/dev/urandom",
@@ -227,14 +229,24 @@ fn keys<'a>(alloc: Global) -> Result<Command<'a>, AllocError>
     Command::new(alloc, "keys")
         .about("Prints the stored key and the server key of a password")
         .after_help(KEYS_NOTES)
-        .arg(required(alloc, "mechanism", "NAME", "SCRAM-SHA-1 or SCRAM-SHA-256"))?
         .arg(required(
             alloc,
-            "salt",
+            OptionName::Mechanism,
+            "NAME",
+            "SCRAM-SHA-1 or SCRAM-SHA-256",
+        ))?
+        .arg(required(
+            alloc,
+            OptionName::Salt,
             "HEX",
             "The salt, 1 to 64 bytes in hexadecimal",
         ))?
-        .arg(required(alloc, "count", "N", "The iteration count, 1 to 4294967295"))
+        .arg(required(
+            alloc,
+            OptionName::Count,
+            "N",
+            "The iteration count, 1 to 4294967295",
+        ))
 }
 
 fn enrol<'a>(alloc: Global) -> Result<Command<'a>, AllocError>
@@ -246,7 +258,7 @@ fn enrol<'a>(alloc: Global) -> Result<Command<'a>, AllocError>
         .after_help(ENROL_NOTES)
         .arg(book(alloc))?
         .arg(name(alloc))?
-        .arg(with_default(alloc, "count", "N", count, "4096"))?
+        .arg(with_default(alloc, OptionName::Count, "N", count, "4096"))?
         .arg(random(alloc))
 }
 
@@ -262,26 +274,26 @@ fn code<'a>(alloc: Global) -> Result<Command<'a>, AllocError>
         .after_help(CODE_NOTES)
         .arg(required(
             alloc,
-            "secret",
+            OptionName::Secret,
             "HEX",
             "The secret, 10 to 64 bytes in hexadecimal",
         ))?
-        .arg(with_default(alloc, "digits", "N", digits, "6"))?
+        .arg(with_default(alloc, OptionName::Digits, "N", digits, "6"))?
         .arg(option(
             alloc,
-            "counter",
+            OptionName::Counter,
             "N",
             "HOTP's counter, 0 to 9223372036854775806",
         ))?
         .arg(option(
             alloc,
-            "moment",
+            OptionName::Moment,
             "SECONDS",
             "TOTP's moment, in seconds since 1970, 0 to 253402300799",
         ))?
-        .arg(with_default(alloc, "hash", "NAME", hash, "sha1"))?
-        .arg(with_default(alloc, "t0", "SECONDS", t0, "0"))?
-        .arg(with_default(alloc, "step", "SECONDS", step, "30"))
+        .arg(with_default(alloc, OptionName::Hash, "NAME", hash, "sha1"))?
+        .arg(with_default(alloc, OptionName::T0, "SECONDS", t0, "0"))?
+        .arg(with_default(alloc, OptionName::Step, "SECONDS", step, "30"))
 }
 
 fn verify<'a>(alloc: Global) -> Result<Command<'a>, AllocError>
@@ -294,7 +306,7 @@ fn verify<'a>(alloc: Global) -> Result<Command<'a>, AllocError>
         .arg(name(alloc))?
         .arg(required(
             alloc,
-            "moment",
+            OptionName::Moment,
             "SECONDS",
             "The moment of the codes, in seconds since 1970, 0 to 253402300799",
         ))
@@ -317,7 +329,7 @@ fn audit<'a>(alloc: Global) -> Result<Command<'a>, AllocError>
         .about("Judges a recorded log by the book that it began with")
         .after_help(AUDIT_NOTES)
         .arg(book(alloc))?
-        .arg(required(alloc, "log", "FILE", "The log"))
+        .arg(required(alloc, OptionName::Log, "FILE", "The log"))
 }
 
 fn upgrade<'a>(alloc: Global) -> Result<Command<'a>, AllocError>
@@ -326,7 +338,7 @@ fn upgrade<'a>(alloc: Global) -> Result<Command<'a>, AllocError>
     Command::new(alloc, "upgrade")
         .about("Prints a log of version 1 as one of version 2, whose sessions are numbered")
         .after_help(UPGRADE_NOTES)
-        .arg(required(alloc, "log", "FILE", "The log"))
+        .arg(required(alloc, OptionName::Log, "FILE", "The log"))
 }
 
 fn login<'a>(alloc: Global) -> Result<Command<'a>, AllocError>
@@ -335,32 +347,32 @@ fn login<'a>(alloc: Global) -> Result<Command<'a>, AllocError>
     let mechanism = "SCRAM-SHA-1 or SCRAM-SHA-256 [default: the best that is offered]";
     let moment = "The moment of the codes, in seconds since 1970 [default: the clock's]";
     Command::new(alloc, "login")
-        .about("Logs a user in to a service over a book, and prints the service's log")
+        .about("Logs a user in to a server over a book, and prints the server's log")
         .after_help(LOGIN_NOTES)
         .arg(book(alloc))?
         .arg(name(alloc))?
-        .arg(option(alloc, "mechanism", "NAME", mechanism))?
-        .arg(option(alloc, "as", "NAME", "The name to act as"))?
+        .arg(option(alloc, OptionName::Mechanism, "NAME", mechanism))?
+        .arg(option(alloc, OptionName::As, "NAME", "The name to act as"))?
         .arg(required(
             alloc,
-            "socket",
+            OptionName::Socket,
             "FILE",
             "The socket to make, a path of at most 107 bytes",
         ))?
         .arg(random(alloc))?
         .arg(option(
             alloc,
-            "client-nonce",
+            OptionName::ClientNonce,
             "TEXT",
             "The client's nonce, 1 to 256 bytes from ! to tilde without a comma",
         ))?
         .arg(option(
             alloc,
-            "server-nonce",
+            OptionName::ServerNonce,
             "TEXT",
-            "The service's part of the nonce, in the same form",
+            "The server's part of the nonce, in the same form",
         ))?
-        .arg(option(alloc, "moment", "SECONDS", moment))
+        .arg(option(alloc, OptionName::Moment, "SECONDS", moment))
 }
 
 fn hall<'a>(alloc: Global) -> Result<Command<'a>, AllocError>

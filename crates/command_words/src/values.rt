@@ -3,7 +3,7 @@ ghost use Rattle.std.specs.Prelude.{◌≡◌, option_map};
 ghost use Rattle.command_words.specs.Values.{value_of, given_value};
 
 use clap::ArgMatches;
-use command_line::value::OptionName;
+use command_line::OptionName;
 
 /// The value of an option, its default included, or None where none was given.
 pub fn optional<'a>(words: &ArgMatches<'a>, option: OptionName) -> Option<&'a str>

@@ -8,10 +8,9 @@ use Rattle.mac_core.specs.declared.mechanism.Mechanism.{Mechanism}
 use Rattle.mac_core.specs.declared.mechanism.Mechanism.TheVariants.{ScramSha256}
 use Rattle.scram_text.specs.Messages.{ServerFirstParts}
 use Rattle.scram_ends.specs.Stages.{Started, Answered, answered}
-use Rattle.scram_ends.specs.Client.{IsStarted, IsAnswerable, IsExpecting}
+use Rattle.scram_ends.specs.Client.{AreUsual, IsStarted, IsAnswerable, IsExpecting}
 use Rattle.scram_ends.specs.Honest.{IsHonest, honest_signature}
 use Rattle.scram_ends.specs.Login.{IsAuthentic}
-use Rattle.scram_ends.specs.declared.client.Limits.{Limits}
 use Rattle.log_grammar.specs.Lines.{IsLine, ClientLine, auth_with, resp, client_text, from_server, mechs, cont, accepts}
 use Rattle.commands.specs.Talked.{Talked, IsTold}
 use Rattle.commands.specs.declared.login.client_end.ClientEnd.{ClientEnd}
@@ -46,10 +45,6 @@ WaitsForSignature stage l = ⊥
 abbrev pub IsChosen : (asked : Option Mechanism) → (names : List ℕ) → Mechanism → Type 0
 IsChosen (Some asked) names mechanism = mechanism ≡ asked
 IsChosen None names mechanism = IsOffered mechanism names × (IsOffered ScramSha256 names → mechanism ≡ ScramSha256)
-
--- the iteration counts that a client accepts: 4096 to 1000000
-abbrev pub AreUsual : Limits → Type 0
-AreUsual limits = (limits.least ≡ 4096) × (limits.most ≡ 1000000)
 
 -- the client of this user begins a login with this nonce, where it is offered these mechanisms: it says one of them and the first
 -- message of the login

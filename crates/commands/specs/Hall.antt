@@ -14,7 +14,7 @@ use Rattle.clap.specs.declared.parser.matches.ArgMatches.{ArgMatches}
 use Rattle.command_line.specs.Fault.{IsUnwritten}
 use Rattle.command_line.specs.declared.fault.Fault.{Fault}
 use Rattle.command_line.specs.declared.fault.Fault.TheVariants.{BadEvent, CannotWriteOutput}
-use Rattle.command_line.specs.declared.value.OptionName.TheVariants as option
+use Rattle.command_line.specs.declared.option_name.OptionName.TheVariants as option
 use Rattle.command_words.specs.Values.{given_value}
 use Rattle.log_grammar.specs.Demands.{Accounts}
 use Rattle.log_grammar.specs.Numbered.{Numbered, of_number}
@@ -24,12 +24,12 @@ use Rattle.sasl_desk.specs.Events.{ClientEvent, sends, goes_away}
 use Rattle.log_grammar.specs.Books.{accounts_in}
 use Rattle.log_grammar.specs.Places.{between}
 use Rattle.log_grammar.specs.Versions.{IsFront}
-use Rattle.sasl_desk.specs.Halls.{HallFields, hall_shown, hall_lines, hall_bytes, phase_in, IsStay, IsHallAfter}
+use Rattle.sasl_desk.specs.Halls.{HallFields, hall_shown, hall_lines, hall_bytes, phase_in, IsSessionRun, IsHallAfter}
 use Rattle.sasl_desk.specs.Runs.{greets, hears, Call}
 use Rattle.sasl_desk.specs.Saved.{AreLinesSaved}
 use Rattle.sasl_desk.specs.declared.hall.Hall.{Hall}
-use Rattle.account_commands.specs.HeldBook.{IsReadBook, IsUnheld}
-use Rattle.account_commands.specs.Input.{AreLinesOf, IsUnread}
+use Rattle.command_io.specs.HeldBook.{IsReadBook, IsUnheld}
+use Rattle.command_io.specs.Input.{AreLinesOf, IsUnread}
 use Rattle.commands.specs.PrintedLog.{IsLogFault}
 
 -- what happens to a hall: a client comes, and this is the server's part of its nonce; or the client of the session of this number
@@ -70,8 +70,8 @@ IsOfNobody hall (goes session moment) = phase_in hall session ≡ None
 -- by these calls of a hall the event is that of a session that is not open: the session stands where none has begun, or where it is over
 abbrev pub IsOfNoSession : Accounts → List (Numbered Call) → InputEvent → Type 0
 IsOfNoSession accounts calls (opens own) = ⊥
-IsOfNoSession accounts calls (says session moment text) = IsStay accounts (of_number session calls) between
-IsOfNoSession accounts calls (goes session moment) = IsStay accounts (of_number session calls) between
+IsOfNoSession accounts calls (says session moment text) = IsSessionRun accounts (of_number session calls) between
+IsOfNoSession accounts calls (goes session moment) = IsSessionRun accounts (of_number session calls) between
 
 -- an input line says no event
 abbrev pub SaysNothing : List ℕ → Type 0
@@ -91,7 +91,7 @@ IsCallFor (goes session moment) c = (c.number ≡ session) × (c.value.asked ≡
 abbrev pub AreCallsFor : List InputEvent → List (Numbered Call) → Type 0
 AreCallsFor events calls = AllZip IsCallFor events calls
 
--- what the lines of an input say, in their order, but for the last of them, which are these
+-- the events that the lines of an input say, in their order; `last` are its last lines, which are left out
 pub record SaysEvents (input : Option (List ℕ)) (last : List (List ℕ)) : Type 0 where
   pub lines : List (List ℕ)
   pub events : List InputEvent
@@ -119,7 +119,7 @@ module _ {S : Type 0} (facts : S → StoreFacts) (IsStored : List ℕ → Type 0
   abbrev pub HearsLine : (line : List ℕ) → (old : Hall S) → (log : SinkFacts) → (new : Hall S) → (log' : SinkFacts) → Type 0
   HearsLine line old log new log' = (event : InputEvent) × SaysEvent line event × Hears (event ∷ []) old log new log'
 
-  -- the hall has heard what the lines of an input say, but for the last of them, which are these
+  -- the hall has heard what the lines of an input say, in their order; `last` are its last lines, which are left out
   pub record HearsUpTo (input : Option (List ℕ)) (last : List (List ℕ)) (old : Hall S) (log : SinkFacts) (new : Hall S)
       (log' : SinkFacts) : Type 0 where
     pub says : SaysEvents input last
@@ -139,8 +139,8 @@ module _ {S : Type 0} (facts : S → StoreFacts) (IsStored : List ℕ → Type 0
   MeetsBadEvent input old log new log' =
       (line : List ℕ) × (last : List (List ℕ)) × HearsUpTo input (line ∷ last) old log new log' × IsBadEvent line (hall_shown new)
 
--- what the lines of an input say, but for the last of them, which are these, was heard in their order by a hall that began with
--- this book; what it logged is printed, and that is a front; and the book after what it tells was saved
+-- a hall that began with this book heard what the lines of an input say, in their order; `last` are its last lines, which are left
+-- out. What it logged is printed, and is a front; and the store has saved the text of the book to which the replies in it lead.
 pub record PrintsHallLog (IsStored : List ℕ → Type 0) (book : BookFields) (input : Option (List ℕ)) (last : List (List ℕ))
     (old new : Option (List ℕ)) : Type 0 where
   pub says : SaysEvents input last
@@ -173,12 +173,12 @@ abbrev pub RunsToBadEvent : {File : Type 0} → (bytes_of written_to : File → 
 RunsToBadEvent bytes_of written_to input old new =
     (text : List ℕ) × (book : BookFields) × IsReadBook bytes_of text book × PrintsToBadEvent (IsWritten written_to) book input old new
 
--- the fault at which a hall stops to hear: a line of its input can't be read, says no event, or one of a session that is not open; the
+-- the fault at which a hall stops hearing: a line of its input can't be read, says no event, or one of a session that is not open; the
 -- book, whose file has this path, can't be saved; the output can't be written; or memory ran out
 abbrev pub StopsHearing : (path : List ℕ) → Fault → Type 0
 StopsHearing path fault = IsUnread fault ⊎ ((fault ≡ BadEvent) ⊎ (IsUnwritten path fault ⊎ (fault ≡ CannotWriteOutput)))
 
--- the fault that ends `hall`: the book can't be held or read, or the hall stops to hear
+-- the fault that ends `hall`: the book can't be held or read, or the hall stops hearing
 abbrev pub CannotRunHall : {File : Type 0} → (bytes_of : File → Option (List ℕ)) → ArgMatches → Fault → Type 0
 CannotRunHall bytes_of words fault =
     IsUnheld bytes_of (given_value words option.Book) fault ⊎ StopsHearing (given_value words option.Book) fault

@@ -1,3 +1,4 @@
+-- What `verify`, `login`, `hall`, `audit` and `upgrade` do, which faults end them, and what a run of the program does.
 pub mod Audit
 pub mod ClientEnd
 pub mod Hall

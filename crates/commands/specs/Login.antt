@@ -15,7 +15,7 @@ use Rattle.account_book.specs.Store.{StoreFacts}
 use Rattle.book_file.specs.Text.{IsWritten}
 use Rattle.clap.specs.declared.parser.matches.ArgMatches.{ArgMatches}
 use Rattle.command_line.specs.Fault.{IsUnwritten}
-use Rattle.command_line.specs.declared.value.OptionName.TheVariants as option
+use Rattle.command_line.specs.declared.option_name.OptionName.TheVariants as option
 use Rattle.command_line.specs.declared.fault.Fault.{Fault}
 use Rattle.command_line.specs.declared.fault.Fault.TheVariants.{Socket, CannotWriteOutput, NoMemory}
 use Rattle.log_grammar.specs.Books.{accounts_in}
@@ -32,10 +32,10 @@ use Rattle.sasl_desk.specs.declared.desk.Desk.{Desk}
 use Rattle.sasl_desk.specs.declared.fault.ServeFault.{ServeFault}
 use Rattle.sasl_desk.specs.declared.fault.ServeFault.TheVariants as serve
 use Rattle.commands.specs.ClientEnd.{IsLoggedIn}
-use Rattle.account_commands.specs.BadValues.{GivesBadValue, HasBadPassword, HasBadValue}
-use Rattle.account_commands.specs.File.{IsFileUnread}
-use Rattle.account_commands.specs.HeldBook.{IsReadBook, IsUnheld}
-use Rattle.account_commands.specs.Input.{TakesLine, IsUnread, LinesInTurn}
+use Rattle.command_io.specs.BadValues.{GivesBadValue, HasBadPassword, HasBadValue}
+use Rattle.command_io.specs.File.{IsFileUnread}
+use Rattle.command_io.specs.HeldBook.{IsReadBook, IsUnheld}
+use Rattle.command_io.specs.Input.{TakesLine, IsUnread, LinesInTurn}
 use Rattle.command_words.specs.Values.{value_of, given_value}
 use Rattle.commands.specs.Nonces.{AreNonces}
 use Rattle.commands.specs.PrintedLog.{IsLogFault, IsUnsavedOrUnlogged}
@@ -137,7 +137,7 @@ pub record IsRunLog (accounts : Accounts) (own : List ℕ) (IsNow : ℕ → Type
   pub is_log : log ≡ log_bytes (run_lines calls)
 
 -- after the bytes from before stands a log of this kind, as a clean one, by the accounts of a book, of a desk with this part of the
--- nonce, whose clock gave such moments; and the book after what it tells was saved
+-- nonce, whose clock gave such moments; and the store has saved the text of the book to which the replies in it lead
 abbrev pub HasSavedLog : (IsStored : List ℕ → Type 0) → (IsNow : ℕ → Type 0) → (IsOfKind : Accounts → List ℕ → Type 0) → BookFields
     → (own : List ℕ) → (before after : Option (List ℕ)) → Type 0
 HasSavedLog IsStored IsNow IsOfKind book own before after =

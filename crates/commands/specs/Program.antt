@@ -17,9 +17,9 @@ use Rattle.command_words.specs.Commands.CommandName.{Keys, Enrol, Code, Verify, 
 use Rattle.command_words.specs.Commands.{CommandName, program, word_of}
 use Rattle.account_commands.specs.Code.{CannotPrintCode, IsCodeAsked}
 use Rattle.account_commands.specs.Enrol.{CannotEnrol, EnrolsAsked}
-use Rattle.account_commands.specs.HeldBook.{CannotUnlock, UnlocksAsked}
+use Rattle.command_io.specs.HeldBook.{CannotUnlock, UnlocksAsked}
 use Rattle.account_commands.specs.Keys.{CannotPrintKeys, PrintsKeysAsked}
-use Rattle.account_commands.specs.Printed.{PrintsNothing}
+use Rattle.command_io.specs.Printed.{PrintsNothing}
 use Rattle.log_grammar.specs.Versions.{IsClean, IsFront}
 use Rattle.commands.specs.Audit.{CannotAudit, CannotUpgrade, PrintsAudit, PrintsUpgrade}
 use Rattle.commands.specs.Hall.{CannotRunHall, RunsHall, RunsToBadEvent}
@@ -27,7 +27,7 @@ use Rattle.commands.specs.Login.{CannotLogIn, PrintsLogin, PrintsPassesAsked}
 use Rattle.commands.specs.PrintedLog.{StopsAfter}
 use Rattle.commands.specs.Verify.{CannotBegin, VerifiesAllLines, VerifiesFirstLines}
 
--- the exit status of an answer: 0 for yes, 1 for a refusal
+-- the exit status of an answer: 0 for yes, 1 for no
 abbrev pub answer_status : Bool → ℕ
 answer_status true = 0
 answer_status false = 1

@@ -17,14 +17,14 @@ use Rattle.clap.specs.declared.parser.matches.ArgMatches.{ArgMatches}
 use Rattle.command_line.specs.Fault.{IsTokenFault}
 use Rattle.command_line.specs.declared.fault.Fault.{Fault}
 use Rattle.command_line.specs.declared.fault.Fault.TheVariants.{CannotWriteOutput, NoMemory}
-use Rattle.command_line.specs.declared.value.OptionName.TheVariants as option
-use Rattle.account_commands.specs.BadValues.{HasBadValue}
-use Rattle.account_commands.specs.HeldBook.{HeldFacts, held_shown, IsReadBook, IsReplySaved, IsReplyUnsaved, IsUnheld}
-use Rattle.account_commands.specs.HeldBook.{LacksToken}
-use Rattle.account_commands.specs.Input.{LinesInTurn, IsUnread}
+use Rattle.command_line.specs.declared.option_name.OptionName.TheVariants as option
+use Rattle.command_io.specs.BadValues.{HasBadValue}
+use Rattle.command_io.specs.HeldBook.{HeldFacts, held_shown, IsReadBook, IsReplySaved, IsReplyUnsaved, IsUnheld}
+use Rattle.command_io.specs.HeldBook.{LacksToken}
+use Rattle.command_io.specs.Input.{LinesInTurn, IsUnread}
 use Rattle.commands.specs.Sent.{Says}
 use Rattle.command_words.specs.Values.{given_value}
-use Rattle.account_commands.specs.declared.held_book.HeldBook.{HeldBook}
+use Rattle.command_io.specs.declared.held_book.HeldBook.{HeldBook}
 
 -- the reply says that the code is right
 abbrev pub is_passed : Reply → Bool
@@ -52,28 +52,28 @@ IsUnprinted fault old new = (fault ≡ CannotWriteOutput) ⊎ ((fault ≡ NoMemo
 -- the reply to what a line says is not saved, and nothing is printed: there is no token to judge it by, the book's file, of this path,
 -- can't be written, or memory ran out
 abbrev pub IsReplyLost : (path name : List ℕ) → (moment : ℕ) → CodeTexts → (old : VerifyRun) → Fault → (new : VerifyRun) → Type 0
-IsReplyLost path name moment said old fault new =
-    IsReplyUnsaved old.held name moment said new.held × IsTokenFault path (account_at old.held.book name) fault
+IsReplyLost path name moment sent old fault new =
+    IsReplyUnsaved old.held name moment sent new.held × IsTokenFault path (account_at old.held.book name) fault
     × (new.printed ≡ old.printed)
 
 -- how the lines of an input are answered, where these are the texts that are stored
 module _ (IsStored : List ℕ → Type 0) where
   -- a line is answered: the reply is due to what it says, what the reply changes is saved, and then the reply is printed
   pub record IsLineAnswered (name : List ℕ) (moment : ℕ) (line : List ℕ) (old : VerifyRun) (reply : Reply) (new : VerifyRun) : Type 0 where
-    pub said : CodeTexts
-    pub says : Says line said
-    pub saved : IsReplySaved IsStored old.held name moment said reply new.held
+    pub sent : CodeTexts
+    pub says : Says line sent
+    pub saved : IsReplySaved IsStored old.held name moment sent reply new.held
     pub printed : Appends old.printed new.printed (printed_reply reply moment)
 
   -- the reply to what a line says is saved, and is not printed
   abbrev pub IsReplyUntold : (name : List ℕ) → (moment : ℕ) → CodeTexts → (old : VerifyRun) → Fault → (new : VerifyRun) → Type 0
-  IsReplyUntold name moment said old fault new =
-      (reply : Reply) × IsReplySaved IsStored old.held name moment said reply new.held × IsUnprinted fault old.printed new.printed
+  IsReplyUntold name moment sent old fault new =
+      (reply : Reply) × IsReplySaved IsStored old.held name moment sent reply new.held × IsUnprinted fault old.printed new.printed
 
   -- a fault at a line: the reply to what it says is not saved, or it is saved and not printed
   abbrev pub FailsAtLine : (path name : List ℕ) → (moment : ℕ) → (line : List ℕ) → (old : VerifyRun) → Fault → (new : VerifyRun) → Type 0
   FailsAtLine path name moment line old fault new =
-      (said : CodeTexts) × Says line said × (IsReplyLost path name moment said old fault new ⊎ IsReplyUntold name moment said old fault new)
+      (sent : CodeTexts) × Says line sent × (IsReplyLost path name moment sent old fault new ⊎ IsReplyUntold name moment sent old fault new)
 
   -- a line is answered, and whether its code passed
   abbrev pub AnswersLine : (name : List ℕ) → (moment : ℕ) → (line : List ℕ) → VerifyRun → (passed : Bool) → VerifyRun → Type 0

@@ -8,7 +8,7 @@ use sasl_desk::{DeskFault, ServeFault};
 use std::alloc::Global;
 
 /// The fault of a book that can't be saved to the file of this path: CannotWrite, or NoMemory.
-pub fn unsaved(alloc: Global, path: &str) -> Fault
+pub fn save_fault(alloc: Global, path: &str) -> Fault
     ensures { IsUnwritten path.now result }
 {
     match String::from_str(alloc, path) {
@@ -17,28 +17,29 @@ pub fn unsaved(alloc: Global, path: &str) -> Fault
     }
 }
 
-/// The fault of a command whose desk or hall refuses a call. Halted is CannotWrite of the book: a desk halts only where it can't save.
+/// The fault of a command whose desk or hall refuses a call. Halted is CannotWrite of the book: a command asks
+/// nothing more of a desk or a hall that has halted, so Halted comes of `begin` alone, whose save failed.
 /// NoNumber can't come here, since an input has fewer lines than there are numbers; it is CannotWrite too.
-pub fn of_desk(alloc: Global, path: &str, fault: DeskFault) -> Fault
+pub fn fault_of_desk(alloc: Global, path: &str, fault: DeskFault) -> Fault
     requires { fault ≢ DeskFault.Unwritable }
     ensures unwritten { IsUnwritten path.now result }
     ensures memory { fault ≡ DeskFault.NoMemory → result ≡ Fault.NoMemory }
 {
     match fault {
         DeskFault::NoMemory => Fault::NoMemory,
-        DeskFault::Halted | DeskFault::NoNumber => unsaved(alloc, path),
+        DeskFault::Halted | DeskFault::NoNumber => save_fault(alloc, path),
         DeskFault::Unwritable => unreachable!(),
     }
 }
 
 /// The fault of a command whose desk does not serve a turn. WriteFault is NoMemory: the desk writes to a `MemorySink`, which fails only
 /// where memory runs out.
-pub fn of_serving(alloc: Global, path: &str, fault: ServeFault) -> Fault
+pub fn fault_of_serving(alloc: Global, path: &str, fault: ServeFault) -> Fault
     requires { fault ≢ ServeFault.Unwritable }
     ensures { IsFaultOf path.now fault result }
 {
     match fault {
-        ServeFault::Halted => unsaved(alloc, path),
+        ServeFault::Halted => save_fault(alloc, path),
         ServeFault::Unwritable => unreachable!(),
         ServeFault::NoMemory | ServeFault::WriteFault => Fault::NoMemory,
         ServeFault::LogFault => Fault::CannotWriteOutput,

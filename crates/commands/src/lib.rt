@@ -2,6 +2,8 @@
 //!
 //! `run` finds the command that the words name, and does all the work of a run of the program, over words, streams and a
 //! runtime that are handed to it. So tests can hand in files and streams that fail.
+//!
+//! The order in which a command tells its faults, and what it asks at a terminal, are tested: no clause says them.
 #![tactic(auto)]
 
 mod audit;
@@ -16,5 +18,5 @@ mod sent;
 mod upgrade;
 mod verify;
 
-pub use account_commands::terminal::{TerminalInput, TerminalOutput};
-pub use program::{USAGE, run};
+pub use command_io::terminal::{TerminalInput, TerminalOutput};
+pub use program::run;

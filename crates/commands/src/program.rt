@@ -14,12 +14,13 @@ use crate::verify::verify;
 use account_commands::code::code;
 use account_commands::enrol::enrol;
 use account_commands::keys::keys;
-use account_commands::output::print_and_flush;
-use account_commands::terminal::{TerminalInput, TerminalOutput};
 use account_commands::unlock::unlock;
 use book_file::Lockable;
 use clap::error::ErrorKind;
 use clap::{ArgMatches, Error};
+use command_io::output::print_and_flush;
+use command_io::terminal::{TerminalInput, TerminalOutput};
+use command_line::status::{DONE, REFUSED, USAGE};
 use command_line::{Fault, TerminalText};
 use command_words::{scramotp, usage_text};
 use std::alloc::Global;
@@ -29,15 +30,10 @@ use std::io::Write;
 use std::net::Net;
 use std::time::Clock;
 
-/// The status of a run that did its work, and whose answer is a refusal.
-const REFUSED: u8 = 1;
-
-/// The status of words that the program does not understand.
-pub const USAGE: u8 = 2;
-
-/// Runs the command that `words` name, the program's own name first, and returns the exit status: 0 done, 1 refused
-/// or faulty, 2 usage, 3 files, sockets, input, output or memory. The answer, help and version go to `output`, which is handed
-/// back, everything else to `faults`; both are flushed.
+/// Runs the command that `words` name, the program's own name first, and returns the exit status: 0 done, 1 a
+/// code, a login, a log or another request is refused, 2 usage, 3 files, sockets, input, output or memory. The answer, help and version
+/// go to `output`, which is handed back, everything else to `faults`; both are flushed. No clause says what goes to `faults`, or that
+/// they are flushed.
 pub fn run<R, S, I, O, E>(rt: &R, words: &[S], input: &mut I, output: O, faults: &mut E) -> (u8, O)
 where
     R: Files + Net + Clock + AllocGlobal,
@@ -79,7 +75,7 @@ where
         return (report(alloc, faults, Fault::NoMemory), output);
     }
     if error.use_stderr() {
-        return (refuse(alloc, words, faults), output);
+        return (report_usage(alloc, words, faults), output);
     }
     let mut output = output;
     match print_help(alloc, error, &mut output) {
@@ -98,7 +94,7 @@ fn print_help<O: Write>(alloc: Global, error: &Error, output: &mut O) -> Result<
 }
 
 // Says what is wrong with words that are not understood. Returns USAGE, or the status of NoMemory.
-fn refuse<S: AsStr, E: Write>(alloc: Global, words: &[S], faults: &mut E) -> u8
+fn report_usage<S: AsStr, E: Write>(alloc: Global, words: &[S], faults: &mut E) -> u8
     ensures { (result ≡ 2) ⊎ (result ≡ 3) }
 {
     match usage_text(alloc, words) {
@@ -184,7 +180,7 @@ fn done(ended: Result<(), Fault>) -> Result<u8, Fault>
     ensures { MatchResult ended (λ _. result ≡ Ok 0) (λ fault. result ≡ Err fault) }
 {
     match ended {
-        Ok(()) => Ok(0),
+        Ok(()) => Ok(DONE),
         Err(fault) => Err(fault),
     }
 }
@@ -194,7 +190,7 @@ fn answered(passed: Result<bool, Fault>) -> Result<u8, Fault>
     ensures { MatchResult passed (λ yes. result ≡ Ok (answer_status yes)) (λ fault. result ≡ Err fault) }
 {
     match passed {
-        Ok(true) => Ok(0),
+        Ok(true) => Ok(DONE),
         Ok(false) => Ok(REFUSED),
         Err(fault) => Err(fault),
     }

@@ -1,7 +1,7 @@
 //! How far a log was read, shown to someone who waits at a terminal.
 ghost use Rattle.std.specs.Prelude.{◌≡◌};
 
-use account_commands::terminal::TerminalOutput;
+use command_io::terminal::TerminalOutput;
 use std::io;
 use std::io::{Read, Write};
 use std::time::{Clock, Instant};

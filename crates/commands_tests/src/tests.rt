@@ -97,18 +97,24 @@ where
     R: Abort + Files + Net + Clock + AllocGlobal,
     R::File: Lockable,
 {
-    check_at(rt, words, input, (false, false), want);
+    check_at_terminals(rt, words, input, (false, false), want);
 }
 
 // So where the input and the faults are terminals or not.
-fn check_at<R>(rt: &R, words: &[&str], input: &str, are: (bool, bool), want: (u8, &str, &str))
+fn check_at_terminals<R>(
+    rt: &R,
+    words: &[&str],
+    input: &str,
+    are_terminals: (bool, bool),
+    want: (u8, &str, &str),
+)
 where
     R: Abort + Files + Net + Clock + AllocGlobal,
     R::File: Lockable,
 {
     let mut output = Vec::new(rt.alloc());
-    let mut input = Input::new(input, are.0);
-    let mut faults = Faults::new(rt.alloc(), are.1);
+    let mut input = Input::new(input, are_terminals.0);
+    let mut faults = Faults::new(rt.alloc(), are_terminals.1);
     let (status, _) = run(rt, words, &mut input, &mut output, &mut faults);
     let (want_status, want_output, want_faults) = want;
     assert_eq!(rt; status, want_status, "status of {words:?}");

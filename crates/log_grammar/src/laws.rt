@@ -1,5 +1,5 @@
 //! Laws of lines and logs, for proofs that rest on this crate: each is the promise of a function that does nothing.
-ghost use Rattle.log_grammar.specs.laws.LineLaws.{EscapesOneMessage, EachTextIsAtMostOneLine, IsOneLogLine, LineIsDecided};
+ghost use Rattle.log_grammar.specs.laws.LineLaws.{EscapesOneMessage, EachTextIsAtMostOneLine, EachTextIsAtMostOneLogLine, LineIsDecided};
 ghost use Rattle.log_grammar.specs.laws.LineLaws.{LogLineIsDecided, WrittenLinesAreRead, LinesLackLf, BytesAreCut, BytesAreCutOneWay};
 ghost use Rattle.log_grammar.specs.laws.LogLaws.{GoesOnByALine, GoesOnByNoOther, LogsHaveOneReading, FrontsBeginWithFronts};
 ghost use Rattle.log_grammar.specs.laws.LogLaws.{CleanLogsAreFronts, EachAccountHasItsHistory, MomentsAreInRange, HasOneFaultLine};
@@ -24,7 +24,7 @@ pub fn is_one_line()
 
 /// A text is at most one line of a log.
 pub fn is_one_log_line()
-    ensures { IsOneLogLine }
+    ensures { EachTextIsAtMostOneLogLine }
 {}
 
 /// For every text there is a line of the protocol that it is, or there is none.

@@ -33,7 +33,7 @@ impl Digits {
     pub fn new(count: u8) -> Result<Digits, OtpFault>
         ensures { MatchResult result
             (λ digits. (digits ≡ count) × IsDigitCount count)
-            (λ fault. (fault ≡ DigitCount) × ¬ (IsDigitCount count)) }
+            (λ fault. (fault ≡ DigitCount) × (IsDigitCount count → ⊥)) }
     {
         if LEAST_DIGITS <= count && count <= MOST_DIGITS {
             Ok(Digits { count })

@@ -29,7 +29,7 @@ impl Moment {
     /// 253402300799.
     pub fn new(seconds: u64) -> Option<Moment>
         ensures { MatchOption result
-            (¬ (IsMoment seconds))
+            (IsMoment seconds → ⊥)
             (λ moment. (moment ≡ seconds) × IsMoment seconds) }
     {
         if seconds <= LAST_MOMENT {

@@ -34,7 +34,7 @@ impl Secret {
     pub fn new(bytes: &[u8]) -> Result<Secret, OtpFault>
         ensures { MatchResult result
             (λ secret. (secret ≡ bytes.now) × IsSecretLength (length bytes.now))
-            (λ fault. (fault ≡ SecretLength) × ¬ (IsSecretLength (length bytes.now))) }
+            (λ fault. (fault ≡ SecretLength) × (IsSecretLength (length bytes.now) → ⊥)) }
     {
         if bytes.len() < LEAST_SECRET {
             return Err(OtpFault::SecretLength);

@@ -10,7 +10,7 @@ most_line_bytes = longest_log_line + 1
 abbrev pub most_call_lines : ℕ
 most_call_lines = 3
 
--- the most bytes that a call sends, and that it adds to a log
+-- the most bytes that a call sends, and that a call of a desk adds to its log
 abbrev pub most_bytes_of_call : ℕ
 most_bytes_of_call = most_call_lines * most_line_bytes
 
@@ -22,7 +22,7 @@ most_u64_digits = 20
 abbrev pub most_prefix : ℕ
 most_prefix = most_u64_digits + 1
 
--- the most bytes that a call adds to a log whose lines have numbers
+-- the most bytes that a call of a hall adds to its log
 abbrev pub most_numbered_bytes_of_call : ℕ
 most_numbered_bytes_of_call = most_call_lines * (most_line_bytes + most_prefix)
 

@@ -16,7 +16,7 @@ use Rattle.sasl_desk.specs.Runs.{Asked, hears, Call, call_of, run_lines, own_par
 use Rattle.sasl_desk.specs.Sessions.{IsSessionAt, CanBeWritten}
 use Rattle.sasl_desk.specs.Spent.{AreSpent, spent_by}
 use Rattle.sasl_desk.specs.declared.session.Session.{Session}
-use Rattle.sasl_desk.specs.declared.session.Session.TheVariants.{Offered, WaitsFirst, WaitsFinal, WaitsCode}
+use Rattle.sasl_desk.specs.declared.session.Session.TheVariants.{WaitAuth, WaitFirst, WaitFinal, WaitCode}
 use Rattle.sasl_desk.specs.declared.keeper.Keeper.{Keeper}
 use Rattle.sasl_desk.specs.declared.turn.AfterTurn.{AfterTurn}
 use Rattle.sasl_desk.specs.declared.turn.AfterTurn.TheVariants.{Going, Over}
@@ -29,10 +29,10 @@ use Rattle.sasl_desk.specs.declared.session.phase.Phase.TheVariants as phase
 
 -- the phase of an open session, by what its client may do
 abbrev pub session_phase : Session → Phase
-session_phase Offered = phase.WaitAuth
-session_phase (WaitsFirst mechanism) = phase.WaitFirst
-session_phase (WaitsFinal waiting) = phase.WaitFinal
-session_phase (WaitsCode name) = phase.WaitCode
+session_phase WaitAuth = phase.WaitAuth
+session_phase (WaitFirst mechanism) = phase.WaitFirst
+session_phase (WaitFinal waiting) = phase.WaitFinal
+session_phase (WaitCode name) = phase.WaitCode
 
 -- the phase of a desk
 abbrev pub phase_of : State → Phase
@@ -60,7 +60,7 @@ pub record IsAttemptOf (asked : Asked) (at : Place) (lines : List LogLine) (t : 
   pub is_asked : asked ≡ hears event t.moment
   pub place : at ≡ waits_code t.account
   pub lines_are : lines ≡ heard (asking t.sent) ∷ answer ∷ []
-  pub is_saved : needs_save t.reply ≡ true
+  pub to_save : needs_save t.reply ≡ true
 
 -- the latest call judged this attempt
 abbrev pub IsLatestAttempt : Accounts → List Call → LoggedReply → Type 0
@@ -119,7 +119,7 @@ abbrev pub desk_of : {S : Type 0} → Keeper S → State → Desk S
 desk_of keeper state = record { keeper = keeper; state = state }
 
 -- two desks have the same book, store and state
-pub record IsSame {S : Type 0} (old new : Desk S) : Type 0 where
+pub record IsSameDesk {S : Type 0} (old new : Desk S) : Type 0 where
   pub book : new.keeper.book ≡ old.keeper.book
   pub store : new.keeper.store ≡ old.keeper.store
   pub state : new.state ≡ old.state

@@ -10,7 +10,7 @@ use Rattle.book_format.specs.Trees.{IsBookText}
 use Rattle.account_book.specs.Store.{StoreFacts}
 use Rattle.log_grammar.specs.Books.{accounts_in}
 use Rattle.log_grammar.specs.Bytes.{ended_by_lf}
-use Rattle.log_grammar.specs.Lines.{LogLine, second_header, said, ended, busy, log_bytes}
+use Rattle.log_grammar.specs.Lines.{LogLine, header_two, said, ended, busy, log_bytes}
 use Rattle.log_grammar.specs.LoggedReply.{LoggedReply}
 use Rattle.log_grammar.specs.Places.{Place, between, offered, waits_first, waits_final, waits_code, open_at}
 use Rattle.log_grammar.specs.Demands.{Accounts, demands}
@@ -56,7 +56,7 @@ numbered_bytes lines = ended_by_lf (map numbered_text lines)
 
 -- the bytes of a log after these calls
 abbrev pub hall_bytes : List (Numbered Call) → List ℕ
-hall_bytes calls = log_bytes (second_header ∷ []) ++ numbered_bytes (hall_lines calls)
+hall_bytes calls = log_bytes (header_two ∷ []) ++ numbered_bytes (hall_lines calls)
 
 -- the lines by which a session is turned away
 abbrev pub busy_lines : List LogLine
@@ -64,8 +64,8 @@ busy_lines = said busy ∷ ended ∷ []
 
 -- the calls of one session, the latest first, each with the lines by which it is answered, as at a desk; or its one greeting,
 -- where it was turned away. The session then stands at this place.
-abbrev pub IsStay : Accounts → List Call → Place → Type 0
-IsStay accounts calls at =
+abbrev pub IsSessionRun : Accounts → List Call → Place → Type 0
+IsSessionRun accounts calls at =
     IsRun accounts calls at ⊎ ((own : List ℕ) × (calls ≡ call_of (greets own) busy_lines ∷ []) × (at ≡ between))
 
 -- a guest's session stands at the place of its number, with the server's part of the nonce with which it was greeted
@@ -87,7 +87,7 @@ pub record IsHallAfter {S : Type 0} (facts : S → StoreFacts) (IsStored : List 
   pub places : ℕ → Place
   pub told : List LoggedReply
   -- what each session was asked is recorded and answered; nothing was asked of a number that was not given
-  pub stays : (n : ℕ) → IsStay (accounts_in start) (of_number n calls) (places n)
+  pub session_runs : (n : ℕ) → IsSessionRun (accounts_in start) (of_number n calls) (places n)
   pub fresh : (n : ℕ) → begun (hall_lines calls) < n → of_number n calls ≡ []
   -- the lines are those of a log of version 2, at most 64 of whose sessions are open at once, and they can be written
   pub spelled : SpellsNumbered most_open (demands (accounts_in start)) (hall_lines calls) places told
@@ -106,8 +106,8 @@ pub record IsHallAfter {S : Type 0} (facts : S → StoreFacts) (IsStored : List 
   -- what was spent before is spent, and each counter that a reply used
   pub spent : (ps : List (List ℕ × ℕ)) → AreSpent ps start → AreSpent (all_spent (reverse told) ++ ps) hall.keeper.book
 
--- the phase is that of this place: what the client may do there, and where no session is open, Closed. After a halt it is
--- Halted, wherever a session stands.
+-- the phase is that of this place: what the client may do there, and where no session is open, Closed. Of Halted nothing is said, since
+-- a halt may come at any place.
 abbrev pub IsPhaseOf : Place → Phase → Type 0
 IsPhaseOf at phase.Closed = at ≡ between
 IsPhaseOf at phase.WaitAuth = at ≡ offered
@@ -138,15 +138,15 @@ pub record IsSameHall {S : Type 0} (old new : HallFields S) : Type 0 where
 
 -- what a call of a session did: it added lines, and the hall that had answered some calls has answered this one, too
 pub record AnswersIn {S : Type 0} (facts : S → StoreFacts) (IsStored : List ℕ → Type 0) (old : HallFields S) (n : ℕ) (asked : Asked)
-    (answered : Phase) (wire wire' log log' : List ℕ) (new : HallFields S) : Type 0 where
+    (phase_after : Phase) (wire wire' log log' : List ℕ) (new : HallFields S) : Type 0 where
   pub lines : List LogLine
   pub logged : log' ≡ log ++ numbered_bytes (map (numbered n) lines)
   pub sent : wire' ≡ wire ++ wire_bytes lines
   -- and the phase that is answered is that of the place where the session then stands
   pub stands : (start : BookFields) (calls : List (Numbered Call)) → IsHallAfter facts IsStored start calls old
-      → (after : IsHallAfter facts IsStored start (numbered n (call_of asked lines) ∷ calls) new) × IsPhaseOf (after.places n) answered
+      → (after : IsHallAfter facts IsStored start (numbered n (call_of asked lines) ∷ calls) new) × IsPhaseOf (after.places n) phase_after
   -- which is Halted exactly where the hall has halted
-  pub tells : (answered ≡ phase.Halted) ↔ (new.is_halted ≡ true)
+  pub tells : (phase_after ≡ phase.Halted) ↔ (new.is_halted ≡ true)
   pub saves : (start : BookFields) (calls : List (Numbered Call)) → IsHallAfter facts IsStored start calls old
       → (facts new.keeper.store).saves ≡ (facts old.keeper.store).saves + length (filter is_saving lines)
   -- what the store was given to save is the text of the book with the attempt of this call

@@ -26,7 +26,7 @@ abbrev pub nonces_in : List Call → List (List ℕ)
 nonces_in [] = []
 nonces_in (c ∷ before) = nonces_with c.asked (nonces_in before)
 
--- the records before an event, and the one of it, which is that at the place where the log stood
+-- the records after a request: a greeting adds none; what a client did adds its record, at the place where the log stood
 abbrev pub HasRecordOf : Accounts → Asked → (before : List Call) → (Earlier : List LogLine → Type 0) → List LogLine → Type 0
 HasRecordOf accounts (greets own) before Earlier records = Earlier records
 HasRecordOf accounts (hears event moment) before Earlier records =

@@ -14,8 +14,8 @@ use Rattle.sasl_desk.specs.Halls.{HallFields, IsHallAfter}
 use Rattle.sasl_desk.specs.Spent.{spent_by}
 use Rattle.sasl_desk.specs.declared.desk.Desk.{Desk}
 
--- the calls that a desk has answered, and what its log tells
-pub record Run : Type 0 where
+-- a run of a desk: the book that it began with, the calls that it answered, what its log tells, and the book that it left
+pub record DeskRun : Type 0 where
   pub start : BookFields
   pub calls : List Call
   pub told : List LoggedReply
@@ -24,13 +24,13 @@ pub record Run : Type 0 where
 -- a desk that began with the book has answered the calls, and its log tells this. Where it stops, between two calls or in
 -- the midst of one, the store holds the text of a book that it left: its own, or, as a save was under way or failed, that
 -- with one more attempt. A stop within `begin` leaves the text from before, or that of the same book, and is no run.
-pub record IsDeskRunOf {S : Type 0} (facts : S → StoreFacts) (IsStored : List ℕ → Type 0) (r : Run) : Type 0 where
+pub record IsDeskRunOf {S : Type 0} (facts : S → StoreFacts) (IsStored : List ℕ → Type 0) (r : DeskRun) : Type 0 where
   pub desk : Desk S
   pub stands : IsDeskAfter facts IsStored r.start r.calls desk
   pub tells : r.told ≡ stands.told
   pub leaves : (r.left ≡ desk.keeper.book) ⊎ ((t : LoggedReply) × IsAttemptJudged desk.keeper.book t r.left)
 
--- the calls that a hall has answered, and what its log tells
+-- a run of a hall: the book that it began with, the calls that it answered, what its log tells, and the book that it left
 pub record HallRun : Type 0 where
   pub start : BookFields
   pub calls : List (Numbered Call)
@@ -46,10 +46,10 @@ pub record IsHallRunOf {S : Type 0} (facts : S → StoreFacts) (IsStored : List 
   pub leaves : (r.left ≡ hall.keeper.book) ⊎ ((t : LoggedReply) × IsAttemptJudged hall.keeper.book t r.left)
 
 -- a desk that began with the book has answered the calls, and leaves this book where it stops
-abbrev pub IsRunLeaving : {S : Type 0} → (S → StoreFacts) → (IsStored : List ℕ → Type 0) → (start : BookFields) → List Call
+abbrev pub IsDeskRunLeaving : {S : Type 0} → (S → StoreFacts) → (IsStored : List ℕ → Type 0) → (start : BookFields) → List Call
     → (left : BookFields) → Type 0
-IsRunLeaving facts IsStored start calls left =
-    (r : Run) × IsDeskRunOf facts IsStored r × (r.start ≡ start) × (r.calls ≡ calls) × (r.left ≡ left)
+IsDeskRunLeaving facts IsStored start calls left =
+    (r : DeskRun) × IsDeskRunOf facts IsStored r × (r.start ≡ start) × (r.calls ≡ calls) × (r.left ≡ left)
 
 -- a hall that began with the book has answered the calls, and leaves this book where it stops
 abbrev pub IsHallRunLeaving : {S : Type 0} → (S → StoreFacts) → (IsStored : List ℕ → Type 0) → (start : BookFields) → List (Numbered Call)
@@ -61,7 +61,7 @@ IsHallRunLeaving facts IsStored start calls left =
 -- it holds when the run has stopped; the token of an account judges an attempt, without a desk; the token of an account is
 -- unlocked; an account is added
 pub data Change : Type 0 where
-  desk_ran : (r : Run) → Change
+  desk_ran : (r : DeskRun) → Change
   hall_ran : (r : HallRun) → Change
   judged : (t : LoggedReply) → Change
   unlocked : (name : List ℕ) → Change

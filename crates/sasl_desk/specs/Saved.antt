@@ -12,13 +12,13 @@ use Rattle.log_grammar.specs.LoggedReply.{LoggedReply}
 use Rattle.log_grammar.specs.Versions.{most_open}
 use Rattle.sasl_desk.specs.Desks.{IsBookWith}
 
--- the book after what was told was saved
+-- the store has saved the text of the book to which the replies that were told lead
 pub record IsToldSaved (IsStored : List ℕ → Type 0) (start : BookFields) (told : List LoggedReply) : Type 0 where
   pub last : BookFields
   pub is_last : IsBookWith start (reverse told) last
   pub saved : WasSaved IsStored last
 
--- the book after what a log of version 1 tells was saved
+-- the store has saved the text of the book to which the replies in a log of version 1 lead
 pub record IsLogSaved (IsStored : List ℕ → Type 0) (start : BookFields) (log : List ℕ) : Type 0 where
   pub lines : List LogLine
   pub place : Place
@@ -27,7 +27,7 @@ pub record IsLogSaved (IsStored : List ℕ → Type 0) (start : BookFields) (log
   pub begins : Begins (demands (accounts_in start)) lines place told
   pub saved : IsToldSaved IsStored start told
 
--- the book after what the lines of a log of version 2 tell was saved
+-- the store has saved the text of the book to which the replies in these lines of a log of version 2 lead
 pub record AreLinesSaved (IsStored : List ℕ → Type 0) (start : BookFields) (lines : List (Numbered LogLine)) : Type 0 where
   pub places : ℕ → Place
   pub told : List LoggedReply

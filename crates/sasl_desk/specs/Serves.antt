@@ -14,7 +14,7 @@ use Rattle.sasl_desk.specs.Events.{sends, goes_away}
 use Rattle.sasl_desk.specs.Inputs.{LineRead, ReadsLine, ReadsLines, event_read}
 use Rattle.sasl_desk.specs.Sessions.{IsRecord}
 use Rattle.sasl_desk.specs.Runs.{Asked, greets, hears, Call, call_of}
-use Rattle.sasl_desk.specs.Desks.{IsDeskAfter, IsSame, phase_of, is_saving}
+use Rattle.sasl_desk.specs.Desks.{IsDeskAfter, IsSameDesk, phase_of, is_saving}
 use Rattle.sasl_desk.specs.Outputs.{AreWritten}
 use Rattle.sasl_desk.specs.declared.desk.Desk.{Desk}
 use Rattle.sasl_desk.specs.declared.session.phase.Phase.TheVariants as phase
@@ -68,8 +68,8 @@ pub record IsUnlogged {S : Type 0} (facts : S → StoreFacts) (IsStored : List �
 -- has answered nothing, and nothing was written.
 abbrev pub IsUndone : {S : Type 0} → (S → StoreFacts) → (IsStored : List ℕ → Type 0) → Asked → (old new : Desk S)
     → (wire wire' log log' : SinkFacts) → ServeFault → Type 0
-IsUndone facts IsStored asked old new wire wire' log log' Halted = IsSame old new × (wire' ≡ wire) × (log' ≡ log)
-IsUndone facts IsStored asked old new wire wire' log log' NoMemory = IsSame old new × (wire' ≡ wire) × (log' ≡ log)
+IsUndone facts IsStored asked old new wire wire' log log' Halted = IsSameDesk old new × (wire' ≡ wire) × (log' ≡ log)
+IsUndone facts IsStored asked old new wire wire' log log' NoMemory = IsSameDesk old new × (wire' ≡ wire) × (log' ≡ log)
 IsUndone facts IsStored asked old new wire wire' log log' Unwritable = ⊥
 IsUndone facts IsStored asked old new wire wire' log log' WriteFault = IsUnsent facts IsStored asked old new wire' log log'
 IsUndone facts IsStored asked old new wire wire' log log' LogFault = IsUnlogged facts IsStored asked old new wire wire' log'
@@ -156,7 +156,7 @@ pub record IsCutOff {S : Type 0} (facts : S → StoreFacts) (IsStored : List ℕ
   pub is_now : IsNow moment
   pub done : IsDone facts IsStored (hears goes_away moment) middle.desk new.desk middle.wire new.wire middle.log new.log
 
--- a session that was served
+-- a session was served: its turns ended it, or it was cut off when they were used up
 abbrev pub IsServed : {S : Type 0} → (S → StoreFacts) → (IsStored : List ℕ → Type 0) → (IsNow : ℕ → Type 0) → (own : List ℕ)
     → (old new : Service S) → Type 0
 IsServed facts IsStored IsNow own old new = IsServedToEnd facts IsStored IsNow own old new ⊎ IsCutOff facts IsStored IsNow own old new

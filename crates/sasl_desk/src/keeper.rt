@@ -29,8 +29,8 @@ pub enum CodeJudged {
 }
 
 impl<S: BookStore> Keeper<S> {
-    /// A keeper of this book, whose text the store then holds. Halted where the save fails, and NoMemory, before the
-    /// store is asked; the book and the store are handed back.
+    /// A keeper of this book, whose text the store then holds. 72 Halted where the save fails; 99 NoMemory where memory runs out, which is
+    /// before the store is asked. The book and the store are then handed back.
     pub fn begin(alloc: Global, book: Book, mut store: S) -> Result<Keeper<S>, (Book, S, DeskFault)>
         ensures ok { IfOk result (λ keeper. (keeper.book ≡ book) × SavesBook S.IsStored (S.facts store) book (S.facts keeper.store)) }
         ensures err { IfErr result (λ r. (r.0 ≡ book) × IsNotBegun (S.facts store) book r.2 (S.facts r.1)) }

@@ -9,7 +9,7 @@ ghost use Rattle.log_grammar.specs.LoggedReply.{LoggedReply};
 ghost use Rattle.sasl_desk.specs.Desks.{IsDeskAfter, phase_of, all_spent};
 ghost use Rattle.sasl_desk.specs.Keeper.{IsAttemptJudged};
 ghost use Rattle.sasl_desk.specs.Records.{HasItsRecords};
-ghost use Rattle.sasl_desk.specs.Restarts.{IsRunLeaving, Change, AreChanges, spent_in};
+ghost use Rattle.sasl_desk.specs.Restarts.{IsDeskRunLeaving, Change, AreChanges, spent_in};
 ghost use Rattle.sasl_desk.specs.Runs.{Call, run_lines, wire_bytes};
 ghost use Rattle.sasl_desk.specs.Saved.{IsLogSaved};
 ghost use Rattle.sasl_desk.specs.Serves.{LongTextsAreBad};
@@ -77,11 +77,11 @@ pub fn bytes_are_those_of_calls()
 /// perhaps that with one more attempt.
 pub fn store_holds_a_book<S: BookStore>()
     ensures { (start : BookFields) (calls : List Call) (desk : Desk S) → IsDeskAfter S.facts S.IsStored start calls desk
-        → (left : BookFields) × IsRunLeaving S.facts S.IsStored start calls left × IsBookText (S.facts desk.keeper.store).saved left }
+        → (left : BookFields) × IsDeskRunLeaving S.facts S.IsStored start calls left × IsBookText (S.facts desk.keeper.store).saved left }
 {}
 
-/// Whenever a call has ended, the book after what the log tells was saved: no client was told of a reply before what the reply
-/// changed was saved.
+/// Whenever a call has ended, the store has saved the text of the book to which the replies in the log lead: no client was told of a
+/// reply before what the reply changed was saved.
 pub fn log_is_saved<S: BookStore>()
     ensures { (start : BookFields) (calls : List Call) (desk : Desk S) → IsDeskAfter S.facts S.IsStored start calls desk
         → IsLogSaved S.IsStored start (log_bytes (run_lines calls)) }
@@ -92,7 +92,7 @@ pub fn log_is_saved<S: BookStore>()
 pub fn stops_leave_runs<S: BookStore>()
     ensures { (start : BookFields) (calls : List Call) (desk : Desk S) (t : LoggedReply) (next : BookFields)
         → IsDeskAfter S.facts S.IsStored start calls desk → IsAttemptJudged desk.keeper.book t next
-        → IsRunLeaving S.facts S.IsStored start calls next }
+        → IsDeskRunLeaving S.facts S.IsStored start calls next }
 {}
 
 /// At every moment of a run the store holds a book in which each counter that a client was told has passed is spent, and each that

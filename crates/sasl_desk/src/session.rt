@@ -39,16 +39,16 @@ pub use waiting::Waiting;
 #[derive(Drop)]
 pub enum Session {
     /// The mechanisms were offered, and the client chooses one.
-    Offered,
+    WaitAuth,
 
     /// The client asked for this mechanism, and its client-first message is due.
-    WaitsFirst(Mechanism),
+    WaitFirst(Mechanism),
 
     /// The client was challenged, and its client-final message is due.
-    WaitsFinal(Waiting),
+    WaitFinal(Waiting),
 
     /// The login to this account was accepted, and the client may send codes.
-    WaitsCode(PlainName),
+    WaitCode(PlainName),
 }
 
 impl Session {
@@ -107,14 +107,16 @@ impl Session {
         ensures memory { OnErr result (BearsMessage (client_shown line.entry)) }
     {
         match self {
-            Session::Offered => Ok(Heard::Answered(hear_offered(alloc, line, book, own, message)?)),
-            Session::WaitsFirst(mechanism) => Ok(Heard::Answered(hear_first(
+            Session::WaitAuth => Ok(Heard::Answered(hear_offered(
+                alloc, line, book, own, message,
+            )?)),
+            Session::WaitFirst(mechanism) => Ok(Heard::Answered(hear_first(
                 alloc, mechanism, line, book, own, message,
             )?)),
-            Session::WaitsFinal(waiting) => {
+            Session::WaitFinal(waiting) => {
                 Ok(Heard::Answered(hear_final(alloc, waiting, line, message)?))
             }
-            Session::WaitsCode(name) => Ok(hear_code(name, line)),
+            Session::WaitCode(name) => Ok(hear_code(name, line)),
         }
     }
 }

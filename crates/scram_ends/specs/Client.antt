@@ -18,6 +18,18 @@ use Rattle.scram_ends.specs.declared.client.ClientFault.{ClientFault}
 use Rattle.scram_ends.specs.declared.client.ClientFault.TheVariants.{Text, Mandatory, NonceNotMine, NonceNotLonger, CountOutside}
 use Rattle.scram_ends.specs.declared.client.ClientFault.TheVariants.{ServerRefused, WrongSignature}
 
+-- the least iteration count that a client usually accepts, which the RFC asks for (section 5.1)
+abbrev pub usual_least : ℕ
+usual_least = 4096
+
+-- the greatest iteration count that a client usually accepts: this library's own
+abbrev pub usual_most : ℕ
+usual_most = 1000000
+
+-- the iteration counts that a client usually accepts
+abbrev pub AreUsual : Limits → Type 0
+AreUsual limits = (limits.least ≡ usual_least) × (limits.most ≡ usual_most)
+
 -- the client has sent the first message of this login
 pub record IsStarted (w : ClientOne) (l : Started) : Type 0 where
   pub first : ClientFirstParts

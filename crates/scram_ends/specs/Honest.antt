@@ -8,7 +8,7 @@ use Rattle.scram_ends.specs.Stages.{Answered}
 use Rattle.scram_ends.specs.Auth.{auth_message, proof_of, signature_of}
 use Rattle.scram_ends.specs.Opening.{IsNameOf, IsAuthzidOf}
 
--- client-first of this name, authorisation name and nonce, with the flag `n` and no extensions
+-- client-first of this name, name to act as and nonce, with the flag `n` and no extensions
 pub record IsHonestFirst (name : List ℕ) (authzid : Option (List ℕ)) (nonce client_first : List ℕ) (first : ClientFirstParts) : Type 0 where
   pub is_first : IsClientFirst client_first first
   pub flag : first.flag ≡ codes "n"

@@ -36,7 +36,7 @@ AcceptsExactlyValid = (l : Challenged) (client_final server_final : List ℕ)
     ↔ IsValidLogin l client_final server_final
 
 -- an honest client logs in where the account's keys are those of the password, the server challenges it
--- and the authorisation name is allowed: acceptance is due, with the signature that the client expects,
+-- and the name to act as is allowed: acceptance is due, with the signature that the client expects,
 -- and the message due shows it
 abbrev pub HonestLogsIn : Type 0
 HonestLogsIn = (e : Entry) (own : List ℕ) (l : Answered) → e.keys ≡ Some (password_keys l.mechanism l.password e.salt e.count)

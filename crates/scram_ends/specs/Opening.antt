@@ -14,7 +14,7 @@ pub record IsNameOf (name part : List ℕ) : Type 0 where
   pub plain : IsPlainName name
   pub spelled : SpellsName name part
 
--- the authorisation name of `a=`: there is none, or its saslname spells this plain name
+-- the name to act as, of `a=`: there is none, or its saslname spells this plain name
 abbrev pub IsAuthzidOf : Option (List ℕ) → Option (List ℕ) → Type 0
 IsAuthzidOf None None = Unit {0}
 IsAuthzidOf (Some name) (Some part) = IsNameOf name part
@@ -25,7 +25,7 @@ IsAuthzidOf (Some name) None = ⊥
 abbrev pub IsUnbound : List ℕ → Type 0
 IsUnbound flag = (flag ≡ codes "n") ⊎ (flag ≡ codes "y")
 
--- a server takes up this client-first message, of this name and authorisation name
+-- a server takes up this client-first message, of this name and this name to act as
 pub record IsTakenUp (first : ClientFirstParts) (name : List ℕ) (authzid : Option (List ℕ)) : Type 0 where
   pub not_mandatory : client_first_mandatory first ≡ false
   pub unbound : IsUnbound first.flag
@@ -54,7 +54,7 @@ pub record IsOpening (e : Entry) (client_first server_first : List ℕ) (o : Ope
   pub salt : o.challenge.salt ≡ e.salt
   pub count : o.challenge.count ≡ e.count
 
--- the account of this name may act as the authorisation name: as itself, or as a name in its act_as
+-- the name to act as is allowed to the account of this name: it is that name, or one in the account's act_as
 abbrev pub IsAllowed : Entry → List ℕ → Option (List ℕ) → Type 0
 IsAllowed e name None = Unit {0}
 IsAllowed e name (Some authzid) = (authzid ≡ name) ⊎ Contains e.act_as authzid

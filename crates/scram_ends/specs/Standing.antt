@@ -40,5 +40,5 @@ pub record StandsFor (w : ServerWait) (l : Challenged) : Type 0 where
   pub unspent : w.spent ≡ None
 
 -- the value is spent: its message could not be written, for this reason. It stands for no login.
-abbrev pub IsUsedUp : ServerWait → WriteFault → Type 0
-IsUsedUp w fault = w.spent ≡ Some fault
+abbrev pub IsSpentBy : ServerWait → WriteFault → Type 0
+IsSpentBy w fault = w.spent ≡ Some fault

@@ -5,6 +5,7 @@
 //! its limits: under a small one its proof would be cheap to try passwords on, and a large one would keep
 //! it busy (RFC 5802, section 9, and RFC 7677, section 4).
 ghost use Rattle.std.specs.Prelude.{◌≡◌};
+ghost use Rattle.scram_ends.specs.Client.{AreUsual};
 ghost use Rattle.scram_ends.specs.Faults.{client_number};
 ghost use Rattle.scram_ends.specs.declared.client.ClientFault.TheVariants.{Text};
 
@@ -41,8 +42,7 @@ impl Limits {
     /// 4096 to 1000000. The RFCs ask for at least 4096 (RFC 5802, section 5.1); the most is this crate's
     /// own.
     pub fn usual() -> Limits
-        ensures least { result.least ≡ 4096 }
-        ensures most { result.most ≡ 1000000 }
+        ensures { AreUsual result }
     {
         Limits {
             least: USUAL_LEAST,
@@ -120,7 +120,7 @@ pub struct ClientOne {
     nonce: ArrayVec<u8, LONGEST_NONCE_PART>,
 }
 
-/// Why a challenge is not answered.
+/// Why a `ClientOne` does not answer a challenge.
 #[derive(Drop)]
 pub enum OneRefused {
     /// The client has ended the login.
@@ -136,7 +136,7 @@ pub struct ClientTwo {
     expected: Tag,
 }
 
-/// What `finish` answers where the server has shown that it has the keys of the client's password
+/// What `ClientTwo::last` answers where the server has shown that it has the keys of the client's password
 /// (RFC 5802, section 3). The value is no proof of it: anyone can make one.
 #[derive(Clone, Copy, Debug, PartialEq, Eq)]
 pub struct Authenticated;

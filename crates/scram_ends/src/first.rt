@@ -1,5 +1,5 @@
 //! What a server takes from a client-first message: `n,a=root,n=user,r=abc` has the gs2-header
-//! `n,a=root,`, the bare message `n=user,r=abc`, the name `user` and the authorisation name `root`.
+//! `n,a=root,`, the bare message `n=user,r=abc`, the name `user` and the name to act as, `root`.
 //!
 //! Names are 1 to 255 bytes from space to tilde, which SASLprep (RFC 4013) leaves as they are; others are
 //! refused. So is the flag `p=`, since no channel binding is offered.
@@ -32,7 +32,7 @@ pub enum FirstFault {
     #[error("channel binding is not offered: send the flag `n` or `y`")]
     BindingAsked,
 
-    /// 23: the name or the authorisation name is not 1 to 255 bytes of 20 to 7E hex.
+    /// 23: the name or the name to act as is not 1 to 255 bytes of 20 to 7E hex.
     #[error("a name is not 1 to 255 bytes from space to tilde")]
     OutsideProfile,
 }
@@ -61,7 +61,7 @@ impl From<TextFault> for FirstFault {
 
 /// The name that a client-first message gives, in plain bytes: a server looks its account up. Answers the
 /// first of these faults: 20 where the text is no client-first message, 21 where it is mandatory, 22 where
-/// its flag is `p=`, and 23 where a name or an authorisation name is outside its limits.
+/// its flag is `p=`, and 23 where the name or the name to act as is outside its limits.
 pub fn first_name(client_first: &[u8]) -> Result<PlainName, FirstFault>
     ensures ok { IfOk result (λ name. (first : ClientFirstParts) × (authzid : Option (List ℕ))
         × IsClientFirst client_first.now first × IsTakenUp first name authzid) }

@@ -2,7 +2,7 @@
 ghost use Rattle.scram_ends.specs.Laws.{HonestLogsIn};
 
 /// An honest client logs in: where the account's keys are those of the password, the server has challenged
-/// the client and the account may act as the authorisation name, acceptance is due with the signature that
+/// the client and the name to act as is allowed, acceptance is due with the signature that
 /// the client expects, the message due bears it, and the four messages are a valid login.
 ///
 /// What `Client::start` and `ClientOne::first` append is honest in this sense, and what `ServerWait::finish`

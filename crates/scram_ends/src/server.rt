@@ -22,7 +22,7 @@ ghost use Rattle.scram_ends.specs.Auth.{auth_to_challenge};
 ghost use Rattle.scram_ends.specs.Opening.{IsTakenUp, IsAllowed, Opening, IsOpening};
 ghost use Rattle.scram_ends.specs.Verdict.{Due, refuse, IsDue, IsWeighed, due_of, due_text, final_due, verdict_of};
 ghost use Rattle.scram_ends.specs.Login.{IsValidLogin};
-ghost use Rattle.scram_ends.specs.Standing.{IsSigningFor, StandsFor, IsUsedUp};
+ghost use Rattle.scram_ends.specs.Standing.{IsSigningFor, StandsFor, IsSpentBy};
 ghost use Rattle.scram_ends.specs.First.{IsRefusedWith, IsChallengeTo, ShowsOpening};
 ghost use Rattle.scram_ends.specs.Faults.{first_refused_number};
 
@@ -178,11 +178,11 @@ impl ServerWait {
     /// that holds decides: the text is no client-final message (InvalidEncoding), an extension is named `m`
     /// (ExtensionsNotSupported), the nonce is not exactly the one that was sent (OtherNonce), the channel field is
     /// not exactly the gs2-header of client-first (Channel), the account has no keys or the proof is not by them
-    /// (InvalidProof), the account may not act as the authorisation name (NotAuthorised). Else the login is
+    /// (InvalidProof), the name to act as is not allowed to the account (NotAuthorised). Else the login is
     /// accepted, with the server's signature. A spent value refuses as InvalidProof. It takes no memory.
     pub fn judge(self, client_final: &[u8]) -> Judged
         ensures due { (l : Challenged) → StandsFor self l → IsDue l client_final.now (due_of result) }
-        ensures spent { (fault : WriteFault) → IsUsedUp self fault
+        ensures spent { (fault : WriteFault) → IsSpentBy self fault
             → due_of result ≡ refuse Refusal.InvalidProof }
     {
         if self.spent.is_some() {
@@ -248,8 +248,8 @@ impl ServerWait {
             × ((v ≡ Verdict.Accepted) ↔ IsValidLogin l client_final.now server_final)) }
         ensures unchanged { UnchangedOnErr result out.old out.new }
         ensures back { IfErr result (λ r. r.1 ≡ WriteFault.NoMemory → r.0 ≡ self) }
-        ensures spent { IfErr result (λ r. r.1 ≢ WriteFault.NoMemory → IsUsedUp r.0 r.1) }
-        ensures again { (fault : WriteFault) → IsUsedUp self fault
+        ensures spent { IfErr result (λ r. r.1 ≢ WriteFault.NoMemory → IsSpentBy r.0 r.1) }
+        ensures again { (fault : WriteFault) → IsSpentBy self fault
             → IsErrAnd result (λ r. (r.0 ≡ self) × (r.1 ≡ fault)) }
         // Where the value stands for a login, the only fault is that memory ran out.
         ensures memory { IfErr result (λ r. (l : Challenged) → StandsFor self l
@@ -270,7 +270,7 @@ impl ServerWait {
     }
 
     fn spent_by(self, fault: WriteFault) -> ServerWait
-        ensures { IsUsedUp result fault }
+        ensures { IsSpentBy result fault }
     {
         ServerWait {
             spent: Some(fault),

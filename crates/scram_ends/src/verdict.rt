@@ -22,7 +22,7 @@ pub enum Refusal {
     /// The proof is not that of the account's keys, or the account is a decoy.
     InvalidProof,
 
-    /// The account may not act as the authorisation name.
+    /// The name to act as is not allowed to the account.
     NotAuthorised,
 }
 

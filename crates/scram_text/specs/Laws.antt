@@ -1,5 +1,5 @@
--- The laws of the grammar: that base64 has its usual form, that parts are UTF-8, that a text is a message
--- with at most one list of parts, and that it is decided whether it is one.
+-- The laws of the grammar: that base64 fields hold all bytes within the limits, that parts are UTF-8, that a text is a message with at
+-- most one list of parts, and that it is decided whether it is one. That base64 has its usual form is in `Base64Field`.
 use Rattle.std.specs.Prelude.{ℕ, ◌≡◌, ◌≤◌, ◌⊎◌, List, length}
 use Rattle.std.specs.List.{AllByRecursion}
 use Rattle.std.specs.Str.{IsUtf8}

@@ -8,6 +8,7 @@ use Rattle.std.specs.declared.option.Option.TheVariants.{None, Some}
 use Rattle.scram_text.specs.Class.{is_comma, is_letter, is_cb_char}
 use Rattle.scram_text.specs.Name.{LacksComma}
 use Rattle.scram_text.specs.Base64Field.{base64, IsField}
+use Rattle.scram_text.specs.Limits.{most_count}
 
 -- the parts of a text: one more than it has commas, so that "a,,b" has three and "" has one
 abbrev pub parts : List ℕ → List (List ℕ)
@@ -47,7 +48,7 @@ is_flag [] = false
 is_flag (c ∷ []) = (c == byte "n") || (c == byte "y")
 is_flag (a ∷ b ∷ name) = (a == byte "p") && (b == byte "=") && is_cb_name name
 
--- the part of an authorisation name: "a=" and the saslname, or nothing
+-- the part of a name to act as: "a=" and the saslname, or nothing
 abbrev pub authzid_text : Option (List ℕ) → List ℕ
 authzid_text None = []
 authzid_text (Some spelled) = codes "a=" ++ spelled
@@ -57,11 +58,7 @@ abbrev pub mext_parts : Option (List ℕ) → List (List ℕ)
 mext_parts None = []
 mext_parts (Some value) = (codes "m=" ++ value) ∷ []
 
--- the greatest iteration count here
-abbrev pub most_count : ℕ
-most_count = 4294967295
-
--- an iteration count: %x31-39 *DIGIT, which is a number from 1, and at most the greatest here
+-- an iteration count: %x31-39 *DIGIT, which is a number from 1 to the greatest that is taken
 pub record IsCount (count : ℕ) : Type 0 where
   pub at_least : 1 ≤ count
   pub at_most : count ≤ most_count
@@ -74,14 +71,14 @@ SpellsCount value = (count : ℕ) × (value ≡ decimal count) × IsCount count
 abbrev pub SpellsField : ℕ → List ℕ → Type 0
 SpellsField most value = (bytes : List ℕ) × (value ≡ base64 bytes) × IsField most bytes
 
--- attr-val = ALPHA "=" value
+-- the part is a letter, `=`, and one byte or more
 abbrev pub is_attribute : List ℕ → Bool
 is_attribute [] = false
 is_attribute (a ∷ []) = false
 is_attribute (a ∷ b ∷ []) = false
 is_attribute (a ∷ b ∷ c ∷ value) = is_letter a && (b == byte "=")
 
--- an extension: an attr-val without a comma
+-- an extension: attr-val = ALPHA "=" value, whose value has no comma
 pub record IsExtension (part : List ℕ) : Type 0 where
   pub attribute : IsTrue (is_attribute part)
   pub no_comma : LacksComma part

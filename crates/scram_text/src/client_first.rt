@@ -54,7 +54,7 @@ pub struct ClientFirst<'a> {
     /// The flag.
     pub flag: Flag<'a>,
 
-    /// The authorisation name of `a=`, where there is one.
+    /// The name to act as, of `a=`, where there is one.
     pub authzid: Option<SaslText<'a>>,
 
     /// Whether the bare message begins with `m=` or an extension is named `m`: the receiver has to fail.
@@ -243,7 +243,7 @@ fn bare_pieces_of(bare: &[u8]) -> Result<BarePieces<'_>, TextFault>
     })
 }
 
-/// Appends a client-first message (RFC 5802, section 7) to `out`: the flag, the authorisation name and
+/// Appends a client-first message (RFC 5802, section 7) to `out`: the flag, the name to act as and
 /// the name in plain bytes, which are spelled, the nonce, and the extensions as attr-vals with commas
 /// between them or empty. Answers 16 Unwritable where the flag's name or the extensions are outside
 /// their class, else 17 OverLimit where the message would have more than 2048 bytes, else 99 NoMemory,

@@ -5,7 +5,8 @@
 #![tactic(auto)]
 
 use command_line::Fault;
-use commands::{USAGE, run};
+use command_line::status::USAGE;
+use commands::run;
 use std::io::{BufReader, BufWriter, ErrorKind, Lock};
 use std::process::ExitCode;
 use std::{env, io};

@@ -19,7 +19,7 @@ use Rattle.book_format.specs.Book.{BookFields}
 use Rattle.account_book.specs.Accounts.{name_cmp, account_at, accounts_of, with_account, with_changed, IsAdded, IsChanged, IsRemoved}
 use Rattle.account_book.specs.Laws.{AddedIsApart}
 
--- both look a name up in the same way
+-- a look-up of a name by `find` and one by `lookup` give one result
 looked_up : (name : List ℕ) (es : List (List ℕ × AccountFields))
     → find name_cmp name es ≡ lookup (is_at (name_cmp name)) es
 looked_up name [] = refl

@@ -41,7 +41,7 @@ pub shown : (r : Option (Bor AccountFields)) (o : Option AccountFields) → opti
 shown None o e h = tt
 shown (Some account) o e h = subst (λ found. IfSome found IsAccount) (sym e) h
 
--- the accounts without one
+-- accounts remain in their ranges after one is removed
 pub all_removed : (test : List ℕ → Bool) (es : List (List ℕ × AccountFields)) → AreAccounts es → AreAccounts (remove_entry test es)
 all_removed test [] h = tt
 all_removed test (e ∷ es) h = either (test e.0) es (e ∷ remove_entry test es) h.1 (h.0, all_removed test es h.1)

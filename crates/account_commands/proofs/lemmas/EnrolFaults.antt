@@ -8,10 +8,10 @@ use Rattle.account_book.specs.Accounts.{account_at}
 use Rattle.command_line.specs.Fault.{IsUnwritten}
 use Rattle.command_line.specs.declared.fault.Fault.{Fault}
 use Rattle.command_line.specs.declared.fault.Fault.TheVariants.{NameTaken, NoMemory}
-use Rattle.command_line.specs.declared.value.OptionName.TheVariants as option
+use Rattle.command_line.specs.declared.option_name.OptionName.TheVariants as option
 use Rattle.command_words.specs.Values.{given_value}
 use Rattle.account_commands.specs.Enrol.{CannotBeChanged, CannotEnrol, IsReadOrNew, IsNameTakenIn, IsThisOrRead}
-use Rattle.account_commands.specs.HeldBook.{IsReadBook}
+use Rattle.command_io.specs.HeldBook.{IsReadBook}
 
 -- an account that was not added and saved: its name is taken, or what else holds of the fault is that the book is not saved
 by_account : {File Other : Type 0} (bytes_of : File → Option (List ℕ)) (path name : List ℕ) (this book : BookFields)
@@ -21,7 +21,7 @@ by_account : {File Other : Type 0} (bytes_of : File → Option (List ℕ)) (path
 by_account bytes_of path name this book None fault is there unwritten other = inr (inr (unwritten other))
 by_account bytes_of path name this book (Some account) fault is there unwritten taken = inl (taken, book, there, ap is_some is)
 
--- in the book that was seen
+-- where an account was not added to the book that was seen, its name is taken or the book can't be changed
 pub not_added : {File : Type 0} (bytes_of : File → Option (List ℕ)) (path name : List ℕ) (this : BookFields) (fault : Fault)
     → MatchOption (account_at this name) (fault ≡ NoMemory) (λ account. fault ≡ NameTaken)
     → IsNameTakenIn bytes_of this name fault ⊎ CannotBeChanged bytes_of path fault
@@ -29,7 +29,7 @@ not_added bytes_of path name this fault other =
     by_account bytes_of path name this this (account_at this name) fault refl (inl refl)
     (λ memory. subst (IsUnwritten path) (sym memory) refl) other
 
--- in the book that was read since
+-- where an account was not added to the book that was read from its file, its name is taken or the book can't be changed
 pub not_saved : {File : Type 0} (bytes_of : File → Option (List ℕ)) (path name text : List ℕ) (this book : BookFields) (fault : Fault)
     → IsReadBook bytes_of text book → MatchOption (account_at book name) (IsUnwritten path fault) (λ account. fault ≡ NameTaken)
     → IsNameTakenIn bytes_of this name fault ⊎ CannotBeChanged bytes_of path fault

@@ -115,12 +115,12 @@ abbrev pub HasNone : Entries → Members → Type 0
 HasNone [] ms = Unit {0}
 HasNone (e ∷ es) ms = (get_member e.0 ms ≡ None) × HasNone es ms
 
--- the key is none of those
+-- the key is none of the keys of these entries
 abbrev pub is_new : List ℕ → Entries → Bool
 is_new key [] = true
 is_new key (e ∷ es) = not (same_key key e.0) && not (same_key e.0 key) && is_new key es
 
--- no key stands twice
+-- no key stands twice among these entries
 abbrev pub are_new : Entries → Bool
 are_new [] = true
 are_new (e ∷ es) = is_new e.0 es && are_new es
@@ -186,7 +186,7 @@ known_some : (test : List ℕ → Bool) (key : List ℕ) (o : Option Data) (ms :
 known_some test key None ms is h = h
 known_some test key (Some d) ms is h = known_put test key d ms is h
 
--- what is put under known keys into a table that has no others leaves it so
+-- after entries with known keys are put into a table of known keys, all its keys are known
 pub known_all : (test : List ℕ → Bool) (es : Entries) (ms : Members) → all_known test es ≡ true → has_only test ms ≡ true
     → has_only test (put_all es ms) ≡ true
 known_all test [] ms known h = h

@@ -11,7 +11,7 @@ use Rattle.toml.specs.Data.{Data, string, integer, table, Members, no_members, m
 use Rattle.mac_core.specs.Mechanism.{length_by}
 use Rattle.mac_core.specs.declared.mechanism.Mechanism.TheVariants.{ScramSha1, ScramSha256}
 use Rattle.scram_text.specs.Class.{IsPlainName}
-use Rattle.scram_text.specs.Parts.{most_count}
+use Rattle.scram_text.specs.Limits.{most_count}
 use Rattle.otp_core.specs.declared.token.kinds.TokenFields.{TokenFields}
 use Rattle.otp_core.specs.declared.token.kinds.TokenFields.TheVariants.{Hotp, Totp}
 use Rattle.book_format.specs.Account.{AccountFields, AreKeys, IsAccount, most_names}

@@ -6,7 +6,7 @@ use Rattle.toml.specs.Data.{integer, Members, no_members, get_member}
 use Rattle.mac_core.specs.Mechanism.{length_by}
 use Rattle.mac_core.specs.declared.mechanism.Mechanism.TheVariants.{ScramSha256}
 use Rattle.scram_text.specs.Class.{IsPlainName}
-use Rattle.scram_text.specs.Parts.{most_count}
+use Rattle.scram_text.specs.Limits.{most_count}
 use Rattle.otp_core.specs.Secret.{IsSecretLength}
 use Rattle.otp_core.specs.Ranges.{IsDigitCount, IsMoment, least_secret, most_secret, least_digits, most_digits, last_moment, most_counter}
 use Rattle.otp_core.specs.Ranges.{most_look_ahead, most_sync_ahead, longest_step, most_steps, most_drift, most_limit}
@@ -36,7 +36,7 @@ writes_itself t x new known each =
     let (marks, rows) = each (written t x) (has_all (entries t x) no_members new (none_yet (entries t x))) in
     record { marks = marks; known = known_all (is_among (table_keys t)) (entries t x) no_members known refl; rows = rows }
 
--- where a key that may be missing has what an option is written as
+-- a key that may be missing has the option that was written there
 some_writes_itself : {V : Type 0} (k : ValueType V) (key : List ℕ) (ms : Members) (o : Option V) → get_member key ms ≡ option_map k.write o
     → ForSome o (WritesItself k) → HasSome key k ms o
 some_writes_itself k key ms None at h = at

@@ -9,7 +9,7 @@ use Rattle.clap.specs.Words.{App, Kinds, Row, Shape, Text, built, fault_of, subc
 use Rattle.command_words.specs.Commands.CommandName.{Keys, Enrol, Code, Verify, Unlock, Login, Hall, Audit, Upgrade}
 use Rattle.command_words.specs.Commands.{CommandName, NamesCommand, program, word_of}
 
--- where no kind of error may come, none comes of the second step
+-- where two steps find no error, the second finds none
 second : (one two : Kinds) → or_else one two ≡ [] → two ≡ []
 second [] two none = none
 second (kind ∷ kinds) two none = absurd (cc none)
@@ -36,7 +36,7 @@ level_enters shape names held words enters below none is =
     ≡ [] = second (defaults_fault (settled shape.rules end).rows shape.rules) _ held_over in
     wanted_is_there enters shape.subcommand_required (search (not_wanted, checked)) is
 
--- each has a name that is so
+-- each of some names has a property
 abbrev Each : (Text → Type 0) → (names : List Text) → Type 0
 Each P [] = ⊤
 Each P (name ∷ names) = P name × Each P names
@@ -66,7 +66,7 @@ entered_is P app (Some (word, rest)) each there =
     by None is there = absurd (cc there)
     by (Some shape) is there = (_, _, is, refl)
 
--- so a command that needs a subcommand has entered one of its own, where nothing is wrong with its words
+-- a command that needs a subcommand has entered one of its own, where nothing is wrong with its words
 names_one : (P : Text → Type 0) (app : App) (line : List Text) → (built app).top.subcommand_required ≡ true → Each P (names_in (built app))
     → fault_of app line ≡ [] → (name : Text) × (rows : List Row) × P name × (subcommand_of app line ≡ Some (name, rows))
 names_one P app line needed each none =

@@ -64,7 +64,7 @@ pub answer_may_be_said : (client : ClientEnd) (one : ClientOne) (old new : Stage
 answer_may_be_said client one old new told server_first result is line says =
     may_say client old (Begun one) new told result _ is (λ said answers. (server_first, line, answers)) says
 
--- who says nothing may do so
+-- a client that says nothing says only what it may
 pub silence_may_be : (client : ClientEnd) (old new : Stage) (told : List ℕ) (result : Result Next Fault)
     → IfOk result (λ next. IfSays next (λ said. ⊥)) → IfOk result (λ next. IfSays next (λ said. MaySay client old told said new))
 silence_may_be client old new told result silent =

@@ -1,7 +1,8 @@
--- The words of a hall's input lines: a moment before a space, and who goes away.
+-- The words of a hall's input lines: a moment before a space, and what follows a session's number.
 use Rattle.std.proofs.Common.{◌≡◌, ◌≢◌, ℕ, List, ◌∷◌, ◌++◌, sym, ◌∙◌}
-use Rattle.std.specs.Prelude.{codes, decimal}
+use Rattle.std.specs.Prelude.{decimal}
 use Rattle.std.specs.Str.{byte}
+use Rattle.std.proofs.lemmas.List.{append_cancel_left}
 use Rattle.otp_core.specs.Ranges.{IsMoment}
 use Rattle.log_grammar.specs.NumberedLines.{IsSessionNumber}
 use Rattle.log_grammar.proofs.lemmas.lines.Words.{spaceless_number, moment_fits}
@@ -21,14 +22,20 @@ pub moment_first : (text front back : List ℕ) → LacksSpace front × (text �
 moment_first text front back (lacks, whole) n is rest same =
     (cut_once front (decimal n) back rest (spaceless front lacks) (spaceless_number n (moment_fits n is)) (sym whole ∙ same)).0
 
--- what follows the word
-pub after_gone : (text rest line : List ℕ) → line ≡ codes "gone " ++ text → line ≡ codes "gone " ++ rest → text ≡ rest
-after_gone text rest line is same = cc (sym is ∙ same)
+-- one text follows the first word of a line
+after_word : (word line text rest : List ℕ) → line ≡ word ++ text → line ≡ word ++ rest → text ≡ rest
+after_word word line text rest is same = append_cancel_left word text rest (sym is ∙ same)
 
--- the moment follows the number and the space
-pub goes_at : (line text : List ℕ) (n : ℕ) (rest : List ℕ) → line ≡ codes "gone " ++ text → BeginsWithNumber text n rest
-    → (session moment : ℕ)
-    → IsSessionNumber session → line ≡ codes "gone " ++ (decimal session ++ (byte " " ∷ decimal moment)) → rest ≡ decimal moment
-goes_at line text n rest is begins session moment number whole =
-    one_rest text n session rest (decimal moment) begins
-    (record { number = number; whole = after_gone text (decimal session ++ (byte " " ∷ decimal moment)) line is whole })
+-- after its first word the line has the number of a session and a space
+pub number_after : (word line text : List ℕ) → line ≡ word ++ text → (session : ℕ) (rest : List ℕ) → IsSessionNumber session
+    → line ≡ word ++ (decimal session ++ (byte " " ∷ rest)) → BeginsWithNumber text session rest
+number_after word line text is session rest number whole = record {
+  number = number;
+  whole = after_word word line text (decimal session ++ (byte " " ∷ rest)) is whole;
+}
+
+-- one text follows the first word of a line, the number of a session and a space
+pub rest_after : (word line text : List ℕ) (n : ℕ) (rest : List ℕ) → line ≡ word ++ text → BeginsWithNumber text n rest → (session : ℕ)
+    (more : List ℕ) → IsSessionNumber session → line ≡ word ++ (decimal session ++ (byte " " ∷ more)) → rest ≡ more
+rest_after word line text n rest is begins session more number whole =
+    one_rest text n session rest more begins (number_after word line text is session more number whole)

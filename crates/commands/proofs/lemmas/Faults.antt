@@ -17,8 +17,8 @@ use Rattle.sasl_log.specs.Sink.{SinkFacts}
 use Rattle.sasl_desk.specs.Keeper.{IsNotBegun}
 use Rattle.sasl_desk.specs.declared.fault.DeskFault.{DeskFault}
 use Rattle.sasl_desk.specs.declared.fault.DeskFault.TheVariants as desk
-use Rattle.account_commands.specs.File.{IsFileUnread}
-use Rattle.account_commands.specs.HeldBook.{CannotHold, IsUnheld}
+use Rattle.command_io.specs.File.{IsFileUnread}
+use Rattle.command_io.specs.HeldBook.{CannotHold, IsUnheld}
 use Rattle.commands.specs.Audit.{IsBookUnread}
 use Rattle.commands.specs.Hall.{StopsHearing}
 use Rattle.commands.specs.PrintedLog.{FailsToBegin, IsUnsavedOrUnlogged, StopsAfter}
@@ -28,13 +28,13 @@ pub handed_on : {T E : Type 0} (r : Result T E) (fault : E) (Fact : E → Type 0
 handed_on (Ok value) fault Fact is fact = absurd is
 handed_on (Err e) fault Fact is fact = subst Fact (sym is) fact
 
--- of three cases, the last by what follows from it
+-- the last of three cases can be replaced by what follows from it
 pub last_weaker : {P N H L : Type 0} → (H → L) → P ⊎ (N ⊎ H) → P ⊎ (N ⊎ L)
 last_weaker follows (inl first) = inl first
 last_weaker follows (inr (inl second)) = inr (inl second)
 last_weaker follows (inr (inr third)) = inr (inr (follows third))
 
--- what was printed before a fault, by what follows from it
+-- what was printed before a fault can be replaced by what follows from it
 pub printed_weaker : {P H L : Type 0} → (H → L) → P ⊎ H → P ⊎ L
 printed_weaker follows (inl nothing) = inl nothing
 printed_weaker follows (inr printed) = inr (follows printed)
@@ -58,7 +58,7 @@ pub begins_with_no_event : (path : List ℕ) (old new : SinkFacts) (fault : Faul
 begins_with_no_event path old new fault (inl (output, failed)) is = cc (output, is)
 begins_with_no_event path old new fault (inr (same, unwritten)) is = let wrong = subst (IsUnwritten path) is unwritten in cc wrong
 
--- nor has a book that can't be held or read
+-- the fault for a text that is no book is not a bad event
 no_why : (reason : BookWhy) → of_why reason ≡ BadEvent → ⊥
 no_why why.NoMemory is = cc is
 no_why reason is = cc is
@@ -89,7 +89,7 @@ stops_hearing path log fault (inl bad) = inr (inl bad)
 stops_hearing path log fault (inr (inl unwritten)) = inr (inr (inl unwritten))
 stops_hearing path log fault (inr (inr (output, failed))) = inr (inr (inr output))
 
--- and before the first
+-- a fault by which a hall can't begin is one at which it stops hearing
 pub hears_nothing : (path : List ℕ) (old new : SinkFacts) (fault : Fault) → FailsToBegin path old new fault → StopsHearing path fault
 hears_nothing path old new fault (inl (output, failed)) = inr (inr (inr output))
 hears_nothing path old new fault (inr (same, unwritten)) = inr (inr (inl unwritten))

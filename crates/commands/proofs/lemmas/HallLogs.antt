@@ -84,7 +84,7 @@ hears_more facts IsStored events more old middle new a b c first second start be
     subst (λ (all : List InputEvent). IsHallLogOf facts IsStored start before all new c) (sym (append_assoc more events earlier))
     (second start before (events ++ earlier) (first start before earlier l))
 
--- such a fault is no bad event
+-- the fault of an unsaved book or of a failed log is no bad event
 pub not_bad : (path : List ℕ) (log : SinkFacts) (fault : Fault) → IsUnsavedOrUnlogged path log fault → fault ≡ BadEvent → ⊥
 not_bad path log fault (inl unwritten) is = let wrong = subst (IsUnwritten path) is unwritten in cc wrong
 not_bad path log fault (inr (output, failed)) is = cc (output, is)

@@ -10,17 +10,17 @@ use Rattle.log_grammar.specs.Numbered.{Numbered, of_number}
 use Rattle.log_grammar.specs.Places.{Place, between}
 use Rattle.log_grammar.specs.Versions.{IsFront}
 use Rattle.sasl_log.specs.Sink.{SinkFacts}
-use Rattle.sasl_desk.specs.Halls.{HallFields, hall_shown, hall_lines, hall_bytes, phase_in, IsPhaseIn, IsStay, IsHallAfter}
+use Rattle.sasl_desk.specs.Halls.{HallFields, hall_shown, hall_lines, hall_bytes, phase_in, IsPhaseIn, IsSessionRun, IsHallAfter}
 use Rattle.sasl_desk.specs.Runs.{Call}
 use Rattle.sasl_desk.specs.Saved.{AreLinesSaved}
 use Rattle.sasl_desk.specs.declared.session.phase.Phase.{Phase}
 use Rattle.sasl_desk.specs.declared.hall.Hall.{Hall}
 use Rattle.commands.specs.Hall.{InputEvent, opens, says, goes, IsBadEvent, IsBadAfter, AreCallsFor, IsHallLogOf, Hears, HearsLine}
 use Rattle.commands.specs.Hall.{HearsUpTo, HearsFirstLines, MeetsBadEvent, PrintsHallLog, PrintsToBadEvent}
-use Rattle.account_commands.specs.Input.{line_bytes, TakesLine}
+use Rattle.command_io.specs.Input.{line_bytes, TakesLine}
 use Rattle.commands.specs.PrintedLog.{IsLogFault, StopsAfter}
 use Rattle.commands.proofs.lemmas.HallLogs.{hears_nothing, hears_more}
-use Rattle.account_commands.proofs.lemmas.InputLines.{none_left, with_first, some_lines}
+use Rattle.command_io.proofs.lemmas.InputLines.{none_left, with_first, some_lines}
 
 -- a hall has come to a place in its input: what it hears from there on, it hears from the start, after the lines so far
 abbrev pub HasCome : {S : Type 0} → (S → StoreFacts) → (IsStored : List ℕ → Type 0) → (first : Option (List ℕ)) → (start : Hall S)
@@ -164,10 +164,10 @@ stops_after facts IsStored book input given before after old new log log' fault 
 not_open : {S : Type 0} (facts : S → StoreFacts) (IsStored : List ℕ → Type 0) (start : BookFields) (calls : List (Numbered Call))
     (hall : HallFields S)
     (s : IsHallAfter facts IsStored start calls hall) (n : ℕ) → IsPhaseIn (s.places n) (phase_in hall n) → phase_in hall n ≡ None
-    → IsStay (accounts_in start) (of_number n calls) between
+    → IsSessionRun (accounts_in start) (of_number n calls) between
 not_open facts IsStored start calls hall s n phase none =
     let at : s.places n ≡ between = subst (λ (p : Option Phase). IsPhaseIn (s.places n) p) none phase in
-    subst (λ (p : Place). IsStay (accounts_in start) (of_number n calls) p) at (s.stays n)
+    subst (λ (p : Place). IsSessionRun (accounts_in start) (of_number n calls) p) at (s.session_runs n)
 
 -- a line that is bad to a hall is bad after its calls
 bad_after : {S : Type 0} (facts : S → StoreFacts) (IsStored : List ℕ → Type 0) (start : BookFields) (calls : List (Numbered Call))

@@ -12,7 +12,7 @@ use Rattle.sasl_log.specs.Sink.{SinkFacts}
 use Rattle.sasl_desk.specs.Inputs.{event_read}
 use Rattle.sasl_desk.specs.Events.{ClientEvent}
 use Rattle.sasl_desk.specs.Runs.{Asked, greets, hears, Call, call_of, run_lines}
-use Rattle.sasl_desk.specs.Desks.{IsDeskAfter, Answers, IsSame}
+use Rattle.sasl_desk.specs.Desks.{IsDeskAfter, Answers, IsSameDesk}
 use Rattle.sasl_desk.specs.Saved.{IsLogSaved}
 use Rattle.sasl_desk.specs.Serves.{IsUndone, Service, service_of, IsTurnServed, IsTurnFault}
 use Rattle.sasl_desk.specs.declared.desk.Desk.{Desk}
@@ -58,7 +58,7 @@ abbrev desk_with : {S : Type 0} → (book : BookFields) → (store : S) → Stat
 desk_with book store state = record { keeper = record { book = book; store = store }; state = state }
 
 same_log : {S : Type 0} (facts : S → StoreFacts) (IsStored : List ℕ → Type 0) (IsNow : ℕ → Type 0) (old new : Desk S) (log log' : SinkFacts)
-    → IsSame old new → log' ≡ log → StaysItsLog facts IsStored IsNow old log new log'
+    → IsSameDesk old new → log' ≡ log → StaysItsLog facts IsStored IsNow old log new log'
 same_log {S} facts IsStored IsNow old new log log' same unlogged own start before l =
     let book = ap (λ (b : BookFields). desk_with b new.keeper.store new.state) same.book in
     let store = ap (λ (s : S). desk_with old.keeper.book s new.state) same.store in
@@ -211,7 +211,7 @@ stops_in_turn path log fault (inl socket) = inr (inl socket)
 stops_in_turn path log fault (inr (inl unwritten)) = inr (inr (inl unwritten))
 stops_in_turn path log fault (inr (inr (output, failed))) = inr (inr (inr output))
 
--- and so does one that comes before the first
+-- a fault by which a desk can't begin ends the talk
 pub stops_before : (path : List ℕ) (old new : SinkFacts) (fault : Fault) → FailsToBegin path old new fault → StopsTalking path fault
 stops_before path old new fault (inl (output, failed)) = inr (inr (inr output))
 stops_before path old new fault (inr (same, unwritten)) = inr (inr (inl unwritten))

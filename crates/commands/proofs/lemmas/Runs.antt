@@ -26,7 +26,7 @@ pub ends_as : {T : Type 0} {P : T → Type 0} {S : Fault → Type 0} (Q : T → 
 ends_as Q R (Ok x) did stopped runs stops = runs x did
 ends_as Q R (Err fault) did stopped runs stops = stops fault stopped
 
--- so it is where the status goes with the answer
+-- how a command ends whose status is computed from its answer, by what is known of that answer and of its fault
 pub ends_by : {T : Type 0} {P : T → Type 0} {S : Fault → Type 0} (Q : ℕ → Type 0) (R : Fault → Type 0) (value : T → ℕ)
     (ended : Result T Fault)
     (result : Result ℕ Fault) → MatchResult ended (λ x. result ≡ Ok (value x)) (λ fault. result ≡ Err fault) → IfOk ended P → IfErr ended S
@@ -84,7 +84,7 @@ none_entered (Some b) word rows is are = cc
 pub not_unnamed : (matches : ArgMatches) → NamesCommand (subcommand_rows_of matches) → None ≡ subcommand_name_of matches → ⊥
 not_unnamed matches (name, values, are) is = none_entered (out-ArgMatches matches).subcommand (word_of name) values is are
 
--- and it has the name of a command
+-- the name of the entered subcommand is the word that the parse finds
 same_name : {Z : Type 0} (o : Option (Box SubCommand Z)) (name word : Text) (rows : List Row)
     → Some name ≡ option_map (λ b. (out-SubCommand (box_value b)).name.now) o → subcommand_rows o ≡ Some (word, rows) → name ≡ word
 same_name None name word rows is are = absurd (cc is)
@@ -122,7 +122,7 @@ is_free_program : is_simple_and_free program ≡ true
 unfolding clap_on_literals
 is_free_program = refl
 
--- what a parse of it finds
+-- the subcommand and the values that a parse of a command line gives are those found in that line
 pub found_by : (app : App) (line : List Text) (matches : ArgMatches) → app ≡ program → HasMatchesOf app line matches
     → subcommand_rows_of matches ≡ found_in line
 found_by app line matches is has = (has (ap is_simple is ∙ is_simple_program)).1 ∙ ap (λ (a : App). subcommand_of a line) is
@@ -132,13 +132,13 @@ pub understood : (app : App) (line : List Text) → app ≡ program → (is_simp
     → fault_of program line ≡ []
 understood app line is fails = sym (ap (λ (a : App). fault_of a line) is) ∙ fails (ap is_simple_and_free is ∙ is_free_program)
 
--- and it names a command
+-- a line that is parsed names a command
 pub names_one : (app : App) (line : List Text) (matches : ArgMatches) → app ≡ program → HasMatchesOf app line matches
     → (is_simple_and_free app ≡ true → fault_of app line ≡ []) → NamesCommand (subcommand_rows_of matches)
 names_one app line matches is has fails =
     subst NamesCommand (sym (found_by app line matches is has)) (names_command line (understood app line is fails))
 
--- what is wrong with a line that is not
+-- an error of the parser is an error in the words of the line
 pub error_of : (app : App) (line : List Text) (error : Error) → app ≡ program
     → (is_simple_and_free app ≡ true → HasKind (fault_of app line) error)
     → IsWordsError line (kind_of error)

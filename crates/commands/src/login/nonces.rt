@@ -1,11 +1,11 @@
 //! The nonces of a login: those that the words give, or fresh random ones.
 ghost use Rattle.std.specs.Prelude.{◌≡◌, ◌⊎◌, Some, IfOk, IfErr, length};
 ghost use Rattle.scram_text.specs.Base64Field.{base64};
-ghost use Rattle.account_commands.specs.File.{IsFileUnread};
+ghost use Rattle.command_io.specs.File.{IsFileUnread};
 ghost use Rattle.commands.specs.Nonces.{TakesNonce, TakesNonces};
 
-use account_commands::random::Random;
 use base64::engine::general_purpose::STANDARD;
+use command_io::random::Random;
 use command_line::Fault;
 use scram_text::NoncePart;
 use std::alloc::Global;

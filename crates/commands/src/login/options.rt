@@ -6,8 +6,7 @@ ghost use Rattle.commands.specs.Login.{IsUserAsked, HasBadLoginValue};
 
 use crate::login::client_end::User;
 use clap::ArgMatches;
-use command_line::value::OptionName;
-use command_line::{Fault, value};
+use command_line::{Fault, OptionName, value};
 use command_words::{given, optional};
 use otp_core::Moment;
 use scram_text::NoncePart;

@@ -1,6 +1,6 @@
 //! Tests of what is said to someone at a terminal.
 use super::books::{BOOK, path_of_book, remove, verify};
-use super::{KEYS, PRINTED, check_at};
+use super::{KEYS, PRINTED, check_at_terminals};
 use std::fs;
 use std::test::Fail;
 
@@ -14,8 +14,8 @@ fn at_terminals_alone(rt: HostRuntime) -> Result<(), Fail> {
     let path = path_of_book(&rt, "prompts")?;
     let book = path.as_str();
     let ways = [(true, true), (true, false), (false, true), (false, false)];
-    for are in ways {
-        let (password, codes) = match are {
+    for are_terminals in ways {
+        let (password, codes) = match are_terminals {
             (true, true) => (PASSWORD, CODES),
             _ => ("", ""),
         };
@@ -23,19 +23,25 @@ fn at_terminals_alone(rt: HostRuntime) -> Result<(), Fail> {
         let enrol = [
             "scramotp", "enrol", "--book", book, "--name", "other", "--count", "1",
         ];
-        check_at(&rt, &KEYS, "pencil\n", are, (0, PRINTED, password));
-        check_at(
+        check_at_terminals(
+            &rt,
+            &KEYS,
+            "pencil\n",
+            are_terminals,
+            (0, PRINTED, password),
+        );
+        check_at_terminals(
             &rt,
             &enrol,
             "pencil\n",
-            are,
+            are_terminals,
             (0, "enrolled other\n", password),
         );
-        check_at(
+        check_at_terminals(
             &rt,
             &verify(book),
             "755224\n",
-            are,
+            are_terminals,
             (0, "PASS 5 0\n", codes),
         );
     }
@@ -64,20 +70,20 @@ fn nothing_to_ask_for(rt: HostRuntime) -> Result<(), Fail> {
         "scramotp", "verify", "--book", book, "--name", "nobody", "--moment", "5",
     ];
     let unlock = ["scramotp", "unlock", "--book", book, "--name", "user"];
-    check_at(
+    check_at_terminals(
         &rt,
         &keys,
         "",
         both,
         (2, "", "scramotp: bad value for --count\n"),
     );
-    check_at(
+    check_at_terminals(
         &rt,
         &nobody,
         "",
         both,
         (1, "", "scramotp: no such account\n"),
     );
-    check_at(&rt, &unlock, "", both, (0, "unlocked user\n", ""));
+    check_at_terminals(&rt, &unlock, "", both, (0, "unlocked user\n", ""));
     remove(&rt, book)
 }

@@ -3,7 +3,7 @@ use Rattle.std.specs.Prelude.{ℕ, ◌≡◌, ◌⊎◌, ◌↔◌, List, [], �
 use Rattle.std.specs.List.{AllByRecursion}
 use Rattle.std.specs.declared.option.Option.{Option}
 use Rattle.std.specs.declared.option.Option.TheVariants.{None, Some}
-use Rattle.log_grammar.specs.Lines.{LogLine, second_header, said, ended, halt, log_text, EndsWith}
+use Rattle.log_grammar.specs.Lines.{LogLine, header_two, said, ended, halt, log_text, EndsWith}
 use Rattle.log_grammar.specs.Bytes.{ended_by_lf}
 use Rattle.log_grammar.specs.LoggedReply.{LoggedReply}
 use Rattle.log_grammar.specs.Demands.{Accounts, demands}
@@ -27,7 +27,7 @@ IsHaltedVisit (Some visit) = EndsWith (visit_lines (Some visit)) (said halt ∷ 
 -- which each is closed, or one halted; and what was told of each account, under all numbers, in the order of the log, is a
 -- legal history of its token
 pub record IsNumberedLogOf (limit : ℕ) (accounts : Accounts) (bytes : List ℕ) (log : List (Numbered LogLine)) : Type 0 where
-  pub spelled : bytes ≡ ended_by_lf (log_text second_header ∷ map numbered_text log)
+  pub spelled : bytes ≡ ended_by_lf (log_text header_two ∷ map numbered_text log)
   pub written : AllByRecursion IsNumberedWritable log
   pub visit : ℕ → Option Visit
   pub numbered_told : List (Numbered LoggedReply)

@@ -11,7 +11,7 @@ use Rattle.log_grammar.specs.Lines.{LogLine, said, heard, mechs, cont, refuses, 
 use Rattle.log_grammar.specs.LoggedReply.{LoggedReply, logged_reply_of}
 use Rattle.log_grammar.specs.Places.{Place, between, offered, asks_bare, waits_first, got_first, waits_final, got_final, waits_code}
 use Rattle.log_grammar.specs.Places.{got_code, leaving, over, halted}
-use Rattle.log_grammar.specs.Demands.{Accounts, NamesMechanism, IsFirstOf, IsChallenged, IsVerdict, IsToldDue, demands}
+use Rattle.log_grammar.specs.Demands.{Accounts, NamesMechanism, IsChallenged, IsVerdict, IsToldDue, demands, IsUnoffered, IsNotTakenUp}
 use Rattle.log_grammar.specs.Begins.{Begins}
 use Rattle.log_grammar.specs.laws.Logins.{IsLoginTo, exchange_of}
 
@@ -71,9 +71,9 @@ EachChallengeIsDue = (accounts : Accounts) (log : List LogLine) (text : List ℕ
 abbrev pub IsRefusalDue : Accounts → List LogLine → List ℕ → List LoggedReply → Type 0
 IsRefusalDue accounts log text told =
     ((mechanism : List ℕ) × Begins (demands accounts) log (asks_bare mechanism) told
-    × ((m : Mechanism) → NamesMechanism mechanism m → ⊥) × (text ≡ []))
+    × IsUnoffered mechanism × (text ≡ []))
     ⊎ (((mechanism : List ℕ) × (first : List ℕ) × Begins (demands accounts) log (got_first mechanism first) told
-    × ((name : List ℕ) → IsFirstOf mechanism first name → ⊥) × (text ≡ []))
+    × IsNotTakenUp mechanism first × (text ≡ []))
     ⊎ (((mechanism : List ℕ) × (name : List ℕ) × (client_first : List ℕ) × (server_first : List ℕ) × (client_final : List ℕ)
     × Begins (demands accounts) log (got_final mechanism name client_first server_first client_final) told
     × ((why : Refusal) × IsVerdict accounts mechanism name client_first server_first client_final (refuse why)

@@ -20,7 +20,7 @@ length-last_digits (suc count) number =
 all_more : (xs : List ℕ) (x : ℕ) → All IsAsciiDigit xs → IsAsciiDigit x → All IsAsciiDigit (xs ++ x ∷ [])
 all_more xs x all one = search (rules, common_steps)
 
--- each is an ASCII digit
+-- each of the last digits of a number is an ASCII digit
 digits-last_digits : (count number : ℕ) → All IsAsciiDigit (last_digits count number)
 unfolding last_digits
 digits-last_digits zero number = search rules

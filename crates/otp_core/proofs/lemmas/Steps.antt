@@ -104,7 +104,7 @@ first_of : (o : Option ℕ) (next p : ℕ) → option_map_or (λ m. m + 1) o nex
 first_of None next p h = refl
 first_of (Some m) next p h = omega arith
 
--- and after a pass of a pair, one more than its second
+-- after a pass of a pair, HOTP's first counter is one more than the second of the pair
 pair_first_of : (o : Option ℕ) (next w : ℕ) → option_map_or (λ m. m + 1) o next ≤ w
     → option_map_or (λ m. m + 1) (Some (max (w + 1) (option_map_or (λ most. max (w + 1 - 1) most) o (w + 1 - 1)))) next ≡ w + 1 + 1
 pair_first_of None next w h = omega arith
@@ -134,18 +134,18 @@ window_by (Hotp t) m p later c = IsInWindow (p + 1) t.look_ahead c
 window_by (Totp t) m p later c =
     (t.t0 ≤ later) × IsStepNear (step_at t later) (pos p -ℤ pos (step_at t m)) t.back t.ahead t.max_drift c
 
--- and the pairs
+-- the part of a pair's window that depends on the settings, after a pass of p
 pairs_by : TokenFields → ℕ → ℕ → Type 0
 pairs_by (Hotp t) p w = IsInWindow (p + 1) t.sync_ahead w × (w + 1 ≤ most_counter)
 pairs_by (Totp t) p w = ⊥
 
--- the same counters can pass, alone and in pairs, after two pasts
+-- what can pass, alone and in pairs, is equal after two pasts
 abbrev CanPassAlike : TokenFields → List Attempt → TokenFields → List Attempt → Type 0
 CanPassAlike s h t k =
     ((m c : ℕ) → IsMoment m → IsCandidate s h m c ↔ IsCandidate t k m c)
     × ((w : ℕ) → IsPairCandidate s h w ↔ IsPairCandidate t k w)
 
--- after a pass of a counter that fits the same can pass as in the token that the pass makes, whatever the past
+-- what can pass after a pass of a fitting counter is what can pass in the token that the pass makes, whatever the past
 passed : (s t : TokenFields) (h : List Attempt) (m : ℕ) (sent : CodeTexts) (p : ℕ) → settings_of s ≡ settings_of t
     → IsFitting s h m sent p → CanPassAlike s (attempt_of m sent (Pass p) ∷ h) (after_pass t m p) []
 unfolding window_by pairs_by
@@ -175,7 +175,7 @@ passed (Totp s) (Totp t) h m (TwoTexts one other) p e fits = absurd (no_pair s h
 passed (Hotp s) (Totp t) h m sent p e fits = absurd (cc)
 passed (Totp s) (Hotp t) h m sent p e fits = absurd (cc)
 
--- after a past the same can pass as after itself
+-- `CanPassAlike` is reflexive
 same : (s : TokenFields) (h : List Attempt) → CanPassAlike s h s h
 same s h = ((λ m c is. ((λ x. x), (λ x. x))), (λ w. ((λ x. x), (λ x. x))))
 
@@ -185,7 +185,7 @@ IsNoPass (Pass p) = ⊥
 IsNoPass Fail = Unit {0}
 IsNoPass Locked = Unit {0}
 
--- such a reply leaves what can pass as it was, after the history and in the token that it makes
+-- a reply that passes no counter leaves what can pass as it was, after the history and in the token that it makes
 kept : (s : TokenFields) (h : List Attempt) (m : ℕ) (sent : CodeTexts) (reply : Reply) → IsNoPass reply
     → CanPassAlike s (attempt_of m sent reply ∷ h) s h × CanPassAlike s (attempt_of m sent reply ∷ h) (advanced s m reply) h
 kept s h m sent (Pass p) idle = absurd idle
@@ -194,7 +194,7 @@ kept (Totp s) h m sent Fail idle = (same (Totp s) h, same (Totp s) h)
 kept (Hotp s) h m sent Locked idle = (same (Hotp s) h, same (Hotp s) h)
 kept (Totp s) h m sent Locked idle = (same (Totp s) h, same (Totp s) h)
 
--- so after two alike pasts the same can pass still
+-- an attempt that passes no counter keeps equal what can pass after two alike pasts
 still : (s t : TokenFields) (h k : List Attempt) (m : ℕ) (sent : CodeTexts) (reply : Reply) → IsNoPass reply → AreAlike s h t k
     → CanPassAlike s (attempt_of m sent reply ∷ h) t (attempt_of m sent reply ∷ k)
 still s t h k m sent reply idle alike =

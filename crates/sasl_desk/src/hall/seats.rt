@@ -7,7 +7,6 @@ ghost use Rattle.sasl_desk.specs.declared.hall.guest.Guest.{Guest};
 use crate::hall::guest::Guest;
 use crate::session::Session;
 use sasl_log::{MOST_OPEN, NoMemory};
-use scram_text::NoncePart;
 use std::alloc::Global;
 use std::marker::Model;
 
@@ -28,7 +27,7 @@ impl Model for Seats {
 impl Seats {
     ghost use Rattle.std.specs.List.{find, position};
     ghost use Rattle.std.specs.List.Sorted.{IsPermutation};
-    ghost use Rattle.sasl_desk.specs.Guests.{is_of, guest_of};
+    ghost use Rattle.sasl_desk.specs.Guests.{is_of};
 
     /// 64 seats, all of which are free. Answers 99 NoMemory where memory ran out.
     pub(crate) fn new(alloc: Global) -> Result<Seats, NoMemory>
@@ -80,16 +79,11 @@ impl Seats {
         }
     }
 
-    /// Gives a session a seat. One must be free.
-    pub(crate) fn seat(&mut self, number: u64, session: Session, own: NoncePart)
+    /// Gives a guest a seat. One must be free.
+    pub(crate) fn seat(&mut self, guest: Guest)
         requires { length self.old < most_open }
-        ensures { self.new ≡ self.old ++ guest_of number session own ∷ [] }
+        ensures { self.new ≡ self.old ++ guest ∷ [] }
     {
-        let guest = Guest {
-            number,
-            session,
-            own,
-        };
         let Ok(()) = self.guests.push(guest) else {
             unreachable!()
         };

@@ -34,14 +34,14 @@ pub(crate) fn departure() -> Answer
 
 /// The answer to a client that asks for the mechanism of this name, without a message: an empty challenge, or a bare
 /// `S NO` where it is not offered.
-pub(crate) fn invitation(name: &[u8]) -> Answer
-    ensures due { (accounts : Accounts) (own : List ℕ) → IsAnswer accounts own (asks_bare name.now) result [] }
+pub(crate) fn invitation(mechanism_name: &[u8]) -> Answer
+    ensures due { (accounts : Accounts) (own : List ℕ) → IsAnswer accounts own (asks_bare mechanism_name.now) result [] }
     ensures lines { CanBeWritten (lines_of_answer result []) }
 {
-    match Mechanism::of_name(name) {
+    match Mechanism::of_name(mechanism_name) {
         Some(mechanism) => Answer {
             says: Saying::Continues,
-            session: Some(Session::WaitsFirst(mechanism)),
+            session: Some(Session::WaitFirst(mechanism)),
         },
         None => refusal(),
     }
@@ -54,7 +54,7 @@ pub(crate) fn outcome(verdict: Verdict, name: PlainName) -> Answer
     match verdict {
         Verdict::Accepted => Answer {
             says: Saying::Accepts,
-            session: Some(Session::WaitsCode(name)),
+            session: Some(Session::WaitCode(name)),
         },
         Verdict::Refused(_) => Answer {
             says: Saying::Refuses,

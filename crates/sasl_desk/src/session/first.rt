@@ -26,7 +26,7 @@ use std::alloc::{Allocator, Global};
 /// 99 NoMemory where memory ran out; `message` is then empty.
 pub(crate) fn opening<A: Allocator>(
     alloc: Global,
-    name: &[u8],
+    mechanism_name: &[u8],
     client_first: &Payload<'_>,
     book: &Book,
     own: &NoncePart,
@@ -34,11 +34,11 @@ pub(crate) fn opening<A: Allocator>(
 ) -> Result<Answer, NoMemory>
     requires { message.old.items ≡ [] }
     ensures due { (accounts : Accounts) → KeepsEntries accounts book.now
-        → IfOk result (λ answer. IsAnswer accounts own.now (got_first name.now client_first.now) answer message.new.items) }
+        → IfOk result (λ answer. IsAnswer accounts own.now (got_first mechanism_name.now client_first.now) answer message.new.items) }
     ensures lines { IfOk result (λ answer. CanBeWritten (lines_of_answer answer message.new.items)) }
     ensures err { OnErr result (message.new.items ≡ []) }
 {
-    match Mechanism::of_name(name) {
+    match Mechanism::of_name(mechanism_name) {
         Some(mechanism) => first_answer(alloc, mechanism, client_first, book, own, message),
         None => Ok(refusal()),
     }
@@ -65,7 +65,7 @@ pub(crate) fn first_answer<A: Allocator>(
     }
 }
 
-// Looks up the name that the message gives.
+// Reads the name that the message gives, and challenges its login; a bare `S NO` where no server takes the message up.
 fn taken_up<A: Allocator>(
     mechanism: Mechanism,
     client_first: &[u8],
@@ -110,7 +110,7 @@ fn challenge<A: Allocator>(
     match server_first(mechanism, &view, client_first, own, message) {
         Ok(wait) => Ok(Answer {
             says: Saying::Continues,
-            session: Some(Session::WaitsFinal(Waiting::new(wait, mechanism, user))),
+            session: Some(Session::WaitFinal(Waiting::new(wait, mechanism, user))),
         }),
         Err(FirstRefused::First(_)) => Ok(refusal()),
         Err(FirstRefused::Write(WriteFault::NoMemory)) => Err(NoMemory),

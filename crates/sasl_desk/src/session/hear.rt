@@ -76,22 +76,25 @@ pub(crate) fn hear_offered<'a, A: Allocator>(
     ensures turn { (accounts : Accounts) → KeepsEntries accounts book.now
         → IfOk result (λ turn. IsTurnOnLine accounts own.now (client_shown line.entry) offered turn message.new.items) }
     ensures lines { IfOk result (λ turn. CanBeWritten (turn_lines turn message.new.items)) }
-    ensures err { IfErr result (λ session. (session ≡ Session.Offered) × (message.new.items ≡ [])) }
+    ensures err { IfErr result (λ session. (session ≡ Session.WaitAuth) × (message.new.items ≡ [])) }
     ensures memory { OnErr result (BearsMessage (client_shown line.entry)) }
 {
     match line {
-        ClientLine::Auth(name) => {
-            let answer = invitation(name);
-            let recorded = Recorded::Line(ClientLine::Auth(name));
+        ClientLine::Auth(mechanism_name) => {
+            let answer = invitation(mechanism_name);
+            let recorded = Recorded::Line(ClientLine::Auth(mechanism_name));
             Ok(Turn { recorded, answer })
         }
-        ClientLine::AuthWith(name, client_first) => {
-            match opening(alloc, name, &client_first, book, own, message) {
+        ClientLine::AuthWith(mechanism_name, client_first) => {
+            match opening(alloc, mechanism_name, &client_first, book, own, message) {
                 Ok(answer) => {
-                    let recorded = Recorded::Line(ClientLine::AuthWith(name, client_first));
+                    let recorded = Recorded::Line(ClientLine::AuthWith(
+                        mechanism_name,
+                        client_first,
+                    ));
                     Ok(Turn { recorded, answer })
                 }
-                Err(_) => Err(Session::Offered),
+                Err(_) => Err(Session::WaitAuth),
             }
         }
         ClientLine::Abort => Ok(aborted()),
@@ -114,7 +117,7 @@ pub(crate) fn hear_first<'a, A: Allocator>(
         → IfOk result (λ turn. IsTurnOnLine accounts own.now (client_shown line.entry) (waits_first (name_of mechanism))
         turn message.new.items) }
     ensures lines { IfOk result (λ turn. CanBeWritten (turn_lines turn message.new.items)) }
-    ensures err { IfErr result (λ session. (session ≡ Session.WaitsFirst mechanism) × (message.new.items ≡ [])) }
+    ensures err { IfErr result (λ session. (session ≡ Session.WaitFirst mechanism) × (message.new.items ≡ [])) }
     ensures memory { OnErr result (BearsMessage (client_shown line.entry)) }
 {
     match line {
@@ -124,7 +127,7 @@ pub(crate) fn hear_first<'a, A: Allocator>(
                     let recorded = Recorded::Line(ClientLine::Resp(client_first));
                     Ok(Turn { recorded, answer })
                 }
-                Err(_) => Err(Session::WaitsFirst(mechanism)),
+                Err(_) => Err(Session::WaitFirst(mechanism)),
             }
         }
         ClientLine::Abort => Ok(aborted()),
@@ -144,7 +147,7 @@ pub(crate) fn hear_final<'a, A: Allocator>(
     ensures turn { (accounts : Accounts) (own : List ℕ) (at : Place) → IsWaitingAt accounts at waiting
         → IfOk result (λ turn. IsTurnOnLine accounts own (client_shown line.entry) at turn message.new.items) }
     ensures lines { IfOk result (λ turn. CanBeWritten (turn_lines turn message.new.items)) }
-    ensures err { IfErr result (λ session. (session ≡ Session.WaitsFinal waiting) × (message.new.items ≡ [])) }
+    ensures err { IfErr result (λ session. (session ≡ Session.WaitFinal waiting) × (message.new.items ≡ [])) }
     ensures memory { OnErr result (BearsMessage (client_shown line.entry)) }
 {
     match line {
@@ -154,7 +157,7 @@ pub(crate) fn hear_final<'a, A: Allocator>(
                     let recorded = Recorded::Line(ClientLine::Resp(client_final));
                     Ok(Turn { recorded, answer })
                 }
-                Err(back) => Err(Session::WaitsFinal(back)),
+                Err(back) => Err(Session::WaitFinal(back)),
             }
         }
         ClientLine::Abort => Ok(aborted()),
@@ -167,7 +170,7 @@ pub(crate) fn hear_code<'a>(name: PlainName, line: ClientLine<'a>) -> Heard<'a>
     requires { CanBeLine (from_client (client_shown line)) }
     ensures heard { (accounts : Accounts) (own : List ℕ)
         → ComesOfLine accounts own (client_shown line.entry) (waits_code name) result [] }
-    ensures asks { IsOfCode result (Session.WaitsCode name) }
+    ensures asks { IsOfCode result (Session.WaitCode name) }
     ensures asked { AsksFor result (client_shown line.entry) }
     ensures lines { CanBeWritten (heard_lines result []) }
 {

@@ -32,10 +32,10 @@ impl Phase {
         ensures { result ≡ session_phase session.now }
     {
         match session {
-            Session::Offered => Phase::WaitAuth,
-            Session::WaitsFirst(_) => Phase::WaitFirst,
-            Session::WaitsFinal(_) => Phase::WaitFinal,
-            Session::WaitsCode(_) => Phase::WaitCode,
+            Session::WaitAuth => Phase::WaitAuth,
+            Session::WaitFirst(_) => Phase::WaitFirst,
+            Session::WaitFinal(_) => Phase::WaitFinal,
+            Session::WaitCode(_) => Phase::WaitCode,
         }
     }
 }

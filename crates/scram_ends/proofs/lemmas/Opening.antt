@@ -18,7 +18,7 @@ same_name one other part also same is is_also = name_once one other (sym is.spel
 some_inside : (part also : List ℕ) → Some part ≡ Some also → part ≡ also
 some_inside part also same = cc
 
--- the saslname of an authorisation name spells one plain name, where there is one
+-- the saslname of a name to act as spells one plain name, where there is one
 pub same_authzid : (one other part also : Option (List ℕ)) → part ≡ also → IsAuthzidOf one part → IsAuthzidOf other also → one ≡ other
 same_authzid None None part also same is is_also = refl
 same_authzid (Some one) (Some other) (Some part) (Some also) same is is_also =

@@ -14,7 +14,7 @@ use scram_text::{Flag, NoncePart, PlainName, WriteFault, read_client_first, writ
 use std::alloc::Allocator;
 
 impl Client {
-    /// Appends the client-first message of this name, authorisation name and nonce to `out`: at most
+    /// Appends the client-first message of this name, name to act as and nonce to `out`: at most
     /// 1796 bytes, with the flag `n` and no extensions. `limits` are the counts that the client will
     /// accept, the least at least 1. Answers no fault but 99 NoMemory, and only where `out` had no
     /// room reserved for the message; `out` is then unchanged.

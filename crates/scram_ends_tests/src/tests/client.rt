@@ -190,7 +190,7 @@ fn outcomes_at_the_client(rt: HostRuntime) {
     }
 }
 
-// The authorisation name is in the gs2-header, and so in the channel field.
+// The name to act as is in the gs2-header, and so in the channel field.
 #[test]
 fn authorisation_name(rt: HostRuntime) {
     let exchange = &PUBLISHED[0];

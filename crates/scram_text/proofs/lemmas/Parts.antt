@@ -102,7 +102,7 @@ misfit_here most k place places part pieces no_fit = record {
   number = omega arith;
 }
 
--- the first that does not fit is a later one
+-- where the first part fits, the first that does not fit is a later one
 pub misfit_later : (most k : ℕ) (place : TextWhy) (places : List TextWhy) (part : List ℕ) (pieces : List (List ℕ)) (f : TextFault)
     → Fits most place part → IsFirstMisfit most places (k + 1) pieces f → IsFirstMisfit most (place ∷ places) k (part ∷ pieces) f
 misfit_later most k place places part pieces f fits later = record {

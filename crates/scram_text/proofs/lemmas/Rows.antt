@@ -37,7 +37,7 @@ found_at : {R : Type 0} (Asked : R → Type 0) (before after : List R) (r : R) �
 found_at Asked [] after r met unmet = inl (refl, unmet)
 found_at Asked (row ∷ before) after r met unmet = inr (met.0, found_at Asked before after r met.1 unmet)
 
--- the first is found
+-- the first row that is not met is found
 found_first : {R : Type 0} (Asked : R → Type 0) (rows : List R) (r : R) → IsFirstUnmet Asked rows r → IsFound Asked rows r
 found_first Asked rows r first =
     subst (λ these. IsFound Asked these r) (sym first.split) (found_at Asked first.before first.after r first.met first.unmet)

@@ -24,8 +24,8 @@ returns-in_default-clause-saved g c =
     (λ saved. record {
       first = c.args.book;
       is_first = inl refl;
-      last = c.add.new.book;
-      is_enrolled = c.in_ok-add.ensures.added;
+      last = c.add_to.new.book;
+      is_enrolled = c.in_ok-add_to.ensures.added;
       is_saved = let done = rw c.new-in_default.ensures.book at saved in (done.text, done.is_text, done.stored);
     })
     c.save.ensures.saved
@@ -39,7 +39,7 @@ returns-in_ok-held-in-Some-found-clause-err g c =
     (rw c.in_ok-held-in-Some-found.ensures.path at other))
     c.enrol.ensures.err
 
-pub returns-in_err-add-clause-err : goal.returns-in_err-add-clause-err
-returns-in_err-add-clause-err g c =
+pub returns-in_err-add_to-clause-err : goal.returns-in_err-add_to-clause-err
+returns-in_err-add_to-clause-err g c =
     let e = err_from_is_err_and c.from_residual.result c.from_residual.ensures.1 in
-    rw (e.1, e.2) (not_added _ _ _ _ _ c.in_err-add.ensures.err)
+    rw (e.1, e.2) (not_added _ _ _ _ _ c.in_err-add_to.ensures.err)

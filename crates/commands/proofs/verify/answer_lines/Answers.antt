@@ -1,7 +1,7 @@
 use Rattle.std.proofs.Common.{inl, inr, refl, ◌∙◌}
 use Rattle.commands.specs.Verify.{run_of, AnswersLine}
 use Rattle.commands.proofs.lemmas.Faults.{handed_on}
-use Rattle.account_commands.proofs.lemmas.LinesInTurn.{after_line, at_end, before_line, at_line}
+use Rattle.command_io.proofs.lemmas.LinesInTurn.{after_line, at_end, before_line, at_line}
 use Rattle.commands.proofs.verify.answer_lines.Goals as goal
 
 pub returns-in_err-line-clause-err : goal.returns-in_err-line-clause-err

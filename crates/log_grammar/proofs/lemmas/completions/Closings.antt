@@ -7,7 +7,7 @@ use Rattle.log_grammar.specs.Places.{Place, before_all, between, offered, asks_b
 use Rattle.log_grammar.specs.Places.{waits_code, got_code, leaving, over, halted}
 use Rattle.log_grammar.specs.Demands.{Accounts, AllCanBeChallenged, IsVerdict, demands}
 use Rattle.log_grammar.specs.state_machine.Steps.{IsTransition, told_at}
-use Rattle.log_grammar.specs.Numbered.{Numbered, HasRoom, MayFollow}
+use Rattle.log_grammar.specs.Numbered.{Numbered, MayBeNumbered, MayFollow}
 use Rattle.log_grammar.specs.NumberedLines.{HasNumber}
 use Rattle.log_grammar.proofs.lemmas.completions.EachPlace.{Ground, Spelt, spelt_end, spelt_gone, spelt_refuses, spelt_cont, refusal_line}
 use Rattle.log_grammar.proofs.lemmas.completions.EachPlace.{acceptance_line, some_verdict}
@@ -18,7 +18,7 @@ use Rattle.log_grammar.proofs.lemmas.lines.TextBytes.{utf8_message}
 -- a line that may be written at any time, and that any line may follow
 pub record IsPlain (line : LogLine) : Type 0 where
   pub spelt : Spelt line
-  pub room : (limit : ℕ) (before : List (Numbered LogLine)) (n : ℕ) → HasRoom limit before n line
+  pub room : (limit : ℕ) (before : List (Numbered LogLine)) (n : ℕ) → MayBeNumbered limit before n line
   pub follow : (n m : ℕ) (next : LogLine) → MayFollow n line m next
   pub has_number : HasNumber line
 
@@ -62,7 +62,7 @@ close_refused accounts place text spelt quiet goes =
     let end = close_over accounts in
     (said (refuses text) ∷ end.0, (plain_refuses text spelt, quiet, over, goes, end.1))
 
--- where it is the client's turn, it goes away
+-- a session can be closed where it is the client's turn, since the client may go away
 close_turn : (accounts : Accounts) (place : Place) → told_at place gone ≡ [] → IsTransition (demands accounts) place gone over
     → IsClosable accounts place
 close_turn accounts place quiet goes = let end = close_over accounts in (gone ∷ end.0, (plain_gone, quiet, over, goes, end.1))

@@ -153,7 +153,7 @@ by_halt limit accounts log places told n number s free goes quiet =
     (finished limit accounts (log ++ numbered n (said halt) ∷ []) (put n halted places) (told ++ told_at (places n) (said halt)) s'
     (inr (n, put_here n halted places)))
 
--- the numbers from this one on are closed: then those below it are closed too
+-- where the numbers from one on are closed, the log is completed by closing those below it
 pub close_all : Ground → (limit : ℕ) (accounts : Accounts) → AllCanBeChallenged accounts
     → (k : ℕ) (log : List (Numbered LogLine)) (places : ℕ → Place) (told : List LoggedReply)
     → SpellsNumbered limit (demands accounts) log places told → Free log → Ranged places → ((n : ℕ) → k ≤ n → places n ≡ between)

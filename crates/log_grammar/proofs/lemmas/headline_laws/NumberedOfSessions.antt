@@ -5,7 +5,7 @@ use Rattle.std.specs.declared.option.Option.{Option}
 use Rattle.std.specs.declared.option.Option.TheVariants.{None, Some}
 use Rattle.std.proofs.lemmas.Bool.Decides.{eqb_tells}
 use Rattle.otp_core.specs.Ranges.{IsMoment}
-use Rattle.log_grammar.specs.Lines.{LogLine, second_header, said, ended, busy, halt, log_text, EndsWith}
+use Rattle.log_grammar.specs.Lines.{LogLine, header_two, said, ended, busy, halt, log_text, EndsWith}
 use Rattle.log_grammar.specs.Bytes.{LacksLf, ended_by_lf, IsCut}
 use Rattle.log_grammar.specs.LoggedReply.{LoggedReply}
 use Rattle.log_grammar.specs.Places.{between, halted}
@@ -59,7 +59,7 @@ of_number_ranged n (x ∷ log) all = elim (eqb_tells n x.number) [
   | inr other ↦ rw other.0 (of_number_ranged n log all.1)
 ]
 
--- so what was told under it was told at moments
+-- what was told under a number was told at moments, where its lines are in their ranges
 timed_in : (o : Option Visit) → Ranged (visit_lines o) → Timed (visit_told o)
 timed_in None h = tt
 timed_in (Some (let_in s)) h = of_session s h
@@ -145,7 +145,7 @@ of_ends limit accounts bytes (first ∷ texts) cut (is, log, places, told, are, 
       | inl all ↦ inl (λ n. closed_lines (s.visit n) (sym (s.after n) ∙ all n))
       | inr halts ↦ inr (halts.0, halted_lines (s.visit halts.0) (sym (s.after halts.0) ∙ halts.1))
     ] in
-    let same = ap (λ (t : List ℕ). t ∷ texts) is ∙ ap (λ (ts : List (List ℕ)). log_text second_header ∷ ts) (texts_of texts log are) in (
+    let same = ap (λ (t : List ℕ). t ∷ texts) is ∙ ap (λ (ts : List (List ℕ)). log_text header_two ∷ ts) (texts_of texts log are) in (
       log,
       record {
         spelled = cut.bytes_are ∙ append-nil (ended_by_lf (first ∷ texts)) ∙ ap ended_by_lf same;
@@ -162,7 +162,7 @@ of_ends limit accounts bytes (first ∷ texts) cut (is, log, places, told, are, 
 clean_of : (limit : ℕ) (accounts : Accounts) (bytes : List ℕ) (log : List (Numbered LogLine)) → IsNumberedLogOf limit accounts bytes log
     → IsCleanOf (version_two limit accounts) bytes
 clean_of limit accounts bytes log l =
-    let texts = log_text second_header ∷ map numbered_text log in
+    let texts = log_text header_two ∷ map numbered_text log in
     let cut : IsCut bytes texts [] =
     record { bytes_are = l.spelled ∙ sym (append-nil (ended_by_lf texts)); lines = (refl, each_lacks log l.written); after = refl } in
     let told = map (λ (t : Numbered LoggedReply). t.value) l.numbered_told in

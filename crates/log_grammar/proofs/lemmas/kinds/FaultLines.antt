@@ -187,7 +187,7 @@ at_text kind bytes before text more rest why cut w =
           (front_at kind with lacks stands));
     }
 
--- such a line is at fault in any bytes that begin with the same lines
+-- a line that is at fault is so in any bytes that begin with the lines up to it
 elsewhere : (kind : LogKind) → IsShortened kind
     → (bytes other : List ℕ) (before : List (List ℕ)) (text : List ℕ) (more others : List (List ℕ)) (rest also : List ℕ) (why : Why)
     → IsCut bytes (before ++ text ∷ more) rest → IsCut other (before ++ text ∷ others) also

@@ -11,7 +11,7 @@ use Rattle.otp_core.specs.declared.token.answer.Reply.TheVariants.{Pass, Fail, L
 use Rattle.log_grammar.specs.Payload.{IsMessage}
 use Rattle.log_grammar.specs.Words.{is_mech_char, is_code_char, is_space, longest_mech_name, longest_code, IsMechName}
 use Rattle.log_grammar.specs.Lines.{ServerLine, mechs, cont, accepts, refuses, replies, halt, busy, ClientLine, auth, auth_with, resp}
-use Rattle.log_grammar.specs.Lines.{abort, code, sync, Line, from_server, from_client, LogLine, header, second_header, said, heard, bad}
+use Rattle.log_grammar.specs.Lines.{abort, code, sync, Line, from_server, from_client, LogLine, header, header_two, said, heard, bad}
 use Rattle.log_grammar.specs.Lines.{gone, ended, line_text, log_text, IsReplyInRange, IsServerInRange, IsClientInRange, IsLineInRange}
 use Rattle.log_grammar.specs.Lines.{IsLogInRange, IsLine, IsLogLine, IsNoLogLine, longest_line, longest_log_line}
 use Rattle.log_grammar.proofs.lemmas.lines.ReadBack.{line_in, line_back, log_line_in, log_line_back}
@@ -56,7 +56,7 @@ ranges_decided (from_client line) = client_decided line
 
 log_ranges_decided : (line : LogLine) → Decided (IsLogInRange line)
 log_ranges_decided header = inl tt
-log_ranges_decided second_header = inl tt
+log_ranges_decided header_two = inl tt
 log_ranges_decided (said line) = server_decided line
 log_ranges_decided (heard line) = client_decided line
 log_ranges_decided bad = inl tt

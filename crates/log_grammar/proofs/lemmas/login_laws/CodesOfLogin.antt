@@ -51,7 +51,7 @@ by_proof m account first challenge no_proof = tt
 by_proof m account first challenge (quits_proof q) = of_quit (λ t. t.account ≡ account) q
 by_proof m account first challenge (proves last j) = by_judgement m account first challenge last j
 
--- so each code is of the login
+-- where all replies are to the login's account, each code is of the login
 each_of : (s : Session) (mechanism first account : List ℕ) (told : List LoggedReply) → HasFirst s mechanism first
     → IsFirstOf mechanism first account
     → AllOf account told → AllByRecursion (λ t. IsLoginOf s t.account) told

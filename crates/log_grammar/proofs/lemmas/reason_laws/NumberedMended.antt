@@ -2,7 +2,7 @@
 use Rattle.std.proofs.Common.{◌≡◌, inl, inr, ℕ, ◌+◌, ◌≤◌, List, [], ◌∷◌, ◌++◌, length, reverse, take, refl, sym, ◌∙◌, ap, subst, arith}
 use Rattle.std.specs.List.{AllByRecursion, AllZip}
 use Rattle.std.proofs.lemmas.Bool.{cases_lt}
-use Rattle.log_grammar.specs.Lines.{LogLine, second_header, said, mechs, cont, accepts, refuses, replies, log_text, IsWritable}
+use Rattle.log_grammar.specs.Lines.{LogLine, header_two, said, mechs, cont, accepts, refuses, replies, log_text, IsWritable}
 use Rattle.log_grammar.specs.Bytes.{LacksLf, ended_by_lf, IsCut}
 use Rattle.log_grammar.specs.LoggedReply.{LoggedReply}
 use Rattle.log_grammar.specs.Places.{Place, asks_bare, got_first, got_final, got_code, leaving}
@@ -15,7 +15,7 @@ use Rattle.log_grammar.specs.state_machine.DueClasses.{IsDueAt}
 use Rattle.log_grammar.specs.LogKinds.{IsWhyOf, BeginsCleanOf}
 use Rattle.log_grammar.specs.VersionTwo.{MayBeginVersionTwo, IsWrongAfterFirst, version_two}
 use Rattle.log_grammar.specs.Numbered.{Numbered, numbered, SpellsNumbered}
-use Rattle.log_grammar.specs.state_machine.NumberedDueClasses.{ClassHasRoom, ClassMayFollow, IsNumberDueAt}
+use Rattle.log_grammar.specs.state_machine.NumberedDueClasses.{ClassMayBeNumbered, ClassMayFollow, IsNumberDueAt}
 use Rattle.log_grammar.specs.NumberedLines.{HasNumber, numbered_text, IsNumberedLine, IsNumberedWritable}
 use Rattle.log_grammar.specs.laws.NumberedLogLaws.{NumberedFrontsBeginClean}
 use Rattle.log_grammar.specs.state_machine.NumberedSteps.{put, IsNumberedTransition}
@@ -38,7 +38,7 @@ record FaultOf (limit : ℕ) (accounts : Accounts) (before : List (List ℕ)) (x
   first : List ℕ
   texts : List (List ℕ)
   same : before ≡ first ∷ texts
-  head : first ≡ log_text second_header
+  head : first ≡ log_text header_two
   log : List (Numbered LogLine)
   are : AllZip IsNumberedLine texts log
   places : ℕ → Place
@@ -47,10 +47,10 @@ record FaultOf (limit : ℕ) (accounts : Accounts) (before : List (List ℕ)) (x
   due : IsNumberDueAt limit log (places x.number) x.number (class_of x.value)
   wrong : IsWrong accounts (places x.number) told x.value why
 
--- after the first line
+-- a line after the first, at fault for a reason that names what is due, is one where some line of its class is due
 later_fault : (limit : ℕ) (accounts : Accounts) (first : List ℕ) (texts : List (List ℕ)) (text : List ℕ) (log : List (Numbered LogLine))
     (x : Numbered LogLine) (why : Why)
-    → first ≡ log_text second_header → AllZip IsNumberedLine texts log → IsNumberedLine text x → NamesWhatIsDue why
+    → first ≡ log_text header_two → AllZip IsNumberedLine texts log → IsNumberedLine text x → NamesWhatIsDue why
     → IsWrongAfterFirst limit accounts log text why
     → FaultOf limit accounts (first ∷ texts) x why
 later_fault limit accounts first texts text log x why head are is names (inl (again, same)) = absurd (subst NamesWhatIsDue same names)
@@ -180,7 +180,7 @@ begins_with completes limit accounts fit before x why f line next lack says writ
     let same = one_class why (class_of x.value) (class_of line) (wrong_class accounts (f.places n) f.told x.value why f.wrong)
     (says_class why line says) in
     let g : IsNumberedTransition limit (demands accounts) f.log f.places f.told n line next = record {
-      room = room_line limit f.log n line (subst (ClassHasRoom limit f.log n) same f.due.room);
+      room = room_line limit f.log n line (subst (ClassMayBeNumbered limit f.log n) same f.due.room);
       next = λ earlier z e. next_line z.number z.value n line (subst (ClassMayFollow z.number z.value n) same (f.due.next earlier z e));
       goes = inl goes;
       due = answer;
@@ -244,7 +244,7 @@ numbered_what_is_due completes limit accounts fit bytes texts rest k why cut w n
       (subst (λ (i : ℕ). IsWhyOf (version_two limit accounts) bytes i why) this w) names))
 ]
 
--- where a line that says what is due leads to
+-- a line leads on from a place, and its reply, if it is one, is due
 record LeadsOn (accounts : Accounts) (place : Place) (told : List LoggedReply) (line : LogLine) : Type 0 where
   next : Place
   goes : IsTransition (demands accounts) place line next

@@ -66,7 +66,7 @@ pub each_pass : EachReplyIsDue → EachPassIsACode
 each_pass replied accounts log moment counter next told begins =
     of_answer accounts log moment counter next told ((replied accounts log moment (Some (Pass counter)) next told).0 begins)
 
--- the number after one that is above these is above them too
+-- the number after one that is above these counters is above them
 above_next : (counters : List ℕ) (w c : ℕ) → c ≡ w + 1 → IsAbove counters w → IsAbove counters c
 above_next [] w c next above = tt
 above_next (p ∷ counters) w c next above = (omega (arith, next, above.0), above_next counters w c next above.1)

@@ -63,11 +63,11 @@ told_first accounts (suc n) log (x ∷ more) place told short begins =
     let tells = told_at s.place last.1 in
     (less.0, less.1, less.2 ++ tells, less.3, s.tells ∙ told_before less.1 s.told less.2 tells less.4)
 
--- so they are, however many lines come after them
+-- the first lines of what a log may begin with also begin a log, and what was told in them comes first
 pub first_lines : FirstLinesBeginLogs
 first_lines accounts lines more place told begins = told_first accounts (length more) lines more place told (omega arith) begins
 
--- from where MECHS goes on
+-- `S MECHS` may stand between sessions alone, with the names demanded, and leads to the place after an offer
 offer_from : (accounts : Accounts) (log : List LogLine) (names : List ℕ) (next at : Place) (all told : List LoggedReply)
     → all ≡ told ++ told_at at (said (mechs names)) → Begins (demands accounts) log at told
     → IsTransition (demands accounts) at (said (mechs names)) next
@@ -84,7 +84,7 @@ each_offer accounts log names next told = (
   λ is. on_quietly accounts log between told (said (mechs names)) next refl is.0 (is.1, is.2),
 )
 
--- from where CONT goes on
+-- `S CONT` may stand only with a challenge that is due
 cont_from : (accounts : Accounts) (log : List LogLine) (text : List ℕ) (next at : Place) (all told : List LoggedReply)
     → all ≡ told ++ told_at at (said (cont text)) → Begins (demands accounts) log at told
     → IsTransition (demands accounts) at (said (cont text)) next
@@ -113,7 +113,7 @@ each_challenge accounts log text next told = (
   λ is. cont_on accounts log text next told is,
 )
 
--- from where NO goes on, and that it then follows no valid login
+-- messages whose verdict is a refusal are those of no valid login
 invalid : AtMostOneIsDue → AcceptsExactlyValid
     → (accounts : Accounts) (mechanism name client_first server_first client_final : List ℕ) (why : Refusal)
     → IsVerdict accounts mechanism name client_first server_first client_final (refuse why) → (server_final : List ℕ)
@@ -176,7 +176,7 @@ each_refusal once valid accounts log text next told = (
   λ is. no_on accounts log text next told is.0 is.1,
 )
 
--- from where a reply to a code goes on
+-- a reply to a code may stand only where it is the one due
 reply_from : (accounts : Accounts) (log : List LogLine) (moment : ℕ) (reply : Option Reply) (next at : Place) (all told : List LoggedReply)
     → all ≡ told ++ told_at at (said (replies moment reply))
     → AreReplies (demands accounts) (reverse told) (told_at at (said (replies moment reply)))
@@ -197,7 +197,7 @@ each_reply accounts log moment reply next all = (
       (goes_on (demands accounts) log (got_code r.account r.sent) r.told (said (replies moment reply)) next r.after r.is_next (r.due, tt)),
 )
 
--- from where HALT goes on
+-- the log ends in a code, or two in a row, that waits for its reply, and the next place is the halt
 abbrev EndsCode : Accounts → List LogLine → Place → List LoggedReply → Type 0
 EndsCode accounts log next told =
     (account : List ℕ) × (sent : CodeTexts) × Begins (demands accounts) log (got_code account sent) told × (next ≡ halted)

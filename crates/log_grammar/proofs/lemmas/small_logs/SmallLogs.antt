@@ -396,7 +396,7 @@ two_are_clean accounts =
     closed accounts _ _ leaving (lead_on accounts _ _ offered [] (codes "C ABORT") (heard abort) leaving again is_abort refl refl tt)
     (refl, refl) refl
 
--- the first line again
+-- a first line that stands again as the second line is out of order
 pub header_again : HasOneClientFirst → SpellsOneName → (accounts : Accounts)
     → IsWhy accounts (ended_by_lf (first_text ∷ first_text ∷ [])) 2 out_of_order
 header_again one_first once accounts =

@@ -6,7 +6,7 @@ use Rattle.log_grammar.specs.LoggedReply.{LoggedReply}
 use Rattle.log_grammar.specs.Places.{Place, between, offered, leaving, over}
 use Rattle.log_grammar.specs.Demands.{Accounts, Demands, demands, AreReplies}
 use Rattle.log_grammar.specs.state_machine.Steps.{told_at}
-use Rattle.log_grammar.specs.Numbered.{Numbered, numbered, HasRoom, MayFollow, SpellsNumbered}
+use Rattle.log_grammar.specs.Numbered.{Numbered, numbered, MayBeNumbered, MayFollow, SpellsNumbered}
 use Rattle.log_grammar.specs.state_machine.NumberedSteps.{IsVisitTransition, put, IsNumberedTransition}
 use Rattle.log_grammar.specs.laws.NumberedExamples.{offer, turns_away, two_at_once, IsWholeForTwo, BeginsNoneForTwo}
 use Rattle.log_grammar.proofs.lemmas.many_sessions.LogSteps.{numbered_on, no_line_yet}
@@ -21,7 +21,7 @@ follows log y n line may before x e = subst (λ (z : Numbered LogLine). MayFollo
 -- a line more, which tells nothing
 step : (limit : ℕ) (d : Demands) (log : List (Numbered LogLine)) (y : Numbered LogLine) (places : ℕ → Place) (n : ℕ) (line : LogLine)
     (to : Place)
-    → SpellsNumbered limit d (log ++ y ∷ []) places [] → HasRoom limit (log ++ y ∷ []) n line → MayFollow y.number y.value n line
+    → SpellsNumbered limit d (log ++ y ∷ []) places [] → MayBeNumbered limit (log ++ y ∷ []) n line → MayFollow y.number y.value n line
     → IsVisitTransition d (places n) line to → told_at (places n) line ≡ []
     → SpellsNumbered limit d ((log ++ y ∷ []) ++ numbered n line ∷ []) (put n to places) []
 step limit d log y places n line to s room may goes quiet =
@@ -36,7 +36,7 @@ step limit d log y places n line to s room may goes quiet =
     (numbered_on limit d (log ++ y ∷ []) places [] n line to s g)
 
 -- the first line of all
-first_step : (d : Demands) (n : ℕ) (line : LogLine) (to : Place) → HasRoom 2 [] n line → IsVisitTransition d between line to
+first_step : (d : Demands) (n : ℕ) (line : LogLine) (to : Place) → MayBeNumbered 2 [] n line → IsVisitTransition d between line to
     → SpellsNumbered 2 d (numbered n line ∷ []) (put n to (λ m. between)) []
 first_step d n line to room goes =
     numbered_on 2 d [] (λ m. between) [] n line to (no_line_yet 2 d)
@@ -47,7 +47,7 @@ abbrev led : List (Numbered Place) → ℕ → Place
 led [] = λ n. between
 led (x ∷ before) = put x.number x.value (led before)
 
--- a number above three has none of them
+-- a number above three stands between sessions, where the lines are of numbers up to three
 far : (lines : List (Numbered Place)) (n : ℕ) → AllByRecursion (λ (x : Numbered Place). x.number ≤ 3) lines
     → led lines (suc (suc (suc (suc n)))) ≡ between
 far [] n small = refl

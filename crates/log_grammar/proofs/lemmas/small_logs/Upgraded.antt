@@ -4,7 +4,7 @@ use Rattle.std.specs.Prelude.{codes, decimal, if◌then◌else◌}
 use Rattle.std.proofs.lemmas.Fmt.{decimal_digit}
 use Rattle.std.specs.List.{AllByRecursion}
 use Rattle.scram_text.specs.Laws.{SpellsOneName, HasOneClientFirst}
-use Rattle.log_grammar.specs.Lines.{LogLine, header, second_header, log_text, said, heard, bad, gone, ended, mechs, cont, accepts, refuses}
+use Rattle.log_grammar.specs.Lines.{LogLine, header, header_two, log_text, said, heard, bad, gone, ended, mechs, cont, accepts, refuses}
 use Rattle.log_grammar.specs.Lines.{halt, auth, auth_with, abort, IsLogLine, IsWritable, log_bytes}
 use Rattle.log_grammar.specs.Bytes.{LacksLf, ended_by_lf}
 use Rattle.log_grammar.specs.Demands.{Accounts}
@@ -53,10 +53,10 @@ are_digits n (line ∷ lines) few =
 
 -- a log of a few lines, with numbers
 abbrev digit_log : List LogLine → List ℕ
-digit_log lines = ended_by_lf (log_text second_header ∷ digit_texts 1 lines)
+digit_log lines = ended_by_lf (log_text header_two ∷ digit_texts 1 lines)
 
 same_log : (lines : List LogLine) → 1 + length lines ≤ 9 → upgraded_text lines ≡ digit_log lines
-same_log lines few = ap (λ (ts : List (List ℕ)). ended_by_lf (log_text second_header ∷ ts)) (are_digits 1 lines few)
+same_log lines few = ap (λ (ts : List (List ℕ)). ended_by_lf (log_text header_two ∷ ts)) (are_digits 1 lines few)
 
 can_be : (lines : List LogLine) → AllByRecursion IsWritable lines → 1 + length lines ≤ 9 → CanBeNumbered lines
 can_be lines each few = record { each = each; few = (omega arith, omega (arith, few)) }
@@ -268,7 +268,7 @@ after_header accounts text why lacks none wrong =
 
 -- the first line of version 2 again, after itself, is out of order: line 2 is at fault
 pub second_again : (accounts : Accounts) → IsWhy accounts (ended_by_lf (second_text ∷ second_text ∷ [])) 2 out_of_order
-second_again accounts = after_header accounts second_text out_of_order refl (unnumbered_is_none second_header) (inl (inr refl, refl))
+second_again accounts = after_header accounts second_text out_of_order refl (unnumbered_is_none header_two) (inl (inr refl, refl))
 
 -- the first line of version 1 after that of version 2 is out of order: line 2 is at fault
 pub first_after_second : (accounts : Accounts) → IsWhy accounts (ended_by_lf (second_text ∷ first_text ∷ [])) 2 out_of_order

@@ -59,7 +59,7 @@ no_turn class own no_own no_abort no_bad no_gone (inr (inl is)) = no_abort is
 no_turn class own no_own no_abort no_bad no_gone (inr (inr (inl is))) = no_bad is
 no_turn class own no_own no_abort no_bad no_gone (inr (inr (inr is))) = no_gone is
 
--- or where a code is due, or two in a row
+-- a class that is not among those due where a code is due, or two in a row
 no_code_due : (class : LineClass) → (class ≡ of_code → ⊥) → (class ≡ of_sync → ⊥) → (class ≡ of_abort → ⊥) → (class ≡ of_bad → ⊥)
     → (class ≡ of_gone → ⊥) → (class ≡ of_code) ⊎ ((class ≡ of_sync) ⊎ IsQuitting class) → ⊥
 no_code_due class no_code no_sync no_abort no_bad no_gone (inl is) = no_code is
@@ -104,19 +104,19 @@ bare_why accounts m = elim (offered_decided m) [
   | inr none ↦ (other_outcome (refused_with []), inr (none, refl))
 ]
 
-at_bare : (accounts : Accounts) (told : List LoggedReply) (m : List ℕ) (line : LogLine) → Standing accounts (asks_bare m) told line
-at_bare accounts told m (said (refuses text)) =
+at_asks_bare : (accounts : Accounts) (told : List LoggedReply) (m : List ℕ) (line : LogLine) → Standing accounts (asks_bare m) told line
+at_asks_bare accounts told m (said (refuses text)) =
     by_demand accounts (asks_bare m) told (said (refuses text)) _ refl (bare_why accounts m)
     (λ is. record { next = over; goes = (is, refl); due = tt }) (λ f. f.goes.0)
     (decided_both _ _ (none_decided (offered_decided m)) (decided_same text []))
-at_bare accounts told m (said (cont text)) =
+at_asks_bare accounts told m (said (cont text)) =
     by_demand accounts (asks_bare m) told (said (cont text)) _ refl (bare_why accounts m)
     (λ is. record { next = waits_first m; goes = (is, refl); due = tt }) (λ f. f.goes.0)
     (decided_both _ _ (there_decided (offered_decided m)) (decided_same text []))
-at_bare accounts told m (said (accepts text)) = never accounts (asks_bare m) told (said (accepts text)) refl (bare_why accounts m)
+at_asks_bare accounts told m (said (accepts text)) = never accounts (asks_bare m) told (said (accepts text)) refl (bare_why accounts m)
     (λ f. f.goes)
-at_bare accounts told m (heard abort) = inr (inl (λ is. cc is))
-at_bare accounts told m line = inr (inl (λ is. cc is))
+at_asks_bare accounts told m (heard abort) = inr (inl (λ is. cc is))
+at_asks_bare accounts told m line = inr (inl (λ is. cc is))
 
 at_waits_first : (accounts : Accounts) (told : List LoggedReply) (m : List ℕ) (line : LogLine) → Standing accounts (waits_first m) told line
 at_waits_first accounts told m (heard (resp first)) = inl (record { next = got_first m first; goes = refl; due = tt })
@@ -133,20 +133,20 @@ first_why s accounts m first = elim (login_decided s.ground.once s.ground.firsts
   | inr none ↦ (other_outcome (refused_with []), inr (none, refl))
 ]
 
-at_first : Settled → (accounts : Accounts) (told : List LoggedReply) (m first : List ℕ) (line : LogLine)
+at_got_first : Settled → (accounts : Accounts) (told : List LoggedReply) (m first : List ℕ) (line : LogLine)
     → Standing accounts (got_first m first) told line
-at_first s accounts told m first (said (refuses text)) =
+at_got_first s accounts told m first (said (refuses text)) =
     by_demand accounts (got_first m first) told (said (refuses text)) _ refl (first_why s accounts m first)
     (λ is. record { next = over; goes = (is, refl); due = tt }) (λ f. f.goes.0)
     (decided_both _ _ (none_decided (login_decided s.ground.once s.ground.firsts s.ground.names m first)) (decided_same text []))
-at_first s accounts told m first (said (cont text)) =
+at_got_first s accounts told m first (said (cont text)) =
     by_demand accounts (got_first m first) told (said (cont text)) _ refl (first_why s accounts m first)
     (λ is. record { next = waits_final m is.0 first text; goes = (is.0, is.1, refl); due = tt }) (λ f. (f.goes.0, f.goes.1))
     (challenged_decided s accounts m first text)
-at_first s accounts told m first (said (accepts text)) =
+at_got_first s accounts told m first (said (accepts text)) =
     never accounts (got_first m first) told (said (accepts text)) refl (first_why s accounts m first) (λ f. f.goes)
-at_first s accounts told m first (heard abort) = inr (inl (λ is. cc is))
-at_first s accounts told m first line = inr (inl (λ is. cc is))
+at_got_first s accounts told m first (heard abort) = inr (inl (λ is. cc is))
+at_got_first s accounts told m first line = inr (inl (λ is. cc is))
 
 at_waits_final : (accounts : Accounts) (told : List LoggedReply) (m account first challenge : List ℕ) (line : LogLine)
     → Standing accounts (waits_final m account first challenge) told line
@@ -159,24 +159,24 @@ at_waits_final accounts told m account first challenge (said halt) =
     inr (inl (no_turn _ _ (λ e. cc e) (λ e. cc e) (λ e. cc e) (λ e. cc e)))
 at_waits_final accounts told m account first challenge line = inr (inl (no_turn _ _ (λ e. cc e) (λ e. cc e) (λ e. cc e) (λ e. cc e)))
 
-at_final : Settled → (accounts : Accounts) (told : List LoggedReply) (m account first challenge last : List ℕ)
+at_got_final : Settled → (accounts : Accounts) (told : List LoggedReply) (m account first challenge last : List ℕ)
     → (due : Due) × IsVerdict accounts m account first challenge last due
     → (line : LogLine) → Standing accounts (got_final m account first challenge last) told line
-at_final s accounts told m account first challenge last (due, is) (said (refuses text)) =
+at_got_final s accounts told m account first challenge last (due, is) (said (refuses text)) =
     by_demand accounts (got_final m account first challenge last) told (said (refuses text)) _ refl
     (other_outcome (outcome_of due), (due, is, refl))
     (λ denied. record { next = over; goes = (denied, refl); due = tt }) (λ f. f.goes.0)
     (denied_decided s accounts m account first challenge last text due is)
-at_final s accounts told m account first challenge last (due, is) (said (accepts text)) =
+at_got_final s accounts told m account first challenge last (due, is) (said (accepts text)) =
     by_demand accounts (got_final m account first challenge last) told (said (accepts text)) _ refl
     (other_outcome (outcome_of due), (due, is, refl))
     (λ granted. record { next = waits_code account; goes = (granted, refl); due = tt }) (λ f. f.goes.0)
     (granted_decided s accounts m account first challenge last text due is)
-at_final s accounts told m account first challenge last (due, is) (said (cont text)) =
+at_got_final s accounts told m account first challenge last (due, is) (said (cont text)) =
     never accounts (got_final m account first challenge last) told (said (cont text)) refl (other_outcome (outcome_of due), (due, is, refl))
     (λ f. f.goes)
-at_final s accounts told m account first challenge last (due, is) (heard abort) = inr (inl (λ e. cc e))
-at_final s accounts told m account first challenge last (due, is) line = inr (inl (λ e. cc e))
+at_got_final s accounts told m account first challenge last (due, is) (heard abort) = inr (inl (λ e. cc e))
+at_got_final s accounts told m account first challenge last (due, is) line = inr (inl (λ e. cc e))
 
 at_waits_code : (accounts : Accounts) (told : List LoggedReply) (account : List ℕ) (line : LogLine)
     → Standing accounts (waits_code account) told line
@@ -196,17 +196,17 @@ reply_why s accounts account sent told moment =
     let due = some_reply s.replies (accounts.token account) (attempts_of account (reverse told)) moment sent in
     (other_reply moment due.0, (due.0, due.1, refl))
 
-at_code : Settled → (accounts : Accounts) (told : List LoggedReply) (account : List ℕ) (sent : CodeTexts) (line : LogLine)
+at_got_code : Settled → (accounts : Accounts) (told : List LoggedReply) (account : List ℕ) (sent : CodeTexts) (line : LogLine)
     → Standing accounts (got_code account sent) told line
-at_code s accounts told account sent (said (replies moment reply)) =
+at_got_code s accounts told account sent (said (replies moment reply)) =
     by_demand accounts (got_code account sent) told (said (replies moment reply))
     (IsToldDue accounts (reverse told) (logged_reply_of account moment sent reply))
     refl (reply_why s accounts account sent told moment)
     (λ is. record { next = waits_code account; goes = refl; due = (is, tt) }) (λ f. f.due.0)
     (reply_decided s (accounts.token account) (attempts_of account (reverse told)) moment sent reply)
-at_code s accounts told account sent (said halt) = inl (record { next = halted; goes = refl; due = tt })
-at_code s accounts told account sent (heard abort) = inr (inl (λ is. cc is))
-at_code s accounts told account sent line = inr (inl (λ is. cc is))
+at_got_code s accounts told account sent (said halt) = inl (record { next = halted; goes = refl; due = tt })
+at_got_code s accounts told account sent (heard abort) = inr (inl (λ is. cc is))
+at_got_code s accounts told account sent line = inr (inl (λ is. cc is))
 
 at_leaving : (accounts : Accounts) (told : List LoggedReply) (line : LogLine) → Standing accounts leaving told line
 at_leaving accounts told (said (refuses text)) =
@@ -232,15 +232,15 @@ pub standing_at : Settled → (accounts : Accounts) (place : Place) (told : List
 standing_at s accounts before_all told line opened = at_start accounts told line
 standing_at s accounts between told line opened = at_between accounts told line
 standing_at s accounts offered told line opened = at_offered accounts told line
-standing_at s accounts (asks_bare m) told line opened = at_bare accounts told m line
+standing_at s accounts (asks_bare m) told line opened = at_asks_bare accounts told m line
 standing_at s accounts (waits_first m) told line opened = at_waits_first accounts told m line
-standing_at s accounts (got_first m first) told line opened = at_first s accounts told m first line
+standing_at s accounts (got_first m first) told line opened = at_got_first s accounts told m first line
 standing_at s accounts (waits_final m account first challenge) told line opened = at_waits_final accounts told m account first challenge line
 standing_at s accounts (got_final m account first challenge last) told line opened =
-    at_final s accounts told m account first challenge last
+    at_got_final s accounts told m account first challenge last
     (some_verdict s.ground.verdicts accounts m account first challenge last opened) line
 standing_at s accounts (waits_code account) told line opened = at_waits_code accounts told account line
-standing_at s accounts (got_code account sent) told line opened = at_code s accounts told account sent line
+standing_at s accounts (got_code account sent) told line opened = at_got_code s accounts told account sent line
 standing_at s accounts leaving told line opened = at_leaving accounts told line
 standing_at s accounts over told line opened = at_over accounts told line
 standing_at s accounts halted told line opened = inr (inl (λ none. none))

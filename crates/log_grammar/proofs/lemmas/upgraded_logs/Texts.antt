@@ -5,7 +5,7 @@ use Rattle.std.specs.Prelude.{if◌then◌else◌, decimal, flat_map}
 use Rattle.std.specs.List.{AllByRecursion, AllZip}
 use Rattle.std.proofs.lemmas.Bool.{cases_Bool}
 use Rattle.std.specs.Str.{byte}
-use Rattle.log_grammar.specs.Lines.{LogLine, header, second_header, log_text, IsLogLine, IsWritable}
+use Rattle.log_grammar.specs.Lines.{LogLine, header, header_two, log_text, IsLogLine, IsWritable}
 use Rattle.log_grammar.specs.Bytes.{LacksLf}
 use Rattle.log_grammar.specs.LoggedReply.{LoggedReply}
 use Rattle.log_grammar.specs.Places.{Place}
@@ -137,7 +137,7 @@ pub new_written : (lines : List LogLine) → CanBeNumbered lines → AllByRecurs
     → AllZip IsNumberedLine (map numbered_text (renumbered 1 lines)) (renumbered 1 lines)
 new_written lines can have = written_from 1 lines (few_from_one lines can) can.each have
 
--- they have no LF
+-- the texts of renumbered lines have no LF
 lack_from : (n : ℕ) (lines : List LogLine) → AreFew n lines → AllByRecursion IsWritable lines
     → AllByRecursion LacksLf (map numbered_text (renumbered n lines))
 lack_from n [] few each = tt
@@ -148,7 +148,7 @@ lack_from n (line ∷ lines) few each = (
 
 -- no text of an upgraded log has an LF in it, where the old lines can be numbered
 pub new_lack : (lines : List LogLine) → CanBeNumbered lines
-    → AllByRecursion LacksLf (log_text second_header ∷ map numbered_text (renumbered 1 lines))
+    → AllByRecursion LacksLf (log_text header_two ∷ map numbered_text (renumbered 1 lines))
 new_lack lines can = (refl, lack_from 1 lines (few_from_one lines can) can.each)
 
 -- a new text is read as its number and its line
@@ -198,7 +198,7 @@ first_can front back can = record {
   few = (omega arith, omega (arith, can.few.1, length-append front back));
 }
 
--- without their numbers they are the old lines
+-- renumbered lines without their numbers are the old lines
 values_back : (n : ℕ) (lines : List LogLine) → map (λ (x : Numbered LogLine). x.value) (renumbered n lines) ≡ lines
 values_back n [] = refl
 values_back n (line ∷ lines) = ap (λ (ls : List LogLine). line ∷ ls) (values_back (if is_end line then n + 1 else n) lines)

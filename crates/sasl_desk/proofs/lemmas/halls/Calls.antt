@@ -29,7 +29,8 @@ use Rattle.log_grammar.specs.Versions.{most_open}
 use Rattle.sasl_desk.specs.Desks.{HoldsBook, IsAttemptOf, IsBookWith, all_spent, session_phase, is_saving}
 use Rattle.sasl_desk.specs.Events.{ClientEvent}
 use Rattle.sasl_desk.specs.Guests.{guest_of}
-use Rattle.sasl_desk.specs.Halls.{HallFields, hall_of, hall_lines, numbered_bytes, IsStay, IsPhaseOf, IsHallAfter, AnswersIn, IsSameHall}
+use Rattle.sasl_desk.specs.Halls.{HallFields, hall_of, hall_lines, numbered_bytes, IsSessionRun, IsPhaseOf, IsHallAfter, AnswersIn}
+use Rattle.sasl_desk.specs.Halls.{IsSameHall}
 use Rattle.sasl_desk.specs.Keeper.{IsAttemptJudged, IsJudged, IsJudgedInRange}
 use Rattle.sasl_desk.specs.TurnResults.{after_turn_of, judged_lines, after_judged, SessionAnswers, AsksJudgement, IsTurnOf, IsTurnWritten}
 use Rattle.sasl_desk.specs.Prefix.{prefix, prefixed_bytes}
@@ -42,7 +43,7 @@ use Rattle.sasl_desk.specs.declared.keeper.Keeper.{Keeper}
 use Rattle.sasl_desk.specs.declared.keeper.CodeJudged.{CodeJudged}
 use Rattle.sasl_desk.specs.declared.keeper.CodeJudged.TheVariants.{Replied, Lost}
 use Rattle.sasl_desk.specs.declared.session.Session.{Session}
-use Rattle.sasl_desk.specs.declared.session.Session.TheVariants.{Offered, WaitsFirst, WaitsFinal, WaitsCode}
+use Rattle.sasl_desk.specs.declared.session.Session.TheVariants.{WaitAuth, WaitFirst, WaitFinal, WaitCode}
 use Rattle.sasl_desk.specs.declared.session.phase.Phase.{Phase}
 use Rattle.sasl_desk.specs.declared.session.phase.Phase.TheVariants as phase
 use Rattle.sasl_desk.specs.declared.turn.AfterTurn.{AfterTurn}
@@ -68,12 +69,13 @@ pub marked_numbered : (n : ℕ) (lines : List LogLine) → prefixed_bytes (Some 
 marked_numbered n lines = ap ended_by_lf (prefixed_texts n lines)
 
 -- an open session has not been turned away
-run_of : (accounts : Accounts) (calls : List Call) (at : Place) → is_closed at ≡ false → IsStay accounts calls at → IsRun accounts calls at
+run_of : (accounts : Accounts) (calls : List Call) (at : Place) → is_closed at ≡ false → IsSessionRun accounts calls at
+    → IsRun accounts calls at
 run_of accounts calls at is_open (inl run) = run
 run_of accounts calls at is_open (inr (own, turned, same)) =
     let never : is_closed between ≡ false = subst (λ (p : Place). is_closed p ≡ false) same is_open in absurd (cc never)
 
--- where a session is left
+-- a turn that leaves its session at a place leaves it there in a hall
 leaves_left : (accounts : Accounts) (next : Place) (ends : ℕ) (going : Option Session) → IsLeftAt accounts next going → ends ≡ ends_of going
     → LeavesAt accounts next ends (after_turn_of going)
 leaves_left accounts next ends (Some going) is same = (is, same)
@@ -156,7 +158,7 @@ step_by_reply itself stays facts IsStored start calls old new n going own others
       spent = spent_after itself stays start old.book new.book s.told t one s.spent;
     }
 
--- its save failed
+-- the save for a code, or two in a row, failed
 step_by_halt : BeginsWithItself → {S : Type 0} (facts : S → StoreFacts) (IsStored : List ℕ → Type 0) (start : BookFields)
     (calls : List (Numbered Call)) (old new : Keeper S)
     (n : ℕ) (going : Session) (own : List ℕ) (others : List Guest) (given : ℕ) (event : ClientEvent) (moment : ℕ) (name : List ℕ)
@@ -174,7 +176,7 @@ step_by_halt itself facts IsStored start calls old new n going own others given 
     let is_record = subst (λ (p : Place). IsRecord event p (heard (asking sent))) asks.place asks.is_record in
     let is_open = turn_is_open (s.places n) (client_turn accounts (s.places n) going seated.0) in
     let run = subst (λ (p : Place). IsRun accounts (of_number n calls) p) asks.place
-    (run_of accounts (of_number n calls) (s.places n) is_open (s.stays n)) in
+    (run_of accounts (of_number n calls) (s.places n) is_open (s.session_runs n)) in
     let lines = judged_lines moment sent Lost in
     let path : IsPath (demands accounts) (waits_code name) lines halted = (got_code name sent, code_goes name sent, (halted, refl, refl)) in
     record {
@@ -236,10 +238,10 @@ phase_left (Halted going) = phase.Halted
 -- an open session's phase is that of the place at which it stands
 pub session_phase_at : (accounts : Accounts) (at : Place) (going : Session) → IsSessionAt accounts at going
     → IsPhaseOf at (session_phase going)
-session_phase_at accounts at Offered is = is
-session_phase_at accounts at (WaitsFirst mechanism) is = (_, is)
-session_phase_at accounts at (WaitsFinal waiting) (first, challenge, is, stands) = (_, _, first, challenge, is)
-session_phase_at accounts at (WaitsCode name) is = (name, is)
+session_phase_at accounts at WaitAuth is = is
+session_phase_at accounts at (WaitFirst mechanism) is = (_, is)
+session_phase_at accounts at (WaitFinal waiting) (first, challenge, is, stands) = (_, _, first, challenge, is)
+session_phase_at accounts at (WaitCode name) is = (name, is)
 
 phase_left_at : (accounts : Accounts) (at : Place) (ends : ℕ) (left : AfterTurn) → LeavesAt accounts at ends left
     → IsPhaseOf at (phase_left left)
@@ -371,7 +373,7 @@ answers_reordered facts IsStored keeper guests others given is_halted m n asked 
       halts = a.halts;
     }
 
--- halls that are the same as the same are the same
+-- where a hall equals another, up to the order of the guests, it does so in any order of its own guests
 pub same_reordered : {S : Type 0} (keeper : Keeper S) (guests others : List Guest) (given : ℕ) (is_halted : Bool) (new : HallFields S)
     → IsPermutation guests others
     → IsSameHall (hall_of keeper others given is_halted) new → IsSameHall (hall_of keeper guests given is_halted) new

@@ -36,7 +36,7 @@ count_other n guest guests other = elim (eqb_tells guest.number n) [
 pub count_last : {X : Type 0} (p : X → Bool) (xs : List X) (x : X) → count_by p (xs ++ x ∷ []) ≡ count_by p (x ∷ xs)
 count_last p xs x = omega (arith, count_append p xs (x ∷ []), count_cons p x xs)
 
--- where a number has a guest, what holds of each holds of that one
+-- where a number has a guest, what holds of each guest holds of one with this number
 pub one_of : (P : Guest → Type 0) (n : ℕ) (guests : List Guest) → AllByRecursion P guests → (count_by (is_of n) guests ≡ 0 → ⊥)
     → (guest : Guest) × P guest × (guest.number ≡ n)
 one_of P n [] all some = absurd (some refl)
@@ -69,7 +69,7 @@ found_at p xs i is = elim (cases_Bool (nat_lt (position_or_len p xs) (length xs)
   | inr not_less ↦ let nowhere = rw not_less at is in absurd (cc nowhere)
 ]
 
--- where no place passes, no element that does is found
+-- where `position` finds no element that passes, `find` finds none
 pub found_nowhere : {X : Type 0} (p : X → Bool) (xs : List X) → position p xs ≡ None → find p xs ≡ None
 found_nowhere p xs is = elim (cases_Bool (nat_lt (position_or_len p xs) (length xs))) [
   | inl less ↦ let there = rw less at is in absurd (cc there)
@@ -82,7 +82,7 @@ found_nowhere p xs is = elim (cases_Bool (nat_lt (position_or_len p xs) (length 
       ]
 ]
 
--- where the first that passes is none, none is counted
+-- where `find` finds no element that passes, none is counted
 pub counted_none : {X : Type 0} (p : X → Bool) (xs : List X) → find p xs ≡ None → count_by p xs ≡ 0
 counted_none p [] none = refl
 counted_none p (x ∷ xs) none = elim (cases_Bool (p x)) [

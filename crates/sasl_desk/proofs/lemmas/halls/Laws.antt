@@ -16,7 +16,7 @@ use Rattle.account_book.specs.Store.{StoreFacts}
 use Rattle.log_grammar.specs.Books.{accounts_in}
 use Rattle.log_grammar.specs.Bytes.{ended_by_lf, IsCut}
 use Rattle.log_grammar.specs.Versions.{most_open, IsFront, IsClean}
-use Rattle.log_grammar.specs.Lines.{LogLine, second_header, said, halt, log_text}
+use Rattle.log_grammar.specs.Lines.{LogLine, header_two, said, halt, log_text}
 use Rattle.log_grammar.specs.LoggedReply.{LoggedReply}
 use Rattle.log_grammar.specs.Places.{Place, before_all, between, halted, is_closed}
 use Rattle.log_grammar.specs.Demands.{Accounts, demands}
@@ -28,7 +28,7 @@ use Rattle.log_grammar.proofs.lemmas.headline_laws.NumberedOfSessions.{are_writt
 use Rattle.sasl_desk.specs.Desks.{HoldsBook, IsLostAfter, IsStoredAt, session_phase, all_spent}
 use Rattle.sasl_desk.specs.Guests.{is_of}
 use Rattle.sasl_desk.specs.Saved.{AreLinesSaved}
-use Rattle.sasl_desk.specs.Halls.{HallFields, hall_lines, hall_bytes, numbered_bytes, IsStay, IsSeated, IsStoredAfter, IsHallAfter}
+use Rattle.sasl_desk.specs.Halls.{HallFields, hall_lines, hall_bytes, numbered_bytes, IsSessionRun, IsSeated, IsStoredAfter, IsHallAfter}
 use Rattle.sasl_desk.specs.Halls.{guest_phase, phase_in, IsPhaseOf, IsPhaseIn}
 use Rattle.sasl_desk.specs.Keeper.{IsAttemptJudged}
 use Rattle.sasl_desk.specs.Records.{HasSessionRecords}
@@ -45,10 +45,10 @@ use Rattle.sasl_desk.proofs.lemmas.runs.Restarts.{held_or_lost, was_saved, told_
 use Rattle.sasl_desk.proofs.lemmas.runs.Bytes.{wire_bytes-append}
 
 hall_cut : (calls : List (Numbered Call)) → AllByRecursion IsNumberedWritable (hall_lines calls)
-    → IsCut (hall_bytes calls) (log_text second_header ∷ map numbered_text (hall_lines calls)) []
+    → IsCut (hall_bytes calls) (log_text header_two ∷ map numbered_text (hall_lines calls)) []
 hall_cut calls written = record {
-  bytes_are = sym (append-nil (ended_by_lf (log_text second_header ∷ map numbered_text (hall_lines calls)))
-      ∙ flat_map-append (λ text. text ++ 10 ∷ []) (log_text second_header ∷ []) (map numbered_text (hall_lines calls)));
+  bytes_are = sym (append-nil (ended_by_lf (log_text header_two ∷ map numbered_text (hall_lines calls)))
+      ∙ flat_map-append (λ text. text ++ 10 ∷ []) (log_text header_two ∷ []) (map numbered_text (hall_lines calls)));
   lines = (refl, each_lacks (hall_lines calls) written);
   after = refl;
 }
@@ -58,7 +58,7 @@ pub hall_is_front : {S : Type 0} (facts : S → StoreFacts) (IsStored : List ℕ
     (hall : HallFields S)
     → IsHallAfter facts IsStored start calls hall → IsFront (accounts_in start) (hall_bytes calls)
 hall_is_front facts IsStored start calls hall s = (
-  log_text second_header ∷ map numbered_text (hall_lines calls),
+  log_text header_two ∷ map numbered_text (hall_lines calls),
   hall_cut calls s.writable,
   inr (refl, hall_lines calls, s.places, s.told, are_written (hall_lines calls) s.writable, s.spelled),
 )
@@ -67,7 +67,7 @@ hall_ends : {S : Type 0} (facts : S → StoreFacts) (IsStored : List ℕ → Typ
     (hall : HallFields S)
     (s : IsHallAfter facts IsStored start calls hall) → MayEndNumbered s.places → IsClean (accounts_in start) (hall_bytes calls)
 hall_ends facts IsStored start calls hall s ends = (
-  log_text second_header ∷ map numbered_text (hall_lines calls),
+  log_text header_two ∷ map numbered_text (hall_lines calls),
   hall_cut calls s.writable,
   inr (refl, hall_lines calls, s.places, s.told, are_written (hall_lines calls) s.writable, s.spelled, ends),
 )
@@ -83,7 +83,7 @@ run_rests : (accounts : Accounts) (calls : List Call) (at : Place) → IsRun acc
 run_rests accounts [] at run = rw run tt
 run_rests accounts (c ∷ calls) at (place, run, answered) = answered_rests accounts (own_part calls) c.asked place at c.lines answered
 
-stay_rests : (accounts : Accounts) (calls : List Call) (at : Place) → IsStay accounts calls at → IsAtRest at
+stay_rests : (accounts : Accounts) (calls : List Call) (at : Place) → IsSessionRun accounts calls at → IsAtRest at
 stay_rests accounts calls at (inl run) = run_rests accounts calls at run
 stay_rests accounts calls at (inr (own, turned, is)) = rw is tt
 
@@ -97,7 +97,7 @@ none_between : {S : Type 0} (facts : S → StoreFacts) (IsStored : List ℕ → 
     (hall : HallFields S)
     (s : IsHallAfter facts IsStored start calls hall) (n : ℕ) → find (is_of n) hall.guests ≡ None → s.places n ≡ between
 none_between facts IsStored start calls hall s n none = elim (cases_Bool (is_closed (s.places n))) [
-  | inl is ↦ closed_between (s.places n) is (stay_rests (accounts_in start) (of_number n calls) (s.places n) (s.stays n))
+  | inl is ↦ closed_between (s.places n) is (stay_rests (accounts_in start) (of_number n calls) (s.places n) (s.session_runs n))
   | inr is_open ↦ absurd (omega (arith, counted_none (is_of n) hall.guests none, s.guests n, opened (s.places n) is_open))
 ]
 
@@ -181,7 +181,7 @@ phases_of_places facts IsStored start calls hall s n = phase_found facts IsStore
     (find (is_of n) hall.guests) refl
 
 -- records
-stay_records : (accounts : Accounts) (calls : List Call) (at : Place) → IsStay accounts calls at → HasSessionRecords accounts calls
+stay_records : (accounts : Accounts) (calls : List Call) (at : Place) → IsSessionRun accounts calls at → HasSessionRecords accounts calls
 stay_records accounts calls at (inl run) = inl
     (record { offers = run_offers accounts calls at run; records = run_records accounts calls at run })
 stay_records accounts calls at (inr (own, turned, is)) = inr (own, turned)
@@ -190,7 +190,7 @@ stay_records accounts calls at (inr (own, turned, is)) = inr (own, turned)
 pub session_records : {S : Type 0} (facts : S → StoreFacts) (IsStored : List ℕ → Type 0) (start : BookFields) (calls : List (Numbered Call))
     (hall : HallFields S)
     → IsHallAfter facts IsStored start calls hall → (n : ℕ) → HasSessionRecords (accounts_in start) (of_number n calls)
-session_records facts IsStored start calls hall s n = stay_records (accounts_in start) (of_number n calls) (s.places n) (s.stays n)
+session_records facts IsStored start calls hall s n = stay_records (accounts_in start) (of_number n calls) (s.places n) (s.session_runs n)
 
 -- the bytes of a log with one more call end with those of the call's lines
 pub hall_bytes_next : (c : Numbered Call) (before : List (Numbered Call))
@@ -200,8 +200,8 @@ hall_bytes_next c before =
     let whole : numbered_bytes (hall_lines before ++ more) ≡ numbered_bytes (hall_lines before) ++ numbered_bytes more =
     ap ended_by_lf (map-append numbered_text (hall_lines before) more)
     ∙ flat_map-append (λ text. text ++ 10 ∷ []) (map numbered_text (hall_lines before)) (map numbered_text more) in
-    ap (λ (b : List ℕ). ended_by_lf (log_text second_header ∷ []) ++ b) whole
-    ∙ sym (append_assoc (ended_by_lf (log_text second_header ∷ [])) (numbered_bytes (hall_lines before)) (numbered_bytes more))
+    ap (λ (b : List ℕ). ended_by_lf (log_text header_two ∷ []) ++ b) whole
+    ∙ sym (append_assoc (ended_by_lf (log_text header_two ∷ [])) (numbered_bytes (hall_lines before)) (numbered_bytes more))
 
 -- the lines of a number in the log of a hall are those of its own calls, in their order
 pub of_number_lines : (n : ℕ) (calls : List (Numbered Call)) → of_number n (hall_lines calls) ≡ call_lines (of_number n calls)

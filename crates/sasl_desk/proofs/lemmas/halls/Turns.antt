@@ -27,7 +27,7 @@ use Rattle.log_grammar.specs.Versions.{most_open}
 use Rattle.sasl_desk.specs.Desks.{HoldsBook, IsStoredAt, IsBookWith, all_spent}
 use Rattle.sasl_desk.specs.Events.{ClientEvent}
 use Rattle.sasl_desk.specs.Guests.{is_of, guest_of}
-use Rattle.sasl_desk.specs.Halls.{HallFields, hall_of, hall_lines, IsStay, IsSeated, IsHallAfter}
+use Rattle.sasl_desk.specs.Halls.{HallFields, hall_of, hall_lines, IsSessionRun, IsSeated, IsHallAfter}
 use Rattle.sasl_desk.specs.Runs.{hears, Call, call_of, own_part, IsTurnTaken}
 use Rattle.sasl_desk.specs.Sessions.{IsSessionAt, CanBeWritten}
 use Rattle.sasl_desk.specs.Spent.{AreSpent}
@@ -128,7 +128,7 @@ any_follows facts IsStored start calls hall s working n line before x same =
     may_follow d (b.before x.number) (s.places x.number) x.number n x.value line b.goes.goes
     (at_rest facts IsStored start calls hall s working x.number)
 
--- and its store holds the book
+-- where a place is no halt, a store that is as it has to be there holds the book
 held_unless : (IsStored : List ℕ → Type 0) (accounts : Accounts) (calls : List Call) (at : Place) (book : BookFields) (store : StoreFacts)
     → (at ≡ halted → ⊥)
     → IsStoredAt IsStored accounts calls at book store → HoldsBook IsStored book store
@@ -154,7 +154,7 @@ unfoldable pub stands_reordered : {S : Type 0} (facts : S → StoreFacts) (IsSto
 stands_reordered facts IsStored start calls keeper guests others given is_halted same s = record {
   places = s.places;
   told = s.told;
-  stays = s.stays;
+  session_runs = s.session_runs;
   fresh = s.fresh;
   spelled = s.spelled;
   writable = s.writable;
@@ -186,7 +186,7 @@ halted_after (Going going) = false
 halted_after Over = false
 halted_after (Halted going) = true
 
--- how many places it has
+-- how many seats a session takes after a turn
 seats_of : AfterTurn → ℕ
 seats_of (Going going) = 1
 seats_of Over = 0
@@ -311,15 +311,16 @@ stands_by_step facts IsStored start calls old new n going own others given event
       record {
         places = places;
         told = step.told;
-        stays = at_each (λ (m : ℕ). IsStay accounts (of_number m (numbered n call ∷ calls)) (places m)) n
-            (subst (λ (l : List Call). IsStay accounts l (places n)) (sym mine)
-            (subst (λ (p : Place). IsStay accounts (call ∷ of_number n calls) p) (sym here) (elim (s.stays n) [
+        session_runs = at_each (λ (m : ℕ). IsSessionRun accounts (of_number m (numbered n call ∷ calls)) (places m)) n
+            (subst (λ (l : List Call). IsSessionRun accounts l (places n)) (sym mine)
+            (subst (λ (p : Place). IsSessionRun accounts (call ∷ of_number n calls) p) (sym here) (elim (s.session_runs n) [
               | inl run ↦ inl (s.places n, run, step.taken)
               | inr (own_was, turned, at) ↦ absurd
                   (let same : is_closed between ≡ false = subst (λ (p : Place). is_closed p ≡ false) at is_open in cc same)
             ])))
-            (λ m other. subst (λ (l : List Call). IsStay accounts l (places m)) (sym (of_number_skip n m call calls other))
-            (subst (λ (p : Place). IsStay accounts (of_number m calls) p) (sym (put_other n step.next s.places m other)) (s.stays m)));
+            (λ m other. subst (λ (l : List Call). IsSessionRun accounts l (places m)) (sym (of_number_skip n m call calls other))
+            (subst (λ (p : Place). IsSessionRun accounts (of_number m calls) p) (sym (put_other n step.next s.places m other))
+            (s.session_runs m)));
         fresh = λ m more. of_number_skip n m call calls (λ same. omega (arith, same, more, range.1, none, all_begun))
             ∙ s.fresh m (omega (arith, more, none, all_begun));
         spelled = step.spelled;

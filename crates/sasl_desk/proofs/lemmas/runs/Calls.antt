@@ -31,7 +31,7 @@ use Rattle.sasl_desk.specs.declared.desk.state.State.{State}
 use Rattle.sasl_desk.specs.declared.desk.state.State.TheVariants.{Closed, Open}
 use Rattle.sasl_desk.specs.declared.session.Session.{Session}
 use Rattle.sasl_desk.specs.declared.session.phase.Phase.TheVariants as phase
-use Rattle.sasl_desk.specs.declared.session.Session.TheVariants.{Offered, WaitsFirst, WaitsFinal, WaitsCode}
+use Rattle.sasl_desk.specs.declared.session.Session.TheVariants.{WaitAuth, WaitFirst, WaitFinal, WaitCode}
 use Rattle.sasl_desk.specs.declared.session.turn.Recorded.{Recorded}
 use Rattle.sasl_desk.specs.declared.session.turn.Recorded.TheVariants as recorded
 use Rattle.sasl_desk.specs.declared.session.turn.Saying.{Saying}
@@ -47,12 +47,12 @@ recorded_saves (recorded.Line line) lines = refl
 recorded_saves recorded.Bad lines = refl
 recorded_saves recorded.Gone lines = refl
 
--- nor does the end of a session
+-- the end of a session stands for no save
 ends_save : (going : Option Session) → filter is_saving (end_lines going) ≡ []
 ends_save (Some going) = refl
 ends_save None = refl
 
--- nor does what a session answers
+-- the lines that a session answers stand for no save
 answer_saves : (says : Saying) (going : Option Session) (message : List ℕ)
     → filter is_saving (said_lines says message ++ end_lines going) ≡ []
 answer_saves Nothing going message = ends_save going
@@ -60,12 +60,12 @@ answer_saves Continues going message = ends_save going
 answer_saves Accepts going message = ends_save going
 answer_saves Refuses going message = ends_save going
 
--- so no line of a turn that a session answers stands for a save
+-- no line of a turn that a session answers stands for a save
 pub turn_saves : (turn : Turn) (message : List ℕ) → filter is_saving (turn_lines turn message) ≡ []
 turn_saves turn message =
     recorded_saves turn.recorded (lines_of_answer turn.answer message) ∙ answer_saves turn.answer.says turn.answer.session message
 
--- of a code, or two in a row: one save for PASS, FAIL and HALT, and none for another reply
+-- for a code, or two in a row, there is one save if the answer is PASS, FAIL or HALT, and none for another answer
 pub saves_by_code : (IsStored : List ℕ → Type 0) (moment : ℕ) (sent : CodeTexts) (name : List ℕ) (judged : CodeJudged)
     (old new : BookFields)
     (was now : StoreFacts) → HoldsBook IsStored old was
@@ -80,7 +80,7 @@ saves_by_code IsStored moment sent name (Replied None) old new was now held (one
 saves_by_code IsStored moment sent name Lost old new was now held (same, (reply, next, needs, one, loses)) =
     (lost_now was now loses.text held.working loses.lost).begun.counted
 
--- what the store was given for that save
+-- what the store was given to save for a code, or two in a row
 pub asked_by_code : (IsStored : List ℕ → Type 0) (event : ClientEvent) (moment : ℕ) (sent : CodeTexts) (name : List ℕ) (at : Place)
     (judged : CodeJudged) (old new : BookFields) (was now : StoreFacts)
     → at ≡ waits_code name → HoldsBook IsStored old was → IsJudged IsStored old was name moment sent judged new now
@@ -97,7 +97,7 @@ asked_by_code IsStored event moment sent name at (Replied (Some (Pass c))) old n
     is_asked = refl;
     place = here;
     lines_are = refl;
-    is_saved = refl;
+    to_save = refl;
   },
   one,
   subst (λ (t : List ℕ). IsBookText t new) (sym kept.saved.begun.asked) kept.is_text,
@@ -105,7 +105,7 @@ asked_by_code IsStored event moment sent name at (Replied (Some (Pass c))) old n
 asked_by_code IsStored event moment sent name at (Replied (Some Fail)) old new was now here held (one, kept) some = (
   logged_reply_of name moment sent (Some Fail),
   new,
-  record { event = event; answer = said (replies moment (Some Fail)); is_asked = refl; place = here; lines_are = refl; is_saved = refl },
+  record { event = event; answer = said (replies moment (Some Fail)); is_asked = refl; place = here; lines_are = refl; to_save = refl },
   one,
   subst (λ (t : List ℕ). IsBookText t new) (sym kept.saved.begun.asked) kept.is_text,
 )
@@ -114,12 +114,12 @@ asked_by_code IsStored event moment sent name at (Replied None) old new was now 
 asked_by_code IsStored event moment sent name at Lost old new was now here held (same, (reply, next, needs, one, loses)) some = (
   logged_reply_of name moment sent reply,
   next,
-  record { event = event; answer = said halt; is_asked = refl; place = here; lines_are = refl; is_saved = needs },
+  record { event = event; answer = said halt; is_asked = refl; place = here; lines_are = refl; to_save = needs },
   one,
   subst (λ (t : List ℕ). IsBookText t next) (sym (lost_now was now loses.text held.working loses.lost).begun.asked) loses.is_text,
 )
 
--- where nothing is saved, nothing changes
+-- where nothing is saved for a code, or two in a row, the book and the store stay as they were
 pub quiet_by_code : (IsStored : List ℕ → Type 0) (moment : ℕ) (sent : CodeTexts) (name : List ℕ) (judged : CodeJudged)
     (old new : BookFields)
     (was now : StoreFacts)
@@ -148,12 +148,12 @@ halts_by_code IsStored moment sent name own Lost old new was now (same, (reply, 
 
 -- an open session is no halt
 pub open_goes_on : (going : Session) → session_phase going ≡ phase.Halted → ⊥
-open_goes_on Offered is = cc is
-open_goes_on (WaitsFirst mechanism) is = cc is
-open_goes_on (WaitsFinal waiting) is = cc is
-open_goes_on (WaitsCode name) is = cc is
+open_goes_on WaitAuth is = cc is
+open_goes_on (WaitFirst mechanism) is = cc is
+open_goes_on (WaitFinal waiting) is = cc is
+open_goes_on (WaitCode name) is = cc is
 
--- nor is one that goes on, or has ended
+-- a desk whose session goes on or has ended has not halted
 left_goes_on : (going : Option Session) (own : List ℕ) → phase_of (state_after (after_turn_of going) own) ≡ phase.Halted → ⊥
 left_goes_on None own is = cc is
 left_goes_on (Some going) own is = open_goes_on going is
@@ -247,7 +247,7 @@ pub answers_by_greeting : GoesOnByALine
     (own wire wire' log log' : List ℕ)
     → state ≡ Closed → log' ≡ log ++ log_bytes (said (mechs offered_names) ∷ [])
     → wire' ≡ wire ++ wire_bytes (said (mechs offered_names) ∷ [])
-    → Answers facts IsStored (desk_of keeper state) (greets own) wire wire' log log' (desk_of keeper (Open Offered own))
+    → Answers facts IsStored (desk_of keeper state) (greets own) wire wire' log log' (desk_of keeper (Open WaitAuth own))
 answers_by_greeting law facts IsStored keeper state own wire wire' log log' closed logged sent = record {
   lines = said (mechs offered_names) ∷ [];
   logged = logged;

@@ -41,7 +41,7 @@ use Rattle.sasl_desk.specs.declared.keeper.CodeJudged.TheVariants.{Replied, Lost
 use Rattle.sasl_desk.specs.declared.desk.Desk.{Desk}
 use Rattle.sasl_desk.specs.declared.desk.state.State.TheVariants.{Closed, Open, Halted}
 use Rattle.sasl_desk.specs.declared.session.Session.{Session}
-use Rattle.sasl_desk.specs.declared.session.Session.TheVariants.{Offered, WaitsCode}
+use Rattle.sasl_desk.specs.declared.session.Session.TheVariants.{WaitAuth, WaitCode}
 use Rattle.sasl_desk.specs.declared.session.turn.Turn.{Turn}
 use Rattle.sasl_desk.proofs.lemmas.turns.Keepers.{told_due, told_after}
 use Rattle.sasl_desk.proofs.lemmas.turns.Paths.{client_turn, turn_path, turn_no_reply, goes_on_by_path}
@@ -120,7 +120,7 @@ stands_at_first itself law facts IsStored keeper was holds = record {
   spent = λ ps spent. spent;
 }
 
--- so it does for a book that is its keeper's
+-- a desk that begins stands for a book that is its keeper's, and for no call
 pub stands_from : BeginsWithItself → GoesOnByALine
     → {S : Type 0} (facts : S → StoreFacts) (IsStored : List ℕ → Type 0) (book : BookFields) (keeper : Keeper S) (was : StoreFacts)
     → keeper.book ≡ book → SavesBook IsStored was book (facts keeper.store) → IsDeskAfter facts IsStored book [] (desk_of keeper Closed)
@@ -134,7 +134,7 @@ pub stands_by_greeting : GoesOnByALine
     → {S : Type 0} (facts : S → StoreFacts) (IsStored : List ℕ → Type 0) (start : BookFields) (calls : List Call) (keeper : Keeper S)
     (own : List ℕ)
     → IsDeskAfter facts IsStored start calls (desk_of keeper Closed)
-    → IsDeskAfter facts IsStored start (call_of (greets own) (said (mechs offered_names) ∷ []) ∷ calls) (desk_of keeper (Open Offered own))
+    → IsDeskAfter facts IsStored start (call_of (greets own) (said (mechs offered_names) ∷ []) ∷ calls) (desk_of keeper (Open WaitAuth own))
 stands_by_greeting law facts IsStored start calls keeper own s =
     let accounts = accounts_in start in
     let line = said (mechs offered_names) in
@@ -171,7 +171,7 @@ taken_by_turn accounts own kept event moment at going turn message same is t = r
   moments = answer_bears moment turn.answer.says turn.answer.session message;
 }
 
--- that of a code, or two in a row, with its reply
+-- the turn of a code, or two in a row, with its reply, in the words of a run
 pub taken_by_reply : (accounts : Accounts) (own : List ℕ) (event : ClientEvent) (moment : ℕ) (name : List ℕ) (sent : CodeTexts)
     (reply : Option Reply)
     → IsRecord event (waits_code name) (heard (asking sent))
@@ -189,7 +189,7 @@ taken_by_reply accounts own event moment name sent reply is_record = record {
   moments = (refl, tt);
 }
 
--- and that of one whose save failed
+-- the turn of a code, or two in a row, whose save failed, in the words of a run
 pub taken_by_halt : (accounts : Accounts) (own : List ℕ) (event : ClientEvent) (moment : ℕ) (name : List ℕ) (sent : CodeTexts)
     → IsRecord event (waits_code name) (heard (asking sent))
     → IsTurnTaken accounts own event moment (waits_code name) (judged_lines moment sent Lost) halted
@@ -288,7 +288,7 @@ begins_by_reply law accounts log name told moment sent reply begins due =
 pub stands_by_reply : BeginsWithItself → SpentStaysSpent → GoesOnByALine
     → {S : Type 0} (facts : S → StoreFacts) (IsStored : List ℕ → Type 0) (start : BookFields) (calls : List Call)
     (old new : Keeper S) (name own : List ℕ) (event : ClientEvent) (moment : ℕ) (sent : CodeTexts) (reply : Option Reply)
-    → IsDeskAfter facts IsStored start calls (desk_of old (Open (WaitsCode name) own))
+    → IsDeskAfter facts IsStored start calls (desk_of old (Open (WaitCode name) own))
     → IsRecord event (waits_code name) (heard (asking sent))
     → IsWritable (heard (asking sent))
     → IsJudged IsStored old.book (facts old.store) name moment sent (Replied reply) new.book (facts new.store)
@@ -301,7 +301,7 @@ stands_by_reply itself stays law facts IsStored start calls old new name own eve
     let run = subst (λ (p : Place). IsRun accounts calls p) at s.is_run in
     let begins = subst (λ (p : Place). Begins (demands accounts) (run_lines calls) p s.told) at s.begins in
     let held = held_in_turn IsStored accounts calls s.place old.book (facts old.store)
-    (client_turn accounts s.place (WaitsCode name) at) s.is_stored in
+    (client_turn accounts s.place (WaitCode name) at) s.is_stored in
     let t = logged_reply_of name moment sent reply in
     let after = book_after_told itself start s.told old.book s.is_book in
     record {
@@ -352,7 +352,7 @@ stored_by_halt IsStored accounts calls old new was now name event moment sent ru
       is_latest = (
         waits_code name,
         run,
-        record { event = event; answer = said halt; is_asked = refl; place = refl; lines_are = refl; is_saved = needs },
+        record { event = event; answer = said halt; is_asked = refl; place = refl; lines_are = refl; to_save = needs },
       );
       is_told = subst (λ (b : BookFields). IsAttemptJudged b (logged_reply_of name moment sent reply) next) (sym same) one;
       saved = subst (λ (b : BookFields). (IsBookText now.saved b × IsStored now.saved) ⊎ IsBookText now.saved next) (sym same) of_old;
@@ -363,7 +363,7 @@ stored_by_halt IsStored accounts calls old new was now name event moment sent ru
 pub stands_by_halt : GoesOnByALine → {S : Type 0} (facts : S → StoreFacts) (IsStored : List ℕ → Type 0) (start : BookFields)
     (calls : List Call)
     (old new : Keeper S) (name own : List ℕ) (event : ClientEvent) (moment : ℕ) (sent : CodeTexts)
-    → IsDeskAfter facts IsStored start calls (desk_of old (Open (WaitsCode name) own))
+    → IsDeskAfter facts IsStored start calls (desk_of old (Open (WaitCode name) own))
     → IsRecord event (waits_code name) (heard (asking sent))
     → IsWritable (heard (asking sent))
     → IsJudged IsStored old.book (facts old.store) name moment sent Lost new.book (facts new.store)
@@ -376,7 +376,7 @@ stands_by_halt law facts IsStored start calls old new name own event moment sent
     let run = subst (λ (p : Place). IsRun accounts calls p) at s.is_run in
     let begins = subst (λ (p : Place). Begins (demands accounts) (run_lines calls) p s.told) at s.begins in
     let held = held_in_turn IsStored accounts calls s.place old.book (facts old.store)
-    (client_turn accounts s.place (WaitsCode name) at) s.is_stored in
+    (client_turn accounts s.place (WaitCode name) at) s.is_stored in
     let lines = judged_lines moment sent Lost in
     let path : IsPath (demands accounts) (waits_code name) lines halted = (got_code name sent, code_goes name sent, (halted, refl, refl)) in
     record {
@@ -400,7 +400,7 @@ stands_by_halt law facts IsStored start calls old new name own event moment sent
 pub stands_by_code : BeginsWithItself → SpentStaysSpent → GoesOnByALine
     → {S : Type 0} (facts : S → StoreFacts) (IsStored : List ℕ → Type 0) (start : BookFields) (calls : List Call)
     (old new : Keeper S) (name own : List ℕ) (event : ClientEvent) (moment : ℕ) (sent : CodeTexts) (judged : CodeJudged)
-    → IsDeskAfter facts IsStored start calls (desk_of old (Open (WaitsCode name) own))
+    → IsDeskAfter facts IsStored start calls (desk_of old (Open (WaitCode name) own))
     → IsRecord event (waits_code name) (heard (asking sent))
     → IsWritable (heard (asking sent))
     → IsJudged IsStored old.book (facts old.store) name moment sent judged new.book (facts new.store) → IsJudgedInRange judged

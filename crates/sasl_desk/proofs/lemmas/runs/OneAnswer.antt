@@ -12,7 +12,7 @@ use Rattle.scram_ends.specs.Login.{IsAuthentic}
 use Rattle.scram_ends.specs.Verdict.{Due, accept, refuse, due_text, final_due}
 use Rattle.scram_ends.specs.declared.verdict.Refusal.{Refusal}
 use Rattle.log_grammar.specs.laws.LineLaws.{EachTextIsAtMostOneLine}
-use Rattle.log_grammar.specs.Lines.{LogLine, header, second_header, said, heard, bad, gone, ended, mechs, cont, accepts, refuses}
+use Rattle.log_grammar.specs.Lines.{LogLine, header, header_two, said, heard, bad, gone, ended, mechs, cont, accepts, refuses}
 use Rattle.log_grammar.specs.Lines.{ClientLine, auth, auth_with, resp, abort, code, sync, from_client}
 use Rattle.log_grammar.specs.Places.{Place, between, offered, asks_bare, waits_first, got_first, waits_final, got_final, waits_code}
 use Rattle.log_grammar.specs.Places.{leaving, over}
@@ -74,7 +74,7 @@ heard_due at (code text) due apart = absurd (cc due)
 heard_due (waits_code account) (sync one two) due apart = absurd (apart account refl)
 heard_due at (sync one two) due apart = absurd (cc due)
 
--- so it is after each record, where the session waited for no code
+-- after the record of an event an answer is due, where the session waited for no code
 record_due : (d : Demands) (event : ClientEvent) (at middle : Place) (kept : LogLine) → IsRecord event at kept
     → IsTransition d at kept middle
     → ((account : List ℕ) → at ≡ waits_code account → ⊥) → IsAnswerDue middle
@@ -92,7 +92,7 @@ tail_between d [] next path all = (refl, path)
 tail_between d (said (mechs names) ∷ lines) next path all = absurd all.0
 tail_between d (line ∷ lines) next (middle, goes, path) all = absurd goes
 
--- where it ends, `E` alone may stand
+-- where a session ends, `E` alone may stand
 tail_over : (d : Demands) (lines : List LogLine) (next : Place) → IsPath d over lines next → AllByRecursion IsAnswerLine lines
     → IsAtRest next
     → (lines ≡ ended ∷ []) × (next ≡ between)
@@ -106,7 +106,7 @@ tail_over d (line ∷ lines) next (middle, goes, path) all rests = absurd goes
 client_alone : (d : Demands) (at next : Place) (line : LogLine) → is_client_turn at ≡ true → IsAnswerLine line → IsTransition d at line next
     → ⊥
 client_alone d at next header turn is goes = is
-client_alone d at next second_header turn is goes = is
+client_alone d at next header_two turn is goes = is
 client_alone d at next (heard line) turn is goes = is
 client_alone d at next bad turn is goes = is
 client_alone d at next gone turn is goes = is
@@ -217,7 +217,7 @@ shape_of accounts (got_final m account first challenge last) (said (accepts text
 shape_of accounts (got_final m account first challenge last) (line ∷ lines) next (middle, goes, path) all rests = absurd goes
 shape_of accounts at lines next path all rests = tt
 
--- the challenge that a server chooses is one
+-- a server has one challenge to a client-first message, by its entry and its part of the nonce
 challenge_once : HasOneClientFirst → (e : Entry) (first own text other : List ℕ) → IsChallengeTo e first own text
     → IsChallengeTo e first own other
     → text ≡ other
@@ -236,7 +236,7 @@ own_challenge_once one_first accounts own mechanism account first text other (m,
     challenge_once one_first (accounts.entry m account) first own text other a
     (subst (λ (x : Mechanism). IsChallengeTo (accounts.entry x account) first own other) same b)
 
--- so is the acceptance, without extensions, of a signature
+-- there is one acceptance, without extensions, of a signature
 plain_text : HasOneServerFinal → (text signature : List ℕ) → IsAuthentic text signature → LacksExtensions (said (accepts text))
     → text ≡ due_text (accept signature)
 plain_text one_last text signature is (other, plain) =
@@ -249,7 +249,7 @@ plain_text one_last text signature is (other, plain) =
 both_same : {X : Type 0} (one other : X) (same also : X) → one ≡ same → other ≡ also → same ≡ also → one ≡ other
 both_same one other same also a b e = a ∙ e ∙ sym b
 
--- an answer at a place is one
+-- there is one answer at a place where an answer is due
 once_at : Texts → (accounts : Accounts) (own : List ℕ) (at : Place) (lines others : List LogLine) (next also : Place) → IsAnswerDue at
     → IsOwnChallenge accounts own next → IsOwnChallenge accounts own also → AllByRecursion LacksExtensions lines
     → AllByRecursion LacksExtensions others → ShapeAt accounts at lines next → ShapeAt accounts at others also → (lines ≡ others)
@@ -304,7 +304,7 @@ once_at t accounts own (got_final m account first challenge last) lines others n
     )
 once_at t accounts own at lines others next also due mine yours plain bare a b = absurd due
 
--- where the record of an event leads
+-- the record of an event leads to one place
 record_leads : (d : Demands) (event : ClientEvent) (at middle : Place) (kept : LogLine) → IsRecord event at kept
     → IsTransition d at kept middle
     → middle ≡ record_place at kept
@@ -320,27 +320,27 @@ has_acceptance [] = false
 has_acceptance (said (accepts message) ∷ lines) = true
 has_acceptance (line ∷ lines) = has_acceptance lines
 
--- more lines after it leave it there
+-- lines that begin with lines with an acceptance have an acceptance
 pub accepted_left : (lines more : List LogLine) → has_acceptance lines ≡ true → has_acceptance (lines ++ more) ≡ true
 unfolding has_acceptance
 accepted_left [] more is = absurd (cc is)
 accepted_left (said (accepts message) ∷ lines) more is = refl
 accepted_left (said line ∷ lines) more is = accepted_left lines more is
 accepted_left (header ∷ lines) more is = accepted_left lines more is
-accepted_left (second_header ∷ lines) more is = accepted_left lines more is
+accepted_left (header_two ∷ lines) more is = accepted_left lines more is
 accepted_left (heard line ∷ lines) more is = accepted_left lines more is
 accepted_left (bad ∷ lines) more is = accepted_left lines more is
 accepted_left (gone ∷ lines) more is = accepted_left lines more is
 accepted_left (ended ∷ lines) more is = accepted_left lines more is
 
--- so do lines before it
+-- lines that end in lines with an acceptance have an acceptance
 pub accepted_right : (lines more : List LogLine) → has_acceptance more ≡ true → has_acceptance (lines ++ more) ≡ true
 unfolding has_acceptance
 accepted_right [] more is = is
 accepted_right (said (accepts message) ∷ lines) more is = refl
 accepted_right (said line ∷ lines) more is = accepted_right lines more is
 accepted_right (header ∷ lines) more is = accepted_right lines more is
-accepted_right (second_header ∷ lines) more is = accepted_right lines more is
+accepted_right (header_two ∷ lines) more is = accepted_right lines more is
 accepted_right (heard line ∷ lines) more is = accepted_right lines more is
 accepted_right (bad ∷ lines) more is = accepted_right lines more is
 accepted_right (gone ∷ lines) more is = accepted_right lines more is
@@ -353,7 +353,7 @@ no_more [] more is = absurd (cc is)
 no_more (said (accepts message) ∷ lines) more is = refl
 no_more (said line ∷ lines) more is = cc (no_more lines more is)
 no_more (header ∷ lines) more is = cc (no_more lines more is)
-no_more (second_header ∷ lines) more is = cc (no_more lines more is)
+no_more (header_two ∷ lines) more is = cc (no_more lines more is)
 no_more (heard line ∷ lines) more is = cc (no_more lines more is)
 no_more (bad ∷ lines) more is = cc (no_more lines more is)
 no_more (gone ∷ lines) more is = cc (no_more lines more is)
@@ -379,7 +379,7 @@ shape_accepts accounts (got_final m name first challenge last) lines next due (i
     (rw is_lines refl)
 shape_accepts accounts at lines next due a = absurd due
 
--- a turn is one
+-- there is one turn for an event, at a place where no code is awaited
 turn_once : Texts → (accounts : Accounts) (own : List ℕ) (event : ClientEvent) (moment later : ℕ) (at : Place) (lines others : List LogLine)
     (next also : Place) → ((account : List ℕ) → at ≡ waits_code account → ⊥) → IsTurnTaken accounts own event moment at lines next
     → IsTurnTaken accounts own event later at others also
@@ -406,7 +406,7 @@ turn_once t accounts own event moment later at lines others next also apart a b 
       ],
     )
 
--- so is a call
+-- there is one answer to a call, at a place where no code is awaited
 pub call_once : Texts → (accounts : Accounts) (own theirs : List ℕ) (asked other : Asked) (at : Place) (lines others : List LogLine)
     (next also : Place)
     → ((account : List ℕ) → at ≡ waits_code account → ⊥) → own ≡ theirs → IsSameRequest asked other

@@ -6,7 +6,7 @@ use Rattle.std.proofs.lemmas.List.Elements.{filter-append}
 use Rattle.account_book.specs.Store.{StoreFacts}
 use Rattle.book_format.specs.Book.{BookFields}
 use Rattle.log_grammar.specs.Books.{accounts_in}
-use Rattle.log_grammar.specs.Lines.{LogLine, header, second_header, said, heard, bad, gone, ended, mechs}
+use Rattle.log_grammar.specs.Lines.{LogLine, header, header_two, said, heard, bad, gone, ended, mechs}
 use Rattle.log_grammar.specs.Places.{Place}
 use Rattle.log_grammar.specs.Demands.{Accounts}
 use Rattle.log_grammar.specs.Counts.{is_offer}
@@ -23,24 +23,24 @@ no_records [] all = refl
 no_records (said line ∷ lines) all = no_records lines all.1
 no_records (ended ∷ lines) all = no_records lines all.1
 no_records (header ∷ lines) all = absurd all.0
-no_records (second_header ∷ lines) all = absurd all.0
+no_records (header_two ∷ lines) all = absurd all.0
 no_records (heard line ∷ lines) all = absurd all.0
 no_records (bad ∷ lines) all = absurd all.0
 no_records (gone ∷ lines) all = absurd all.0
 
--- and offers nothing
+-- what answers a client offers nothing
 no_offers : (lines : List LogLine) → AllByRecursion IsAnswerLine lines → filter is_offer lines ≡ []
 no_offers [] all = refl
 no_offers (said (mechs names) ∷ lines) all = absurd all.0
 no_offers (said line ∷ lines) all = no_offers lines all.1
 no_offers (ended ∷ lines) all = no_offers lines all.1
 no_offers (header ∷ lines) all = absurd all.0
-no_offers (second_header ∷ lines) all = absurd all.0
+no_offers (header_two ∷ lines) all = absurd all.0
 no_offers (heard line ∷ lines) all = absurd all.0
 no_offers (bad ∷ lines) all = absurd all.0
 no_offers (gone ∷ lines) all = absurd all.0
 
--- the record of an event is one
+-- the line that records an event is a record
 record_kept : (event : ClientEvent) (at : Place) (kept : LogLine) → IsRecord event at kept → is_record kept ≡ true
 record_kept (sends text) at (heard line) is = refl
 record_kept (sends text) at bad is = refl
@@ -48,7 +48,7 @@ record_kept (sends text) at kept is = absurd is
 record_kept goes_away at gone is = refl
 record_kept goes_away at kept is = absurd is
 
--- and no offer
+-- the line that records an event is no offer
 record_offers : (event : ClientEvent) (at : Place) (kept : LogLine) → IsRecord event at kept → is_offer kept ≡ false
 record_offers (sends text) at (heard line) is = refl
 record_offers (sends text) at bad is = refl

@@ -24,14 +24,14 @@ use Rattle.sasl_desk.specs.Runs.{Call, run_lines}
 use Rattle.sasl_desk.specs.Saved.{IsLogSaved}
 use Rattle.sasl_desk.specs.Spent.{AreDifferent, IsCounterSpent, AreSpent, spent_by, SpentStaysSpent}
 use Rattle.sasl_desk.specs.Desks.{HoldsBook, IsLostAfter, IsStoredAt, IsStateAt, all_spent, IsDeskAfter, phase_of, session_phase}
-use Rattle.sasl_desk.specs.Restarts.{Run, IsDeskRunOf, HallRun, IsHallRunOf, IsRunLeaving, Change, desk_ran, hall_ran, judged, unlocked}
-use Rattle.sasl_desk.specs.Restarts.{added, IsChange, AreChanges, spent_by_change, spent_in}
+use Rattle.sasl_desk.specs.Restarts.{DeskRun, IsDeskRunOf, HallRun, IsHallRunOf, IsDeskRunLeaving, Change, desk_ran, hall_ran, judged}
+use Rattle.sasl_desk.specs.Restarts.{unlocked, added, IsChange, AreChanges, spent_by_change, spent_in}
 use Rattle.sasl_desk.specs.declared.desk.Desk.{Desk}
 use Rattle.sasl_desk.specs.declared.desk.state.State.{State}
 use Rattle.sasl_desk.specs.declared.desk.state.State.TheVariants.{Closed, Open, Halted}
 use Rattle.sasl_desk.specs.declared.session.phase.Phase.TheVariants as phase
 use Rattle.sasl_desk.specs.declared.session.Session.{Session}
-use Rattle.sasl_desk.specs.declared.session.Session.TheVariants.{Offered, WaitsFirst, WaitsFinal, WaitsCode}
+use Rattle.sasl_desk.specs.declared.session.Session.TheVariants.{WaitAuth, WaitFirst, WaitFinal, WaitCode}
 use Rattle.sasl_desk.proofs.lemmas.turns.Keepers.{told_due, told_after}
 use Rattle.sasl_desk.proofs.lemmas.runs.Unlocks.{unlocks_keep, added_keeps}
 use Rattle.sasl_log.proofs.lemmas.audits.AuditedLineByLine.{book_first}
@@ -54,10 +54,10 @@ log_is_front facts IsStored start calls desk s =
 
 -- where no session is open, or the store has failed, a log may end
 closed_open : (going : Session) → session_phase going ≡ phase.Closed → ⊥
-closed_open Offered is = cc is
-closed_open (WaitsFirst mechanism) is = cc is
-closed_open (WaitsFinal waiting) is = cc is
-closed_open (WaitsCode name) is = cc is
+closed_open WaitAuth is = cc is
+closed_open (WaitFirst mechanism) is = cc is
+closed_open (WaitFinal waiting) is = cc is
+closed_open (WaitCode name) is = cc is
 
 closed_ends : (start : BookFields) (own : List ℕ) (place : Place) (state : State) → IsStateAt (accounts_in start) own place state
     → phase_of state ≡ phase.Closed
@@ -77,7 +77,7 @@ halt_leads : (d : Demands) (place next : Place) → IsTransition d place (said h
 halt_leads d (got_code account sent) next goes = rw goes tt
 halt_leads d place next goes = absurd goes
 
--- it is clean where no session is open, and where the store has failed
+-- a desk's log is clean where no session is open, and where the store has failed
 pub log_is_clean : {S : Type 0} (facts : S → StoreFacts) (IsStored : List ℕ → Type 0) (start : BookFields) (calls : List Call)
     (desk : Desk S) → IsDeskAfter facts IsStored start calls desk
     → (phase_of desk.state ≡ phase.Closed) ⊎ ((facts desk.keeper.store).failed ≡ true)
@@ -90,7 +90,7 @@ log_is_clean facts IsStored start calls desk s ends =
       | inr failed ↦ lost_ends IsStored (accounts_in start) calls s.place desk.keeper.book (facts desk.keeper.store) s.is_stored failed
     ])
 
--- so is a log whose last line is `S HALT`
+-- a desk's log whose last line is `S HALT` is clean
 pub halted_is_clean : GoesOnByNoOther → {S : Type 0} (facts : S → StoreFacts) (IsStored : List ℕ → Type 0) (start : BookFields)
     (calls : List Call) (desk : Desk S) → IsDeskAfter facts IsStored start calls desk
     → (lines : List LogLine) → run_lines calls ≡ lines ++ said halt ∷ [] → IsClean (accounts_in start) (log_bytes (run_lines calls))
@@ -101,7 +101,7 @@ halted_is_clean law facts IsStored start calls desk s lines last =
     (bytes_are_lines (run_lines calls) s.writable) s.begins
     (halt_leads (demands (accounts_in start)) before.place s.place before.goes)
 
--- what is spent is so without some of it
+-- the counters in the last part of a list are different, where all in the list are
 fewer_different : (ps qs : List (List ℕ × ℕ)) → AreDifferent (ps ++ qs) → AreDifferent qs
 fewer_different [] qs all = all
 fewer_different (p ∷ ps) qs all = fewer_different ps qs all.1
@@ -125,7 +125,7 @@ spent_after_told itself stays old new t ps one spent =
 
 -- what was spent after one run
 spent_after_run : BeginsWithItself → SpentStaysSpent
-    → {S : Type 0} (facts : S → StoreFacts) (IsStored : List ℕ → Type 0) (r : Run) (ps : List (List ℕ × ℕ))
+    → {S : Type 0} (facts : S → StoreFacts) (IsStored : List ℕ → Type 0) (r : DeskRun) (ps : List (List ℕ × ℕ))
     → IsDeskRunOf facts IsStored r → AreSpent ps r.start → AreSpent (all_spent (reverse r.told) ++ ps) r.left
 spent_after_run itself stays facts IsStored r ps run spent =
     let s = run.stands in
@@ -218,7 +218,7 @@ log_is_saved facts IsStored start calls desk s = record {
 run_to : {S : Type 0} (facts : S → StoreFacts) (IsStored : List ℕ → Type 0) (start : BookFields) (calls : List Call) (desk : Desk S)
     (s : IsDeskAfter facts IsStored start calls desk) (left : BookFields)
     → (left ≡ desk.keeper.book) ⊎ ((t : LoggedReply) × IsAttemptJudged desk.keeper.book t left)
-    → IsRunLeaving facts IsStored start calls left
+    → IsDeskRunLeaving facts IsStored start calls left
 run_to facts IsStored start calls desk s left leaves = (
   record { start = start; calls = calls; told = s.told; left = left },
   record { desk = desk; stands = s; tells = refl; leaves = leaves },
@@ -230,7 +230,7 @@ run_to facts IsStored start calls desk s left leaves = (
 -- the store holds the text of a book that the desk leaves
 pub left_book : {S : Type 0} (facts : S → StoreFacts) (IsStored : List ℕ → Type 0) (start : BookFields) (calls : List Call) (desk : Desk S)
     → IsDeskAfter facts IsStored start calls desk
-    → (left : BookFields) × IsRunLeaving facts IsStored start calls left × IsBookText (facts desk.keeper.store).saved left
+    → (left : BookFields) × IsDeskRunLeaving facts IsStored start calls left × IsBookText (facts desk.keeper.store).saved left
 left_book facts IsStored start calls desk s =
     let book = desk.keeper.book in
     elim (held_or_lost IsStored (accounts_in start) calls s.place book (facts desk.keeper.store) s.is_stored) [
@@ -244,7 +244,8 @@ left_book facts IsStored start calls desk s =
 -- a stop within a call leaves the book with the attempt that is judged
 pub stopped_run : {S : Type 0} (facts : S → StoreFacts) (IsStored : List ℕ → Type 0) (start : BookFields) (calls : List Call)
     (desk : Desk S) (t : LoggedReply) (next : BookFields)
-    → IsDeskAfter facts IsStored start calls desk → IsAttemptJudged desk.keeper.book t next → IsRunLeaving facts IsStored start calls next
+    → IsDeskAfter facts IsStored start calls desk → IsAttemptJudged desk.keeper.book t next
+    → IsDeskRunLeaving facts IsStored start calls next
 stopped_run facts IsStored start calls desk t next s one = run_to facts IsStored start calls desk s next (inr (t, one))
 
 -- what was spent is spent after one more attempt
@@ -268,7 +269,7 @@ saved_spent itself stays facts IsStored start calls desk s ps spent =
       ]
     ]
 
--- and in the one that a stop within a call leaves
+-- each counter that was told is spent in the book that a stop within a call leaves
 pub stopped_spent : BeginsWithItself → SpentStaysSpent
     → {S : Type 0} (facts : S → StoreFacts) (IsStored : List ℕ → Type 0) (start : BookFields) (calls : List Call) (desk : Desk S)
     (s : IsDeskAfter facts IsStored start calls desk) (ps : List (List ℕ × ℕ)) (t : LoggedReply) (next : BookFields) → AreSpent ps start

@@ -183,7 +183,7 @@ spent_by_two join fresh old new name moment first second c start ps has is (w, n
       );
     }
 
--- the reply that is due is this one
+-- the reply of a token without attempts is the one that is due
 due_is : (start : TokenFields) (moment : ℕ) (sent : CodeTexts) (r : Reply) → IsReplyOfToken (Some start) [] moment sent (Some r)
     → IsDueReply start [] moment sent r
 due_is start moment sent r (reply, same, due) = subst (λ (x : Reply). IsDueReply start [] moment sent x)

@@ -10,7 +10,7 @@ use Rattle.log_grammar.specs.Places.{Place, between, got_first, waits_final, got
 use Rattle.log_grammar.specs.Demands.{Accounts, IsVerdict, demands}
 use Rattle.log_grammar.specs.state_machine.Steps.{IsTransition}
 use Rattle.sasl_desk.specs.Alone.{IsSameRequest, HaveSameRequests, up_to_acceptance, HaveSameEntries}
-use Rattle.sasl_desk.specs.Halls.{HallFields, hall_lines, busy_lines, IsStay, IsHallAfter}
+use Rattle.sasl_desk.specs.Halls.{HallFields, hall_lines, busy_lines, IsSessionRun, IsHallAfter}
 use Rattle.sasl_desk.specs.Runs.{Asked, greets, hears, Call, own_part_after, own_part, IsAnsweredBy, IsRun}
 use Rattle.sasl_desk.specs.Serves.{call_lines}
 use Rattle.sasl_desk.specs.Sessions.{IsOwnChallenge}
@@ -140,12 +140,12 @@ told_alone t one other calls others at also entries run runs same =
     ]
 
 -- a session that was not turned away has a run
-not_away : (accounts : Accounts) (calls : List Call) (at : Place) → (call_lines calls ≡ busy_lines → ⊥) → IsStay accounts calls at
+not_away : (accounts : Accounts) (calls : List Call) (at : Place) → (call_lines calls ≡ busy_lines → ⊥) → IsSessionRun accounts calls at
     → IsRun accounts calls at
 not_away accounts calls at let_in (inl run) = run
 not_away accounts calls at let_in (inr (own, turned, is)) = absurd (let_in (ap call_lines turned))
 
--- so do two sessions, of one hall or of two, neither of which was turned away
+-- two sessions with equal entries and requests, neither turned away, have equal lines up to an acceptance
 pub sessions_alone : Texts
     → {S : Type 0} (facts : S → StoreFacts) (IsStored : List ℕ → Type 0) (start begun : BookFields) (calls others : List (Numbered Call))
     (hall other : HallFields S) (n m : ℕ) → IsHallAfter facts IsStored start calls hall → IsHallAfter facts IsStored begun others other
@@ -154,9 +154,10 @@ pub sessions_alone : Texts
     → HaveSameRequests (of_number n calls) (of_number m others)
     → up_to_acceptance (of_number n (hall_lines calls)) ≡ up_to_acceptance (of_number m (hall_lines others))
 sessions_alone t facts IsStored start begun calls others hall other n m s r entries let_in let_in_too same =
-    let one = not_away (accounts_in start) (of_number n calls) (s.places n) (λ is. let_in (of_number_lines n calls ∙ is)) (s.stays n) in
+    let one = not_away (accounts_in start) (of_number n calls) (s.places n) (λ is. let_in (of_number_lines n calls ∙ is))
+    (s.session_runs n) in
     let two = not_away (accounts_in begun) (of_number m others) (r.places m) (λ is. let_in_too (of_number_lines m others ∙ is))
-    (r.stays m) in
+    (r.session_runs m) in
     ap up_to_acceptance (of_number_lines n calls)
     ∙ told_alone t (accounts_in start) (accounts_in begun) (of_number n calls) (of_number m others) (s.places n)
     (r.places m) entries one two same

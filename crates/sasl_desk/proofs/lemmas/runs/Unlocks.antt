@@ -59,7 +59,7 @@ below_next fresh token counter before at (TwoTexts first second) (Pass w) is due
     let passed : counter < first_one = below at first_one is (inr can_pair) in
     let apart = (fresh token (attempt_of at (TwoTexts first second) (Pass w) ∷ before) moment c can).0 in omega (arith, passed, next, apart)
 
--- so a counter below each that can pass now is below each that can pass ever
+-- a counter below each that can pass now is below each that can pass ever
 below_ever : CandidatesAreNew → (token : TokenFields) (counter : ℕ) → IsBelowAfter token [] counter → (history : List Attempt)
     → IsLegal token history
     → IsBelowAfter token history counter
@@ -136,7 +136,7 @@ spent_with apart old name account free other counter used =
           record { token = used.token; has = ap (option_and_then (λ a. a.token)) same ∙ used.has; below = used.below }
     ]
 
--- and where an account is added
+-- where an account is added, counters that are spent stay so
 pub added_keeps : AddedIsApart → (old new : BookFields) (name : List ℕ) (account : AccountFields) (ps : List (List ℕ × ℕ))
     → IsAdded old name account new → AreSpent ps old → AreSpent ps new
 added_keeps apart old new name account ps is spent = record {

@@ -22,7 +22,7 @@ use Rattle.log_grammar.specs.Demands.{Accounts, NamesMechanism, IsFirstOf}
 use Rattle.sasl_log.proofs.lemmas.steps.Logins.{stands_same, challenge_of}
 use Rattle.sasl_desk.specs.Waiting.{waiting_of}
 use Rattle.sasl_desk.specs.Sessions.{answer_of, verdict_answer, IsBareNoDue, IsAnswer}
-use Rattle.sasl_desk.specs.declared.session.Session.TheVariants.{WaitsFirst, WaitsFinal}
+use Rattle.sasl_desk.specs.declared.session.Session.TheVariants.{WaitFirst, WaitFinal}
 use Rattle.sasl_desk.specs.declared.session.turn.Saying.TheVariants.{Nothing, Continues, Refuses}
 
 -- a bare `S NO` is due to a client that is turned away
@@ -70,7 +70,7 @@ first_of mechanism first name m p authzid named is taken =
 
 -- the empty challenge is due to a client that asks for a mechanism that is offered
 pub invitation_due : (accounts : Accounts) (own : List ℕ) (mechanism : List ℕ) (m : Mechanism) → NamesMechanism mechanism m
-    → IsAnswer accounts own (asks_bare mechanism) (answer_of Continues (Some (WaitsFirst m))) []
+    → IsAnswer accounts own (asks_bare mechanism) (answer_of Continues (Some (WaitFirst m))) []
 invitation_due accounts own mechanism m named = record {
   next = waits_first mechanism;
   path = (waits_first mechanism, (((m, named), refl), refl), refl);
@@ -86,7 +86,7 @@ challenge_to : HasOneClientFirst → SpellsOneName
     → IsChallengeTo (accounts.entry m name) client_first own server_first
     → StandsFor wait (challenged_login (accounts.entry m name) m client_first server_first)
     → IsAnswer accounts own (got_first mechanism client_first)
-    (answer_of Continues (Some (WaitsFinal (waiting_of wait m name)))) server_first
+    (answer_of Continues (Some (WaitFinal (waiting_of wait m name)))) server_first
 challenge_to once names accounts own wait m mechanism name client_first server_first named first shows stands = record {
   next = waits_final mechanism name client_first server_first;
   path = (
@@ -105,12 +105,12 @@ pub challenge_due : HasOneClientFirst → SpellsOneName → (accounts : Accounts
     (mechanism name client_first server_first message : List ℕ) (entry : Entry) → entry ≡ accounts.entry m name → message ≡ server_first
     → NamesMechanism mechanism m → IsFirstOf mechanism client_first name → IsChallengeTo entry client_first own server_first
     → StandsFor wait (challenged_login entry m client_first server_first)
-    → IsAnswer accounts own (got_first mechanism client_first) (answer_of Continues (Some (WaitsFinal (waiting_of wait m name)))) message
+    → IsAnswer accounts own (got_first mechanism client_first) (answer_of Continues (Some (WaitFinal (waiting_of wait m name)))) message
 challenge_due once names accounts own wait m mechanism name client_first server_first message entry same written named first shows stands =
     let here = subst (λ (e : Entry). IsChallengeTo e client_first own server_first) same shows in
     let stood = stands_same wait entry (accounts.entry m name) m client_first client_first server_first same refl stands in
     subst (λ (t : List ℕ). IsAnswer accounts own (got_first mechanism client_first)
-    (answer_of Continues (Some (WaitsFinal (waiting_of wait m name)))) t)
+    (answer_of Continues (Some (WaitFinal (waiting_of wait m name)))) t)
     (sym written) (challenge_to once names accounts own wait m mechanism name client_first server_first named first here stood)
 
 -- an acceptance is due where its verdict is

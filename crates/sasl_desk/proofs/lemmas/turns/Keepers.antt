@@ -95,7 +95,7 @@ kept_by IsStored old new was now (Pass counter) apart holds = holds
 kept_by IsStored old new was now Fail apart holds = holds
 kept_by IsStored old new was now Locked apart holds = absurd (apart refl)
 
--- a token that was put back
+-- where a token is put back, the book is as it was
 pub put_back : (old mid new : BookFields) (name : List ℕ) (token next back : TokenFields) → token_at old name ≡ Some token → back ≡ token
     → IsChanged old name (with_token next) mid → IsChanged mid name (with_token back) new → new ≡ old
 put_back old mid new name token next back has same first second =

@@ -14,7 +14,7 @@ use Rattle.sasl_desk.specs.Events.{ClientEvent, sends, goes_away}
 use Rattle.sasl_desk.specs.Turns.{is_client_turn, record_place, IsPath}
 use Rattle.sasl_desk.specs.Sessions.{IsSessionAt, IsRecord, IsTurnOnEvent, recorded_shown, turn_lines, said_lines, end_lines}
 use Rattle.sasl_desk.specs.declared.session.Session.{Session}
-use Rattle.sasl_desk.specs.declared.session.Session.TheVariants.{Offered, WaitsFirst, WaitsFinal, WaitsCode}
+use Rattle.sasl_desk.specs.declared.session.Session.TheVariants.{WaitAuth, WaitFirst, WaitFinal, WaitCode}
 use Rattle.sasl_desk.specs.declared.session.turn.Saying.{Saying}
 use Rattle.sasl_desk.specs.declared.session.turn.Saying.TheVariants.{Nothing, Continues, Accepts, Refuses}
 use Rattle.sasl_desk.specs.declared.session.turn.Turn.{Turn}
@@ -22,10 +22,10 @@ use Rattle.sasl_desk.proofs.lemmas.turns.DueRecords.{due_goes, bad_goes, gone_go
 
 -- where a session stands it is the client's turn
 pub client_turn : (accounts : Accounts) (at : Place) (going : Session) → IsSessionAt accounts at going → is_client_turn at ≡ true
-client_turn accounts at Offered is = rw is refl
-client_turn accounts at (WaitsFirst mechanism) is = rw is refl
-client_turn accounts at (WaitsFinal waiting) (client_first, server_first, place, stands) = rw place refl
-client_turn accounts at (WaitsCode name) is = rw is refl
+client_turn accounts at WaitAuth is = rw is refl
+client_turn accounts at (WaitFirst mechanism) is = rw is refl
+client_turn accounts at (WaitFinal waiting) (client_first, server_first, place, stands) = rw place refl
+client_turn accounts at (WaitCode name) is = rw is refl
 
 -- what is recorded may stand
 pub record_goes : (d : Demands) (at : Place) (event : ClientEvent) (recorded : LogLine) → is_client_turn at ≡ true
@@ -76,7 +76,7 @@ pub turn_no_reply : (accounts : Accounts) (own : List ℕ) (event : ClientEvent)
 turn_no_reply accounts own event at turn message t =
     (record_no_reply event at (recorded_shown turn.recorded) t.is_record, answer_no_reply turn.answer.says turn.answer.session message)
 
--- such a line tells nothing
+-- a line that is no reply tells nothing
 pub quiet_at : (at : Place) (line : LogLine) → IsNoReply line → told_at at line ≡ []
 quiet_at (got_code account sent) (said (replies moment reply)) no_reply = absurd no_reply
 quiet_at (got_code account sent) line no_reply = refl

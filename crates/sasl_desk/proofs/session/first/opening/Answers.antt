@@ -6,5 +6,5 @@ pub returns-in-None-clause-due : goal.returns-in-None-clause-due
 returns-in-None-clause-due g c = λ accounts keeps.
     let first = c.args.client_first.now in
     rw c.requires
-    (c.refusal.ensures.due accounts c.args.own.now (got_first c.args.name.now first)
-    (not_offered c.args.name.now first c.in-None.ensures.none))
+    (c.refusal.ensures.due accounts c.args.own.now (got_first c.args.mechanism_name.now first)
+    (not_offered c.args.mechanism_name.now first c.in-None.ensures.none))

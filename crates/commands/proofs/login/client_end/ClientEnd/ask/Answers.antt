@@ -14,7 +14,7 @@ returns-clause-says c =
       is_mechanism = chosen c.args.self.now.user.mechanism c.choose.result c.args.names.now c.in-Some.mechanism
           (sym c.or.ensures ∙ c.in-Some.is)
           c.choose.ensures.some c.choose.ensures.best;
-      are_limits = (c.usual-limits.ensures.least, c.usual-limits.ensures.most);
+      are_limits = c.usual-limits.ensures;
       is_name = search rules;
       is_authzid = search rules;
       is_nonce = search rules;

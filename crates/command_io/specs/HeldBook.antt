@@ -1,0 +1,136 @@
+-- What becomes of a held book and of its store.
+use Rattle.std.specs.Prelude.{ℕ, ◌≡◌, ◌≤◌, ◌<◌, ◌⊎◌, true, false, List, [], ◌∷◌, ◌++◌, length, codes, string_bytes}
+use Rattle.std.specs.Prelude.{Option, is_some, None, Some, MatchOption}
+use Rattle.std.specs.Str.{byte}
+use Rattle.std.specs.Io.KnownBytes.{Appends}
+use Rattle.otp_core.specs.Attempt.{CodeTexts}
+use Rattle.otp_core.specs.declared.token.answer.Reply.{Reply}
+use Rattle.book_format.specs.Account.{AccountFields}
+use Rattle.book_format.specs.Book.{BookFields}
+use Rattle.book_format.specs.Reading.{IsFirstFault}
+use Rattle.book_format.specs.Trees.{IsBookText}
+use Rattle.book_format.specs.declared.fault.BookFault.{BookFault}
+use Rattle.account_book.specs.Accounts.{account_at, IsAdded}
+use Rattle.account_book.specs.Enrolled.{enrolled}
+use Rattle.account_book.specs.SavedBooks.{needs_save, SavesBook, WasSaved}
+use Rattle.account_book.specs.Store.{StoreFacts, IsFailedSave}
+use Rattle.account_book.specs.Tokens.{IsAnswered, IsUnlocked, token_at}
+use Rattle.book_file.specs.Text.{IsRead, IsWritten}
+use Rattle.book_file.specs.declared.file.TheConstants.{MOST_BOOK}
+use Rattle.clap.specs.declared.parser.matches.ArgMatches.{ArgMatches}
+use Rattle.command_line.specs.Fault.{of_book, IsTokenFault}
+use Rattle.command_line.specs.declared.fault.Fault.{Fault}
+use Rattle.command_line.specs.declared.fault.Fault.TheVariants.{NoSuchAccount, NoToken, CannotRead, CannotWrite}
+use Rattle.command_line.specs.declared.fault.Fault.TheVariants.{CannotWriteOutput, NoMemory}
+use Rattle.command_line.specs.declared.option_name.OptionName.TheVariants as option
+use Rattle.command_words.specs.Values.{given_value}
+use Rattle.command_io.specs.BadValues.{HasBadValue}
+use Rattle.command_io.specs.declared.held_book.HeldBook.{HeldBook}
+use Rattle.command_io.specs.declared.new_account.NewAccount.{NewAccount}
+use Rattle.command_io.specs.declared.new_account.Salts.{Salts}
+
+-- what is known of a held book: the book, and the facts of its store
+pub record HeldFacts : Type 0 where
+  pub book : BookFields
+  pub store : StoreFacts
+
+-- a held book, as what is known of it
+abbrev pub held_shown : {S : Type 0} → (S → StoreFacts) → HeldBook S → HeldFacts
+held_shown facts held = record { book = held.book; store = facts held.store }
+
+-- a text is stored, and is no longer than the text of a book may be
+abbrev pub IsStoredShort : (IsStored : List ℕ → Type 0) → List ℕ → Type 0
+IsStoredShort IsStored text = (length text ≤ MOST_BOOK) × IsStored text
+
+-- the store has saved the book
+abbrev pub IsBookSaved : (IsStored : List ℕ → Type 0) → (old : StoreFacts) → BookFields → (new : StoreFacts) → Type 0
+IsBookSaved IsStored old book new = SavesBook (IsStoredShort IsStored) old book new
+
+-- the book is not saved: the store is as it was; or it failed in saving the book, and has that text or the one from before
+abbrev pub IsBookUnsaved : (old : StoreFacts) → BookFields → (new : StoreFacts) → Type 0
+IsBookUnsaved old book new = (new ≡ old) ⊎ ((text : List ℕ) × IsBookText text book × IsFailedSave old text new)
+
+-- a change of the book failed: nothing has changed, or the book has changed and is not saved
+abbrev pub IsChangeUnsaved : (old : HeldFacts) → (Changes : BookFields → BookFields → Type 0) → (new : HeldFacts) → Type 0
+IsChangeUnsaved old Changes new = (new ≡ old) ⊎ (Changes old.book new.book × IsBookUnsaved old.store new.book new.store)
+
+-- a book of this text can't be saved: the text is too long, or the store has failed
+abbrev pub CannotBeSaved : (text : List ℕ) → StoreFacts → Type 0
+CannotBeSaved text store = (MOST_BOOK < length text) ⊎ (store.failed ≡ true)
+
+-- a text was read from a file and is no book: the fault is that of its first fault
+abbrev pub IsFaultOfText : {File : Type 0} → (bytes_of : File → Option (List ℕ)) → Fault → Type 0
+IsFaultOfText bytes_of fault =
+    (text : List ℕ) × (found : BookFault) × IsRead bytes_of text × IsFirstFault text found × (fault ≡ of_book found)
+
+-- the fault of a book that can't be held: the file of this path can't be read; or some file can't be written, of which nothing is said here; or
+-- memory ran out
+abbrev pub CannotHold : (path : List ℕ) → Fault → Type 0
+CannotHold path (CannotRead file) = string_bytes file ≡ path
+CannotHold path (CannotWrite file) = Unit {0}
+CannotHold path fault = fault ≡ NoMemory
+
+-- the fault of a book that can't be held or read; where it can't be read, the bytes of its file are no book
+abbrev pub IsUnheld : {File : Type 0} → (bytes_of : File → Option (List ℕ)) → (path : List ℕ) → Fault → Type 0
+IsUnheld bytes_of path fault = CannotHold path fault ⊎ IsFaultOfText bytes_of fault
+
+-- the account that was looked up is not there, or has no token: the fault says which
+abbrev pub LacksToken : Option AccountFields → Fault → Type 0
+LacksToken found fault = MatchOption found (fault ≡ NoSuchAccount) (λ account. (fault ≡ NoToken) × (account.token ≡ None))
+
+-- the account with this name has a token, whose failures are 0 after the change; nothing else is changed
+abbrev pub IsTokenUnlocked : (name : List ℕ) → BookFields → BookFields → Type 0
+IsTokenUnlocked name old new = (is_some (token_at old name) ≡ true) × IsUnlocked old name new
+
+-- an account with the keys of a password, under a name that had none, is added
+abbrev pub IsEnrolled : NewAccount → Salts → BookFields → BookFields → Type 0
+IsEnrolled account salts old new =
+    IsAdded old account.name (enrolled account.password salts.sha1 salts.sha256 account.count) new
+
+-- the reply is due, and the book after it is saved where the reply needs that; else the store is as it was
+pub record IsReplySaved (IsStored : List ℕ → Type 0) (old : HeldFacts) (name : List ℕ) (moment : ℕ) (sent : CodeTexts) (reply : Reply)
+    (new : HeldFacts) : Type 0 where
+  pub due : IsAnswered old.book name moment sent (Some reply) new.book
+  pub saved : needs_save (Some reply) ≡ true → IsBookSaved IsStored old.store new.book new.store
+  pub unasked : needs_save (Some reply) ≡ false → new.store ≡ old.store
+
+-- nothing has changed; or a reply was due, and the book after it is not saved
+abbrev pub IsReplyUnsaved : (old : HeldFacts) → (name : List ℕ) → (moment : ℕ) → CodeTexts → (new : HeldFacts) → Type 0
+IsReplyUnsaved old name moment sent new =
+    (new ≡ old)
+    ⊎ ((reply : Reply) × IsAnswered old.book name moment sent (Some reply) new.book × IsBookUnsaved old.store new.book new.store)
+
+-- the token of this name is unlocked, and the book is saved
+pub record IsUnlockSaved (IsStored : List ℕ → Type 0) (name : List ℕ) (old new : HeldFacts) : Type 0 where
+  pub unlocked : IsTokenUnlocked name old.book new.book
+  pub saved : IsBookSaved IsStored old.store new.book new.store
+
+-- a book is that of this text, and the text was read from a file
+pub record IsReadBook {File : Type 0} (bytes_of : File → Option (List ℕ)) (text : List ℕ) (book : BookFields) : Type 0 where
+  pub is_text : IsBookText text book
+  pub is_read : IsRead bytes_of text
+
+-- a book is read from a file, the token of the name that the words give is unlocked, and the text of the book as it is then is
+-- written to a file; and the name is printed
+pub record UnlocksAsked {File : Type 0} (bytes_of written_to : File → Option (List ℕ)) (words : ArgMatches) (old new : Option (List ℕ))
+    : Type 0 where
+  pub text : List ℕ
+  pub first : BookFields
+  pub is_first : IsReadBook bytes_of text first
+  pub last : BookFields
+  pub is_unlocked : IsTokenUnlocked (given_value words option.Name) first last
+  pub is_saved : WasSaved (IsStoredShort (IsWritten written_to)) last
+  pub printed : Appends old new (codes "unlocked " ++ (given_value words option.Name ++ byte "\n" ∷ []))
+
+-- a book that was read has no token for the name, or can't be saved in the file of this path: the fault says which
+abbrev pub CannotUnlockToken : {File : Type 0} → (bytes_of : File → Option (List ℕ)) → (path name : List ℕ) → Fault → Type 0
+CannotUnlockToken bytes_of path name fault =
+    (text : List ℕ) × (book : BookFields) × IsReadBook bytes_of text book × IsTokenFault path (account_at book name) fault
+
+-- the fault that ends `unlock`: the name is none, the book can't be held or read, it has no token for the name or can't be saved, or the
+-- output can't be written
+abbrev pub CannotUnlock : {File : Type 0} → (bytes_of : File → Option (List ℕ)) → ArgMatches → Fault → Type 0
+CannotUnlock bytes_of words fault =
+    HasBadValue (option.Name ∷ []) words fault
+    ⊎ (IsUnheld bytes_of (given_value words option.Book) fault
+    ⊎ (CannotUnlockToken bytes_of (given_value words option.Book) (given_value words option.Name) fault ⊎ (fault ≡ CannotWriteOutput)))

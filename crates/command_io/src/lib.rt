@@ -1,0 +1,13 @@
+//! What the commands share: the book that a run holds, lines of the input, what is printed, terminals, prompts, random
+//! bytes and files.
+#![tactic(auto)]
+
+pub mod file;
+pub mod held_book;
+pub mod input;
+pub mod new_account;
+pub mod open_book;
+pub mod output;
+pub mod prompt;
+pub mod random;
+pub mod terminal;

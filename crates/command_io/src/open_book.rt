@@ -1,0 +1,182 @@
+//! Opens the file of a book: takes hold of it and reads it.
+ghost use Rattle.std.specs.Prelude.{◌≡◌, ◌⊎◌, IfErr, IfOk, IfSome, string_bytes};
+ghost use Rattle.book_format.specs.Reading.{IsFirstFault};
+ghost use Rattle.book_format.specs.Trees.{IsBookText};
+ghost use Rattle.book_format.specs.declared.fault.BookFault.{BookFault};
+ghost use Rattle.book_file.specs.Text.{IsRead};
+ghost use Rattle.command_line.specs.Fault.{of_book};
+ghost use Rattle.command_io.specs.HeldBook.{CannotHold, IsReadBook, IsUnheld};
+
+use crate::file::read_fault;
+use crate::held_book::HeldBook;
+use account_book::{Book, BookStore, BookWhy};
+use book_file::{BookFile, FileStore, HoldFault, Lockable};
+use command_line::{Fault, TerminalText};
+use std::alloc::{AllocError, Global};
+use std::fs::Files;
+use std::io::Write;
+use std::time::Clock;
+
+/// A book as it was when its file was read; others may have changed the file since.
+#[derive(Drop)]
+pub struct Seen {
+    /// What the text says.
+    pub book: Book,
+
+    /// All of the file.
+    pub text: String,
+}
+
+/// Takes hold of the book at `path`, reads it and lets it go; None where there is no file. Faults: CannotRead where
+/// the file can't be read or other runs hold it for 30 seconds; CannotWrite where a save could not keep the file's owner, or
+/// where what stands at the path of the next text can't be removed; BadBook where the text is no book; and NoMemory.
+#[tactic(auto, using(crate::proofs::lemmas::HeldFaults::no_book))]
+pub fn read_and_release<R, E>(rt: &R, path: &str, faults: &mut E) -> Result<Option<Seen>, Fault>
+where
+    R: Files + Clock + AllocGlobal,
+    R::File: Lockable,
+    E: Write,
+    ensures read { IfOk result (λ found. IfSome found (λ seen. IsReadBook R.File.remaining (string_bytes seen.text) seen.book)) }
+    ensures err { IfErr result (IsUnheld R.File.remaining path.now) }
+{
+    let mut file = match BookFile::hold(rt, path) {
+        Ok(file) => file,
+        Err(HoldFault::Missing) => return Ok(None),
+        Err(fault) => return Err(hold_fault(rt.alloc(), path, fault, faults)?),
+    };
+    // Not reached: `hold` answers Missing where there is no file. No contract says so.
+    let Some(text) = text_of(rt.alloc(), &mut file, path)? else {
+        return Ok(None);
+    };
+    let book = Book::read(rt.alloc(), text.as_bytes())?;
+    Ok(Some(Seen { book, text }))
+}
+
+/// Takes hold of the book at `path`, which has to be there, and reads it. Faults: as `read_and_release`, and CannotRead where
+/// there is no file.
+#[tactic(auto, using(crate::proofs::lemmas::HeldFaults::no_book))]
+pub fn open<'a, 'r, R, E>(
+    rt: &'r R,
+    path: &'a str,
+    faults: &mut E,
+) -> Result<HeldBook<'a, FileStore<'r, R>>, Fault>
+where
+    R: Files + Clock + AllocGlobal,
+    R::File: Lockable,
+    E: Write,
+    ensures read { IfOk result (λ held. IsReadBook R.File.remaining (⟦<FileStore<'r, R> as BookStore>⟧.facts held.store).saved held.book) }
+    ensures path { IfOk result (λ held. held.path.now ≡ path.now) }
+    ensures err { IfErr result (IsUnheld R.File.remaining path.now) }
+{
+    let (file, text) = file_and_text(rt, path, BookFile::hold(rt, path), faults)?;
+    match text {
+        Some(text) => read_held(rt.alloc(), file, text, path),
+
+        // Not reached: `hold` answers Missing where there is no file. No contract says so.
+        None => Err(Fault::CannotRead(String::from_str(rt.alloc(), path)?)),
+    }
+}
+
+/// Returns the file that is held and its text, or None for the text where there is no file yet. `held` is the
+/// attempt to hold the file at `path`. Faults: CannotRead, CannotWrite, BadBook where the text is not UTF-8, and
+/// NoMemory.
+pub fn file_and_text<'r, R, E>(
+    rt: &'r R,
+    path: &str,
+    held: Result<BookFile<'r, R>, HoldFault>,
+    faults: &mut E,
+) -> Result<(BookFile<'r, R>, Option<String>), Fault>
+where
+    R: Files + Clock + AllocGlobal,
+    R::File: Lockable,
+    E: Write,
+    ensures read { IfOk result (λ found. IfSome found.1 (λ text. IsRead R.File.remaining (string_bytes text))) }
+    ensures err { IfErr result (IsUnheld R.File.remaining path.now) }
+{
+    let mut file = match held {
+        Ok(file) => file,
+        Err(fault) => return Err(hold_fault(rt.alloc(), path, fault, faults)?),
+    };
+    let text = text_of(rt.alloc(), &mut file, path)?;
+    Ok((file, text))
+}
+
+// The fault of a command that could not hold the book at `path`: that it can't be read, or that a file can't be
+// written. Where other runs held the book, or it belongs to another user, a line on `faults` says so first. The error
+// is that memory ran out.
+#[tactic(auto, using(crate::proofs::lemmas::HeldFaults::unread))]
+fn hold_fault<E: Write>(
+    alloc: Global,
+    path: &str,
+    fault: HoldFault,
+    faults: &mut E,
+) -> Result<Fault, AllocError>
+    ensures { IfOk result (CannotHold path.now) }
+{
+    let file = String::from_str(alloc, path)?;
+    Ok(match fault {
+        HoldFault::Unreadable(error) => Fault::of_reading(file, &error),
+        HoldFault::Missing => Fault::CannotRead(file),
+        HoldFault::Unwritable(_) => Fault::CannotWrite(file),
+        HoldFault::InTheWay(next) => Fault::CannotWrite(next),
+        HoldFault::OwnedByAnother => {
+            let shown = TerminalText(path);
+            let _ = writeln!(
+                faults,
+                "scramotp: {shown} belongs to another user: only that user and root can save it"
+            );
+            Fault::CannotWrite(file)
+        }
+        HoldFault::HeldByOthers => {
+            let shown = TerminalText(path);
+            let _ = writeln!(faults, "scramotp: other runs held {shown} for 30 seconds");
+            Fault::CannotRead(file)
+        }
+    })
+}
+
+// The text of a book's file, or None where there is no file. Faults: CannotRead, BadBook where the text is not UTF-8, and
+// NoMemory.
+#[tactic(auto, using(crate::proofs::lemmas::HeldFaults::held_unread))]
+fn text_of<R>(
+    alloc: Global,
+    file: &mut BookFile<'_, R>,
+    path: &str,
+) -> Result<Option<String>, Fault>
+where
+    R: Files + Clock + AllocGlobal,
+    R::File: Lockable,
+    ensures read { IfOk result (λ found. IfSome found (λ text. IsRead R.File.remaining (string_bytes text))) }
+    ensures err { IfErr result (IsUnheld R.File.remaining path.now) }
+{
+    let bytes = match file.read() {
+        Ok(Some(bytes)) => bytes,
+        Ok(None) => return Ok(None),
+        Err(error) => return Err(read_fault(alloc, path, &error)),
+    };
+    match String::from_utf8(bytes) {
+        Ok(text) => Ok(Some(text)),
+        Err(_) => Err(Fault::BadBook(BookWhy::Toml.number())),
+    }
+}
+
+/// Reads the book of `file`, whose text this is. Faults: BadBook where the text is no book, and NoMemory.
+pub fn read_held<'a, 'r, R>(
+    alloc: Global,
+    file: BookFile<'r, R>,
+    text: String,
+    path: &'a str,
+) -> Result<HeldBook<'a, FileStore<'r, R>>, Fault>
+where
+    R: Files + Clock + AllocGlobal,
+    R::File: Lockable,
+    ensures text { IfOk result (λ held. IsBookText (⟦<FileStore<'r, R> as BookStore>⟧.facts held.store).saved held.book) }
+    ensures saved { IfOk result (λ held. (⟦<FileStore<'r, R> as BookStore>⟧.facts held.store).saved ≡ string_bytes text) }
+    ensures path { IfOk result (λ held. held.path.now ≡ path.now) }
+    ensures err { IfErr result (λ fault. (fault ≡ Fault.NoMemory)
+        ⊎ ((found : BookFault) × (fault ≡ of_book found) × IsFirstFault (string_bytes text) found)) }
+{
+    let book = Book::read(alloc, text.as_bytes())?;
+    let store = FileStore::new(file, text);
+    Ok(HeldBook::new(book, store, path))
+}

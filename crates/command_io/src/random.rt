@@ -1,0 +1,50 @@
+//! The file that random bytes come from.
+ghost use Rattle.std.specs.Prelude.{◌≡◌, IfErr, IfOk};
+ghost use Rattle.std.specs.Io.KnownBytes.{Consumes};
+ghost use Rattle.command_io.specs.File.{IsFileUnread};
+
+use crate::file::{open_file, read_fault};
+use command_line::Fault;
+use std::alloc::Global;
+use std::fs::Files;
+use std::io::Read;
+
+/// An open file of random bytes.
+#[derive(Drop)]
+pub struct Random<'a, F> {
+    alloc: Global,
+    path: &'a str,
+    file: F,
+}
+
+impl<'a, F: Read + Drop> Random<'a, F> {
+    /// Opens the file at `path`. Faults: CannotRead and NoMemory.
+    pub fn open<R: Files<File = F> + AllocGlobal>(
+        rt: &R,
+        path: &'a str,
+    ) -> Result<Random<'a, F>, Fault>
+        ensures err { IfErr result (IsFileUnread path.now) }
+        ensures path { IfOk result (λ random. random.path.now ≡ path.now) }
+    {
+        let file = open_file(rt, path)?;
+        Ok(Random {
+            alloc: rt.alloc(),
+            path,
+            file,
+        })
+    }
+
+    /// The next `N` bytes of the file. CannotRead where it has fewer, and where a read fails; NoMemory
+    /// where memory runs out.
+    pub fn bytes<const N: usize>(&mut self) -> Result<[u8; N], Fault>
+        ensures next { IfOk result (λ bytes. Consumes (F.remaining self.old.file) (F.remaining self.new.file) bytes) }
+        ensures err { IfErr result (IsFileUnread self.old.path.now) }
+        ensures path { self.new.path.now ≡ self.old.path.now }
+    {
+        let mut bytes = [0u8; N];
+        match self.file.read_exact(&mut bytes) {
+            Ok(()) => Ok(bytes),
+            Err(error) => Err(read_fault(self.alloc, self.path, &error)),
+        }
+    }
+}
