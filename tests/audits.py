@@ -4,9 +4,9 @@
 Usage: audits.py PROGRAM
 
 Each row of data/audits/cases.csv, as audit_cases.py reads it. sha1.log is the example of RFC 5802, section 5, sha256.log that of
-RFC 7677, section 3. Then come the log that docs/OPERATING.md names; a login whose challenge has an extension, its proof made by Python's
-hmac; logs of a million lines; logs that are pipes; progress shown at a terminal; files that can't be
-read; and a book that another run holds.
+RFC 7677, section 3, and twice.log the log that docs/OPERATING.md names. Then come a login whose challenge has an extension, its proof made
+by Python's hmac; logs of a million lines; logs that are pipes; progress shown at a terminal; files that can't be read; and a book that
+another run holds.
 """
 import base64
 import fcntl
@@ -20,19 +20,18 @@ import time
 import suite
 from audit_cases import TABLE, cases
 from checks import equal
-from expected import AUDITS, login_keys, proved
-from suite import PROGRAM, SALT, audit_says, fault_text, sleeps, until
+from expected import AUDITS, SESSION_LEFT, login_keys, proved
+from suite import MOST_BYTES, PROGRAM, SALT, audit_says, fault_text, sleeps, until
 
 KEYS = AUDITS / "keys.toml"
 LOGIN = AUDITS / "sha1.log"
-ACCEPTED = "clean sessions=1 accepted=1 codes=0"
+CLEAN = "clean sessions=1 accepted=1 codes=0"
 
 # Why a line can be at fault, as docs/FORMATS.md has it.
 REASONS = {"cut", "not a line", "order", "mechs", "challenge", "outcome", "reply"}
 
-# Sessions of three lines and of four, in which the client leaves at once.
 HEADER = b"SCRAMLOG 1\n"
-GONE = b"S MECHS SCRAM-SHA-256 SCRAM-SHA-1\nC GONE\nE\n"
+# A session of four lines, in which the client gives up at once.
 ABORTED = b"S MECHS SCRAM-SHA-256 SCRAM-SHA-1\nC ABORT\nS NO :\nE\n"
 
 
@@ -69,11 +68,11 @@ def other_challenges(folder):
     text = LOGIN.read_text()
     equal((text.count(f"p={proof}\n"), text.count(f"v={signature}\n")), (1, 1), "the login's own proof and signature")
     for what, challenge, answer in [
-        ("an extension", first + ",x=1", ACCEPTED),
+        ("an extension", first + ",x=1", CLEAN),
         ("an extension with no value", first + ",X=,y=b", "line 4: challenge"),
-        ("two extensions", first + ",X==,y=a=b", ACCEPTED),
+        ("two extensions", first + ",X==,y=a=b", CLEAN),
         ("an extension that is mandatory", first + ",m=1", "line 4: challenge"),
-        ("an own part of 488 characters", first.replace("3rfcNHYJY1ZVvWVs7j", "3" * 488), ACCEPTED),
+        ("an own part of 488 characters", first.replace("3rfcNHYJY1ZVvWVs7j", "3" * 488), CLEAN),
         ("an own part of 489 characters", first.replace("3rfcNHYJY1ZVvWVs7j", "3" * 489), "line 4: challenge"),
     ]:
         other_proof, other_signature = signed(challenge)
@@ -91,7 +90,7 @@ def logs_from_pipes(folder):
     """A log is read as it comes, and not past the line at fault: a pipe that stays open keeps no audit waiting."""
     words = [PROGRAM, "audit", "--book", KEYS, "--log", "/dev/stdin"]
     done = subprocess.run(words, input=LOGIN.read_bytes(), capture_output=True, timeout=20)
-    equal((done.returncode, done.stdout, done.stderr), (0, ACCEPTED.encode() + b"\n", b""), "a pipe")
+    equal((done.returncode, done.stdout, done.stderr), (0, CLEAN.encode() + b"\n", b""), "a pipe")
     running = subprocess.Popen(words, stdin=subprocess.PIPE, stdout=subprocess.PIPE, stderr=subprocess.PIPE)
     running.stdin.write(HEADER + b"S MECHS SCRAM-SHA-1\n")
     running.stdin.flush()
@@ -101,7 +100,7 @@ def logs_from_pipes(folder):
     os.mkfifo(fifo)
     writer = threading.Thread(target=fifo.write_bytes, args=(LOGIN.read_bytes(),))
     writer.start()
-    audit_says(KEYS, fifo, ACCEPTED, "a FIFO")
+    audit_says(KEYS, fifo, CLEAN, "a FIFO")
     writer.join()
 
 
@@ -115,16 +114,16 @@ def shown_at(terminal):
 
 def progress_on_a_terminal(folder):
     """Where standard error is a terminal, a run of two seconds shows its progress there, and clears it at the end."""
-    for wait, shown in [(2.2, f"\r7 lines, {len(HEADER + GONE * 2)} bytes\r\x1b[K".encode()), (0, b"")]:
+    for wait, shown in [(2.2, f"\r7 lines, {len(HEADER + SESSION_LEFT * 2)} bytes\r\x1b[K".encode()), (0, b"")]:
         terminal, end = os.openpty()
         words = [PROGRAM, "audit", "--book", KEYS, "--log", "/dev/stdin"]
         running = subprocess.Popen(words, stdin=subprocess.PIPE, stdout=subprocess.PIPE, stderr=end)
-        running.stdin.write(HEADER + GONE)
+        running.stdin.write(HEADER + SESSION_LEFT)
         running.stdin.flush()
         # The program counts its two seconds from when it begins to read, and sleeps once it has read what is there.
         until(lambda: sleeps(running.pid))
         time.sleep(wait)
-        running.stdin.write(GONE)
+        running.stdin.write(SESSION_LEFT)
         running.stdin.close()
         equal((running.stdout.read(), running.wait(20)), (b"clean sessions=2 accepted=0 codes=0\n", 0), "an audit at a terminal")
         os.write(end, b"!")
@@ -133,28 +132,19 @@ def progress_on_a_terminal(folder):
         os.close(terminal)
 
 
-def long_lines_and_logs(folder):
-    """A line may have 6202 bytes, and a log 1000000 lines; the limit of lines is the audit's own."""
+def long_logs(folder):
+    """A log may have 1000000 lines; the limit is the audit's own."""
     log = pathlib.Path(folder, "log")
-    sessions = HEADER + GONE * 333333
-    unfinished = HEADER + ABORTED + GONE * 333332
+    sessions = HEADER + SESSION_LEFT * 333333
+    unfinished = HEADER + ABORTED + SESSION_LEFT * 333332
     for name, text, answer in [
         ("1000000 lines", sessions, "clean sessions=333333 accepted=0 codes=0"),
         ("1000000 lines and a byte", sessions + b"S", "too many lines"),
         ("1000000 unfinished lines", unfinished.removesuffix(b"E\n"), "line 1000001: cut"),
         ("1000001 lines", unfinished, "too many lines"),
-        ("6202 bytes without LF", HEADER + b"E" * 6202, "line 2: cut"),
-        ("6203 bytes without LF", HEADER + b"E" * 6203, "line 2: not a line"),
-        ("6202 bytes in the first line", b"E" * 6202, "line 1: cut"),
-        ("an empty line", HEADER + b"\n", "line 2: not a line"),
     ]:
         log.write_bytes(text)
         audit_says(KEYS, log, answer, name)
-
-
-def one_code_twice(folder):
-    """The log that docs/OPERATING.md shows, whose server took one code twice."""
-    audit_says(AUDITS / "hotp.toml", AUDITS.parent / "twice.log", "line 10: reply, due FAIL 6", "one code twice")
 
 
 def refuses(what, book, log, status, fault):
@@ -172,13 +162,13 @@ def unreadable_files(folder):
     refuses("a bad book, no log", book, nothing, 1, "bad book: 61")
     book.write_bytes(b"\xff")
     refuses("a book that is no text", book, LOGIN, 1, "bad book: 60")
-    book.write_bytes(b"#" * 16777217)
+    book.write_bytes(b"#" * (MOST_BYTES + 1))
     refuses("a long book", book, LOGIN, 3, f"cannot read {book}")
     refuses("no log", KEYS, nothing, 3, f"cannot read {nothing}")
     audit_says(KEYS, folder, "read fault", "a folder as log")
     book.write_bytes(KEYS.read_bytes())
     os.link(book, book.with_name("second"))
-    audit_says(book, LOGIN, ACCEPTED, "a book with two names")
+    audit_says(book, LOGIN, CLEAN, "a book with two names")
 
 
 def without_the_lock(folder):
@@ -191,17 +181,16 @@ def without_the_lock(folder):
     words = [PROGRAM, "audit", "--book", book, "--log", log]
     done = subprocess.run(words, capture_output=True, text=True, timeout=20)
     os.close(held)
-    equal((done.returncode, done.stdout, done.stderr), (0, ACCEPTED + "\n", ""), "a book that is held")
+    equal((done.returncode, done.stdout, done.stderr), (0, CLEAN + "\n", ""), "a book that is held")
     equal(sorted(os.listdir(folder)), ["book", "log"], "the folder")
 
 
 TESTS = [
     rows_of_table,
-    one_code_twice,
     other_challenges,
     logs_from_pipes,
     progress_on_a_terminal,
-    long_lines_and_logs,
+    long_logs,
     unreadable_files,
     without_the_lock,
 ]

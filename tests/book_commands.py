@@ -17,8 +17,8 @@ import tempfile
 from concurrent.futures import ThreadPoolExecutor
 
 import suite
-from checks import equal
-from suite import AS_NOBODY, BOOK_OF_USER, CODES, NOBODY, ROOT, fault_text, hotp, is_root, read_book, seen, token
+from checks import equal, holds
+from suite import AS_NOBODY, BOOK_OF_USER, CODES, MOST_BYTES, NOBODY, ROOT, fault_text, hotp, is_root, read_book, seen, token
 
 # A copy of the program that the user nobody can run, wherever the program is.
 COPY = tempfile.TemporaryDirectory()
@@ -37,9 +37,6 @@ GOOD = {
     "verify": ({"name": "user", "moment": "5"}, CODES[0], "PASS 5 0\n"),
     "unlock": ({"name": "user"}, "", "unlocked user\n"),
 }
-
-# The most bytes of a book.
-MOST = 16777216
 
 
 def run(command, options, text="", **how):
@@ -105,10 +102,11 @@ def order_of_enrol(folder):
 
 
 def order_of_a_new_book(folder):
-    """A bad password, or a random file of less than 64 bytes, makes no book."""
+    """A bad password, or a random file that is not there or has less than 64 bytes, makes no book."""
     book, random = os.path.join(folder, "book"), pathlib.Path(folder, "random")
     climb("enrol", {"random": random, "name": "user", "count": "1", "book": book}, "\n", [
         ((2, "", "bad password"), "pencil"),
+        ((3, "", f"cannot read {random}"), lambda: random.write_bytes(b"")),
         ((3, "", f"cannot read {random}"), lambda: random.write_bytes(bytes(63))),
         ((3, "", f"cannot read {random}"), lambda: equal(os.listdir(folder), ["random"], "folder")),
         ((3, "", f"cannot read {random}"), lambda: random.write_bytes(bytes(64))),
@@ -202,7 +200,7 @@ def longest(folder):
     """A book of 16777216 bytes is read, and one of one more byte is not."""
     book = os.path.join(folder, "book")
     for command in GOOD:
-        text = BOOK + "#" * (MOST - len(BOOK))
+        text = BOOK + "#" * (MOST_BYTES - len(BOOK))
         put(book, text + "#")
         says(f"{command} on one byte more", well(command, book), 3, "", f"cannot read {book}")
         put(book, text)
@@ -225,19 +223,6 @@ def unwritable(folder):
     os.chmod(folder, 0o755)
     for command in GOOD:
         succeeds(command, book, **AS_NOBODY)
-
-
-def full_output(folder):
-    """What a reply reports is saved before it is printed; where it can't be printed, nothing more is judged."""
-    book = put(os.path.join(folder, "book"), LOCKED)
-    with open("/dev/full", "w") as full:
-        for command in ["unlock", "enrol"]:
-            says(command, well(command, book, stdout=full), 3, None, "cannot write output")
-        options = {"book": book, **GOOD["verify"][0]}
-        done = run("verify", options, "\n".join(CODES[:2]), stdout=full)
-        says("verify", done, 3, None, "cannot write output")
-    equal(sorted(read_book(book)["accounts"]), ["bare", "new", "user"], "accounts")
-    equal((token(book)["next"], token(book)["failures"]), (1, 0), "the token")
 
 
 def each_line(folder):
@@ -287,7 +272,7 @@ def unlocked(folder):
         before = seen(book)
         succeeds("unlock", book)
         equal(token(book)["failures"], 0, "failures")
-        equal(seen(book)[0] != before[0], True, "whether the file is another")
+        holds(seen(book)[0] != before[0], "the file is the same one", before)
 
 
 def owner(folder):
@@ -303,7 +288,7 @@ def owner(folder):
     os.chown(book, 0, 0)
     os.chmod(book, 0o666)
     os.chown(folder, NOBODY.pw_uid, NOBODY.pw_gid)
-    is_refused(book, AS_NOBODY)
+    check_refused(book, AS_NOBODY)
 
 
 def shared_book(folder):
@@ -313,7 +298,7 @@ def shared_book(folder):
     for path, mode in [(book, 0o660), (folder, 0o2770)]:
         os.chown(path, 0, 4321)
         os.chmod(path, mode)
-    is_refused(book, {**AS_NOBODY, "extra_groups": [4321]})
+    check_refused(book, {**AS_NOBODY, "extra_groups": [4321]})
     succeeds("verify", book)
     equal((os.stat(book).st_uid, os.stat(book).st_gid, os.stat(book).st_mode & 0o7777), (0, 4321, 0o600), "access")
 
@@ -331,7 +316,7 @@ def group_of_others(folder):
         equal((found.st_uid, found.st_gid, found.st_mode & 0o7777), (NOBODY.pw_uid, NOBODY.pw_gid, 0o600), "access")
 
 
-def is_refused(book, runner):
+def check_refused(book, runner):
     """Each command on a book of another says why it is not worked on, and leaves it as it was."""
     before = seen(book)
     for command in GOOD:
@@ -446,7 +431,6 @@ TESTS = [
     unreadable,
     longest,
     unwritable,
-    full_output,
     each_line,
     random_bytes,
     unsaved,

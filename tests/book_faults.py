@@ -4,16 +4,16 @@
 Usage: book_faults.py PROGRAM
 
 In data/book_faults, each row of cases.csv is a book: a file beside it, in which `old`, which is there once, is
-replaced by `new`, and then `old2` by `new2`. `\\n`, `\\\\` and `\\xNN` are written as in Python. The row's answer is
-a fault's number, as docs/FORMATS.md has it, or what `unlock` prints for the account `user` in a book that it reads. A
-book is judged before a name is looked up, and one that is refused is left as it is.
-Exits at the first row that differs.
+replaced by `new`, and then `old2` by `new2`. `\\n`, `\\\\` and `\\xNN` are written as in Python. `base` names the file, and
+`shows` says what the row is about. The row's answer is a fault's number, as docs/FORMATS.md has it, or what `unlock` prints
+for the account `user` in a book that it reads. A book is judged before a name is looked up, and one that is refused is left
+as it is.
 """
 import csv
 import pathlib
 import subprocess
-import tempfile
 
+import suite
 from checks import equal
 from expected import BOOK_FAULTS, edited
 from suite import PROGRAM
@@ -40,14 +40,14 @@ def check(where, path, row):
         equal(path.read_bytes(), book, f"{where}: the book")
 
 
-def main():
+def rows_of_table(folder):
+    """Each row. Each number has one."""
     with open(TABLE, newline="", encoding="ascii") as table:
         rows = list(csv.DictReader(table))
-    with tempfile.TemporaryDirectory() as folder:
-        for line, row in enumerate(rows, 2):
-            check(f"{TABLE}: line {line}", pathlib.Path(folder, "book"), row)
+    for line, row in enumerate(rows, 2):
+        check(f"{TABLE.name}: line {line}: {row['shows']}", pathlib.Path(folder, "book"), row)
     equal(NUMBERS - {row["answer"] for row in rows}, set(), "the numbers that have no row")
     print(f"book_faults.py: {len(rows)} books as they should be")
 
 
-main()
+suite.run_all([rows_of_table])

@@ -22,7 +22,9 @@ import time
 import suite
 from checks import equal, holds
 from kills import kill_at_any_moment, start
-from suite import BOOK_OF_USER, CODES, PROGRAM, BookFolder, code, hotp, is_locked, read_book, seen, sleeps, taken, token, until
+from suite import (
+    BOOK_OF_USER, CODES, MOST_BYTES, PROGRAM, BookFolder, code, hotp, is_locked, read_book, seen, sleeps, taken, token, until,
+)
 
 BOOK = BOOK_OF_USER + hotp(look_ahead=3, limit=100)
 FIRST_CODE = CODES[0]
@@ -167,7 +169,7 @@ def locked_by_another(folder):
     waited = time.monotonic() - begun
     faults = f"scramotp: other runs held {book} for 30 seconds\nscramotp: cannot read {book}\n"
     equal((run.returncode, run.stdout, run.stderr), (3, "", faults), run)
-    holds(29 < waited < 60, waited)
+    holds(29 < waited < 60, "the seconds that the run waited, which should be 30", waited)
     run = start_verify(book, FIRST_CODE)
     time.sleep(0.5)
     equal(run.poll(), None)
@@ -338,7 +340,7 @@ def too_long(folder):
     with open(book, "w") as file:
         file.write(BOOK + "[accounts]\n")
         file.writelines(f"a{number} = {{}}\n" for number in range(560000))
-    holds(os.stat(book).st_size < 16777216, os.stat(book))
+    holds(os.stat(book).st_size < MOST_BYTES, "the book is too long to be read", os.stat(book))
     before = seen(book)
     run = verify(book, FIRST_CODE)
     equal((run.returncode, run.stdout, run.stderr), (3, "", f"scramotp: cannot write {book}\n"), run)
@@ -369,9 +371,9 @@ def input_limit(folder):
     """All lines together may have 16777216 bytes; the replies before that are printed."""
     book = os.path.join(folder, "book")
     write(book)
-    run = verify(book, "x\n" + "a" * 16777214)
+    run = verify(book, "x\n" + "a" * (MOST_BYTES - 2))
     equal((run.returncode, run.stdout, run.stderr), (1, "FAIL 5\nFAIL 5\n", ""))
-    run = verify(book, "x\n" + "a" * 16777215)
+    run = verify(book, "x\n" + "a" * (MOST_BYTES - 1))
     equal((run.returncode, run.stdout, run.stderr), (3, "FAIL 5\n", "scramotp: cannot read input\n"))
 
 

@@ -12,14 +12,14 @@ from typing import NamedTuple
 
 import suite
 from checks import equal
-from expected import AUDITS, keys_of, numbered
+from expected import ACCEPTED, AUDITS, AUTH, GONE, RESP, keys_of, numbered
 from suite import CODES, KEYS_OF_PENCIL, NONCES, PROGRAM, SALT, SECRET
 
 # RFC 5802's user with RFC 4226's token, of which two codes have failed.
 BOOK = (AUDITS / "hotp.toml").read_text().replace("failures = 0", "failures = 2")
-LOG = (AUDITS / "sha1.log").read_text()
-ACCEPTED, GONE = "".join(LOG.splitlines(True)[:6]), "C GONE\nE\n"
-AUTH, RESP = LOG.splitlines()[2][2:], LOG.splitlines()[4][2:]
+# The same with a token that is locked by 100 failures, and not by three.
+LIMIT_100 = BOOK.replace("limit = 3", "limit = 100")
+LOG = ACCEPTED + GONE
 RANDOM = bytes(range(64))
 
 
@@ -91,7 +91,7 @@ class Command(NamedTuple):
 
 def events(count):
     """Events of a hall: a login and so many codes; and its log."""
-    sent = [f"line 1 5 {AUTH}", f"line 1 5 {RESP}", *[f"line 1 5 CODE {code}" for code in CODES[:count]], "gone 1 5"]
+    sent = [f"line 1 5 {AUTH[2:]}", f"line 1 5 {RESP[2:]}", *[f"line 1 5 CODE {code}" for code in CODES[:count]], "gone 1 5"]
     text = "".join(f"{line}\n" for line in ["open 3rfcNHYJY1ZVvWVs7j", *sent])
     return text, numbered(login_log(count))
 

@@ -5,10 +5,11 @@ test is left out; and that sizes are not stale.
 Usage: documents.py
 
 Each link between pages leads to a page and a section of it. Each path between backquotes is one of the repository, and each file of
-sources that is named is one of a crate. Each name that a page of promises has between backquotes is one of the sources. So is each of
-a page for maintainers, or one of a script, where it has no space. run.py runs each script of this folder that takes a program, and
-docs/TESTING.md names each script. The sizes of docs/PROMISES.md are about those of the sources, and docs/TESTING.md tells how many rows
-the tables of vectors and of faulty books have. The kit that the Makefile names is that of docs/PROMISES.md and README.md.
+sources that is named is one of a crate. Each name that a page of promises has between backquotes is one of the sources. So is each of a
+page for maintainers, of docs/REFUSALS.md and of docs/TESTING.md, or one of a script, where it has no space. run.py runs each script of
+this folder that takes a program, and docs/TESTING.md names each script. The sizes of docs/PROMISES.md are about those of the sources, and
+docs/TESTING.md tells how many rows the tables of vectors and of faulty books have. The kit that the Makefile names is that of
+docs/PROMISES.md and README.md.
 """
 import csv
 import re
@@ -20,17 +21,17 @@ from checks import equal
 TOP = Path(__file__).resolve().parent.parent
 PAGES = [TOP / "README.md", TOP / "CONTRIBUTING.md", TOP / "CHANGELOG.md", *sorted(TOP.glob("docs/*.md")), TOP / "bench" / "README.md"]
 PROMISES = ["PROMISES.md", "LOG_PROMISES.md", "CONTRACTS.md"]
-MAINTAINERS = ["ARCHITECTURE.md", "DECISIONS.md", "MUTATIONS.md", "PROVING.md", "TIMES.md"]
+MAINTAINERS = ["ARCHITECTURE.md", "DECISIONS.md", "MUTATIONS.md", "PROVING.md", "REFUSALS.md", "TESTING.md", "TIMES.md"]
 
 # The kit by which all was proved: its name, and what tells its logic from that of another.
 KIT = re.search(r"^KIT = (.+)$", (TOP / "Makefile").read_text(encoding="utf-8"), re.MULTILINE).group(1)
 
 # What pages of promises have between backquotes that no source has: an example of a name, and the kit's own identity.
 NOT_OF_THE_SOURCES = {"IsX", *KIT.split()}
-# What pages for maintainers have that no source and no script has: calls that are not made, types and options, and the beginning of
-# some names.
+# What the pages of MAINTAINERS have that no source and no script has: calls that are not made, types and options, the beginning of some
+# names, and a command of the system.
 NOT_OF_THE_REPOSITORY = {"shrink_to_fit", "wrapping_abs", "getxattr", "O_NOFOLLOW", "O_NONBLOCK", "read_", "read_until", "as_mut_slice"}
-NOT_OF_THE_REPOSITORY |= {"i32", "self-test"}
+NOT_OF_THE_REPOSITORY |= {"i32", "self-test", "df"}
 
 
 def prose(page):
@@ -169,7 +170,9 @@ def main():
     equal([fault for page in promises for fault in unknown_names(page, paths, known)], [], "names that no source has")
     known |= words_of_scripts() | NOT_OF_THE_REPOSITORY
     maintainers = [TOP / "docs" / name for name in MAINTAINERS]
-    skipped = r"\.(rt|antt)$| |NAME"
+    # Files of sources are looked at above. The others are no names of one thing that is there: commands, and paths of any crate, of what
+    # is built or of several files.
+    skipped = r"\.(rt|antt)$| |NAME|/out/|\*"
     equal([fault for page in maintainers for fault in unknown_names(page, paths, known, skipped)], [], "names that nothing has")
     equal(list(stale_sizes()), [], "sizes that pages have")
     equal(list(pages_of_another_kit()), [], "pages that do not name the kit of the Makefile")

@@ -1,5 +1,5 @@
 """What several scripts compare with or begin from, worked out by Python and not by the program: codes, keys, salts of decoys, the texts
-of the tables' rows, logs with numbers, and orders of turns; and where the recorded logs, books and vectors are."""
+of the tables' rows, sessions, logs with numbers, and orders of turns; and where the recorded logs, books and vectors are."""
 import hashlib
 import hmac
 import itertools
@@ -14,6 +14,16 @@ AUDITS = DATA / "audits"
 BOOK_FAULTS = DATA / "book_faults"
 # keys.csv and codes.csv: keys and codes that other software made.
 VECTORS = DATA / "vectors"
+
+# The recorded login of RFC 5802's example, section 5, line by line without LF; of these, the lines from the mechanisms to the acceptance.
+LOGIN_LINES = (AUDITS / "sha1.log").read_text().splitlines()
+MECHS, AUTH, CONT, RESP, OK = LOGIN_LINES[1:6]
+# The text of that log up to the acceptance, and the text of the end of a session whose client goes away.
+ACCEPTED = "".join(f"{line}\n" for line in LOGIN_LINES[:6])
+GONE = "C GONE\nE\n"
+
+# A session of three lines in a log of version 1, in which the client leaves at once.
+SESSION_LEFT = f"{MECHS}\n{GONE}".encode()
 
 
 def code(secret, counter, digits=6, function="sha1"):

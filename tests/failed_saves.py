@@ -13,8 +13,8 @@ import pathlib
 import shims
 import suite
 from checks import equal, holds
-from command_table import ACCEPTED, BOOK, GONE, audited, book_of, commands, left, new_book, prepare, run
-from expected import numbered
+from command_table import BOOK, LIMIT_100, audited, book_of, commands, left, new_book, prepare, run
+from expected import ACCEPTED, GONE, numbered
 from suite import CODES, token
 
 # The token of BOOK (RFC 4226, appendix D): it lets a code lie three counters ahead, and of two in a row the first none.
@@ -97,7 +97,7 @@ def twice(here, command, lines, number, way):
     """A run whose save fails, and one after it that is sent the same: no counter is used by both."""
     first_save = 0 if command.name == "verify" else 1
     prepare(here.folder, command)
-    here.book.write_text(BOOK.replace("limit = 3", "limit = 100"))
+    here.book.write_text(LIMIT_100)
     opening, done = here.book.read_text(), number - first_save - 1
     turns = [*exchanged(0, lines)]
     log = printed(command.name, lines, [reply for reply, _, _ in turns[:done]], True)
@@ -119,7 +119,7 @@ def twice(here, command, lines, number, way):
 
 
 def codes_of_two_runs(folder):
-    """Whichever save of a code fails, no code passes in that run and in the next."""
+    """Whichever save of a code fails, no counter passes both in that run and in the next."""
     here = Saves(folder)
     for command in commands(0):
         if command.name in ("verify", "login", "hall"):
@@ -142,7 +142,7 @@ def first_saves(folder):
                 equal(here.fails(command, 1, way), here.unsaved(""), command.name, way)
                 equal(book_of(here.folder), command.books[way[-1]], command.name, way)
                 equal(left(here.folder), set(), command.name, way)
-                holds(way[-1] or here.book.read_text() == BOOK, way, here.book.read_text())
+                holds(way[-1] or here.book.read_text() == BOOK, "the old text is not kept", way, here.book.read_text())
     command = new_book()
     for call, how, is_made in [("link", "refused", False), ("fsync", "refused", False), ("link", "late", True)]:
         prepare(here.folder, command)

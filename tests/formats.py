@@ -7,7 +7,6 @@ The login of RFC 5802's user is the recorded one, data/audits/sha1.log. Of the c
 A block at which no test looks is a fault.
 """
 import gzip
-import os
 import subprocess
 import sys
 from pathlib import Path
@@ -15,7 +14,7 @@ from pathlib import Path
 import suite
 from checks import equal
 from expected import AUDITS
-from suite import PROGRAM, blocks_of
+from suite import PROGRAM, blocks_of, program_on_path
 
 DOCUMENT = Path(sys.argv[2]) if len(sys.argv) > 2 else Path(__file__).resolve().parent.parent / "docs" / "FORMATS.md"
 LOGIN, TWO_SESSIONS = "clean sessions=1 accepted=1 codes=0", "clean sessions=2 accepted=0 codes=0"
@@ -34,19 +33,17 @@ COMMANDS = block("Many logs")
 
 
 def with_files(folder, **logs):
-    """A folder with these logs, each with the book, and the program on the PATH that is returned."""
+    """Puts these logs into a folder, each with the book, and returns the environment of a run that finds the program."""
     here = Path(folder)
     for name, log in logs.items():
         (here / f"{name}.toml").write_text(BOOK)
         (here / f"{name}.log").write_text(log)
-    (here / "bin").mkdir()
-    os.symlink(PROGRAM, here / "bin" / "scramotp")
-    return {**os.environ, "PATH": f"{here / 'bin'}:{os.environ['PATH']}"}
+    return program_on_path(folder)
 
 
-def ran(folder, commands, path):
+def ran(folder, commands, environment):
     """The status, the lines and the faults of commands that run in a folder."""
-    done = subprocess.run(["sh", "-c", commands], cwd=folder, env=path, capture_output=True, text=True, timeout=60)
+    done = subprocess.run(["sh", "-c", commands], cwd=folder, env=environment, capture_output=True, text=True, timeout=60)
     return done.returncode, sorted(done.stdout.splitlines()), done.stderr
 
 
@@ -70,13 +67,13 @@ def many_logs(folder):
     lines = COMMANDS.splitlines(keepends=True)
     [at] = [at for at, line in enumerate(lines) if line.startswith("parallel ")]
     each, zipped = "".join(lines[:at]), "".join(lines[at + 1:])
-    path = with_files(folder, a=LOG, b=NUMBERED)
-    equal(ran(folder, each, path), (0, [f"a.log: {LOGIN}", f"b.log: {TWO_SESSIONS}"], ""), each)
+    environment = with_files(folder, a=LOG, b=NUMBERED)
+    equal(ran(folder, each, environment), (0, [f"a.log: {LOGIN}", f"b.log: {TWO_SESSIONS}"], ""), each)
     Path(folder, "b.log").write_text(NUMBERED.removesuffix("1 E\n"))
-    equal(ran(folder, each, path), (123, [f"a.log: {LOGIN}", "b.log: line 8: cut"], ""), each)
+    equal(ran(folder, each, environment), (123, [f"a.log: {LOGIN}", "b.log: line 8: cut"], ""), each)
     Path(folder, "old.toml").write_text(BOOK)
     Path(folder, "old.log.gz").write_bytes(gzip.compress(LOG.encode()))
-    equal(ran(folder, zipped, path), (0, [LOGIN], ""), zipped)
+    equal(ran(folder, zipped, environment), (0, [LOGIN], ""), zipped)
 
 
 def every_block(folder):

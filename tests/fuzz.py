@@ -22,7 +22,7 @@ import tempfile
 import tomllib
 
 from checks import equal
-from expected import AUDITS, BOOK_FAULTS, code, keys_of, numbered
+from expected import AUDITS, AUTH, BOOK_FAULTS, MECHS, RESP, code, keys_of, numbered
 from suite import PROGRAM, processor_time
 
 BOOKS = sorted(BOOK_FAULTS.glob("*.toml"))
@@ -238,7 +238,7 @@ def words_of_keys(_, chosen):
 
 def some_events(chosen):
     """Input lines of `hall`: sessions begin, log in as RFC 5802's example does, send codes and go away, in any order, with edits."""
-    mechs, auth, _, resp, *_ = [line[2:].encode() for line in (AUDITS / "sha1.log").read_text().splitlines()[1:]]
+    mechs, auth, resp = [line[2:].encode() for line in (MECHS, AUTH, RESP)]
     odd = [b"ABORT", b"AUTH SCRAM-SHA-1", b"AUTH PLAIN", b"CODE 755224", mechs, auth, resp]
     codes, said, begun = [b"CODE 755224", b"CODE 287082", b"CODE 000000", b"SYNC 755224 287082"], {}, 0
     for _ in range(chosen.randint(1, 60)):

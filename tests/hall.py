@@ -17,8 +17,8 @@ import clients
 import suite
 from checks import equal
 from clients import Account, book, dealt, gone, logged_in, of_session, opened, said, turned_away
-from expected import AUDITS, orders_of_turns
-from halls import AUTH, HOTP_BOOK, MECHS, OWN, RESP, Hall, clean, handed, login, next_lines
+from expected import AUDITS, AUTH, MECHS, RESP, orders_of_turns
+from halls import HOTP_BOOK, OWN, Hall, clean, handed, login, next_lines
 
 SHUFFLES = 1000
 # A folder of files in memory, where a system has one.

@@ -7,10 +7,9 @@ import time
 import suite
 from checks import equal
 from clients import opened, said
-from expected import AUDITS
+from expected import AUDITS, AUTH, CONT, OK, RESP
 from suite import PROGRAM
 
-MECHS, AUTH, CONT, RESP, OK = (AUDITS / "sha1.log").read_text().splitlines()[1:6]
 OWN = "3rfcNHYJY1ZVvWVs7j"
 # RFC 5802's user with RFC 4226's token
 HOTP_BOOK = (AUDITS / "hotp.toml").read_text()

@@ -1,10 +1,10 @@
 #!/usr/bin/env python3
-"""Installs the built program by `make install`, below folders of its own.
+"""Installs the built program by `make install`, below folders of its own, and runs it by `make run`.
 
 Usage: install.py PROGRAM
 
 Wherever DESTDIR and PREFIX lead, also where a name has a space, the program and the tools of tools/ come there, and no other file. A
-program that is not built, or is older than its sources, is refused. Needs `make`.
+program that is not built, or is older than its sources, is refused. `make run` prints the keys of RFC 5802's example. Needs `make`.
 """
 import os
 import pathlib
@@ -14,7 +14,7 @@ import subprocess
 
 import suite
 from checks import equal, holds
-from suite import PROGRAM
+from suite import KEYS_OF_PENCIL, PROGRAM
 
 TOP = pathlib.Path(__file__).resolve().parent.parent
 REFUSED = "The program is not built, or is older than its sources: run make build first."
@@ -23,9 +23,9 @@ OF_MAKE = {"DESTDIR", "PREFIX", "MAKEFLAGS", "MFLAGS", "MAKELEVEL"}
 ENVIRONMENT = {name: value for name, value in os.environ.items() if name not in OF_MAKE}
 
 
-def install(program, **folders):
-    """Installs a program with these variables."""
-    words = ["make", "install", *(f"{name}={value}" for name, value in {"PROGRAM": program, **folders}.items())]
+def made(target, program, **folders):
+    """Makes a target with this program and these variables."""
+    words = ["make", target, *(f"{name}={value}" for name, value in {"PROGRAM": program, **folders}.items())]
     return subprocess.run(words, cwd=TOP, env=ENVIRONMENT, stdin=subprocess.DEVNULL, capture_output=True, text=True, timeout=60)
 
 
@@ -45,7 +45,7 @@ def installed(folder):
         ("of a user", {"PREFIX": "{}/.local"}, ".local"),
     ]:
         to = pathlib.Path(folder, name)
-        done = install(program, **{variable: value.format(to) for variable, value in folders.items()})
+        done = made("install", program, **{variable: value.format(to) for variable, value in folders.items()})
         equal((done.returncode, done.stderr), (0, ""), name)
         due = {to / place / "share" / "scramotp" / tool: text for tool, text in tools.items()}
         due[to / place / "bin" / "scramotp"] = pathlib.Path(PROGRAM).read_bytes()
@@ -60,10 +60,16 @@ def refused(folder):
     to, old = pathlib.Path(folder, "to"), shutil.copy(PROGRAM, pathlib.Path(folder, "old"))
     os.utime(old, (0, 0))
     for program in [f"{folder}/none", old]:
-        done = install(program, DESTDIR=to)
+        done = made("install", program, DESTDIR=to)
         equal((done.returncode, done.stdout), (2, ""), program, done.stderr)
         holds(REFUSED in done.stderr.splitlines(), program, done.stderr)
         equal(files_of(to), [], program)
 
 
-suite.run_all([installed, refused])
+def shown(folder):
+    """`make run` prints the keys of the example by the program, where that is built and newer than its sources."""
+    done = made("run", shutil.copy(PROGRAM, folder))
+    equal((done.returncode, done.stdout, done.stderr), (0, KEYS_OF_PENCIL, ""))
+
+
+suite.run_all([installed, refused, shown])

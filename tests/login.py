@@ -15,16 +15,14 @@ import tomllib
 
 import suite
 from checks import equal, holds
-from expected import AUDITS, decoy_salt
+from expected import ACCEPTED, AUDITS, GONE, decoy_salt
 from halls import clean, handed, next_lines
-from suite import NONCES, PROGRAM, hotp
+from suite import MOST_BYTES, NONCES, PROGRAM, hotp
 
 # RFC 5802's and RFC 7677's own logins
 SHA1 = ["--mechanism", "SCRAM-SHA-1", *NONCES]
 SHA256 = ["--client-nonce", "rOprNGfwEbeRWgbNEkqO", "--server-nonce", "%hvYDpWUa2RaTCAfuxFIlj)hNlF$k0"]
 KEYS = (AUDITS / "keys.toml").read_text()
-ACCEPTED = "".join((AUDITS / "sha1.log").read_text().splitlines(True)[:6])
-GONE = "C GONE\nE\n"
 
 
 class Login(suite.BookFolder):
@@ -39,6 +37,12 @@ class Login(suite.BookFolder):
 
     def run(self, words, text):
         return subprocess.run(words, input=text.encode(), capture_output=True, timeout=60)
+
+    def log_of(self, words, text, status):
+        """Runs a login, compares its status and that no fault is told, and returns its log."""
+        done = self.run(words, text)
+        equal((done.returncode, done.stderr), (status, b""), done)
+        return done.stdout.decode()
 
     def prints(self, words, text, status, log, fault=""):
         """Runs a login, compares its status, log and fault, and looks that the socket's file is gone."""
@@ -74,17 +78,14 @@ def published_logins(folder):
 def refused_logins(folder):
     """Another password, and a user without keys for the mechanism: no code is sent, and no fault is told."""
     here = Login(folder, with_codes())
-    done = here.run(here.words(*SHA1), "pencils\n755224\n")
-    log = done.stdout.decode()
-    equal((done.returncode, done.stderr), (1, b""), done)
+    log = here.log_of(here.words(*SHA1), "pencils\n755224\n", 1)
     holds(log.endswith("\nS NO :e=invalid-proof\nE\n"), log)
     equal(log.count("\n"), 7, log)
     here.audited(log, clean(1, 0, 0))
-    done = here.run(here.words(), "pencil\n755224\n")
-    equal((done.returncode, done.stderr), (1, b""), done)
-    holds(done.stdout.decode().splitlines()[2].startswith("C AUTH SCRAM-SHA-256 :n,,n=user,r="), done)
-    holds(done.stdout.endswith(b"\nS NO :e=invalid-proof\nE\n"), done)
-    here.audited(done.stdout.decode(), clean(1, 0, 0))
+    log = here.log_of(here.words(), "pencil\n755224\n", 1)
+    holds(log.splitlines()[2].startswith("C AUTH SCRAM-SHA-256 :n,,n=user,r="), log)
+    holds(log.endswith("\nS NO :e=invalid-proof\nE\n"), log)
+    here.audited(log, clean(1, 0, 0))
     equal(here.account()["token"]["next"], 0)
 
 
@@ -93,35 +94,32 @@ def decoys(folder):
     here = Login(folder)
     salt = decoy_salt("nobody")
     for password in ["pencil", "other"]:
-        done = here.run(here.words("--mechanism", "SCRAM-SHA-1", name="nobody"), password)
-        lines = done.stdout.decode().splitlines()
-        equal((done.returncode, done.stderr, len(lines)), (1, b"", 7), done)
+        log = here.log_of(here.words("--mechanism", "SCRAM-SHA-1", name="nobody"), password, 1)
+        lines = log.splitlines()
+        equal(len(lines), 7, lines)
         holds(lines[3].endswith(f",s={base64.b64encode(salt).decode()},i=4096"), lines)
         equal(lines[5:], ["S NO :e=invalid-proof", "E"], lines)
-        here.audited(done.stdout.decode(), clean(1, 0, 0))
+        here.audited(log, clean(1, 0, 0))
 
 
 def names_to_act_as(folder):
     """Another name is refused after a right proof, unless the account may act as it."""
     here = Login(folder)
     words = here.words(*SHA1, "--as", "root")
-    done = here.run(words, "pencil\n")
-    lines = done.stdout.decode().splitlines()
-    equal((done.returncode, done.stderr), (1, b""), done)
+    log = here.log_of(words, "pencil\n", 1)
+    lines = log.splitlines()
     equal(lines[2], "C AUTH SCRAM-SHA-1 :n,a=root,n=user,r=fyko+d2lbbFgONRv9qkxdawL", lines)
     holds(lines[4].startswith("C RESP :c=bixhPXJvb3Qs,r=fyko+d2lbbFgONRv9qkxdawL3rfcNHYJY1ZVvWVs7j,p="), lines)
     equal(lines[5:], ["S NO :e=other-error", "E"], lines)
-    here.audited(done.stdout.decode(), clean(1, 0, 0))
+    here.audited(log, clean(1, 0, 0))
     here.put(KEYS.replace("act_as = []", 'act_as = ["root"]'))
-    done = here.run(words, "pencil\n")
-    equal((done.returncode, done.stderr), (0, b""), done)
-    holds(done.stdout.decode().splitlines()[5].startswith("S OK :v="), done)
-    here.audited(done.stdout.decode(), clean(1, 1, 0))
+    log = here.log_of(words, "pencil\n", 0)
+    holds(log.splitlines()[5].startswith("S OK :v="), log)
+    here.audited(log, clean(1, 1, 0))
     here.put(KEYS)
     here.prints(here.words(*SHA1), "pencil\n", 0, ACCEPTED + GONE)
-    done = here.run(here.words(*SHA1, "--as", "user"), "pencil\n")
-    equal(done.returncode, 0, done)
-    holds(b"\nC AUTH SCRAM-SHA-1 :n,a=user,n=user,r=" in done.stdout, done)
+    log = here.log_of(here.words(*SHA1, "--as", "user"), "pencil\n", 0)
+    holds("\nC AUTH SCRAM-SHA-1 :n,a=user,n=user,r=" in log, log)
 
 
 def client_faults(folder):
@@ -134,9 +132,8 @@ def client_faults(folder):
         here.audited(log, clean(1, 0, 0))
         equal(here.account()["token"]["next"], 0)
     here.put(with_codes().replace('server = "0f', 'server = "0e'))
-    done = here.run(here.words(*SHA1), "pencil\n755224\n")
-    log = done.stdout.decode()
-    equal((done.returncode, done.stderr, len(log.splitlines())), (1, b"", 8), done)
+    log = here.log_of(here.words(*SHA1), "pencil\n755224\n", 1)
+    equal(len(log.splitlines()), 8, log)
     holds(log.splitlines()[5].startswith("S OK :v="), log)
     holds("rmF9pqV8S7suAoZWja4dJRkFsKQ=" not in log, log)
     holds(log.endswith(GONE), log)
@@ -247,20 +244,18 @@ def random_nonces(folder):
         here.put(here.book.read_text())
         data = os.urandom(36)
         file.write_bytes(data)
-        done = here.run(here.words("--random", file, name=name), password)
-        equal((done.returncode, done.stderr), (0, b""), done)
+        log = here.log_of(here.words("--random", file, name=name), password, 0)
         client, service = (base64.b64encode(part).decode() for part in [data[:18], data[18:]])
-        lines = done.stdout.decode().splitlines()
+        lines = log.splitlines()
         holds(lines[2].endswith(f",r={client}"), lines)
         holds(f":r={client}{service},s=" in lines[3], lines)
-        here.audited(done.stdout.decode(), clean(1, 1, 0))
+        here.audited(log, clean(1, 1, 0))
     here.put(KEYS)
     file.write_bytes(data[:18])
     given = ["--mechanism", "SCRAM-SHA-1", "--random", file]
     for more, nonce in [(["--client-nonce", "me"], f"me{client}"), (["--server-nonce", "you"], f"{client}you")]:
-        done = here.run(here.words(*given, *more), "pencil")
-        equal(done.returncode, 0, done)
-        holds(f"S CONT :r={nonce},s=".encode() in done.stdout, done)
+        log = here.log_of(here.words(*given, *more), "pencil", 0)
+        holds(f"S CONT :r={nonce},s=" in log, log)
     fresh = {here.run(here.words("--mechanism", "SCRAM-SHA-1"), "pencil").stdout for _ in range(3)}
     equal(len(fresh), 3, fresh)
 
@@ -350,33 +345,14 @@ def long_inputs(folder):
     """More than 16777216 bytes of input are a fault; the log stands as far as it had come."""
     here = Login(folder, with_codes(limit=100))
     words = here.words(*SHA1, "--moment", "5")
-    here.refuses(words, b"a" * 16777217, 3, "cannot read input")
+    here.refuses(words, b"a" * (MOST_BYTES + 1), 3, "cannot read input")
     text = b"pencil\n755224\n"
     log = ACCEPTED + "C CODE 755224\nS PASS 5 0\n"
-    here.prints(words, text + b"a" * (16777217 - len(text)), 3, log, "cannot read input")
+    here.prints(words, text + b"a" * (MOST_BYTES + 1 - len(text)), 3, log, "cannot read input")
     here.audited(log, "line 9: cut")
     here.put(with_codes(limit=100))
     log = ACCEPTED + "C CODE 755224\nS PASS 5 0\nC BAD\nS NO :\nE\n"
-    here.prints(words, text + b"a" * (16777216 - len(text)), 1, log)
-
-
-def full_devices(folder):
-    """Where the log can't be printed, the login ends there: no code is judged that the log does not have."""
-    here = Login(folder, with_codes())
-    with open("/dev/full", "wb") as full:
-        done = subprocess.run(here.words(*SHA1), input=b"pencil\n755224\n", stdout=full, stderr=subprocess.PIPE)
-    equal((done.returncode, done.stderr), (3, b"scramotp: cannot write output\n"), done)
-    equal(here.account()["token"]["next"], 0)
-    holds(not os.path.lexists(here.socket), "the socket is left")
-
-
-def faulty_inputs(folder):
-    """Input that can't be read."""
-    here = Login(folder)
-    at = os.open(folder, os.O_RDONLY)
-    done = subprocess.run(here.words(*SHA1), stdin=at, capture_output=True)
-    os.close(at)
-    equal((done.returncode, done.stdout, done.stderr), (3, b"", b"scramotp: cannot read input\n"), done)
+    here.prints(words, text + b"a" * (MOST_BYTES - len(text)), 1, log)
 
 
 TESTS = [
@@ -396,8 +372,6 @@ TESTS = [
     sockets_in_the_way,
     another_at_the_path,
     long_inputs,
-    full_devices,
-    faulty_inputs,
 ]
 
 suite.run_all(TESTS)

@@ -25,7 +25,8 @@ import shims
 import suite
 from checks import equal, holds
 from command_table import (
-    BOOK, audited, book_of, command_of, commands, is_front, is_kept, left, login_log, new_book, prepare, printed_begins_clean, run,
+    BOOK, LIMIT_100, audited, book_of, command_of, commands, is_front, is_kept, left, login_log, new_book, prepare, printed_begins_clean,
+    run,
 )
 from expected import numbered
 from suite import AS_NOBODY, NOBODY, NONCES, PROGRAM, ROOT, totp
@@ -270,7 +271,7 @@ def signals(folder):
             equal(run(other, here.folder), (0, "enrolled other\n", ""), what)
             holds(left(here.folder) <= {"socket"}, what)
     killed = sum(ended[-number] for number in SIGNALS)
-    holds(all(ended[-number] > TIMES for number in SIGNALS), ended)
+    holds(all(ended[-number] > TIMES for number in SIGNALS), f"how many runs each signal ended, which should be more than {TIMES}", ended)
     print(f"machine.py: {killed} runs ended by a signal, of {ended.total()}")
 
 
@@ -295,7 +296,7 @@ def twenty_at_once(folder):
     for name, command in one_code.items():
         prepare(here.folder, command)
         if name != "new":
-            pathlib.Path(here.folder, "book").write_text(UNLIMITED)
+            pathlib.Path(here.folder, "book").write_text(LIMIT_100)
         first = (0, command.printed, "")
         answers = collections.Counter(together(here, [command] * 20))
         equal(answers, collections.Counter([first] + [late.get(name, first)] * 19), name)
@@ -307,15 +308,12 @@ def twenty_at_once(folder):
     print(f"machine.py: 20 runs at once of each of {len(one_code)} commands")
 
 
-UNLIMITED = BOOK.replace("limit = 3", "limit = 100")
-
-
 def all_at_once(folder):
     """Twenty runs of all commands over one book: each code passes once, whichever command it is sent to."""
     here, every = Machine(folder), commands()
     for _ in range(10):
         prepare(here.folder, every[0])
-        pathlib.Path(here.folder, "book").write_text(UNLIMITED)
+        pathlib.Path(here.folder, "book").write_text(LIMIT_100)
         started = random.sample(every * 2 + every[-2:], 20)
         answers, passed = together(here, started), []
         for command, (status, printed, fault) in zip(started, answers):

@@ -22,11 +22,14 @@ import suite
 from checks import equal, holds
 from clients import Account, Exchange, base, dealt, escaped, gone, logged_in, opened, said
 from command_table import BOOK, command_of, commands, login_log, prepare
-from expected import AUDITS
+from expected import AUDITS, SESSION_LEFT
 from halls import Hall, clean
-from suite import PROGRAM, sleeps
+from suite import MOST_BYTES, PROGRAM, sleeps
 
-MOST = 16777216
+# A hall's log of RFC 5802's login, and the events that lead to it.
+HALL = command_of("hall", 0)
+LOGGED = "".join(HALL.printed.splitlines(True)[:-2])
+EVENTS = HALL.text.removesuffix("gone 1 5\n")
 # How much more memory a run may have had late than early, in KiB.
 MORE = 256
 NO_AND_END = ["S NO :", "E"]
@@ -160,13 +163,14 @@ def lengths_of_files(folder):
     tried = 0
     for command in commands():
         if command.name in ("login", "hall"):
-            for size, want in [(MOST, (0, command.printed, "")), (MOST + 1, (3, "", f"scramotp: cannot read {folder}/book\n"))]:
+            for size, want in [(MOST_BYTES, (0, command.printed, "")), (MOST_BYTES + 1, (3, "", f"scramotp: cannot read {folder}/book\n"))]:
                 prepare(folder, command)
                 pathlib.Path(folder, "book").write_text(BOOK + "#" * (size - len(BOOK)))
                 equal(ended(command.in_folder(folder), command.text.encode()), want, command.name, size)
                 tried += 1
         if command.name == "enrol":
-            for size, want in [(MOST, (2, "", "scramotp: bad password\n")), (MOST + 1, (3, "", "scramotp: cannot read input\n"))]:
+            unread = (3, "", "scramotp: cannot read input\n")
+            for size, want in [(MOST_BYTES, (2, "", "scramotp: bad password\n")), (MOST_BYTES + 1, unread)]:
                 prepare(folder, command)
                 equal(ended(command.in_folder(folder), b"a" * size), want, size)
                 equal(pathlib.Path(folder, "book").read_text(), BOOK)
@@ -222,7 +226,6 @@ class Fed:
             return status, self.output.read().decode(), faults
 
 
-GONE = "S MECHS SCRAM-SHA-256 SCRAM-SHA-1\nC GONE\nE\n"
 # So many sessions of three lines that a log with its first line has a million lines.
 SESSIONS = 333333
 
@@ -230,7 +233,7 @@ SESSIONS = 333333
 def sessions(version):
     """The sessions of a log of a million lines, but for its first line, in parts."""
     for number in range(1, SESSIONS + 1):
-        yield (GONE if version == 1 else "".join(f"{number} {line}" for line in GONE.splitlines(True))).encode()
+        yield SESSION_LEFT if version == 1 else b"".join(b"%d %s" % (number, line) for line in SESSION_LEFT.splitlines(True))
 
 
 def long_logs(folder):
@@ -245,13 +248,13 @@ def long_logs(folder):
             late = run.most_memory()
             run.feed([more])
             equal(run.end(), answer, version, more)
-            holds(late - early <= MORE, version, early, late)
+            holds(late - early <= MORE, f"memory, which should be at most {MORE} KiB more late than early", version, early, late)
     print(f"oversized.py: 4 logs of a million lines, and a byte; the last took {late - early} KiB more than its first ten lines")
 
 
 def endless_logs(folder):
     """A log that never ends is read up to the first fault, or to the byte after its millionth line."""
-    endless = itertools.repeat(GONE.encode())
+    endless = itertools.repeat(SESSION_LEFT)
     wrong = b"S MECHS SCRAM-SHA-1\n"
     log = ["--log", "/dev/stdin"]
     audit, upgrade = [PROGRAM, "audit", "--book", AUDITS / "keys.toml", *log], [PROGRAM, "upgrade", *log]
@@ -303,7 +306,7 @@ def endless_codes(folder):
             begin, line, printed, failed, locked = rows[command.name]
             prepare(folder, command)
             pathlib.Path(folder, "book").write_text(BOOK.replace("failures = 2", "failures = 0"))
-            data, whole = line.encode(), (MOST - len(begin)) // len(line)
+            data, whole = line.encode(), (MOST_BYTES - len(begin)) // len(line)
             run = Fed(command.in_folder(folder))
             holds(run.feed([begin, *[data] * 1000]), "the run has ended early", command.name)
             early = run.most_memory()
@@ -313,14 +316,9 @@ def endless_codes(folder):
             status, output, faults = run.end()
             equal((status, faults), (3, "scramotp: cannot read input\n"), command.name)
             equal(output, printed + failed * 3 + locked * (whole - 3), command.name)
-            holds(late - early <= MORE, command.name, early, late)
+            holds(late - early <= MORE, f"memory, which should be at most {MORE} KiB more late than early", command.name, early, late)
             print(f"oversized.py: {whole} codes by {command.name}, which took {late - early} KiB more than the first 1000")
 
-
-# A hall's log of RFC 5802's login, and the events that lead to it.
-HALL = command_of("hall", 0)
-LOGGED = "".join(HALL.printed.splitlines(True)[:-2])
-EVENTS = HALL.text.removesuffix("gone 1 5\n")
 
 TESTS = [
     lengths_of_first_messages,

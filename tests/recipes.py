@@ -1,13 +1,13 @@
 #!/usr/bin/env python3
-"""Runs each block of docs/OPERATING.md as it stands there, and looks at what it leaves and prints.
+"""Runs each block of docs/OPERATING.md as it stands there, but for `useradd`, paths and the user, and looks at what it leaves and prints.
 
 Usage: recipes.py PROGRAM [OPERATING]
 
 Blocks are taken by their section and their language. Each is run by bash in a folder of its own that has an account book and a link to
-tools/, with the program on the PATH, and then all of them in one folder in their order; of a unit of systemd the command and the
-credentials are used. So each of the tools is tried, but for `serve-hall`, which serve_hall.py tries. Codes, keys and verifiers are those
-of RFC 4226 and RFC 7677, of keys.csv (made by Dovecot and GNU SASL), or of Python's hashlib. A block that no test runs is a fault. Takes
-the 30 seconds for which an edit waits for a book.
+tools/, with the program on the PATH, and then all but the first in one folder in their order; of a unit of systemd the command and the
+credentials are used. So each of the tools is tried, but for `serve-hall`, whose block serve_hall.py runs. Codes, keys and verifiers are
+those of RFC 4226 and RFC 7677, of keys.csv (made by Dovecot), or of Python's hashlib. A block that no test runs is a fault. Takes the 30
+seconds for which an edit waits for a book.
 """
 import base64
 import csv
@@ -28,8 +28,8 @@ import expected
 import suite
 from checks import equal, holds
 from expected import AUDITS, BOOK_FAULTS, VECTORS, keys_of
-from operating import TOOLS, book_of, does, environment, ran, start, with_tools
-from suite import BOOK_OF_USER, CODES, NOBODY, ROOT, code, hotp, is_locked, is_root, read_book, seen, until
+from suite import BOOK_OF_USER, CODES, NOBODY, ROOT, code, hotp, is_locked, is_root, program_on_path, read_book, seen, until
+from tool_runs import TOOLS, book_of, does, ran, start, with_tools
 
 DOCUMENT = Path(sys.argv[2]) if len(sys.argv) > 2 else Path(__file__).resolve().parent.parent / "docs" / "OPERATING.md"
 # Where the document finds the tools, and the folder that it makes.
@@ -49,13 +49,16 @@ compgen -v | grep -vxF "$before"; [ "$(umask)" = 0022 ] || umask
 exit $status
 """
 
+# The section of `serve-hall`, whose block goes on until an interrupt.
+SERVED = "Serve many logins with `hall`"
+
 # The blocks that a test has used.
 used = set()
 
 
 def all_blocks():
-    """Each block of the document: its section's title, its language and its text."""
-    return suite.blocks_of(DOCUMENT)
+    """Each block of the document but that of `serve-hall`: its section's title, its language and its text."""
+    return [block for block in suite.blocks_of(DOCUMENT) if block[0] != SERVED]
 
 
 def blocks(title, language="sh"):
@@ -395,8 +398,8 @@ def texts(mechanism, count, salt, stored, server):
     return f"{mechanism}${count}:{salt}${stored}:{server}", f"{{{mechanism}}}{count},{salt},{stored},{server}"
 
 
-def verifiers_of_others(folder):
-    """Verifiers that Dovecot and GNU SASL made come into a book as they are."""
+def keys_of_dovecot(folder):
+    """Keys that Dovecot made come into a book as they are."""
     with open(VECTORS / "keys.csv", newline="", encoding="ascii") as table:
         rows = [row for row in csv.DictReader(table) if "doveadm" in row["source"]][::6]
     into, _ = blocks("Keys from PostgreSQL and Dovecot")
@@ -468,7 +471,7 @@ def a_code_of_a_service(folder):
     page = DOCUMENT.read_text(encoding="utf-8").replace(INSTALLED, str(TOOLS)).replace(f"{PLACE}/book.toml", str(book))
     [allowed] = re.findall(r"^`web ALL=\(scramotp\) NOPASSWD: (.*)`$", page, re.M)
     [call] = re.findall(r"^`(printf .* \| sudo .*)`$", page, re.M)
-    sudo = Path(environment(folder)["PATH"].partition(":")[0], "sudo")
+    sudo = Path(program_on_path(folder)["PATH"].partition(":")[0], "sudo")
     sudo.write_text('#!/bin/sh\n[ "$1 $2 $3" = "-n -u scramotp" ] && shift 3 && echo "$@" >asked && exec "$@"\n')
     sudo.chmod(0o755)
     for it, status in [(CODES[0], 0), (CODES[0], 1), ("000000", 1)]:
@@ -589,7 +592,7 @@ def units(folder):
                 (credentials / name).write_bytes(source.read_bytes())
             holds((credentials / name).is_file(), name)
         [command] = re.findall(r"^ExecStart=(.*)$", unit, re.M)
-        done = subprocess.run(shlex.split(command), env=environment(folder, **where), capture_output=True, text=True)
+        done = subprocess.run(shlex.split(command), env=program_on_path(folder, **where), capture_output=True, text=True)
         answers.append((done.returncode, done.stdout, done.stderr))
     equal(answers, [(0, "enrolled user\n", ""), (0, "clean sessions=1 accepted=1 codes=0\n", "")])
     keys = read_book(state / "book.toml")["accounts"]["user"]["sha256"]
@@ -597,7 +600,7 @@ def units(folder):
 
 
 def every_block(folder):
-    """No block of the document is left out."""
+    """No block of the document is left out, but that of `serve-hall`."""
     equal(set(all_blocks()), used, set(all_blocks()) ^ used)
 
 
@@ -619,7 +622,7 @@ TESTS = [
     a_password_that_is_refused,
     a_removed_account,
     decoys,
-    verifiers_of_others,
+    keys_of_dovecot,
     a_verifier_there_and_back,
     a_code_in_a_script,
     a_code_of_a_service,

@@ -15,18 +15,17 @@ import shims
 import suite
 from checks import equal, holds
 from command_table import parsed_book, with_account
-from expected import AUDITS
+from expected import AUDITS, MECHS
 from suite import BOOK_OF_USER, PROGRAM, hotp
 
 BENCH = pathlib.Path(__file__).parent.parent / "crates" / "bench" / "out" / "bench"
 BOOK = (AUDITS / "sha256.toml").read_text() + hotp(look_ahead=3, limit=3)
-NOBODY = BOOK_OF_USER.replace("[accounts.user]", "[accounts]")
+NO_ACCOUNTS = BOOK_OF_USER.replace("[accounts.user]", "[accounts]")
 CODE = "C CODE 755224\nS PASS 5 0\n"
 # The recorded login of RFC 7677's example, section 3, with the first code of RFC 4226, appendix D, before its end.
 LOGGED = (AUDITS / "sha256.log").read_text().replace("C GONE\n", f"{CODE}C GONE\n")
 # That login in a hall, where another client comes after it and goes away last.
-MECHS = "S MECHS SCRAM-SHA-256 SCRAM-SHA-1\n"
-IN_HALL = f"SCRAMLOG 2\n1 {MECHS}2 {MECHS}" + "".join(f"1 {line}" for line in LOGGED.splitlines(True)[2:]) + "2 C GONE\n2 E\n"
+IN_HALL = f"SCRAMLOG 2\n1 {MECHS}\n2 {MECHS}\n" + "".join(f"1 {line}" for line in LOGGED.splitlines(True)[2:]) + "2 C GONE\n2 E\n"
 
 # The messages of RFC 5802, section 5, and RFC 7677, section 3; an error (RFC 5802, section 7); a name (section 5.1); and lines.
 TEXTS = [
@@ -61,16 +60,16 @@ def made(kind, folder, shim, refused):
 def each_refused(kind, folder, given):
     """What is printed of these calls where no request is refused; and for each request, what is printed where that is refused."""
     holds(BENCH.exists(), f"{BENCH} is not built: rt ci builds it, and so does make bench")
-    shim = shims.built("refuse", folder)
+    shim = shims.built("refuse_memory", folder)
     (pathlib.Path(folder) / "given").write_text(given)
     whole, requests = made(kind, folder, shim, 0)
     answers = [made(kind, folder, shim, number)[0] for number in range(1, requests + 1)]
     return whole, answers
 
 
-def is_told(folder, kind, logged, check):
-    """A service logs this. Where a request is refused, that is told once at most, and then this holds of its log. More than half of the
-    requests are those of the calls."""
+def count_told(folder, kind, logged, check):
+    """How many refused requests are told by a service that logs this. Each is told once at most, and then this holds of its log. More than
+    half of the requests are those of the calls."""
     whole, answers = each_refused(kind, folder, BOOK)
     equal(whole, f"{logged}out of memory 0\n", kind)
     told = 0
@@ -80,7 +79,7 @@ def is_told(folder, kind, logged, check):
             equal(times, "1\n", kind, answer)
             holds(check(log), kind, answer)
             told += 1
-    holds(2 * told > len(answers), kind, told, answers)
+    holds(2 * told > len(answers), "how many requests are told, which should be more than half of all", kind, told, answers)
     return told
 
 
@@ -93,22 +92,22 @@ def is_clean(folder, log):
 
 
 def calls_are_made_again(folder):
-    told = is_told(folder, "calls", LOGGED, LOGGED.__eq__)
+    told = count_told(folder, "calls", LOGGED, LOGGED.__eq__)
     print(f"refused_calls.py: {told} requests of the calls of a desk are refused")
 
 
 def turns_are_taken_again(folder):
-    told = is_told(folder, "turns", LOGGED, LOGGED.__eq__)
+    told = count_told(folder, "turns", LOGGED, LOGGED.__eq__)
     print(f"refused_calls.py: {told} requests of turns of a desk are refused")
 
 
 def a_service_can_be_ended(folder):
-    told = is_told(folder, "service", LOGGED, lambda log: is_clean(folder, log))
+    told = count_told(folder, "service", LOGGED, lambda log: is_clean(folder, log))
     print(f"refused_calls.py: {told} requests of a whole service are refused")
 
 
 def calls_of_a_hall_are_made_again(folder):
-    told = is_told(folder, "hall", IN_HALL, IN_HALL.__eq__)
+    told = count_told(folder, "hall", IN_HALL, IN_HALL.__eq__)
     print(f"refused_calls.py: {told} requests of the calls of a hall are refused")
 
 
@@ -145,16 +144,15 @@ def changed_again(folder, book):
             equal(same, texts, answer)
             equal(sum(times), 1, answer)
             counts = [sum(it) for it in zip(counts, times)]
-    holds(2 * sum(counts) > len(answers), counts, len(answers))
+    holds(2 * sum(counts) > len(answers), "how many requests are told, which should be more than half of all", counts, len(answers))
     return counts
 
 
 def books_are_changed_again(folder):
     """A book with a token, and one without accounts: the first account of a book takes memory, and the second has room."""
-    reading, writing, adding = map(sum, zip(*[changed_again(folder, book) for book in (BOOK, NOBODY)]))
-    holds(reading, reading, writing, adding)
-    holds(writing, reading, writing, adding)
-    holds(adding, reading, writing, adding)
+    reading, writing, adding = map(sum, zip(*[changed_again(folder, book) for book in (BOOK, NO_ACCOUNTS)]))
+    for what, count in [("reading a book", reading), ("writing it", writing), ("enrol", adding)]:
+        holds(count > 0, f"no request of {what} is refused")
     print(f"refused_calls.py: {reading} requests of reading a book, {writing} of writing it, {adding} of enrol are refused")
 
 

@@ -62,7 +62,7 @@ def all_harmless(folder, how):
             equal(answer, (0, command.printed, ""), what)
             holds(is_done(here.folder, command), what)
             count += 1
-    holds(count > 0, how)
+    holds(count > 0, "no read or write went wrong in this way", how)
     print(f"refused_io.py: {count} reads and writes {how}")
 
 
@@ -101,7 +101,7 @@ def all_told(folder, how, calls):
             holds(left(here.folder) <= may_be_left(how, what[2]), what, left(here.folder))
             holds(command.name not in ("login", "hall") or printed_begins_clean(here.folder, answer[1]), what)
             count, told = count + 1, told + (answer[0] == 3)
-    holds(2 * told > count, told, count)
+    holds(2 * told > count, "how many calls are told, which should be more than half of all", told, count)
     print(f"refused_io.py: {count} calls {how}, of which {told} are told")
 
 

@@ -28,7 +28,7 @@ def run_refused(folder, words, shim, refused):
 
 def each_is_told(folder, words, printed):
     """A command prints this, and nothing but its fault where a request is refused that it needs. Returns how many it needs."""
-    shim = shims.built("refuse", folder)
+    shim = shims.built("refuse_memory", folder)
     *whole, requests = run_refused(folder, words, shim, 0)
     equal(whole, [0, printed, ""], words)
     needed = 0
@@ -37,7 +37,7 @@ def each_is_told(folder, words, printed):
         if told != whole:
             equal(told, [3, "", "scramotp: no memory\n"], words, number)
             needed += 1
-    holds(2 * needed > requests, words, needed, requests)
+    holds(2 * needed > requests, "how many requests are needed, which should be more than half of all", words, needed, requests)
     return needed
 
 
@@ -71,7 +71,7 @@ def refused(command, folder, shim, number):
 
 def commands_are_refused(folder):
     """Whichever request of a command is refused, it ends well, or with a fault after what it could print; and what was told is saved."""
-    here, shim, told, count = os.path.join(folder, "files"), shims.built("refuse", folder), 0, 0
+    here, shim, told, count = os.path.join(folder, "files"), shims.built("refuse_memory", folder), 0, 0
     os.mkdir(here)
     for command in [*commands(), new_book()]:
         whole, requests = refused(command, here, shim, 0)
@@ -89,7 +89,7 @@ def commands_are_refused(folder):
                 holds(is_front(command, answer[1]), what)
                 told += 1
         count += requests
-    holds(2 * told > count, told, count)
+    holds(2 * told > count, "how many requests are told, which should be more than half of all", told, count)
     print(f"refused_memory.py: {count} requests of all commands are refused, of which {told} are told")
 
 

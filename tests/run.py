@@ -91,6 +91,8 @@ async def all_passed(program, tests):
 
 
 def main():
+    if len(sys.argv) < 2:
+        sys.exit(f"usage: {os.path.basename(sys.argv[0])} PROGRAM [TEST ..]")
     program, *tests = sys.argv[1:]
     # TERM ends the tests as Ctrl-C does.
     signal.signal(signal.SIGTERM, signal.default_int_handler)

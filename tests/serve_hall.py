@@ -3,7 +3,8 @@
 
 Usage: serve_hall.py PROGRAM
 
-What the clients send and have to be told is worked out by Python's hashlib and hmac.
+The tool is started as the block of docs/OPERATING.md starts it. What the clients send and have to be told is worked out by Python's hashlib
+and hmac.
 """
 import os
 import re
@@ -14,8 +15,14 @@ from pathlib import Path
 import clients
 import suite
 from checks import equal, holds
-from operating import TOOLS, book_of, does, start, with_tools
-from suite import BOOK_OF_USER, until
+from expected import MECHS
+from suite import BOOK_OF_USER, blocks_of, seen, until
+from tool_runs import TOOLS, book_of, does, ran, start, with_tools
+
+OPERATING = TOOLS.parent / "docs" / "OPERATING.md"
+[SERVE] = [block for title, _, block in blocks_of(OPERATING) if title == "Serve many logins with `hall`"]
+# Its commands without the parentheses, and the tool in the place of the shell, so that signals reach it.
+START = SERVE.removeprefix("(\n").removesuffix(")\n").replace("tools/", "exec tools/")
 
 
 def line_of(client):
@@ -48,7 +55,7 @@ def connected(folder):
 def greeted(folder):
     """Such a client, which was greeted."""
     client = connected(folder)
-    equal(line_of(client), clients.MECHS[2:], "the greeting")
+    equal(line_of(client), MECHS[2:], "the greeting")
     return client
 
 
@@ -67,7 +74,7 @@ def logs_in(client, account):
     equal(line_of(client), f"OK :v={it.signature}", "the login")
 
 
-def is_told(client, line, answer):
+def answers(client, line, answer):
     """The client sends a line, and its answer is of this form."""
     client.sendall(f"{line}\n".encode())
     told = line_of(client)
@@ -77,7 +84,7 @@ def is_told(client, line, answer):
 def serving_hall(folder, book, tool="tools/serve-hall"):
     """The tool over a book with this text."""
     with_tools(folder, book)
-    return start(folder, f"umask 077; exec {tool} book.toml hall.sock hall.log")
+    return start(folder, START.replace("tools/serve-hall", tool))
 
 
 def stops(serving):
@@ -109,7 +116,7 @@ def a_hall_of_your_own(folder):
     other.sendall(b"AUTH PLAIN\n")
     equal([line_of(other), line_of(other)], ["NO :", ""], "another mechanism")
     logs_in(good, account)
-    is_told(good, f"CODE {account.code(0)}", r"PASS \d+ 0")
+    answers(good, f"CODE {account.code(0)}", r"PASS \d+ 0")
     serves_until(serving, signal.SIGINT, folder, "clean sessions=5 accepted=1 codes=1")
     equal(line_of(good), "", "the client is told no more")
     equal([Path(folder, name).stat().st_mode & 0o777 for name in ["hall.log", "hall.log.toml"]], [0o600, 0o600], "the mode of the log")
@@ -125,13 +132,13 @@ def a_full_hall(folder):
     guests = [greeted(folder) for _ in range(64)]
     away = connected(folder)
     equal([line_of(away), line_of(away)], ["BUSY", ""], "the 65th")
-    is_told(guests[0], "ABORT", "NO :")
+    answers(guests[0], "ABORT", "NO :")
     equal(line_of(guests[0]), "", "one that has left")
     last = greeted(folder)
     begins_login(last, account)
     logs_in(last, account)
     for _ in range(2):
-        is_told(last, "CODE 755224", r"NOCODE \d+")
+        answers(last, "CODE 755224", r"NOCODE \d+")
     serves_until(serving, signal.SIGTERM, folder, "clean sessions=65 accepted=1 codes=0")
 
 
@@ -184,4 +191,53 @@ def a_slow_client(folder):
     serves_until(serving, signal.SIGINT, folder, "clean sessions=1 accepted=0 codes=0")
 
 
-suite.run_all([a_hall_of_your_own, a_full_hall, a_hall_that_halts, a_slow_client])
+def begins_no_hall(folder, name):
+    """The tool says that this file is there already, and leaves all that is there as it was."""
+    book = Path(folder, "book.toml")
+    before = seen(book), {*os.listdir(folder), "bin"}
+    equal(ran(folder, SERVE), (1, "", f"serve-hall: {name} is there already\n"), name)
+    equal((seen(book), set(os.listdir(folder))), before, name)
+
+
+def a_log_that_is_there(folder):
+    """A log that is there already stays as it is."""
+    with_tools(folder, BOOK_OF_USER)
+    log = Path(folder, "hall.log")
+    log.write_text("another\n")
+    begins_no_hall(folder, "hall.log")
+    equal(log.read_text(), "another\n", "the log")
+
+
+def a_socket_that_is_left(folder):
+    """A run that is killed leaves its socket. Another can serve there once that is removed."""
+    serving = serving_hall(folder, BOOK_OF_USER)
+    greeted(folder)
+    serving.kill()
+    serving.communicate()
+    for name in ["hall.log", "hall.log.toml"]:
+        Path(folder, name).unlink()
+    begins_no_hall(folder, "hall.sock")
+    Path(folder, "hall.sock").unlink()
+    serving = serving_hall(folder, BOOK_OF_USER)
+    greeted(folder)
+    serves_until(serving, signal.SIGINT, folder, "clean sessions=1 accepted=0 codes=0")
+
+
+def a_hall_that_does_not_begin(folder):
+    """Where the hall does not begin, no log and no socket is left, so the next start is not refused for them."""
+    with_tools(folder, "no book\n")
+    equal(ran(folder, SERVE), (1, "", "scramotp: bad book: 60\nserve-hall: the hall did not begin\n"), "a bad book")
+    equal([name for name in os.listdir(folder) if name.startswith("hall")], [], "what is left")
+
+
+suite.run_all(
+    [
+        a_hall_of_your_own,
+        a_full_hall,
+        a_hall_that_halts,
+        a_slow_client,
+        a_log_that_is_there,
+        a_socket_that_is_left,
+        a_hall_that_does_not_begin,
+    ]
+)

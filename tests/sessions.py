@@ -12,17 +12,18 @@ import pathlib
 import random
 
 import suite
-from expected import AUDITS, orders_of_turns
+from expected import AUDITS, AUTH, CONT, GONE, MECHS, OK, RESP, orders_of_turns
 from suite import audit_says, code
 
 BOOK = AUDITS / "hotp.toml"
 FIRST_LINE = "SCRAMLOG 2"
-MECHS, AUTH, CONT, RESP, OK, GONE, END = (AUDITS / "sha1.log").read_text().splitlines()[1:]
+# How a session ends whose client goes away.
+AWAY, END = GONE.splitlines()
 WRONG_PROOF = RESP.replace("p=v0X8", "p=w0X8")
 INVALID_PROOF = "S NO :e=invalid-proof"
 
-# The turns of three sessions: one is let in, one has a wrong proof, one asks for a mechanism that is not offered.
-LET_IN = [[MECHS], [AUTH, CONT], [RESP, OK, GONE, END]]
+# The turns of three sessions: one is let in, one has a wrong proof, one gives up.
+LET_IN = [[MECHS], [AUTH, CONT], [RESP, OK, AWAY, END]]
 REFUSED = [[MECHS], [AUTH, CONT], [WRONG_PROOF, INVALID_PROOF, END]]
 LEAVES = [[MECHS], ["C AUTH SCRAM-SHA-1", "S CONT :"], ["C ABORT", "S NO :", END]]
 # Of each, its outcome and what an audit says where the other stands in its place.
@@ -73,7 +74,7 @@ def all_orders(folder):
 def shuffled():
     """64 logins in a random order, each of which sends the code of a counter near the next one. The reply is the one due to
     the replies before it in the whole log: a code passes where its counter is none that passed before, nor before such a one."""
-    turns = [[MECHS], [AUTH, CONT], [RESP, OK], ["code"], ["reply"], [GONE, END]]
+    turns = [[MECHS], [AUTH, CONT], [RESP, OK], ["code"], ["reply"], [AWAY, END]]
     order = [which for which in range(64) for _ in turns]
     random.shuffle(order)
     left, numbers = [iter(turns) for _ in range(64)], numbers_of(order)
@@ -108,7 +109,7 @@ def shuffles(folder):
 def sixty_four(folder):
     """64 sessions are open, and one more is turned away; where it is offered mechanisms, its line is at fault."""
     opened = [FIRST_LINE] + [f"{number} {MECHS}" for number in range(1, 65)]
-    ended = [f"{number} {line}" for number in range(1, 65) for line in (GONE, END)]
+    ended = [f"{number} {line}" for number in range(1, 65) for line in (AWAY, END)]
     away = ["65 S BUSY", "65 E"]
     clean = "clean sessions=64 accepted=0 codes=0"
     answers("64 and one more", folder, opened + away + ended, clean)
@@ -125,13 +126,13 @@ def sixty_four(folder):
 
 def other_numbers(folder):
     """A number is a decimal from 1 to 9223372036854775806 without a leading zero, and each session has the next one."""
-    first, ended = [FIRST_LINE, f"1 {MECHS}"], [f"1 {GONE}", f"1 {END}"]
+    first, ended = [FIRST_LINE, f"1 {MECHS}"], [f"1 {AWAY}", f"1 {END}"]
     for number in ["0", "01", "-1", "+1", " 1", "", "9223372036854775807", "9223372036854775808", "18446744073709551617"]:
         answers(f"number {number!r}", folder, [FIRST_LINE, f"{number} {MECHS}"], "line 2: not a line")
-        answers(f"then number {number!r}", folder, first + [f"{number} {GONE}"], "line 3: not a line")
+        answers(f"then number {number!r}", folder, first + [f"{number} {AWAY}"], "line 3: not a line")
     for number in ["2", "9223372036854775806"]:
         answers(f"number {number}", folder, [FIRST_LINE, f"{number} {MECHS}"], "line 2: order")
-        answers(f"then number {number}", folder, first + [f"{number} {GONE}"], "line 3: order")
+        answers(f"then number {number}", folder, first + [f"{number} {AWAY}"], "line 3: order")
     answers("a number that is left out", folder, first + [f"3 {MECHS}"], "line 3: order")
     answers("a number that comes back", folder, first + ended + ended[:1], "line 5: order")
     answers("a number that begins again", folder, first + ended + first[1:], "line 5: order")

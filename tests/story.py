@@ -1,25 +1,25 @@
 #!/usr/bin/env python3
-"""Runs the story of README.md as it stands there, and compares each line that it prints and each status.
+"""Runs the quick start of README.md as it stands there, and compares each line that it prints and each status.
 
 Usage: story.py PROGRAM [README]
 
-The story is what the shell blocks of the section "A story" have. In them a line with `#>` is one that the command above it
+The story is what the shell blocks of the section "Quick start" have. In them a line with `#>` is one that the command above it
 prints, or `#> status N` where that command does not end with status 0. The story runs in a fresh folder, with the program
 on the PATH and a password on standard input. A block of the kind `console` shows some of its commands, after `$ `, and what they
-print: each has to be in the story, with the same output. Exits at the first difference.
+print: each has to be in the story, with the same output.
 """
 import os
 import re
 import subprocess
 import sys
-import tempfile
 from pathlib import Path
 
+import suite
 from checks import equal, holds
-from suite import PROGRAM
+from suite import program_on_path
 
 TOP = Path(__file__).resolve().parent.parent
-TITLE = "A story"
+TITLE = "Quick start"
 SHOWN = "#>"
 PASSWORD = "pencil\n"
 
@@ -74,36 +74,31 @@ def is_whole(command):
     return read.returncode == 0 and not read.stderr
 
 
-def ran(story):
+def ran(folder, story):
     """What each command of a story printed, and its status. All run in one bash, and none prints a fault."""
     mark = f"{os.urandom(16).hex()} "
     script = "".join(f"{command}printf '{mark}%d\\n' $?\n" for command, _, _ in story)
-    with tempfile.TemporaryDirectory() as folder:
-        commands = Path(folder, "bin")
-        commands.mkdir()
-        os.symlink(PROGRAM, commands / "scramotp")
-        path = f"{commands}:{os.environ['PATH']}"
-        done = subprocess.run(
-            ["bash", "-c", script], cwd=folder, env={**os.environ, "PATH": path}, input=PASSWORD,
-            capture_output=True, text=True, timeout=120,
-        )
+    done = subprocess.run(
+        ["bash", "-c", script], cwd=folder, env=program_on_path(folder), input=PASSWORD, capture_output=True, text=True, timeout=120,
+    )
     equal(done.stderr, "", "the faults of the story")
     parts = re.split(rf"{mark}(\d+)\n", done.stdout)
     return list(zip(parts[0::2], map(int, parts[1::2])))
 
 
-def main():
+def quick_start(folder):
+    """Each command of the story prints what the document shows, and ends with that status."""
     text = Path(sys.argv[2] if len(sys.argv) > 2 else TOP / "README.md").read_text(encoding="utf-8")
     story = [step for block in blocks(text, TITLE) for step in steps(block)]
     equal([word for word in NEEDED if not any(word in command for command, _, _ in story)], [], "what the story lacks")
     shown = [(without_comment(command), printed) for command, printed, _ in story]
     holds(excerpts(text), "the document shows no command at its head")
     equal([part for part in excerpts(text) if part not in shown], [], "what is shown and not in the story")
-    answers = ran(story)
+    answers = ran(folder, story)
     for (command, printed, status), (output, ended) in zip(story, answers):
         equal((output.splitlines(), ended), (printed, status), command)
     equal(len(answers), len(story), "the number of commands that ran")
     print(f"story.py: {len(story)} commands do as README says")
 
 
-main()
+suite.run_all([quick_start])

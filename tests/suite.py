@@ -1,5 +1,5 @@
-"""What several scripts share: the account `user` with RFC 4226's secret, a folder with a book, the user nobody, what is asked of books,
-locks and logs, and the run of all tests."""
+"""What several scripts share: the account `user` with RFC 4226's secret, a folder with a book, the program on the PATH, the user nobody, a
+limit, what is asked of books, locks and logs, and the run of all tests."""
 import fcntl
 import functools
 import os
@@ -17,6 +17,8 @@ import tomllib
 import expected
 from checks import equal
 
+if len(sys.argv) < 2:
+    sys.exit(f"usage: {os.path.basename(sys.argv[0])} PROGRAM")
 PROGRAM = os.path.abspath(sys.argv[1])
 
 # The times at which runs are stopped and the orders that are tried follow from this number: SEED=N in the environment takes the same.
@@ -41,10 +43,14 @@ def is_root():
 SECRET = "3132333435363738393031323334353637383930"
 CODES = ["755224", "287082", "359152", "969429", "338314", "254676", "287922", "162583", "399871", "520489"]
 
-# RFC 5802, section 5: the salt, the keys that `keys` prints, and the nonces; the password is `pencil`, and the count 4096.
+# RFC 5802, section 5: the salt and the nonces; the password is `pencil`, and the count 4096. The keys are those of that example by
+# Python's hashlib: the RFC prints only the proof and the signature that they make.
 SALT = "4125c247e43ab1e93c6dff76"
 KEYS_OF_PENCIL = "stored=e9d94660c39d65c38fbad91c358f14da0eef2bd6\nserver=0fe09258b3ac852ba502cc62ba903eaacdbf7d31\n"
 NONCES = ["--client-nonce", "fyko+d2lbbFgONRv9qkxdawL", "--server-nonce", "3rfcNHYJY1ZVvWVs7j"]
+
+# The most bytes of a book, and of the input that a command reads.
+MOST_BYTES = 16777216
 
 BOOK_OF_USER = """format = 1
 decoy_key = "000102030405060708090a0b0c0d0e0f101112131415161718191a1b1c1d1e1f"
@@ -109,6 +115,15 @@ def seen(path):
     found = os.lstat(path)
     with open(path, "rb") as file:
         return found.st_ino, found.st_mode, found.st_uid, found.st_gid, found.st_mtime_ns, found.st_ctime_ns, file.read()
+
+
+def program_on_path(folder, **more):
+    """The environment of a run that finds the program on the PATH, by a link in the folder `bin` of this folder; with these variables."""
+    commands = pathlib.Path(folder, "bin")
+    commands.mkdir(exist_ok=True)
+    if not os.path.lexists(commands / "scramotp"):
+        os.symlink(PROGRAM, commands / "scramotp")
+    return {**os.environ, "PATH": f"{commands}:{os.environ['PATH']}", **more}
 
 
 def fault_text(fault):

@@ -4,7 +4,7 @@
 Usage: terminal.py PROGRAM
 
 Standard input and standard error are both a terminal, or one of them is, and standard output is a pipe. Codes are those of
-RFC 4226, appendix D, and the keys and the login those of RFC 5802, section 5.
+RFC 4226, appendix D, the login is that of RFC 5802, section 5, and the keys are those of that example, by Python's hashlib.
 """
 import os
 import select
@@ -14,7 +14,7 @@ from pathlib import Path
 
 import suite
 from checks import equal
-from expected import AUDITS
+from expected import ACCEPTED, AUDITS, GONE, MECHS
 from suite import BOOK_OF_USER, KEYS_OF_PENCIL, NONCES, PROGRAM, SALT, hotp
 
 PASSWORD = "Type the password and press Enter; it is shown as you type.\r\n"
@@ -22,10 +22,10 @@ BOTH = "Type the password and press Enter, then one code a line; all is shown as
 CODES = "Type one code a line; it is shown as you type. Ctrl-D ends.\r\n"
 EVENTS = "Type one event a line: open, line or gone; Ctrl-D ends.\r\n"
 KEYS = ["keys", "--mechanism", "SCRAM-SHA-1", "--salt", SALT, "--count", "4096"]
-# The log of RFC 5802's login, up to its acceptance, and of a code.
-LOGIN_AND_CODE = "".join((AUDITS / "sha1.log").read_text().splitlines(True)[:6]) + "C CODE 755224\nS PASS 5 0\nC GONE\nE\n"
+# The log of RFC 5802's login and a code.
+LOGIN_AND_CODE = ACCEPTED + "C CODE 755224\nS PASS 5 0\n" + GONE
 # The log of a client that comes and goes away.
-OPENED_AND_GONE = "SCRAMLOG 2\n1 S MECHS SCRAM-SHA-256 SCRAM-SHA-1\n1 C GONE\n1 E\n"
+OPENED_AND_GONE = f"SCRAMLOG 2\n1 {MECHS}\n1 C GONE\n1 E\n"
 # What ends the input that is typed at a terminal.
 END = "\x04"
 

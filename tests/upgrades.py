@@ -15,12 +15,10 @@ import subprocess
 import suite
 from audit_cases import cases
 from checks import equal, holds
-from expected import AUDITS, numbered
+from expected import AUDITS, SESSION_LEFT, numbered
 from suite import PROGRAM, processor_time
 
 LOGIN = (AUDITS / "sha1.log").read_bytes()
-MECHS = b"S MECHS SCRAM-SHA-256 SCRAM-SHA-1\n"
-GONE = MECHS + b"C GONE\nE\n"
 
 
 def run(words, log):
@@ -76,24 +74,21 @@ def faults(folder):
     missing = pathlib.Path(folder, "missing")
     done = subprocess.run([*words[:3], missing], capture_output=True, text=True, timeout=60)
     equal((done.returncode, done.stdout, done.stderr), (3, "", f"scramotp: cannot read {missing}\n"), "no log")
-    with open("/dev/full", "wb") as full:
-        done = subprocess.run([*words[:3], AUDITS / "sha1.log"], stdout=full, stderr=subprocess.PIPE, text=True, timeout=60)
-    equal((done.returncode, done.stderr), (3, "scramotp: cannot write output\n"), "a full device")
 
 
 def long_logs(folder):
     """1000000 lines are upgraded, and 990000 in at most 2 seconds of processor time, the best of three runs."""
-    log = b"SCRAMLOG 1\n" + GONE * 333333
+    log = b"SCRAMLOG 1\n" + SESSION_LEFT * 333333
     equal(run(["upgrade"], log), (0, numbered(log.decode()).encode(), b""), "1000000 lines")
     path = pathlib.Path(folder, "log")
-    path.write_bytes(b"SCRAMLOG 1\n" + GONE * 330000)
+    path.write_bytes(b"SCRAMLOG 1\n" + SESSION_LEFT * 330000)
     times = []
     for _ in range(3):
         before = processor_time()
         subprocess.run([PROGRAM, "upgrade", "--log", path], stdout=subprocess.DEVNULL, check=True)
         times.append(processor_time() - before)
     print(f"upgrades.py: 990000 lines in {min(times):.2f} s of processor time")
-    holds(min(times) <= 2, times)
+    holds(min(times) <= 2, "the seconds of each run, of which the least should be at most 2", times)
 
 
 suite.run_all([same_answers, faults, long_logs])

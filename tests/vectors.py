@@ -4,12 +4,12 @@
 Usage: vectors.py PROGRAM
 
 In data/vectors, keys.csv has the keys of passwords as GNU SASL and Dovecot made them, and codes.csv
-one-time codes as oathtool made them; the last column of a row says which. Exits at the first row that
-differs, and where a table has none.
+one-time codes as oathtool made them; the last column of a row says which.
 """
 import csv
 import subprocess
 
+import suite
 from checks import equal, holds
 from expected import VECTORS
 from suite import PROGRAM
@@ -31,16 +31,24 @@ def codes(row):
     return words, "", row["code"] + "\n"
 
 
-def main():
-    for name, case in [("keys.csv", keys), ("codes.csv", codes)]:
-        with open(VECTORS / name, newline="", encoding="utf-8") as table:
-            rows = list(csv.DictReader(table))
-        holds(rows, f"{name} has no rows")
-        for row in rows:
-            words, line, want = case(row)
-            done = subprocess.run([PROGRAM, *words], input=line.encode(), capture_output=True)
-            equal((done.returncode, done.stdout, done.stderr), (0, want.encode(), b""), words)
-        print(f"{name}: {len(rows)} rows as made elsewhere")
+def each_row(name, case):
+    """Compares what is printed for each row of a table, which has one at least."""
+    with open(VECTORS / name, newline="", encoding="utf-8") as table:
+        rows = list(csv.DictReader(table))
+    holds(rows, f"{name} has no rows")
+    for row in rows:
+        words, line, want = case(row)
+        done = subprocess.run([PROGRAM, *words], input=line.encode(), capture_output=True)
+        equal((done.returncode, done.stdout, done.stderr), (0, want.encode(), b""), words)
+    print(f"vectors.py: {name}: {len(rows)} rows as made elsewhere")
 
 
-main()
+def table_of_keys(folder):
+    each_row("keys.csv", keys)
+
+
+def table_of_codes(folder):
+    each_row("codes.csv", codes)
+
+
+suite.run_all([table_of_keys, table_of_codes])

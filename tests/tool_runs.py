@@ -1,26 +1,17 @@
 """What the scripts that run the tools share: the folder tools/, and blocks of shell in a folder that has a link to it and an account book,
 with the program on the PATH."""
-import os
 import subprocess
 from pathlib import Path
 
 from checks import equal
-from suite import PROGRAM, read_book
+from suite import program_on_path, read_book
 
 TOOLS = Path(__file__).resolve().parent.parent / "tools"
 
 
-def environment(folder, **more):
-    commands = Path(folder, "bin")
-    commands.mkdir(exist_ok=True)
-    if not os.path.lexists(commands / "scramotp"):
-        os.symlink(PROGRAM, commands / "scramotp")
-    return {**os.environ, "PATH": f"{commands}:{os.environ['PATH']}", **more}
-
-
 def start(folder, block, **more):
     streams = dict.fromkeys(["stdin", "stdout", "stderr"], subprocess.PIPE)
-    return subprocess.Popen(["bash", "-c", block], cwd=folder, env=environment(folder, **more), text=True, **streams)
+    return subprocess.Popen(["bash", "-c", block], cwd=folder, env=program_on_path(folder, **more), text=True, **streams)
 
 
 def ran(folder, block, text="", **more):
