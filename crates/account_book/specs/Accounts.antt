@@ -12,7 +12,7 @@ use Rattle.std.specs.Map.{lookup, remove_entry, set_value}
 use Rattle.book_format.specs.Account.{AccountFields}
 use Rattle.book_format.specs.Book.{BookFields}
 
--- names are in byte order
+-- the order of names: that of their bytes
 abbrev pub name_cmp : List ℕ → List ℕ → Ordering
 name_cmp = slice_cmp nat_cmp
 

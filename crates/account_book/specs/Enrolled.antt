@@ -8,7 +8,7 @@ use Rattle.book_format.specs.Account.{AccountFields}
 use Rattle.book_format.specs.declared.account.MechKeys.{MechKeys}
 
 -- the keys of a password for a mechanism, with the salt and the count that they are made with
-abbrev pub keys_from : Mechanism → List ℕ → List ℕ → ℕ → MechKeys
+abbrev pub keys_from : Mechanism → (password salt : List ℕ) → (count : ℕ) → MechKeys
 keys_from m password salt count =
     let keys = password_keys m password salt count in
     record {
@@ -19,7 +19,7 @@ keys_from m password salt count =
     }
 
 -- an account with the keys of a password for both mechanisms, which acts as no other name and has no token
-abbrev pub enrolled : List ℕ → List ℕ → List ℕ → ℕ → AccountFields
+abbrev pub enrolled : (password salt1 salt256 : List ℕ) → (count : ℕ) → AccountFields
 enrolled password salt1 salt256 count = record {
   sha1 = Some (keys_from ScramSha1 password salt1 count);
   sha256 = Some (keys_from ScramSha256 password salt256 count);

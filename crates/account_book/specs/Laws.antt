@@ -10,13 +10,13 @@ use Rattle.account_book.specs.Accounts.{account_at, with_account, with_changed}
 use Rattle.account_book.specs.View.{entry_in}
 use Rattle.account_book.specs.Tokens.{token_at, with_token}
 
--- the account of this name has the other token, and every other name the token that it had
+-- the account of this name has the token that it is given, and every other name has the token that it had
 abbrev pub TokensAreApart : Type 0
 TokensAreApart = (old : BookFields) (name : List ℕ) (token next : TokenFields) → token_at old name ≡ Some token
     → (other : List ℕ) → token_at (with_changed old name (with_token next)) other
     ≡ cond (bytes_eq name other) (Some next) (token_at old other)
 
--- what a server keeps of a name stays as it was: it has no token in it
+-- what a server keeps of each name stays as it was, since a token is no part of it
 abbrev pub EntriesStay : Type 0
 EntriesStay = (old : BookFields) (name : List ℕ) (token next : TokenFields) → token_at old name ≡ Some token
     → (m : Mechanism) (other : List ℕ) → entry_in (with_changed old name (with_token next)) m other ≡ entry_in old m other

@@ -5,14 +5,14 @@ use Rattle.std.specs.declared.result.Result.TheVariants.{Ok, Err}
 use Rattle.account_book.specs.declared.store.StoreFault.{StoreFault}
 
 -- what is known of a store: the text that it holds, the text that the last save was given, whether it has
--- failed, and how many saves it has taken up
+-- failed, and how many saves it has begun
 pub record StoreFacts : Type 0 where
   pub saved : List ℕ
   pub asked : List ℕ
   pub failed : Bool
   pub saves : ℕ
 
--- a store that had not failed takes up a save of this text
+-- a store that had not failed begins a save of this text
 pub record BeginsSave (old : StoreFacts) (text : List ℕ) (new : StoreFacts) : Type 0 where
   pub working : old.failed ≡ false
   pub asked : new.asked ≡ text

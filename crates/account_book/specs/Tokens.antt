@@ -32,8 +32,8 @@ pub record IsAttempt (old : BookFields) (name : List ℕ) (token : TokenFields) 
 
 -- what comes of an attempt on the account of this name: a reply, where it has a token; where there is no account of the
 -- name or it has no token, no reply and no change
-abbrev pub IsAnswered : BookFields → List ℕ → ℕ → CodeTexts → Option Reply → BookFields → Type 0
-IsAnswered old name moment sent answer new =
+abbrev pub IsBookAttempt : BookFields → List ℕ → ℕ → CodeTexts → Option Reply → BookFields → Type 0
+IsBookAttempt old name moment sent answer new =
     MatchOption (token_at old name)
     ((answer ≡ None) × (new ≡ old))
     (λ token. (reply : Reply) × (answer ≡ Some reply) × IsAttempt old name token moment sent reply new)

@@ -16,7 +16,7 @@ abbrev pub mech_keys : Mechanism → AccountFields → Option MechKeys
 mech_keys ScramSha1 account = account.sha1
 mech_keys ScramSha256 account = account.sha256
 
--- an account that has keys, as their mechanism sees it
+-- what a server keeps of an account that has these keys
 abbrev pub keys_entry : List (List ℕ) → MechKeys → Entry
 keys_entry act_as keys = record { salt = keys.salt; count = keys.count; keys = Some (keys_of keys.keys); act_as = act_as }
 

@@ -67,7 +67,7 @@ impl Book {
         self.contents.accounts.get(name)
     }
 
-    /// Removes the account of this name. Returns whether there was one; else nothing changes.
+    /// Removes the account of this name. Returns whether there was one; where there was none, nothing changes.
     pub fn remove(&mut self, name: &PlainName) -> bool
         ensures found { result ≡ is_some (account_at self.old name.now) }
         ensures removed { IsRemoved self.old name.now self.new }

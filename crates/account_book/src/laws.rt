@@ -35,7 +35,7 @@ pub fn tokens_are_apart()
     ensures { TokensAreApart }
 {}
 
-/// Where one account gets another token, a server keeps what it kept of every name: no token is in it.
+/// Where one account gets another token, the entry of every name is as it was: no token is in an entry.
 pub fn entries_stay()
     ensures { EntriesStay }
 {}

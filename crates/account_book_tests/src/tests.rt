@@ -1,5 +1,5 @@
-//! What each call does, by values from outside: the published examples of RFC 5802, RFC 7677 and RFC 4226,
-//! and decoys' salts by Python's hmac.
+//! What each call does, by values from outside: the published examples of RFC 5802, RFC 7677 and RFC 4226, the keys of the
+//! former two by Python's hashlib, and decoys' salts by its hmac.
 use account_book::{Book, EnrolFault};
 use scram_text::{Password, PlainName, Salt};
 use std::process::Abort;

@@ -1,6 +1,8 @@
 -- The code that the words of the command `code` ask for.
-use Rattle.std.specs.Prelude.{◌≡◌, ◌⊎◌, ℕ, ◌≤◌, ◌<◌, List, [], ◌∷◌, Ok}
+use Rattle.std.specs.Prelude.{◌≡◌, ◌⊎◌, ℕ, ◌≤◌, ◌<◌, List, [], ◌∷◌, ◌++◌, Option, Ok}
+use Rattle.std.specs.Str.{byte}
 use Rattle.std.specs.Fmt.{decimal}
+use Rattle.std.specs.Io.KnownBytes.{Appends}
 use Rattle.std.specs.declared.option.Option.TheVariants.{None, Some}
 use Rattle.hex.specs.Hex.{decode_of}
 use Rattle.clap.specs.declared.parser.matches.ArgMatches.{ArgMatches}
@@ -44,6 +46,10 @@ pub record IsCodeAsked (words : ArgMatches) (code : List ℕ) : Type 0 where
   pub factor : MovingFactor
   pub is_factor : IsFactorAsked words factor
   pub is_code : IsCodeFor factor digits secret code
+
+-- the code that the words ask for is printed
+abbrev pub PrintsCodeAsked : (words : ArgMatches) → (old new : Option (List ℕ)) → Type 0
+PrintsCodeAsked words old new = (code : List ℕ) × IsCodeAsked words code × Appends old new (code ++ byte "\n" ∷ [])
 
 -- the words ask for a code of a moment before t0
 abbrev pub IsAskedTooEarly : ArgMatches → Type 0

@@ -6,7 +6,7 @@ use Rattle.std.specs.Str.{byte}
 use Rattle.scram_text.specs.Class.{IsPassword}
 use Rattle.book_format.specs.Book.{BookFields}
 use Rattle.account_book.specs.Accounts.{account_at}
-use Rattle.account_book.specs.SavedBooks.{WasSaved}
+use Rattle.account_book.specs.SavedBooks.{HasStoredText}
 use Rattle.book_file.specs.Text.{IsWritten}
 use Rattle.clap.specs.declared.parser.matches.ArgMatches.{ArgMatches}
 use Rattle.command_line.specs.Fault.{IsUnwritten}
@@ -25,32 +25,32 @@ use Rattle.command_io.specs.declared.new_account.Salts.{Salts}
 abbrev pub new_book : (decoy_key : List ℕ) → BookFields
 new_book decoy_key = record { decoy_key = decoy_key; decoy_count = 4096; accounts = [] }
 
--- a book that was read from a file, for which a source of random bytes loses none; or a new one, whose key of 32 bytes the source
--- loses
+-- a book that was read from a file, and a source of random bytes then gives none; or a new book, whose key is the next 32 bytes of the
+-- source
 abbrev pub IsReadOrNew : {File : Type 0} → (bytes_of : File → Option (List ℕ)) → (old new : Option (List ℕ)) → BookFields → Type 0
 IsReadOrNew bytes_of old new book =
     ((text : List ℕ) × IsReadBook bytes_of text book × (new ≡ old))
     ⊎ ((decoy_key : List ℕ) × (length decoy_key ≡ 32) × Consumes old new decoy_key × (book ≡ new_book decoy_key))
 
--- a source of random bytes loses two salts of 16 bytes, one after the other: no byte is in both
+-- a source of random bytes gives two salts of 16 bytes, one after the other: no byte is in both
 pub record TakesSalts (old : Option (List ℕ)) (salts : Salts) (new : Option (List ℕ)) : Type 0 where
   pub length_sha1 : length salts.sha1 ≡ 16
   pub length_sha256 : length salts.sha256 ≡ 16
   pub taken : Consumes old new (salts.sha1 ++ salts.sha256)
 
 -- a book is this one, or was read from a file since
-abbrev pub IsThisOrRead : {File : Type 0} → (bytes_of : File → Option (List ℕ)) → (this book : BookFields) → Type 0
-IsThisOrRead bytes_of this book = (book ≡ this) ⊎ ((text : List ℕ) × IsReadBook bytes_of text book)
+abbrev pub IsThisBookOrARead : {File : Type 0} → (bytes_of : File → Option (List ℕ)) → (this book : BookFields) → Type 0
+IsThisBookOrARead bytes_of this book = (book ≡ this) ⊎ ((text : List ℕ) × IsReadBook bytes_of text book)
 
 -- an account with the keys of a password is added to a book, which is this one or was read from a file since, and the text of
 -- the book as it is then is written to a file
 pub record SavesAccount {File : Type 0} (bytes_of written_to : File → Option (List ℕ)) (book : BookFields)
     (account : NewAccount) (salts : Salts) : Type 0 where
   pub first : BookFields
-  pub is_first : IsThisOrRead bytes_of book first
+  pub is_first : IsThisBookOrARead bytes_of book first
   pub last : BookFields
   pub is_enrolled : IsEnrolled account salts first last
-  pub is_saved : WasSaved (IsStoredShort (IsWritten written_to)) last
+  pub is_saved : HasStoredText (IsStoredShort (IsWritten written_to)) last
 
 -- the account that the words and the first line of the input describe is added to a book that was read, or to a new one, whose
 -- text is then written to a file. A file gives the random bytes: the key of a new book, and then the salts. And the name is printed.
@@ -62,12 +62,12 @@ pub record EnrolsAsked {File : Type 0} (bytes_of written_to : File → Option (L
   pub is_password : IsPassword account.password
   pub is_count : given_value words option.Count ≡ decimal account.count
   pub file : File
-  pub there : Option (List ℕ)
+  pub middle : Option (List ℕ)
   pub after : File
   pub book : BookFields
-  pub is_book : IsReadOrNew bytes_of (bytes_of file) there book
+  pub is_book : IsReadOrNew bytes_of (bytes_of file) middle book
   pub salts : Salts
-  pub takes_salts : TakesSalts there salts (bytes_of after)
+  pub takes_salts : TakesSalts middle salts (bytes_of after)
   pub is_saved : SavesAccount bytes_of written_to book account salts
   pub printed : Appends old new (codes "enrolled " ++ (account.name ++ byte "\n" ∷ []))
 
@@ -79,7 +79,7 @@ DescribesNoAccount words input fault =
 -- the name is taken in a book, which is this one or was read from a file since
 abbrev pub IsNameTakenIn : {File : Type 0} → (bytes_of : File → Option (List ℕ)) → BookFields → (name : List ℕ) → Fault → Type 0
 IsNameTakenIn bytes_of this name fault =
-    (fault ≡ NameTaken) × (book : BookFields) × IsThisOrRead bytes_of this book × (is_some (account_at book name) ≡ true)
+    (fault ≡ NameTaken) × (book : BookFields) × IsThisBookOrARead bytes_of this book × (is_some (account_at book name) ≡ true)
 
 -- the name is taken in a book that was read from a file
 abbrev pub IsNameTaken : {File : Type 0} → (bytes_of : File → Option (List ℕ)) → (name : List ℕ) → Fault → Type 0
@@ -91,7 +91,7 @@ abbrev pub CannotBeChanged : {File : Type 0} → (bytes_of : File → Option (Li
 CannotBeChanged bytes_of path fault = IsUnheld bytes_of path fault ⊎ IsUnwritten path fault
 
 -- the fault that ends `enrol`: no account is described, the name is taken, the book can't be held, read or saved, the file of random
--- bytes can't be read, or the output can't be written
+-- bytes can't be read, the output can't be written, or memory ran out
 abbrev pub CannotEnrol : {File : Type 0} → (bytes_of : File → Option (List ℕ)) → ArgMatches → (input : Option (List ℕ)) → Fault → Type 0
 CannotEnrol bytes_of words input fault =
     DescribesNoAccount words input fault

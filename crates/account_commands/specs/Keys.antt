@@ -35,8 +35,8 @@ pub record PrintsKeysAsked (words : ArgMatches) (input old new : Option (List �
   pub is_password : IsPassword password
   pub printed : Appends old new (printed_keys mechanism password salt count)
 
--- the fault that ends `keys`: an option refuses its value, the first line of the input is no password or can't be read, or the output
--- can't be written
+-- the fault that ends `keys`: an option refuses its value, the first line of the input is no password or can't be read, the output can't
+-- be written, or memory ran out
 abbrev pub CannotPrintKeys : ArgMatches → (input : Option (List ℕ)) → Fault → Type 0
 CannotPrintKeys words input fault =
     HasBadValue (option.Mechanism ∷ option.Salt ∷ option.Count ∷ []) words fault

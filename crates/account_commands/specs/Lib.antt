@@ -1,4 +1,5 @@
--- What `code`, `enrol` and `keys` do, and which faults end them.
+-- What `code`, `enrol`, `keys` and `unlock` do, and which faults end them.
 pub mod Code
 pub mod Enrol
 pub mod Keys
+pub mod Unlock

@@ -1,13 +1,9 @@
 //! The command `code`: prints the one-time code of a counter or a moment.
-ghost use Rattle.std.specs.Prelude.{◌≡◌, ◌++◌, ◌∷◌, [], ℕ, List, None, IfErr, IfOk, OnOk, IsErrOf};
-ghost use Rattle.std.specs.Str.{byte};
-ghost use Rattle.std.specs.Io.KnownBytes.{Appends};
-ghost use Rattle.account_commands.specs.Code.{IsCodeFor, IsTooEarly, IsFactorAsked, IsCodeAsked, IsAskedTooEarly};
-ghost use Rattle.account_commands.specs.Code.{CannotPrintCode, LacksFactor};
-ghost use Rattle.command_words.specs.Values.{value_of};
+ghost use Rattle.std.specs.Prelude.{◌≡◌, IfErr, IfOk, OnOk};
+ghost use Rattle.account_commands.specs.Code.{IsCodeFor, IsTooEarly, IsFactorAsked, PrintsCodeAsked, CannotPrintCode, LacksFactor};
 ghost use Rattle.command_io.specs.Printed.{PrintsNothing};
 
-use crate::moving_factor::{MovingFactor, TotpTime};
+use crate::moving_factor::{MovingFactor, TotpInput};
 use clap::ArgMatches;
 use command_io::output::print_line;
 use command_line::{Fault, OptionName, value};
@@ -18,49 +14,42 @@ use std::io::Write;
 
 /// Judges the options in their order and prints the code. Faults: BadValue, NoCounterOrMoment and
 /// BeforeFirstStep, in this order, CannotWriteOutput and NoMemory.
-pub fn code<O: Write>(alloc: Global, words: &ArgMatches<'_>, output: &mut O) -> Result<(), Fault>
-    ensures printed { OnOk result ((code : List ℕ) × IsCodeAsked words.now code
-        × Appends (O.contents output.old) (O.contents output.new) (code ++ byte "\n" ∷ [])) }
+pub fn code<O: Write>(alloc: Global, matches: &ArgMatches<'_>, output: &mut O) -> Result<(), Fault>
+    ensures ok { OnOk result (PrintsCodeAsked matches.now (O.contents output.old) (O.contents output.new)) }
     ensures err { IfErr result (λ fault. PrintsNothing fault (O.contents output.old) (O.contents output.new)) }
-    ensures why { IfErr result (CannotPrintCode words.now) }
-    ensures early { IsErrOf result Fault.BeforeFirstStep → IsAskedTooEarly words.now }
-    ensures nothing { IsErrOf result Fault.NoCounterOrMoment
-        → (value_of words.now OptionName.Counter ≡ None) × (value_of words.now OptionName.Moment ≡ None) }
+    ensures why { IfErr result (CannotPrintCode matches.now) }
 {
-    let secret = value::secret(alloc, given(words, OptionName::Secret))?;
-    let digits = value::digits(given(words, OptionName::Digits))?;
-    let factor = read_options(words)?;
+    let secret = value::secret(alloc, given(matches, OptionName::Secret))?;
+    let digits = value::digits(given(matches, OptionName::Digits))?;
+    let factor = read_options(matches)?;
     let code = code_for(&secret, digits, &factor)?;
     print_line(code.text(), output)
 }
 
 // Judges the options that say which code is meant, in their order.
-fn read_options(words: &ArgMatches<'_>) -> Result<MovingFactor, Fault>
-    ensures asked { IfOk result (IsFactorAsked words.now) }
-    ensures nothing { IsErrOf result Fault.NoCounterOrMoment
-        → (value_of words.now OptionName.Counter ≡ None) × (value_of words.now OptionName.Moment ≡ None) }
-    ensures in_time { IsErrOf result Fault.BeforeFirstStep → ⊥ }
-    ensures why { IfErr result (LacksFactor words.now) }
+fn read_options(matches: &ArgMatches<'_>) -> Result<MovingFactor, Fault>
+    ensures asked { IfOk result (IsFactorAsked matches.now) }
+    ensures why { IfErr result (LacksFactor matches.now) }
 {
-    let counter = match optional(words, OptionName::Counter) {
+    let counter = match optional(matches, OptionName::Counter) {
         Some(text) => Some(value::within(OptionName::Counter, text, 0, MOST_COUNTER)?),
         None => None,
     };
-    let moment = match optional(words, OptionName::Moment) {
+    let moment = match optional(matches, OptionName::Moment) {
         Some(text) => Some(value::moment(OptionName::Moment, text)?),
         None => None,
     };
-    let hash = value::hash(given(words, OptionName::Hash))?;
-    let t0 = value::moment(OptionName::T0, given(words, OptionName::T0))?;
+    let hash = value::hash(given(matches, OptionName::Hash))?;
+    let t0 = value::moment(OptionName::T0, given(matches, OptionName::T0))?;
     let step = value::within(
         OptionName::Step,
-        given(words, OptionName::Step),
+        given(matches, OptionName::Step),
         1,
         LONGEST_STEP,
     )?;
     match (counter, moment) {
         (Some(counter), _) => Ok(MovingFactor::Counter(counter)),
-        (None, Some(moment)) => Ok(MovingFactor::Time(TotpTime {
+        (None, Some(moment)) => Ok(MovingFactor::Time(TotpInput {
             hash,
             moment,
             t0,

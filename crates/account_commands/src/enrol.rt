@@ -11,14 +11,14 @@ ghost use Rattle.command_words.specs.Values.{given_value};
 ghost use Rattle.command_io.specs.Printed.{PrintsNothing};
 
 use account_book::Book;
-use book_file::{BookFile, FileStore, Lockable};
+use book_file::{BookFile, BookFileExt, FileStore};
 use clap::ArgMatches;
 use command_io::held_book::HeldBook;
 use command_io::new_account::{NewAccount, Salts};
-use command_io::open_book::Seen;
+use command_io::open_book::ReadBook;
 use command_io::output::print_done;
 use command_io::prompt::{PASSWORD, ask};
-use command_io::random::Random;
+use command_io::random::RandomFile;
 use command_io::terminal::{TerminalInput, TerminalOutput};
 use command_io::{input, open_book};
 use command_line::{Fault, OptionName, value};
@@ -38,45 +38,45 @@ const DECOY_COUNT: u32 = 4096;
 /// BadBook, NameTaken and CannotWrite, in this order, CannotReadInput, CannotWriteOutput and NoMemory.
 pub fn enrol<R, I, O, E>(
     rt: &R,
-    words: &ArgMatches<'_>,
+    matches: &ArgMatches<'_>,
     input: &mut I,
     output: &mut O,
     faults: &mut E,
 ) -> Result<(), Fault>
 where
     R: Files + Clock + AllocGlobal,
-    R::File: Lockable,
+    R::File: BookFileExt,
     I: TerminalInput,
     O: Write,
     E: TerminalOutput,
-    ensures ok { OnOk result (EnrolsAsked R.File.remaining R.File.contents words.now (I.remaining input.old) (O.contents output.old)
+    ensures ok { OnOk result (EnrolsAsked R.File.remaining R.File.contents matches.now (I.remaining input.old) (O.contents output.old)
         (O.contents output.new)) }
     ensures err { IfErr result (λ fault. PrintsNothing fault (O.contents output.old) (O.contents output.new)) }
-    ensures why { IfErr result (CannotEnrol R.File.remaining words.now (I.remaining input.old)) }
+    ensures why { IfErr result (CannotEnrol R.File.remaining matches.now (I.remaining input.old)) }
 {
-    let asked = read_account(rt.alloc(), words, input, faults)?;
-    let path = given(words, OptionName::Book);
-    let seen = open_book::read_and_release(rt, path, faults)?;
-    let mut random = Random::open(rt, given(words, OptionName::Random))?;
-    let (book, text) = seen_or_new(rt.alloc(), seen, &mut random)?;
+    let account = read_account(rt.alloc(), matches, input, faults)?;
+    let path = given(matches, OptionName::Book);
+    let read = open_book::read_and_release(rt, path, faults)?;
+    let mut random = RandomFile::open(rt, given(matches, OptionName::Random))?;
+    let (book, text) = read_or_new(rt.alloc(), read, &mut random)?;
     let salts = two_salts(&mut random)?;
-    save(rt, path, book, text, &asked, &salts, faults)?;
-    print_done("enrolled", asked.name.text(), output)
+    add_and_save(rt, path, book, text, &account, &salts, faults)?;
+    print_done("enrolled", account.name.text(), output)
 }
 
-// The book that was seen and its text; or, where there was no file, a new book, whose key is the next random bytes.
-fn seen_or_new<F: Read + Drop>(
+// The book that was read and its text; or, where there was no file, a new book, whose key is the next random bytes.
+fn read_or_new<F: Read + Drop>(
     alloc: Global,
-    seen: Option<Seen>,
-    random: &mut Random<'_, F>,
+    read: Option<ReadBook>,
+    random: &mut RandomFile<'_, F>,
 ) -> Result<(Book, Option<String>), Fault>
-    requires { IfSome seen (λ seen. IsReadBook F.remaining (string_bytes seen.text) seen.book) }
+    requires { IfSome read (λ read. IsReadBook F.remaining (string_bytes read.text) read.book) }
     ensures book { IfOk result (λ found. IsReadOrNew F.remaining (F.remaining random.old.file) (F.remaining random.new.file) found.0) }
     ensures err { IfErr result (IsFileUnread random.old.path.now) }
     ensures path { random.new.path.now ≡ random.old.path.now }
 {
-    match seen {
-        Some(seen) => Ok((seen.book, Some(seen.text))),
+    match read {
+        Some(read) => Ok((read.book, Some(read.text))),
         None => {
             let key = random.bytes()?;
             Ok((Book::new(alloc, key, DECOY_COUNT), None))
@@ -85,7 +85,7 @@ fn seen_or_new<F: Read + Drop>(
 }
 
 // Two salts of random bytes, for SCRAM-SHA-1 and for SCRAM-SHA-256.
-fn two_salts<F: Read + Drop>(random: &mut Random<'_, F>) -> Result<Salts, Fault>
+fn two_salts<F: Read + Drop>(random: &mut RandomFile<'_, F>) -> Result<Salts, Fault>
     ensures salts { IfOk result (λ salts. TakesSalts (F.remaining random.old.file) salts (F.remaining random.new.file)) }
     ensures err { IfErr result (IsFileUnread random.old.path.now) }
 {
@@ -97,17 +97,17 @@ fn two_salts<F: Read + Drop>(random: &mut Random<'_, F>) -> Result<Salts, Fault>
 // Judges the options that describe the account, and reads the password.
 fn read_account<I: TerminalInput, E: TerminalOutput>(
     alloc: Global,
-    words: &ArgMatches<'_>,
+    matches: &ArgMatches<'_>,
     input: &mut I,
     faults: &mut E,
 ) -> Result<NewAccount, Fault>
-    ensures name { IfOk result (λ asked. asked.name ≡ given_value words.now OptionName.Name) }
-    ensures count { IfOk result (λ asked. given_value words.now OptionName.Count ≡ decimal asked.count) }
-    ensures password { IfOk result (λ asked. IsFirstLine (I.remaining input.old) asked.password × IsPassword asked.password) }
-    ensures err { IfErr result (DescribesNoAccount words.now (I.remaining input.old)) }
+    ensures name { IfOk result (λ account. account.name ≡ given_value matches.now OptionName.Name) }
+    ensures count { IfOk result (λ account. given_value matches.now OptionName.Count ≡ decimal account.count) }
+    ensures password { IfOk result (λ account. IsFirstLine (I.remaining input.old) account.password × IsPassword account.password) }
+    ensures err { IfErr result (DescribesNoAccount matches.now (I.remaining input.old)) }
 {
-    let name = value::name(given(words, OptionName::Name))?;
-    let count = value::count(given(words, OptionName::Count))?;
+    let name = value::name(given(matches, OptionName::Name))?;
+    let count = value::count(given(matches, OptionName::Count))?;
     ask(input, faults, PASSWORD);
     let line = input::first_line(alloc, input)?;
     match Password::new(line.as_slice()) {
@@ -122,25 +122,25 @@ fn read_account<I: TerminalInput, E: TerminalOutput>(
 
 // Adds the account to the book, whose file had this text, or None where there was no file. Then holds the file and
 // saves the book; where the file has another text by then, adds the account to that book instead.
-fn save<R, E>(
+fn add_and_save<R, E>(
     rt: &R,
     path: &str,
     mut book: Book,
     text: Option<String>,
-    asked: &NewAccount,
+    account: &NewAccount,
     salts: &Salts,
     faults: &mut E,
 ) -> Result<(), Fault>
 where
     R: Files + Clock + AllocGlobal,
-    R::File: Lockable,
+    R::File: BookFileExt,
     E: Write,
-    ensures saved { OnOk result (SavesAccount R.File.remaining R.File.contents book asked.now salts.now) }
-    ensures err { IfErr result (λ fault. IsNameTakenIn R.File.remaining book asked.now.name fault
+    ensures saved { OnOk result (SavesAccount R.File.remaining R.File.contents book account.now salts.now) }
+    ensures err { IfErr result (λ fault. IsNameTakenIn R.File.remaining book account.now.name fault
         ⊎ CannotBeChanged R.File.remaining path.now fault) }
 {
     let alloc = rt.alloc();
-    asked.add_to(alloc, &mut book, salts)?;
+    account.add_to(alloc, &mut book, salts)?;
     let held = match text {
         Some(_) => BookFile::hold(rt, path),
         None => BookFile::hold_or_make(rt, path),
@@ -149,7 +149,7 @@ where
     match found {
         Some(found) if text.as_ref() != Some(&found) => {
             let mut held = open_book::read_held(alloc, file, found, path)?;
-            held.enrol(alloc, asked, salts)
+            held.enrol(alloc, account, salts)
         }
         _ => {
             let store = FileStore::new(file, text.unwrap_or(String::new(alloc)));

@@ -23,18 +23,18 @@ use std::io::{BufRead, Write};
 /// password first. Faults: BadValue and BadPassword, in this order, CannotReadInput, CannotWriteOutput and NoMemory.
 pub fn keys<I: TerminalInput, O: Write, E: TerminalOutput>(
     alloc: Global,
-    words: &ArgMatches<'_>,
+    matches: &ArgMatches<'_>,
     input: &mut I,
     output: &mut O,
     faults: &mut E,
 ) -> Result<(), Fault>
-    ensures ok { OnOk result (PrintsKeysAsked words.now (I.remaining input.old) (O.contents output.old) (O.contents output.new)) }
+    ensures ok { OnOk result (PrintsKeysAsked matches.now (I.remaining input.old) (O.contents output.old) (O.contents output.new)) }
     ensures err { IfErr result (λ fault. PrintsNothing fault (O.contents output.old) (O.contents output.new)) }
-    ensures why { IfErr result (CannotPrintKeys words.now (I.remaining input.old)) }
+    ensures why { IfErr result (CannotPrintKeys matches.now (I.remaining input.old)) }
 {
-    let mechanism = value::mechanism(given(words, OptionName::Mechanism))?;
-    let salt = value::salt(alloc, given(words, OptionName::Salt))?;
-    let count = value::count(given(words, OptionName::Count))?;
+    let mechanism = value::mechanism(given(matches, OptionName::Mechanism))?;
+    let salt = value::salt(alloc, given(matches, OptionName::Salt))?;
+    let count = value::count(given(matches, OptionName::Count))?;
     ask(input, faults, PASSWORD);
     print_keys(alloc, mechanism, &salt, count, input, output)
 }

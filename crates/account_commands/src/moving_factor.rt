@@ -3,9 +3,9 @@ ghost use Rattle.std.specs.Prelude.{◌≤◌};
 
 use otp_core::{Moment, OtpHash};
 
-/// A moment of TOTP, and how its steps are counted (RFC 6238, section 4).
+/// A moment of TOTP, its hash function, and how its steps are counted (RFC 6238, section 4).
 #[derive(Drop)]
-pub struct TotpTime {
+pub struct TotpInput {
     /// The hash function.
     pub hash: OtpHash,
 
@@ -28,5 +28,5 @@ pub enum MovingFactor {
     Counter(u64),
 
     /// The time of a TOTP code.
-    Time(TotpTime),
+    Time(TotpInput),
 }

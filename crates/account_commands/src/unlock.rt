@@ -1,9 +1,9 @@
 //! The command `unlock`: lets a token take codes again.
 ghost use Rattle.std.specs.Prelude.{OnOk, IfErr};
-ghost use Rattle.command_io.specs.HeldBook.{CannotUnlock, UnlocksAsked};
+ghost use Rattle.account_commands.specs.Unlock.{CannotUnlock, UnlocksAsked};
 ghost use Rattle.command_io.specs.Printed.{PrintsNothing};
 
-use book_file::Lockable;
+use book_file::BookFileExt;
 use clap::ArgMatches;
 use command_io::open_book;
 use command_io::output::print_done;
@@ -19,21 +19,21 @@ use std::time::Clock;
 /// and NoMemory.
 pub fn unlock<R, O, E>(
     rt: &R,
-    words: &ArgMatches<'_>,
+    matches: &ArgMatches<'_>,
     output: &mut O,
     faults: &mut E,
 ) -> Result<(), Fault>
 where
     R: Files + Clock + AllocGlobal,
-    R::File: Lockable,
+    R::File: BookFileExt,
     O: Write,
     E: Write,
-    ensures ok { OnOk result (UnlocksAsked R.File.remaining R.File.contents words.now (O.contents output.old) (O.contents output.new)) }
+    ensures ok { OnOk result (UnlocksAsked R.File.remaining R.File.contents matches.now (O.contents output.old) (O.contents output.new)) }
     ensures err { IfErr result (λ fault. PrintsNothing fault (O.contents output.old) (O.contents output.new)) }
-    ensures why { IfErr result (CannotUnlock R.File.remaining words.now) }
+    ensures why { IfErr result (CannotUnlock R.File.remaining matches.now) }
 {
-    let name = value::name(given(words, OptionName::Name))?;
-    let mut held = open_book::open(rt, given(words, OptionName::Book), faults)?;
+    let name = value::name(given(matches, OptionName::Name))?;
+    let mut held = open_book::open(rt, given(matches, OptionName::Book), faults)?;
     held.unlock(rt.alloc(), &name)?;
     print_done("unlocked", name.text(), output)
 }

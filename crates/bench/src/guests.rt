@@ -154,7 +154,7 @@ fn log_in_together(alloc: Global, hall: &mut Hall<Memory>, written: &mut Written
 }
 
 /// Lets `count` clients log in and leave in a hall over the book in the file at `path`, 64 at a time, and prints what `print_alone`
-/// prints. Where 64 do not divide `count`, the rest are not let in.
+/// prints. Where `count` is no multiple of 64, the rest are not let in.
 pub(crate) fn print_together<R>(rt: &R, path: &str, count: u32) -> io::Result<()>
 where
     R: Print + Files + AllocGlobal,

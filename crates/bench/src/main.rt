@@ -1,17 +1,20 @@
 //! Does one thing with the libraries many times over, for a script to time.
 //!
-//! `bench KIND COUNT TEXT` reads the message TEXT of that kind COUNT times, and prints how often it was
-//! read; `bench hotp COUNT SECRET` makes the codes of the counters below COUNT, and prints the last;
-//! `bench sync COUNT SECRET` looks COUNT times for two codes in a row, and prints how often it failed;
-//! `bench verdict COUNT TEXT` judges TEXT COUNT times as the client-final message of RFC 7677's example,
-//! and prints how often it was accepted; `bench book COUNT FILE` reads the bytes of FILE once and the
-//! account book of them COUNT times, and prints how often they were one, as `book 20 of 20`;
-//! `bench logins COUNT FILE` serves COUNT logins over the book of FILE, and `bench codes COUNT FILE` one login
-//! with COUNT codes: both print how many were served, and how many bytes were logged and sent; `bench calls COUNT FILE`, `bench
-//! turns COUNT FILE`, `bench service COUNT FILE` and `bench hall COUNT FILE` serve that login while a test refuses memory, and print
-//! the log; `bench texts 1 FILE` and `bench changes 1 FILE` write the texts and change the book of FILE meanwhile, and print them;
-//! `bench alone COUNT FILE` and `bench together COUNT FILE` let COUNT clients log in by calls of a desk, and of a hall, 64 at
-//! a time, and print what `bench logins` prints.
+//! | After `bench` | Does | Prints |
+//! |---|---|---|
+//! | KIND COUNT TEXT | reads the message TEXT of that kind COUNT times | how often it was read |
+//! | hotp COUNT SECRET | makes the codes of the counters below COUNT | the last |
+//! | sync COUNT SECRET | looks COUNT times for two codes in a row | how often it failed |
+//! | verdict COUNT TEXT | judges TEXT COUNT times as the client-final message of RFC 7677's example | how often it was accepted |
+//! | book COUNT FILE | reads the bytes of FILE once, and the book of them COUNT times | how often they were one: `book 20 of 20` |
+//! | logins COUNT FILE | serves COUNT logins over the book of FILE | how many were served, and the bytes logged and sent |
+//! | codes COUNT FILE | serves one login with COUNT codes | as `logins` |
+//! | alone COUNT FILE | lets COUNT clients log in by calls of a desk | as `logins` |
+//! | together COUNT FILE | lets COUNT clients log in by calls of a hall, 64 at a time | as `logins` |
+//!
+//! These run while a test refuses memory, and print also how often it ran out: `calls`, `turns`, `service` and `hall`, with COUNT FILE,
+//! serve a login with COUNT codes and print the log; `texts 1 FILE` writes the texts of FILE, and `changes 1 FILE` changes the book of
+//! FILE, and they print what was written.
 #![tactic(auto)]
 
 mod book;
@@ -30,7 +33,7 @@ use crate::refused::{
     print_book, print_calls, print_hall, print_service, print_texts, print_turns,
 };
 use crate::service::{print_codes_served, print_logins};
-use mac_core::{HSha1, Prepared};
+use mac_core::{HSha1, PreparedKey};
 use otp_core::{Digits, Secret, hotp_with};
 use scram_text::{read_client_final, read_client_first, read_server_final, read_server_first};
 use std::io::ErrorKind;
@@ -64,7 +67,7 @@ fn print_codes(rt: &(impl Print + Alloc), secret: &[u8], count: u32) -> io::Resu
     let (Ok(secret), Ok(digits)) = (Secret::new(secret), Digits::new(6)) else {
         return Err(io::Error::from(ErrorKind::InvalidInput));
     };
-    let key = Prepared::<HSha1>::new(secret.bytes());
+    let key = PreparedKey::<HSha1>::new(secret.bytes());
     let mut last = hotp_with(&key, 0, digits);
     for counter in 1..count {
         last = hotp_with(&key, u64::from(counter), digits);

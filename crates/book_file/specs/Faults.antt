@@ -8,16 +8,16 @@ use Rattle.book_file.specs.declared.fault.HoldFault.TheVariants.{Unreadable, Mis
 
 -- a fault of taking hold of a book. Where a missing book is to be made, Missing does not come; where none is made, Unwritable does
 -- not.
-abbrev pub IsHoldFault : (makes : Bool) → HoldFault → Type 0
-IsHoldFault makes (Unreadable error) = Unit {0}
-IsHoldFault makes Missing = makes ≡ false
-IsHoldFault makes (Unwritable error) = makes ≡ true
-IsHoldFault makes OwnedByAnother = Unit {0}
-IsHoldFault makes HeldByOthers = Unit {0}
-IsHoldFault makes (InTheWay path) = Unit {0}
+abbrev pub IsHoldFault : (may_make : Bool) → HoldFault → Type 0
+IsHoldFault may_make (Unreadable error) = Unit {0}
+IsHoldFault may_make Missing = may_make ≡ false
+IsHoldFault may_make (Unwritable error) = may_make ≡ true
+IsHoldFault may_make OwnedByAnother = Unit {0}
+IsHoldFault may_make HeldByOthers = Unit {0}
+IsHoldFault may_make (InTheWay path) = Unit {0}
 
 -- why no next text can be written: the error of the call that failed, where there is one; else the file's name is not free
-abbrev pub IsErrorOf : HoldFault → Error → Type 0
-IsErrorOf (Unreadable error) found = found ≡ error
-IsErrorOf (Unwritable error) found = found ≡ error
-IsErrorOf other found = error_kind found ≡ ResourceBusy
+abbrev pub IsNextError : HoldFault → Error → Type 0
+IsNextError (Unreadable error) found = found ≡ error
+IsNextError (Unwritable error) found = found ≡ error
+IsNextError other found = error_kind found ≡ ResourceBusy

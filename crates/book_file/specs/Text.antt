@@ -7,8 +7,7 @@ use Rattle.std.specs.Io.KnownBytes.{Appends}
 abbrev pub IsRead : {File : Type 0} → (remaining : File → Option (List ℕ)) → List ℕ → Type 0
 IsRead {File} remaining bytes = (file : File) × IfSome (remaining file) (λ all. bytes ≡ all)
 
--- these bytes were written to a file, at the end of what it had, where that is known. Of a save it is the file of the next text,
--- as it was before this text was written to it and as it was after, before it has the book's name. That it is given this name is
--- not said: a store is known by its texts alone.
+-- these bytes were written to a file, at the end of what it had, where that is known. In a save this is the file of the next text.
+-- That it is then given the book's name is not said: a store is known by its texts alone.
 abbrev pub IsWritten : {File : Type 0} → (contents : File → Option (List ℕ)) → List ℕ → Type 0
 IsWritten {File} contents bytes = (before : File) × (after : File) × Appends (contents before) (contents after) bytes

@@ -9,7 +9,8 @@ use std::io;
 /// Why a run could not take hold of a book.
 #[derive(Debug, Drop)]
 pub enum HoldFault {
-    /// The book is not one that a run takes, or it or its folder can't be opened or locked.
+    /// The file is no plain file, has a second name, or belongs to others in a folder that others may write; it or its folder
+    /// can't be opened or locked; the clock can't be read; or memory ran out.
     Unreadable(io::Error),
 
     /// There is no file.
@@ -24,7 +25,7 @@ pub enum HoldFault {
     /// Other runs held the book for 30 seconds.
     HeldByOthers,
 
-    /// What has this path, where the next text of the book would be written, can't be removed.
+    /// What has this path, where the next text of the book would be written, is no folder and can't be removed.
     InTheWay(String),
 }
 

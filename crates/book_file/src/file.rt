@@ -1,12 +1,12 @@
 //! The file of a book, held by one run at a time.
 ghost use Rattle.std.specs.Prelude.{◌≡◌, ◌≤◌, ◌<◌, true, false, length, IfOk, IfErr, IfSome, IsErrAnd, OnOk, vec_len};
 ghost use Rattle.std.specs.IoError.{error_kind};
-ghost use Rattle.book_file.specs.Faults.{IsErrorOf, IsHoldFault};
+ghost use Rattle.book_file.specs.Faults.{IsNextError, IsHoldFault};
 ghost use Rattle.book_file.specs.Text.{IsRead, IsWritten};
 
 use crate::fault::HoldFault;
-use crate::hold::{Held, OpenBook, hold, is_named, next_of};
-use crate::lock::Lockable;
+use crate::hold::{Held, LockedBook, hold, is_named, next_of};
+use crate::lock::BookFileExt;
 use crate::paths::BookPaths;
 use crate::trust;
 use std::fs::{Files, Metadata, OpenFile, Permissions};
@@ -33,7 +33,7 @@ pub struct BookFile<'a, R: Files> {
     is_shared: bool,
 
     // The file at the book's path, or None where there is none.
-    book: Option<OpenBook<R::File>>,
+    book: Option<LockedBook<R::File>>,
 
     // The file of a new book's first text, until a save takes it.
     next: Option<R::File>,
@@ -59,7 +59,7 @@ impl<'a, R: Files> Drop for BookFile<'a, R> {
 // Gives a file the owner and the group of the book. The system refuses a group that the user who runs is not in. The group may do
 // nothing with the file anyway, since only the owner's bits of the mode are kept: so that refusal is passed over where the file has
 // the book's owner already.
-fn give_owner<F: OpenFile + Lockable>(file: &F, book: &Metadata) -> io::Result<()> {
+fn give_owner<F: OpenFile + BookFileExt>(file: &F, book: &Metadata) -> io::Result<()> {
     match file.set_owner(book.uid(), book.gid()) {
         Err(error)
             if error.kind() == ErrorKind::PermissionDenied
@@ -70,7 +70,7 @@ fn give_owner<F: OpenFile + Lockable>(file: &F, book: &Metadata) -> io::Result<(
 
 // Why a save has no next file: the error of the call that failed, or ResourceBusy where its name can't be had.
 fn next_error(fault: HoldFault) -> io::Error
-    ensures { IsErrorOf fault result }
+    ensures { IsNextError fault result }
 {
     match fault {
         HoldFault::Unreadable(error) | HoldFault::Unwritable(error) => error,
@@ -89,13 +89,13 @@ fn remove_own_next<R: Files>(rt: &R, paths: &BookPaths, next: &R::File) {
 impl<'a, R> BookFile<'a, R>
 where
     R: Files + Clock + AllocGlobal,
-    R::File: Lockable,
+    R::File: BookFileExt,
 {
     /// Takes hold of the book at `path`. Waits up to 30 seconds for other runs, then answers HeldByOthers. Missing where
     /// there is no file. Unreadable where the file is no plain file, where it has another name too (a save would
     /// leave the old text there), where it belongs to others in a folder that others may write, and where it or its
-    /// folder can't be opened or locked. OwnedByAnother where a save could not keep the book's owner. InTheWay where the text
-    /// that a killed run left can't be removed.
+    /// folder can't be opened or locked. OwnedByAnother where a save could not keep the book's owner. InTheWay where what has the path
+    /// of the next text is no folder and can't be removed. A folder there makes only a save fail.
     pub fn hold(rt: &'a R, path: &str) -> Result<BookFile<'a, R>, HoldFault>
         ensures { IfErr result (IsHoldFault false) }
     {
@@ -110,15 +110,15 @@ where
         BookFile::hold_at(rt, path, true)
     }
 
-    // As `hold`, or, where `makes` is true, as `hold_or_make`.
-    fn hold_at(rt: &'a R, path: &str, makes: bool) -> Result<BookFile<'a, R>, HoldFault>
-        ensures { IfErr result (IsHoldFault makes) }
+    // As `hold`, or, where `may_make` is true, as `hold_or_make`.
+    fn hold_at(rt: &'a R, path: &str, may_make: bool) -> Result<BookFile<'a, R>, HoldFault>
+        ensures { IfErr result (IsHoldFault may_make) }
     {
         let paths = BookPaths::find(rt, path)?;
         let folder = fs::open(rt, paths.folder.as_str())?;
         let is_shared = trust::is_shared(&folder.metadata()?);
-        let (book, next) = match hold(rt, &paths, is_shared, makes)? {
-            Held::Book(book) if !trust::can_give_owner(&book.state) => {
+        let (book, next) = match hold(rt, &paths, is_shared, may_make)? {
+            Held::Book(book) if !trust::can_give_owner(&book.metadata) => {
                 return Err(HoldFault::OwnedByAnother);
             }
             Held::Book(book) => (Some(book), None),
@@ -149,11 +149,11 @@ where
     }
 
     /// Puts a file with this text in the place of the book, whole or not at all: a run that is stopped leaves the
-    /// old text or the new one. The owner stays, the group where the user who runs may give it, and of the mode the owner's bits; a
-    /// new book's mode is 0600. NotFound where the file at the path is not the one that this run has read or put there last, or has
-    /// changed since; AlreadyExists where there was none and there now is one; ResourceBusy where another run holds the next
-    /// file for 30 seconds, or what has its name can't be removed; FileTooLarge where the text has more bytes than `read` takes; else
-    /// the error of the call to the file system that failed.
+    /// old text or the new one. The new file keeps the book's owner, its group where the user who runs may give it, and the owner's
+    /// bits of its mode; that of a new book has the mode 0600. NotFound where the file at the path is not the one that this run has
+    /// read or put there last, or has changed since; AlreadyExists where there was none and there now is one; ResourceBusy where
+    /// another run holds the next file for 30 seconds, or what has its name can't be removed; FileTooLarge where the text has more
+    /// bytes than `read` takes; else the error of the call to the file system that failed.
     pub fn replace(&mut self, text: &str) -> io::Result<()>
         ensures written { OnOk result (IsWritten R.File.contents text.now) }
         ensures long { MOST_BOOK < length text.now → IsErrAnd result (λ error. error_kind error ≡ ErrorKind.FileTooLarge) }
@@ -164,8 +164,11 @@ where
         self.check_unchanged()?;
         let mut next = self.take_next()?;
         match self.write_and_put(&mut next, text) {
-            Ok(state) => {
-                self.book = Some(OpenBook { file: next, state });
+            Ok(metadata) => {
+                self.book = Some(LockedBook {
+                    file: next,
+                    metadata,
+                });
                 self.folder.sync_all()
             }
             Err(error) => {
@@ -181,7 +184,7 @@ where
             return Ok(());
         };
         let found = fs::symlink_metadata(self.rt, self.paths.book.as_str())?;
-        if trust::are_unchanged(&found, &book.state) {
+        if trust::are_unchanged(&found, &book.metadata) {
             Ok(())
         } else {
             Err(io::Error::from(ErrorKind::NotFound))
@@ -193,8 +196,8 @@ where
         if let Some(next) = self.next.take() {
             return Ok(next);
         }
-        let state = self.book.as_ref().map(|book| &book.state);
-        next_of(self.rt, &self.paths, state, self.is_shared).map_err(next_error)
+        let metadata = self.book.as_ref().map(|book| &book.metadata);
+        next_of(self.rt, &self.paths, metadata, self.is_shared).map_err(next_error)
     }
 
     // Writes the text to the next file, and gives that file the book's name. Returns its metadata.
@@ -210,8 +213,8 @@ where
         ensures { OnOk result (IsWritten R.File.contents text.now) }
     {
         if let Some(book) = &self.book {
-            give_owner(next, &book.state)?;
-            next.set_permissions(Permissions::from_mode(book.state.mode() & OWNER_BITS))?;
+            give_owner(next, &book.metadata)?;
+            next.set_permissions(Permissions::from_mode(book.metadata.mode() & OWNER_BITS))?;
         }
         next.write_all(text.as_bytes())?;
         next.sync_all()

@@ -7,7 +7,7 @@ ghost use Rattle.std.specs.Prelude.{IfErr, true, false};
 ghost use Rattle.book_file.specs.Faults.{IsHoldFault};
 
 use crate::fault::HoldFault;
-use crate::lock::Lockable;
+use crate::lock::BookFileExt;
 use crate::paths::BookPaths;
 use crate::trust;
 use crate::wait::Wait;
@@ -22,44 +22,44 @@ const OWNER_ONLY: u32 = 0o600;
 
 /// The file of a book, open and locked.
 #[derive(Drop)]
-pub struct OpenBook<F> {
+pub struct LockedBook<F> {
     /// The file.
     pub file: F,
 
     /// Its metadata when this run took hold of it, or put it in place.
-    pub state: Metadata,
+    pub metadata: Metadata,
 }
 
 /// What a run holds of a book.
 #[derive(Drop)]
 pub enum Held<F> {
     /// The file of the book.
-    Book(OpenBook<F>),
+    Book(LockedBook<F>),
 
     /// There is no book: the file of its first text, empty and locked.
     Next(F),
 }
 
 /// Takes hold of the book at a place; `is_shared` says whether others may change the folder's names. Where there is
-/// no file, the answer is Missing, or, where `makes` is true, the file of the next text is made. Waits up to 30
+/// no file, the answer is Missing, or, where `may_make` is true, the file of the next text is made. Waits up to 30
 /// seconds for other runs.
 pub fn hold<R>(
     rt: &R,
     paths: &BookPaths,
     is_shared: bool,
-    makes: bool,
+    may_make: bool,
 ) -> Result<Held<R::File>, HoldFault>
 where
     R: Files + Clock + AllocGlobal,
-    R::File: Lockable,
-    ensures { IfErr result (IsHoldFault makes) }
+    R::File: BookFileExt,
+    ensures { IfErr result (IsHoldFault may_make) }
 {
     let wait = Wait::begin(rt)?;
     // Bounded only because every function has to return; what ends it is in its body.
     for _ in 0..u64::MAX {
         let held = match open_plain(rt, paths.book.as_str(), is_shared)? {
             Some(file) => try_book(rt, paths, file, is_shared)?,
-            None if makes => try_first(rt, paths, is_shared)?,
+            None if may_make => try_first(rt, paths, is_shared)?,
             None => return Err(HoldFault::Missing),
         };
         if let Some(held) = held {
@@ -100,7 +100,7 @@ fn try_book<R>(
 ) -> Result<Option<Held<R::File>>, HoldFault>
 where
     R: Files + AllocGlobal,
-    R::File: Lockable,
+    R::File: BookFileExt,
     ensures holding { IfErr result (IsHoldFault false) }
     ensures making { IfErr result (IsHoldFault true) }
 {
@@ -111,11 +111,11 @@ where
     if !clear_next(rt, paths, Some(&locked), is_shared)? {
         return Ok(None);
     }
-    let state = file.metadata()?;
-    if state.nlink() != 1 {
+    let metadata = file.metadata()?;
+    if metadata.nlink() != 1 {
         return Err(HoldFault::Unreadable(io::Error::from(ErrorKind::InvalidInput)));
     }
-    Ok(Some(Held::Book(OpenBook { file, state })))
+    Ok(Some(Held::Book(LockedBook { file, metadata })))
 }
 
 // Makes the file of the first text of a book that does not exist. None where another run is making the book, or has
@@ -127,7 +127,7 @@ fn try_first<R>(
 ) -> Result<Option<Held<R::File>>, HoldFault>
 where
     R: Files + AllocGlobal,
-    R::File: Lockable,
+    R::File: BookFileExt,
     ensures { IfErr result (IsHoldFault true) }
 {
     let Some(next) = try_next(rt, paths, None, is_shared)? else {
@@ -143,8 +143,8 @@ where
     }
 }
 
-/// Makes and locks the file of the next text of a book that is held. Waits up to 30 seconds for a run that looked
-/// for the book before this one was there.
+/// Makes and locks the file of the next text of a book that is held. Waits up to 30 seconds where another run has that file, as
+/// one may that looked for the book before it was there.
 pub fn next_of<R>(
     rt: &R,
     paths: &BookPaths,
@@ -153,7 +153,7 @@ pub fn next_of<R>(
 ) -> Result<R::File, HoldFault>
 where
     R: Files + Clock + AllocGlobal,
-    R::File: Lockable,
+    R::File: BookFileExt,
 {
     let wait = Wait::begin(rt)?;
     // Bounded only because every function has to return; what ends it is in its body.
@@ -177,7 +177,7 @@ fn try_next<R>(
 ) -> Result<Option<R::File>, HoldFault>
 where
     R: Files + AllocGlobal,
-    R::File: Lockable,
+    R::File: BookFileExt,
     ensures { IfErr result (IsHoldFault true) }
 {
     let next = paths.next.as_str();
@@ -202,7 +202,7 @@ fn is_folder<R: Files>(rt: &R, path: &str) -> bool {
 fn make_next<R>(rt: &R, next: &str) -> io::Result<Option<R::File>>
 where
     R: Files,
-    R::File: Lockable,
+    R::File: BookFileExt,
 {
     let file = OpenOptions::new()
         .read(true)
@@ -221,13 +221,14 @@ where
 fn claim<R>(rt: &R, file: &R::File, path: &str) -> io::Result<bool>
 where
     R: Files,
-    R::File: Lockable,
+    R::File: BookFileExt,
 {
-    Ok(file.try_hold()? && is_named(rt, file, path)?)
+    Ok(file.try_lock_now()? && is_named(rt, file, path)?)
 }
 
-// Removes the file of the next text that a killed run left, whose lock is free. Returns false where another run
-// holds it. `book` is the metadata of the book that is held.
+// Removes what has the path of the next text: at once where it is no plain file of a trusted owner, or is the book under a second
+// name, of which `book` is the metadata; else a killed run left it, and it goes where its lock is free. Returns false where another
+// run holds it, or where it has been replaced or removed meanwhile.
 fn clear_next<R>(
     rt: &R,
     paths: &BookPaths,
@@ -236,7 +237,7 @@ fn clear_next<R>(
 ) -> Result<bool, HoldFault>
 where
     R: Files + AllocGlobal,
-    R::File: Lockable,
+    R::File: BookFileExt,
     ensures holding { IfErr result (IsHoldFault false) }
     ensures making { IfErr result (IsHoldFault true) }
 {
@@ -269,7 +270,7 @@ fn remove<R: Files + AllocGlobal>(rt: &R, next: &str) -> Result<(), HoldFault>
     ensures making { IfErr result (IsHoldFault true) }
 {
     match fs::remove_file(rt, next) {
-        Err(error) if !is_gone(error.kind()) => {
+        Err(error) if !is_folder_or_gone(error.kind()) => {
             Err(HoldFault::InTheWay(String::from_str(rt.alloc(), next)?))
         }
         _ => Ok(()),
@@ -277,7 +278,7 @@ fn remove<R: Files + AllocGlobal>(rt: &R, next: &str) -> Result<(), HoldFault>
 }
 
 // Whether an error of this kind says that there is a folder, or nothing any more.
-fn is_gone(kind: ErrorKind) -> bool {
+fn is_folder_or_gone(kind: ErrorKind) -> bool {
     kind == ErrorKind::NotFound || kind == ErrorKind::IsADirectory
 }
 

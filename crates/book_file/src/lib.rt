@@ -30,5 +30,6 @@ mod wait;
 
 pub use fault::HoldFault;
 pub use file::{BookFile, MOST_BOOK, read_without_lock};
-pub use lock::Lockable;
+pub use lock::BookFileExt;
 pub use store::FileStore;
+pub use trust::is_same_file;

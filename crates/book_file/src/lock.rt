@@ -4,18 +4,18 @@ use std::io;
 use std::os::unix::fs::fchown;
 
 /// An open file that can be locked, by one run at a time, and given to an owner.
-pub trait Lockable {
+pub trait BookFileExt {
     /// Takes the exclusive advisory lock. Returns whether it did; false where another opening of the
     /// file holds it. The system frees the lock when the file is closed, also where a run is killed.
     /// An error where the system can't lock the file.
-    fn try_hold(&self) -> io::Result<bool>;
+    fn try_lock_now(&self) -> io::Result<bool>;
 
     /// Gives the file to this owner and this group. An error where the system refuses it.
     fn set_owner(&self, owner: u32, group: u32) -> io::Result<()>;
 }
 
-impl Lockable for File {
-    fn try_hold(&self) -> io::Result<bool> {
+impl BookFileExt for File {
+    fn try_lock_now(&self) -> io::Result<bool> {
         match self.try_lock() {
             Ok(()) => Ok(true),
             Err(TryLockError::WouldBlock) => Ok(false),

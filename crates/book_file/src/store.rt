@@ -4,7 +4,7 @@ ghost use Rattle.book_file.specs.Text.{IsWritten};
 ghost use Rattle.std.specs.Option.{is_some, option_map, unwrap_or};
 
 use crate::file::BookFile;
-use crate::lock::Lockable;
+use crate::lock::BookFileExt;
 use account_book::{BookStore, StoreFault};
 use std::fs::Files;
 use std::time::Clock;
@@ -22,15 +22,17 @@ pub struct FileStore<'a, R: Files> {
     // The text of the save that failed.
     failing: Option<String>,
 
+    // How many saves it was asked for, up to the one that failed.
     saves: u64,
 
+    // While none has failed, one more can be counted: the save of the last number fails.
     ghost room: { failing ≡ None → saves + 1 < 2 ^ 64 },
 }
 
 impl<'a, R> FileStore<'a, R>
 where
     R: Files + Clock + AllocGlobal,
-    R::File: Lockable,
+    R::File: BookFileExt,
 {
     /// The store of a book's file, which has this text. Nothing was saved or has failed yet.
     pub fn new(file: BookFile<'a, R>, text: String) -> FileStore<'a, R>
@@ -49,7 +51,7 @@ where
 impl<'a, R> BookStore for FileStore<'a, R>
 where
     R: Files + Clock + AllocGlobal,
-    R::File: Lockable,
+    R::File: BookFileExt,
 {
     ghost facts = { λ s. record {
       saved = string_bytes s.saved;

@@ -11,7 +11,7 @@ use std::io;
 use std::io::ErrorKind;
 use std::os::unix::fs::MetadataExt;
 
-/// The number of root.
+/// The user id of root.
 const ROOT: u32 = 0;
 
 /// The bits of a folder's mode by which its group, or everyone, may change its names. Where the folder has an

@@ -3,10 +3,10 @@ use std::time::{Clock, Duration, Instant};
 use std::{io, thread};
 
 /// The longest wait, in seconds by the clock.
-const MOST_WAIT: u64 = 30;
+const MOST_WAIT_SECONDS: u64 = 30;
 
 /// The pause between two tries, in milliseconds.
-const PAUSE: u64 = 50;
+const PAUSE_MILLIS: u64 = 50;
 
 /// A wait, from its beginning.
 #[derive(Clone, Copy)]
@@ -25,10 +25,10 @@ impl Wait {
     /// Pauses before the next try and returns true; or returns false, at once, where the wait has
     /// taken 30 seconds. An error where the clock can't be read.
     pub fn pause(&self, clock: &impl Clock) -> io::Result<bool> {
-        if self.begun.elapsed(clock)? >= Duration::from_secs(MOST_WAIT) {
+        if self.begun.elapsed(clock)? >= Duration::from_secs(MOST_WAIT_SECONDS) {
             return Ok(false);
         }
-        thread::sleep(clock, Duration::from_millis(PAUSE));
+        thread::sleep(clock, Duration::from_millis(PAUSE_MILLIS));
         Ok(true)
     }
 }

@@ -2,7 +2,7 @@
 mod folder;
 
 use account_book::{BookStore, StoreFault};
-use book_file::{BookFile, FileStore, HoldFault, Lockable};
+use book_file::{BookFile, BookFileExt, FileStore, HoldFault};
 use faulty_files::{Calls, Faulty};
 use folder::has;
 use std::fs;
@@ -20,7 +20,7 @@ const READ_AND_SAVED: [(&str, &str); 27] = [
     ("lstat", "/book"),
     ("open_file", "/book"),
     ("metadata", "/book"),
-    ("try_hold", "/book"),
+    ("try_lock_now", "/book"),
     ("lstat", "/book"),
     ("metadata", "/book"),
     ("lstat", "/book.new"),
@@ -30,7 +30,7 @@ const READ_AND_SAVED: [(&str, &str); 27] = [
     ("lstat", "/book"),
     ("lstat", "/book.new"),
     ("open_file", "/book.new"),
-    ("try_hold", "/book.new"),
+    ("try_lock_now", "/book.new"),
     ("lstat", "/book.new"),
     ("metadata", "/book.new"),
     ("set_owner", "/book.new"),
@@ -112,7 +112,12 @@ fn links(rt: HostRuntime) -> Result<(), Fail> {
     assert!(rt; has(&rt, other.as_str(), "other"));
     assert!(rt; fs::symlink_metadata(&rt, link.as_str())?.is_symlink());
     assert!(rt; fs::symlink_metadata(&rt, next.as_str()).is_err());
-    assert!(rt; BookFile::hold_or_make(&rt, dangling.as_str()).is_err());
+    assert!(rt;
+        matches!(
+            BookFile::hold_or_make(&rt, dangling.as_str()),
+            Err(HoldFault::Unreadable(_))
+        )
+    );
     Ok(fs::remove_dir_all(&rt, folder.as_str())?)
 }
 
@@ -122,10 +127,41 @@ fn paths_that_name_no_file(rt: HostRuntime) -> Result<(), Fail> {
     let missing = format!(in rt.alloc(); "{folder}/missing/book")?;
     let slash = format!(in rt.alloc(); "{folder}/book/")?;
     for path in ["", "/", "..", missing.as_str(), slash.as_str()] {
-        assert!(rt; BookFile::hold(&rt, path).is_err(), "{path}");
-        assert!(rt; BookFile::hold_or_make(&rt, path).is_err(), "{path}");
+        assert!(rt;
+            matches!(BookFile::hold(&rt, path), Err(HoldFault::Unreadable(_))),
+            "{path}"
+        );
+        assert!(rt;
+            matches!(
+                BookFile::hold_or_make(&rt, path),
+                Err(HoldFault::Unreadable(_))
+            ),
+            "{path}"
+        );
     }
     assert_eq!(rt; fs::read_dir(&rt, folder.as_str())?.count(), 0);
+    Ok(fs::remove_dir_all(&rt, folder.as_str())?)
+}
+
+// A book that is not there is missing, and a folder is none that can be read.
+#[test]
+fn no_book(rt: HostRuntime) -> Result<(), Fail> {
+    let folder = folder::make(&rt, "no-book")?;
+    let book = format!(in rt.alloc(); "{folder}/book")?;
+    assert!(rt; matches!(BookFile::hold(&rt, book.as_str()), Err(HoldFault::Missing)));
+    fs::create_dir(&rt, book.as_str())?;
+    assert!(rt;
+        matches!(
+            BookFile::hold(&rt, book.as_str()),
+            Err(HoldFault::Unreadable(_))
+        )
+    );
+    assert!(rt;
+        matches!(
+            BookFile::hold_or_make(&rt, book.as_str()),
+            Err(HoldFault::Unreadable(_))
+        )
+    );
     Ok(fs::remove_dir_all(&rt, folder.as_str())?)
 }
 
@@ -299,6 +335,7 @@ fn each_failed_call_is_told(rt: HostRuntime) -> Result<(), Fail> {
     let folder = folder::make(&rt, "told")?;
     let book = format!(in rt.alloc(); "{folder}/book")?;
     let mut is_told = false;
+    let mut saved_at_last = false;
     for failing in 1..60u32 {
         fs::write(&rt, book.as_str(), "old")?;
         let calls = Calls::new(rt.alloc(), failing);
@@ -311,12 +348,14 @@ fn each_failed_call_is_told(rt: HostRuntime) -> Result<(), Fail> {
         };
         let Err(error) = file.replace("new") else {
             assert!(rt; !calls.are_over(), "{failing}");
+            saved_at_last = true;
             break;
         };
         assert_eq!(rt; error.kind(), ErrorKind::StorageFull, "{failing}");
         is_told = true;
     }
     assert!(rt; is_told);
+    assert!(rt; saved_at_last);
     Ok(fs::remove_dir_all(&rt, folder.as_str())?)
 }
 
@@ -336,7 +375,7 @@ fn no_next_file(rt: HostRuntime) -> Result<(), Fail> {
         return Err(Fail::from("the book is not held"));
     };
     let other = File::create(&rt, next.as_str())?;
-    assert!(rt; other.try_hold()?);
+    assert!(rt; other.try_lock_now()?);
     assert_eq!(rt;
         file.replace("new").map_err(|error| error.kind()),
         Err(ErrorKind::ResourceBusy)

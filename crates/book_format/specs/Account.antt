@@ -20,8 +20,7 @@ pub record AccountFields : Type 0 where
   pub act_as : List (List ℕ)
   pub token : Option TokenFields
 
--- keys as long as the digests, of `len` bytes, of their hash function, with a salt and an iteration count in
--- the ranges that a challenge can show
+-- StoredKey and ServerKey have `len` bytes each, and the salt and the iteration count are such as a challenge can have
 pub record AreKeys (len : ℕ) (keys : MechKeys) : Type 0 where
   pub salt : IsSalt keys.salt
   pub salt_bytes : IsBytes keys.salt

@@ -1,5 +1,6 @@
 -- What a book's text is read as, or its first fault: of the text, of `format`, of the document, then of account after
--- account, in byte order of their names.
+-- account, in byte order of their names. The first fault is defined by a reader: IsBookText says, without it, which texts are
+-- those of books.
 use Rattle.std.specs.Prelude.{ℕ, ◌+◌, ◌≡◌, ◌⊎◌, ◌==◌, ℤ, pos, negsuc, Bool, false, if◌then◌else◌, List, [], ◌∷◌, codes, Option, Some, None}
 use Rattle.std.specs.Prelude.{option_and_then, ok_or, Result, Ok, Err, MatchResult}
 use Rattle.std.specs.Str.{is_utf8}

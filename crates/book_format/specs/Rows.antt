@@ -1,5 +1,5 @@
--- What a table of the format is: a row for each key. Which TOML table is that of a value, what the first fault of
--- another is, and as what a value is written, are said here, once for all tables.
+-- The tables of the format, each a list of rows, one for each key. From the rows follow which TOML table is that of a value,
+-- the first fault of any other table, and the table that a value is written as.
 use Rattle.std.specs.Prelude.{ℕ, ◌≡◌, ◌⊎◌, ◌++◌, List, [], ◌∷◌, map, codes, Bool, true, false, pos, Option, Some, None, option_map, ok_or}
 use Rattle.std.specs.Prelude.{Result, Ok, Err, IsTrue}
 use Prim.Native.String.{String}
@@ -20,7 +20,8 @@ abbrev pub demand : Bool → BookWhy → Result (Unit {0}) BookWhy
 demand true why = Ok tt
 demand false why = Err why
 
--- a type of values: which TOML value is that of which V, the V or the fault of each, and as what a V is written
+-- a type of values. Is: this TOML value is that of this V. read: the V of a TOML value, or its fault. write: the TOML value
+-- that a V is written as.
 pub record ValueType (V : Type 0) : Type 1 where
   pub Is : Data → V → Type 0
   pub read : Data → Result V BookWhy
@@ -30,7 +31,8 @@ pub record ValueType (V : Type 0) : Type 1 where
 abbrev pub WritesItself : {V : Type 0} → ValueType V → V → Type 0
 WritesItself k v = k.Is (k.write v) v
 
--- a row of the table of a T: a key, what the table has there, or its fault, what is written there, and which field it is
+-- one key of the table of a T. Has: what the table has there for a value V. read: the V of a table, or its fault. write: what
+-- is written there. field: the V of a T.
 pub record Row (T : Type 0) : Type 1 where
   pub V : Type 0
   pub key : List ℕ
@@ -39,12 +41,12 @@ pub record Row (T : Type 0) : Type 1 where
   pub write : V → Option Data
   pub field : T → V
 
--- what makes an X of the values of all rows
+-- a function of the values of all rows, one argument for each, to an X
 abbrev pub Maker : {T : Type 0} → List (Row T) → Type 0 → Type 0
 Maker [] X = X
 Maker (r ∷ rows) X = r.V → Maker rows X
 
--- a table of a T: keys that have one value each and tell which table it is, its rows, and the T of their values
+-- the table of a T. marks: keys that have one fixed value each. rows: the other keys. make: the T of the values of the rows.
 pub record Table (T : Type 0) : Type 1 where
   pub marks : List (List ℕ × Data)
   pub rows : List (Row T)
@@ -75,12 +77,12 @@ pub record IsTable {T : Type 0} (t : Table T) (ms : Members) (x : T) : Type 0 wh
   pub known : IsTrue (has_only (is_among (table_keys t)) ms)
   pub rows : HasRows t.rows ms x
 
--- what is made of the values of all rows, or the fault of the first row that has one
+-- an X made of the values of all rows, or the fault of the first row that has one
 abbrev pub read_rows : {T X : Type 0} (rows : List (Row T)) → Maker rows X → Members → Result X BookWhy
 read_rows [] x ms = Ok x
 read_rows (r ∷ rows) make ms = r.read ms >>= λ value. read_rows rows (make value) ms
 
--- the T of a table that has the marks, or the first fault: unknown keys come before the rows
+-- the T of a table whose marks were checked before, or the first fault: unknown keys come before the rows
 unfoldable pub read_table : {T : Type 0} → Table T → Members → Result T BookWhy
 read_table t ms = demand (has_only (is_among (table_keys t)) ms) Key >>= λ known. read_rows t.rows t.make ms
 
@@ -109,7 +111,7 @@ table_in t d = table_of d >>= read_table t
 abbrev pub IsTableIn : {T : Type 0} → Table T → Data → T → Type 0
 IsTableIn t d x = (ms : Members) × (d ≡ table ms) × IsTable t ms x
 
--- tables without marks as a type of values
+-- tables as a type of values. Its `read` does not look at the marks: there are none, or they were checked before.
 abbrev pub in_table : {T : Type 0} → Table T → ValueType T
 in_table t = record { Is = IsTableIn t; read = table_in t; write = λ x. table (written t x) }
 
@@ -117,7 +119,7 @@ in_table t = record { Is = IsTableIn t; read = table_in t; write = λ x. table (
 abbrev pub HasAt : {V : Type 0} → List ℕ → ValueType V → Members → V → Type 0
 HasAt key k ms v = (d : Data) × (get_member key ms ≡ Some d) × k.Is d v
 
--- what is read of a value, where what a missing one gives is given
+-- what `read` reads of a value where there is one, else `missing`
 abbrev pub read_or : {V : Type 0} → Result V BookWhy → (Data → Result V BookWhy) → Option Data → Result V BookWhy
 read_or missing read None = missing
 read_or missing read (Some d) = read d
@@ -166,7 +168,7 @@ row_to name k bound field = record {
   field = field;
 }
 
--- a row whose key may be missing, which stands for a value that is then written all the same
+-- a row whose key may be missing. A missing key means `other`, which is written with its key like any value.
 abbrev pub row_or : {T V : Type 0} → V → String → ValueType V → (T → V) → Row T
 row_or other name k field = record {
   V = _;

@@ -1,4 +1,4 @@
--- The tables of the format. A row has a key, the type of its value with its range, and the field that it is; rows
+-- The tables of the format. A row has a key, the type and the range of its value, and the field that the value is in; rows
 -- stand in the order in which their faults come.
 use Rattle.std.specs.Prelude.{ℕ, ◌+◌, pos, List, [], ◌∷◌, codes, if◌then◌else◌, Option, Result, Ok, Err}
 use Rattle.std.specs.Str.{bytes_eq}
@@ -129,7 +129,7 @@ token_tree (Totp t) = table (written totp t)
 abbrev pub token : ValueType TokenFields
 token = record { Is = IsToken; read = token_in; write = token_tree }
 
--- an account: a mechanism without its key has no keys, and without `token` there is none
+-- an account: where `sha1` or `sha256` is missing it has no keys for that mechanism, and where `token` is missing no token
 abbrev pub account : Table AccountFields
 account = record {
   marks = [];

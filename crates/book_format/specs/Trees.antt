@@ -28,7 +28,7 @@ pub record IsBookTree (ms : Members) (book : BookFields) : Type 0 where
   pub top : IsTable document ms (record { decoy_key = book.decoy_key; decoy_count = book.decoy_count; accounts = named })
   pub accounts : AreAccountsOf named book.accounts
 
--- the text of a book: UTF-8, a TOML document, and its tree that of the book
+-- the text is that of the book: it is UTF-8 and a TOML document, and the document's tree is that of the book
 pub record IsBookText (bytes : List ℕ) (book : BookFields) : Type 0 where
   pub tree : Members
   pub utf8 : IsUtf8 bytes

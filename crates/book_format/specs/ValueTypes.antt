@@ -15,45 +15,45 @@ use Rattle.book_format.specs.Rows.{◌>>=◌, demand, table_of, ValueType}
 use Rattle.book_format.specs.declared.fault.BookWhy.{BookWhy}
 use Rattle.book_format.specs.declared.fault.BookWhy.TheVariants.{Key, Name, Token}
 
--- a type of values by its reader: a V is the value of what is read as V
+-- a type of values, by its reader: a TOML value is that of the V that is read of it
 abbrev pub value_type : {V : Type 0} → (Data → Result V BookWhy) → (V → Data) → ValueType V
 value_type read write = record { Is = λ d v. read d ≡ Ok v; read = read; write = write }
 
--- a value that passes a test
-abbrev pub such : {V : Type 0} → Bool → V → BookWhy → Result V BookWhy
+-- the value where it passes a test, else the fault
+abbrev pub such : {V : Type 0} → (fits : Bool) → V → BookWhy → Result V BookWhy
 such fits v why = if fits then Ok v else Err why
 
 -- a whole number from `least` to `most`
-unfoldable pub number_in : BookWhy → ℕ → ℕ → Data → Result ℕ BookWhy
-number_in why least most (integer (pos n)) = such (nat_le least n && nat_le n most) n why
-number_in why least most (integer (negsuc n)) = Err why
-number_in why least most d = Err Key
+unfoldable pub number_of : (why : BookWhy) → (least most : ℕ) → Data → Result ℕ BookWhy
+number_of why least most (integer (pos n)) = such (nat_le least n && nat_le n most) n why
+number_of why least most (integer (negsuc n)) = Err why
+number_of why least most d = Err Key
 
 -- whole numbers from `least` to `most`
-abbrev pub number : BookWhy → ℕ → ℕ → ValueType ℕ
-number why least most = value_type (number_in why least most) (λ n. integer (pos n))
+abbrev pub number : (why : BookWhy) → (least most : ℕ) → ValueType ℕ
+number why least most = value_type (number_of why least most) (λ n. integer (pos n))
 
 -- a whole number of at most `most` to either side of 0
-unfoldable pub signed_in : BookWhy → ℕ → Data → Result ℤ BookWhy
+unfoldable pub signed_in : (why : BookWhy) → (most : ℕ) → Data → Result ℤ BookWhy
 signed_in why most (integer z) = such (nat_le (nat_abs z) most) z why
 signed_in why most d = Err Key
 
 -- whole numbers of at most `most` to either side of 0
-abbrev pub signed : BookWhy → ℕ → ValueType ℤ
+abbrev pub signed : (why : BookWhy) → (most : ℕ) → ValueType ℤ
 signed why most = value_type (signed_in why most) integer
 
 -- bytes that were decoded, `least` to `most` of them
-abbrev pub decoded : {E : Type 0} → BookWhy → ℕ → ℕ → Result (List ℕ) E → Result (List ℕ) BookWhy
+abbrev pub decoded : {E : Type 0} → (why : BookWhy) → (least most : ℕ) → Result (List ℕ) E → Result (List ℕ) BookWhy
 decoded why least most (Ok bytes) = such (nat_le least (length bytes) && nat_le (length bytes) most) bytes why
 decoded why least most (Err e) = Err why
 
 -- the hexadecimal text, in either case, of `least` to `most` bytes
-unfoldable pub bytes_in : BookWhy → ℕ → ℕ → Data → Result (List ℕ) BookWhy
+unfoldable pub bytes_in : (why : BookWhy) → (least most : ℕ) → Data → Result (List ℕ) BookWhy
 bytes_in why least most (string text) = decoded why least most (decode_of text)
 bytes_in why least most d = Err Key
 
 -- `least` to `most` bytes, in lower-case hexadecimal
-abbrev pub bytes : BookWhy → ℕ → ℕ → ValueType (List ℕ)
+abbrev pub bytes : (why : BookWhy) → (least most : ℕ) → ValueType (List ℕ)
 bytes why least most = value_type (bytes_in why least most) (λ bs. string (encode_lower bs))
 
 -- any text
@@ -91,7 +91,8 @@ names_in (item d ds) = do
   names ← names_in ds
   Ok (name ∷ names)
 
--- at most so many names as an account may act as: all types before any value
+-- the names of a list. First each item has to be a text, then there may be at most most_names, then each has to be a plain
+-- name.
 unfoldable pub names_of : Items → Result (List (List ℕ)) BookWhy
 names_of list = do
   typed ← demand (are_texts list) Key

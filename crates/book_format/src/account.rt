@@ -5,16 +5,13 @@ use scram_text::{PlainName, Salt};
 use std::marker::Model;
 
 /// The length in bytes of a key of SCRAM-SHA-1.
-pub(crate) const SHA1_KEY: usize = 20;
+pub(crate) const SHA1_KEY_LEN: usize = 20;
 
 /// The length in bytes of a key of SCRAM-SHA-256.
-pub(crate) const SHA256_KEY: usize = 32;
-
-/// The most bytes of a salt.
-pub(crate) const MOST_SALT: usize = 64;
+pub(crate) const SHA256_KEY_LEN: usize = 32;
 
 /// The greatest iteration count.
-pub(crate) const MOST_COUNT: u64 = 4_294_967_295;
+pub(crate) const MOST_COUNT: u64 = u32::MAX as u64;
 
 /// What is kept of a password for one mechanism (RFC 5802, section 3).
 #[derive(Drop)]

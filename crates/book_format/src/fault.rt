@@ -37,7 +37,8 @@ pub enum BookWhy {
     #[error("a key is not the hexadecimal text of as many bytes as it has to have")]
     KeyLength = 66,
 
-    /// A token is of an unknown kind or hash function, or has a setting that is out of its range.
+    /// A token is of an unknown kind or hash function, its secret is not the hexadecimal text of 10 to 64 bytes, or another
+    /// field of it is out of its range.
     #[error("a token is of another kind, or a setting of it is out of its range")]
     Token = 67,
 

@@ -26,13 +26,9 @@
 #![tactic(auto)]
 
 mod account;
-mod accounts;
 mod contents;
 mod fault;
-mod field;
-mod mech;
 mod read;
-mod token;
 mod write;
 
 pub use account::{Account, MechKeys};

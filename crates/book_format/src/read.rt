@@ -11,11 +11,16 @@ ghost use Rattle.book_format.specs.Rows.{read_some};
 ghost use Rattle.book_format.specs.declared.fault.BookWhy.TheVariants.{NoMemory};
 ghost use Rattle.book_format.specs.declared.read.Top.{Top};
 
+mod accounts;
+mod field;
+mod mech;
+mod token;
+
 use crate::account::{Account, MOST_COUNT};
-use crate::accounts::accounts_from;
 use crate::contents::Contents;
 use crate::fault::{BookFault, BookWhy};
-use crate::field::{at, bytes_of, known_keys, number_of, table_of};
+use accounts::accounts_from;
+use field::{at, bytes_at, check_keys, number_at, table_of};
 use mac_core::Tag;
 use scram_text::PlainName;
 use std::alloc::Global;
@@ -104,10 +109,10 @@ fn top_of(table: &Table) -> Result<Top<'_>, BookWhy>
     if !is_format(table) {
         return Err(BookWhy::Format);
     }
-    known_keys(table, &["format", "decoy_key", "decoy_count", "accounts"])?;
-    let decoy_key = bytes_of(table, "decoy_key", 32, 32, BookWhy::KeyLength)?;
-    let decoy_count = number_of(table, "decoy_count", 1, MOST_COUNT, BookWhy::Count)?;
-    let accounts = table_at(table, "accounts")?;
+    check_keys(table, &["format", "decoy_key", "decoy_count", "accounts"])?;
+    let decoy_key = bytes_at(table, "decoy_key", 32, 32, BookWhy::KeyLength)?;
+    let decoy_count = number_at(table, "decoy_count", 1, MOST_COUNT, BookWhy::Count)?;
+    let accounts = table_if_any(table, "accounts")?;
     Ok(Top {
         decoy_key: key_of(&decoy_key),
         decoy_count: decoy_count as u32,
@@ -136,7 +141,7 @@ fn key_of(bytes: &Tag) -> [u8; 32]
 }
 
 // The table at a key, or None where it is missing. `Key` for another value.
-fn table_at<'a>(table: &'a Table, key: &str) -> Result<Option<&'a Table>, BookWhy>
+fn table_if_any<'a>(table: &'a Table, key: &str) -> Result<Option<&'a Table>, BookWhy>
     ensures { seen (λ t. option_map (λ m. table_view m.now) t) result ≡ read_some key.now any_table (table_view table.now) }
 {
     match at(table, key) {

@@ -24,12 +24,12 @@ use toml::ser::Error;
 use toml::{Table, Value};
 
 impl Contents {
-    /// The book's text, which `read` reads as these contents. It has each key that has a value, in
-    /// byte order of the keys, with bytes in lower-case hexadecimal; `act_as` is written even where
-    /// it is empty. `AllocError` comes only where memory runs out, which no clause
-    /// says.
+    /// The book's text, which `read` reads as these contents unless memory runs out. It has each key that
+    /// has a value, in byte order of the keys, with bytes in lower-case hexadecimal; `act_as` is written even where
+    /// it is empty. `AllocError` comes only where memory runs out, which no clause says.
     pub fn write(&self, alloc: Global) -> Result<String, AllocError>
         ensures stands { IfOk result (λ s. IsBookText (string_bytes s) self.now) }
+        // The text is the compact one of the crate toml: in IsDocumentText, `false` says that it is not pretty.
         ensures text { IfOk result (λ s. IsDocumentText false (book_tree self.now) (string_bytes s)) }
     {
         match toml::table_to_string(alloc, &book_table(alloc, self)?) {

@@ -20,7 +20,7 @@ const TOP: &str = concat!(
     "decoy_count = 4096\n\n",
 );
 
-// One account with keys of SCRAM-SHA-1: those of RFC 5802, section 5.
+// One account with keys of SCRAM-SHA-1: those of the user of RFC 5802, section 5, by Python's hashlib.
 const USER: &str = concat!(
     "[accounts.user]\n",
     "act_as = []\n\n",
@@ -96,7 +96,7 @@ fn check_fault(
     assert_eq!(rt; fault_of(rt.alloc(), text), want, "{at}");
 }
 
-// That of a book's text with an edit.
+// Asserts so of the text of a book in which the first `old` is replaced by `new`.
 fn check_edit(
     rt: &(impl Abort + AllocGlobal),
     parts: [&str; 2],

@@ -8,7 +8,7 @@ use Rattle.mac_core.specs.declared.mechanism.Mechanism.{Mechanism}
 use Rattle.scram_text.specs.Class.{IsNoncePart, IsPassword, IsPlainName, IsSalt}
 use Rattle.otp_core.specs.Hash.{hash_name}
 use Rattle.otp_core.specs.Ranges.{least_digits, longest_step, most_counter, most_digits, IsMoment}
-use Rattle.otp_core.specs.Secret.{IsSecretLength}
+use Rattle.otp_core.specs.Ranges.{IsSecretLength}
 use Rattle.otp_core.specs.declared.hash.OtpHash.{OtpHash}
 use Rattle.command_line.specs.declared.fault.Fault.{Fault}
 use Rattle.command_line.specs.declared.fault.Fault.TheVariants.{BadValue, BadPassword}

@@ -1,8 +1,6 @@
 -- What becomes of a held book and of its store.
-use Rattle.std.specs.Prelude.{ℕ, ◌≡◌, ◌≤◌, ◌<◌, ◌⊎◌, true, false, List, [], ◌∷◌, ◌++◌, length, codes, string_bytes}
+use Rattle.std.specs.Prelude.{ℕ, ◌≡◌, ◌≤◌, ◌<◌, ◌⊎◌, true, false, List, length, string_bytes}
 use Rattle.std.specs.Prelude.{Option, is_some, None, Some, MatchOption}
-use Rattle.std.specs.Str.{byte}
-use Rattle.std.specs.Io.KnownBytes.{Appends}
 use Rattle.otp_core.specs.Attempt.{CodeTexts}
 use Rattle.otp_core.specs.declared.token.answer.Reply.{Reply}
 use Rattle.book_format.specs.Account.{AccountFields}
@@ -10,21 +8,17 @@ use Rattle.book_format.specs.Book.{BookFields}
 use Rattle.book_format.specs.Reading.{IsFirstFault}
 use Rattle.book_format.specs.Trees.{IsBookText}
 use Rattle.book_format.specs.declared.fault.BookFault.{BookFault}
-use Rattle.account_book.specs.Accounts.{account_at, IsAdded}
+use Rattle.account_book.specs.Accounts.{IsAdded}
 use Rattle.account_book.specs.Enrolled.{enrolled}
-use Rattle.account_book.specs.SavedBooks.{needs_save, SavesBook, WasSaved}
+use Rattle.account_book.specs.SavedBooks.{needs_save, SavesBook}
 use Rattle.account_book.specs.Store.{StoreFacts, IsFailedSave}
-use Rattle.account_book.specs.Tokens.{IsAnswered, IsUnlocked, token_at}
-use Rattle.book_file.specs.Text.{IsRead, IsWritten}
+use Rattle.account_book.specs.Tokens.{IsBookAttempt, IsUnlocked, token_at}
+use Rattle.book_file.specs.Text.{IsRead}
 use Rattle.book_file.specs.declared.file.TheConstants.{MOST_BOOK}
-use Rattle.clap.specs.declared.parser.matches.ArgMatches.{ArgMatches}
-use Rattle.command_line.specs.Fault.{of_book, IsTokenFault}
+use Rattle.command_line.specs.Fault.{fault_of_book}
 use Rattle.command_line.specs.declared.fault.Fault.{Fault}
 use Rattle.command_line.specs.declared.fault.Fault.TheVariants.{NoSuchAccount, NoToken, CannotRead, CannotWrite}
-use Rattle.command_line.specs.declared.fault.Fault.TheVariants.{CannotWriteOutput, NoMemory}
-use Rattle.command_line.specs.declared.option_name.OptionName.TheVariants as option
-use Rattle.command_words.specs.Values.{given_value}
-use Rattle.command_io.specs.BadValues.{HasBadValue}
+use Rattle.command_line.specs.declared.fault.Fault.TheVariants.{NoMemory}
 use Rattle.command_io.specs.declared.held_book.HeldBook.{HeldBook}
 use Rattle.command_io.specs.declared.new_account.NewAccount.{NewAccount}
 use Rattle.command_io.specs.declared.new_account.Salts.{Salts}
@@ -61,16 +55,16 @@ CannotBeSaved text store = (MOST_BOOK < length text) ⊎ (store.failed ≡ true)
 -- a text was read from a file and is no book: the fault is that of its first fault
 abbrev pub IsFaultOfText : {File : Type 0} → (bytes_of : File → Option (List ℕ)) → Fault → Type 0
 IsFaultOfText bytes_of fault =
-    (text : List ℕ) × (found : BookFault) × IsRead bytes_of text × IsFirstFault text found × (fault ≡ of_book found)
+    (text : List ℕ) × (found : BookFault) × IsRead bytes_of text × IsFirstFault text found × (fault ≡ fault_of_book found)
 
--- the fault of a book that can't be held: the file of this path can't be read; or some file can't be written, of which nothing is said here; or
--- memory ran out
+-- the fault of a book that can't be held: the file of this path can't be read; or a file, whose path is not said here, can't be written;
+-- or memory ran out
 abbrev pub CannotHold : (path : List ℕ) → Fault → Type 0
 CannotHold path (CannotRead file) = string_bytes file ≡ path
 CannotHold path (CannotWrite file) = Unit {0}
 CannotHold path fault = fault ≡ NoMemory
 
--- the fault of a book that can't be held or read; where it can't be read, the bytes of its file are no book
+-- the fault of a book that can't be held or read: it can't be held, the bytes that were read from a file are no book, or memory ran out
 abbrev pub IsUnheld : {File : Type 0} → (bytes_of : File → Option (List ℕ)) → (path : List ℕ) → Fault → Type 0
 IsUnheld bytes_of path fault = CannotHold path fault ⊎ IsFaultOfText bytes_of fault
 
@@ -79,18 +73,18 @@ abbrev pub LacksToken : Option AccountFields → Fault → Type 0
 LacksToken found fault = MatchOption found (fault ≡ NoSuchAccount) (λ account. (fault ≡ NoToken) × (account.token ≡ None))
 
 -- the account with this name has a token, whose failures are 0 after the change; nothing else is changed
-abbrev pub IsTokenUnlocked : (name : List ℕ) → BookFields → BookFields → Type 0
+abbrev pub IsTokenUnlocked : (name : List ℕ) → (old new : BookFields) → Type 0
 IsTokenUnlocked name old new = (is_some (token_at old name) ≡ true) × IsUnlocked old name new
 
 -- an account with the keys of a password, under a name that had none, is added
-abbrev pub IsEnrolled : NewAccount → Salts → BookFields → BookFields → Type 0
+abbrev pub IsEnrolled : NewAccount → Salts → (old new : BookFields) → Type 0
 IsEnrolled account salts old new =
     IsAdded old account.name (enrolled account.password salts.sha1 salts.sha256 account.count) new
 
 -- the reply is due, and the book after it is saved where the reply needs that; else the store is as it was
 pub record IsReplySaved (IsStored : List ℕ → Type 0) (old : HeldFacts) (name : List ℕ) (moment : ℕ) (sent : CodeTexts) (reply : Reply)
     (new : HeldFacts) : Type 0 where
-  pub due : IsAnswered old.book name moment sent (Some reply) new.book
+  pub due : IsBookAttempt old.book name moment sent (Some reply) new.book
   pub saved : needs_save (Some reply) ≡ true → IsBookSaved IsStored old.store new.book new.store
   pub unasked : needs_save (Some reply) ≡ false → new.store ≡ old.store
 
@@ -98,7 +92,7 @@ pub record IsReplySaved (IsStored : List ℕ → Type 0) (old : HeldFacts) (name
 abbrev pub IsReplyUnsaved : (old : HeldFacts) → (name : List ℕ) → (moment : ℕ) → CodeTexts → (new : HeldFacts) → Type 0
 IsReplyUnsaved old name moment sent new =
     (new ≡ old)
-    ⊎ ((reply : Reply) × IsAnswered old.book name moment sent (Some reply) new.book × IsBookUnsaved old.store new.book new.store)
+    ⊎ ((reply : Reply) × IsBookAttempt old.book name moment sent (Some reply) new.book × IsBookUnsaved old.store new.book new.store)
 
 -- the token of this name is unlocked, and the book is saved
 pub record IsUnlockSaved (IsStored : List ℕ → Type 0) (name : List ℕ) (old new : HeldFacts) : Type 0 where
@@ -109,28 +103,3 @@ pub record IsUnlockSaved (IsStored : List ℕ → Type 0) (name : List ℕ) (old
 pub record IsReadBook {File : Type 0} (bytes_of : File → Option (List ℕ)) (text : List ℕ) (book : BookFields) : Type 0 where
   pub is_text : IsBookText text book
   pub is_read : IsRead bytes_of text
-
--- a book is read from a file, the token of the name that the words give is unlocked, and the text of the book as it is then is
--- written to a file; and the name is printed
-pub record UnlocksAsked {File : Type 0} (bytes_of written_to : File → Option (List ℕ)) (words : ArgMatches) (old new : Option (List ℕ))
-    : Type 0 where
-  pub text : List ℕ
-  pub first : BookFields
-  pub is_first : IsReadBook bytes_of text first
-  pub last : BookFields
-  pub is_unlocked : IsTokenUnlocked (given_value words option.Name) first last
-  pub is_saved : WasSaved (IsStoredShort (IsWritten written_to)) last
-  pub printed : Appends old new (codes "unlocked " ++ (given_value words option.Name ++ byte "\n" ∷ []))
-
--- a book that was read has no token for the name, or can't be saved in the file of this path: the fault says which
-abbrev pub CannotUnlockToken : {File : Type 0} → (bytes_of : File → Option (List ℕ)) → (path name : List ℕ) → Fault → Type 0
-CannotUnlockToken bytes_of path name fault =
-    (text : List ℕ) × (book : BookFields) × IsReadBook bytes_of text book × IsTokenFault path (account_at book name) fault
-
--- the fault that ends `unlock`: the name is none, the book can't be held or read, it has no token for the name or can't be saved, or the
--- output can't be written
-abbrev pub CannotUnlock : {File : Type 0} → (bytes_of : File → Option (List ℕ)) → ArgMatches → Fault → Type 0
-CannotUnlock bytes_of words fault =
-    HasBadValue (option.Name ∷ []) words fault
-    ⊎ (IsUnheld bytes_of (given_value words option.Book) fault
-    ⊎ (CannotUnlockToken bytes_of (given_value words option.Book) (given_value words option.Name) fault ⊎ (fault ≡ CannotWriteOutput)))

@@ -5,7 +5,7 @@ use Rattle.std.specs.Io.KnownBytes.{Consumes, IsAtEnd}
 use Rattle.std.specs.declared.option.Option.{Option}
 use Rattle.command_line.specs.declared.fault.Fault.{Fault}
 use Rattle.command_line.specs.declared.fault.Fault.TheVariants.{CannotReadInput, NoMemory}
-use Rattle.log_grammar.specs.Bytes.{LacksLf, IsCut}
+use Rattle.log_grammar.specs.Bytes.{LacksLf, IsSplit}
 
 -- a line can't be read: the input failed, or has more bytes than a command reads; or memory ran out
 abbrev pub IsUnread : Fault → Type 0
@@ -35,7 +35,7 @@ last_line (c ∷ rest) = (c ∷ rest) ∷ []
 pub record AreLinesOf (bytes : List ℕ) (lines : List (List ℕ)) : Type 0 where
   pub texts : List (List ℕ)
   pub rest : List ℕ
-  pub cut : IsCut bytes texts rest
+  pub cut : IsSplit bytes texts rest
   pub are : lines ≡ texts ++ last_line rest
 
 -- each of these lines is worked on in turn, by a step that says whether the line passed; and whether each passed

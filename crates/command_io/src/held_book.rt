@@ -1,13 +1,12 @@
 //! A book that this run holds, and its store: each change is saved before it is reported.
-ghost use Rattle.std.specs.Prelude.{◌≡◌, ◌≢◌, ℕ, List, true, false, is_some, None, Some, IfErr, IfOk, MatchOption, OnErr, OnOk};
+ghost use Rattle.std.specs.Prelude.{◌≡◌, ◌≢◌, ℕ, List, true, is_some, IfErr, IfOk, MatchOption, OnErr, OnOk};
 ghost use Rattle.book_format.specs.Trees.{IsBookText};
 ghost use Rattle.account_book.specs.Accounts.{account_at};
-ghost use Rattle.account_book.specs.SavedBooks.{needs_save};
-ghost use Rattle.account_book.specs.Tokens.{token_at, IsAnswered};
+ghost use Rattle.account_book.specs.Tokens.{token_at};
 ghost use Rattle.otp_core.specs.Sent.{texts_of};
 ghost use Rattle.command_line.specs.Fault.{IsTokenFault, IsUnwritten};
 ghost use Rattle.command_io.specs.HeldBook.{held_shown, CannotBeSaved, IsBookSaved, IsBookUnsaved, IsChangeUnsaved, IsUnlockSaved};
-ghost use Rattle.command_io.specs.HeldBook.{IsEnrolled, IsReplyUnsaved, IsTokenUnlocked, LacksToken};
+ghost use Rattle.command_io.specs.HeldBook.{IsEnrolled, IsReplySaved, IsReplyUnsaved, IsTokenUnlocked, LacksToken};
 
 use crate::new_account::{NewAccount, Salts};
 use account_book::{Book, BookStore, Reply};
@@ -58,10 +57,8 @@ impl<'a, S: BookStore> HeldBook<'a, S> {
             (held_shown S.facts self.new)) }
         ensures saved { OnOk result (IsBookSaved S.IsStored (S.facts self.old.store) self.new.book (S.facts self.new.store)) }
     {
-        match account.add_to(alloc, &mut self.book, salts) {
-            Ok(()) => self.save(alloc),
-            Err(fault) => Err(fault),
-        }
+        account.add_to(alloc, &mut self.book, salts)?;
+        self.save(alloc)
     }
 
     /// Checks that there is an account of this name, and that it has a token. Faults: NoSuchAccount and NoToken.
@@ -78,7 +75,7 @@ impl<'a, S: BookStore> HeldBook<'a, S> {
 
     /// Judges one code, or two in a row, at `moment` by the account's token, and saves the book unless the token is
     /// locked. Faults: NoSuchAccount, NoToken, CannotWrite and NoMemory; after the last two the book may have the attempt
-    /// without being saved.
+    /// without being saved. It stays so, since the run ends there; `Keeper` of `sasl_desk` takes the attempt back.
     pub fn attempt(
         &mut self,
         alloc: Global,
@@ -86,10 +83,8 @@ impl<'a, S: BookStore> HeldBook<'a, S> {
         moment: Moment,
         sent: Sent<'_>,
     ) -> Result<Reply, Fault>
-        ensures due { IfOk result (λ reply. IsAnswered self.old.book name.now moment (texts_of sent.entry) (Some reply) self.new.book) }
-        ensures saved { IfOk result (λ reply. needs_save (Some reply) ≡ true
-            → IsBookSaved S.IsStored (S.facts self.old.store) self.new.book (S.facts self.new.store)) }
-        ensures locked { IfOk result (λ reply. needs_save (Some reply) ≡ false → self.new.store ≡ self.old.store) }
+        ensures ok { IfOk result (λ reply. IsReplySaved S.IsStored (held_shown S.facts self.old) name.now moment (texts_of sent.entry)
+            reply (held_shown S.facts self.new)) }
         ensures path { self.new.path.now ≡ self.old.path.now }
         ensures err { IfErr result (IsTokenFault self.old.path.now (account_at self.old.book name.now)) }
         ensures unasked { IfErr result (λ fault. fault ≡ Fault.NoMemory → self.new.store ≡ self.old.store) }

@@ -33,8 +33,8 @@ fn next_byte<I: Read>(input: &mut I) -> Result<Option<u8>, Fault>
     Err(Fault::CannotReadInput)
 }
 
-// The next line of `input` without its LF, and whether it had one; at the end a line of no byte that had none. CannotReadInput
-// where a read fails, and where the line and its LF have more than `most` bytes; NoMemory where memory runs out.
+// The next line of `input` without its LF, and whether it had one; at the end of the input, an empty line that had none.
+// CannotReadInput where a read fails, and where the line and its LF have more than `most` bytes; NoMemory where memory runs out.
 fn read_line<I: Read>(alloc: Global, input: &mut I, most: usize) -> Result<(Vec<u8>, bool), Fault>
     ensures line { IfOk result (λ line. TakesLine (I.remaining input.old) line.0.items line.1 (I.remaining input.new)) }
     ensures most { IfOk result (λ line. length (line_bytes line.0.items line.1) ≤ most) }

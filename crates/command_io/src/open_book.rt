@@ -4,13 +4,13 @@ ghost use Rattle.book_format.specs.Reading.{IsFirstFault};
 ghost use Rattle.book_format.specs.Trees.{IsBookText};
 ghost use Rattle.book_format.specs.declared.fault.BookFault.{BookFault};
 ghost use Rattle.book_file.specs.Text.{IsRead};
-ghost use Rattle.command_line.specs.Fault.{of_book};
+ghost use Rattle.command_line.specs.Fault.{fault_of_book};
 ghost use Rattle.command_io.specs.HeldBook.{CannotHold, IsReadBook, IsUnheld};
 
 use crate::file::read_fault;
 use crate::held_book::HeldBook;
 use account_book::{Book, BookStore, BookWhy};
-use book_file::{BookFile, FileStore, HoldFault, Lockable};
+use book_file::{BookFile, BookFileExt, FileStore, HoldFault};
 use command_line::{Fault, TerminalText};
 use std::alloc::{AllocError, Global};
 use std::fs::Files;
@@ -19,7 +19,7 @@ use std::time::Clock;
 
 /// A book as it was when its file was read; others may have changed the file since.
 #[derive(Drop)]
-pub struct Seen {
+pub struct ReadBook {
     /// What the text says.
     pub book: Book,
 
@@ -31,10 +31,10 @@ pub struct Seen {
 /// the file can't be read or other runs hold it for 30 seconds; CannotWrite where a save could not keep the file's owner, or
 /// where what stands at the path of the next text can't be removed; BadBook where the text is no book; and NoMemory.
 #[tactic(auto, using(crate::proofs::lemmas::HeldFaults::no_book))]
-pub fn read_and_release<R, E>(rt: &R, path: &str, faults: &mut E) -> Result<Option<Seen>, Fault>
+pub fn read_and_release<R, E>(rt: &R, path: &str, faults: &mut E) -> Result<Option<ReadBook>, Fault>
 where
     R: Files + Clock + AllocGlobal,
-    R::File: Lockable,
+    R::File: BookFileExt,
     E: Write,
     ensures read { IfOk result (λ found. IfSome found (λ seen. IsReadBook R.File.remaining (string_bytes seen.text) seen.book)) }
     ensures err { IfErr result (IsUnheld R.File.remaining path.now) }
@@ -49,7 +49,7 @@ where
         return Ok(None);
     };
     let book = Book::read(rt.alloc(), text.as_bytes())?;
-    Ok(Some(Seen { book, text }))
+    Ok(Some(ReadBook { book, text }))
 }
 
 /// Takes hold of the book at `path`, which has to be there, and reads it. Faults: as `read_and_release`, and CannotRead where
@@ -62,7 +62,7 @@ pub fn open<'a, 'r, R, E>(
 ) -> Result<HeldBook<'a, FileStore<'r, R>>, Fault>
 where
     R: Files + Clock + AllocGlobal,
-    R::File: Lockable,
+    R::File: BookFileExt,
     E: Write,
     ensures read { IfOk result (λ held. IsReadBook R.File.remaining (⟦<FileStore<'r, R> as BookStore>⟧.facts held.store).saved held.book) }
     ensures path { IfOk result (λ held. held.path.now ≡ path.now) }
@@ -88,7 +88,7 @@ pub fn file_and_text<'r, R, E>(
 ) -> Result<(BookFile<'r, R>, Option<String>), Fault>
 where
     R: Files + Clock + AllocGlobal,
-    R::File: Lockable,
+    R::File: BookFileExt,
     E: Write,
     ensures read { IfOk result (λ found. IfSome found.1 (λ text. IsRead R.File.remaining (string_bytes text))) }
     ensures err { IfErr result (IsUnheld R.File.remaining path.now) }
@@ -145,7 +145,7 @@ fn text_of<R>(
 ) -> Result<Option<String>, Fault>
 where
     R: Files + Clock + AllocGlobal,
-    R::File: Lockable,
+    R::File: BookFileExt,
     ensures read { IfOk result (λ found. IfSome found (λ text. IsRead R.File.remaining (string_bytes text))) }
     ensures err { IfErr result (IsUnheld R.File.remaining path.now) }
 {
@@ -169,12 +169,12 @@ pub fn read_held<'a, 'r, R>(
 ) -> Result<HeldBook<'a, FileStore<'r, R>>, Fault>
 where
     R: Files + Clock + AllocGlobal,
-    R::File: Lockable,
+    R::File: BookFileExt,
     ensures text { IfOk result (λ held. IsBookText (⟦<FileStore<'r, R> as BookStore>⟧.facts held.store).saved held.book) }
     ensures saved { IfOk result (λ held. (⟦<FileStore<'r, R> as BookStore>⟧.facts held.store).saved ≡ string_bytes text) }
     ensures path { IfOk result (λ held. held.path.now ≡ path.now) }
     ensures err { IfErr result (λ fault. (fault ≡ Fault.NoMemory)
-        ⊎ ((found : BookFault) × (fault ≡ of_book found) × IsFirstFault (string_bytes text) found)) }
+        ⊎ ((found : BookFault) × (fault ≡ fault_of_book found) × IsFirstFault (string_bytes text) found)) }
 {
     let book = Book::read(alloc, text.as_bytes())?;
     let store = FileStore::new(file, text);

@@ -11,23 +11,23 @@ use std::io::Read;
 
 /// An open file of random bytes.
 #[derive(Drop)]
-pub struct Random<'a, F> {
+pub struct RandomFile<'a, F> {
     alloc: Global,
     path: &'a str,
     file: F,
 }
 
-impl<'a, F: Read + Drop> Random<'a, F> {
+impl<'a, F: Read + Drop> RandomFile<'a, F> {
     /// Opens the file at `path`. Faults: CannotRead and NoMemory.
     pub fn open<R: Files<File = F> + AllocGlobal>(
         rt: &R,
         path: &'a str,
-    ) -> Result<Random<'a, F>, Fault>
+    ) -> Result<RandomFile<'a, F>, Fault>
         ensures err { IfErr result (IsFileUnread path.now) }
         ensures path { IfOk result (λ random. random.path.now ≡ path.now) }
     {
         let file = open_file(rt, path)?;
-        Ok(Random {
+        Ok(RandomFile {
             alloc: rt.alloc(),
             path,
             file,

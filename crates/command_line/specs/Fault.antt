@@ -10,7 +10,8 @@ use Rattle.command_line.specs.declared.fault.Fault.TheVariants.{BadValue, BadPas
 use Rattle.command_line.specs.declared.fault.Fault.TheVariants.{NoSuchAccount, NoToken, BadBook, CannotRead, CannotWrite, BadEvent, Socket}
 use Rattle.command_line.specs.declared.fault.Fault.TheVariants.{CannotReadInput, CannotWriteOutput, NoMemory}
 
--- the exit status: 1 for a refusal, 2 where the user can give other words, 3 for files, sockets, streams and memory
+-- the exit status: 1 for a refusal, 2 where a value or the password is not in its form or an option is missing, 3 for files, sockets,
+-- streams and memory
 abbrev pub status_of : Fault → ℕ
 status_of (BadValue option) = 2
 status_of BadPassword = 2
@@ -40,10 +41,10 @@ IsTokenFault path found fault = MatchOption found (fault ≡ NoSuchAccount)
     (λ account. MatchOption account.token (fault ≡ NoToken) (λ token. IsUnwritten path fault))
 
 -- what is wrong with a book's text, as a command says it: by its number, or that memory ran out
-abbrev pub of_why : BookWhy → Fault
-of_why why.NoMemory = NoMemory
-of_why other = BadBook (book_why_number other)
+abbrev pub fault_of_book_why : BookWhy → Fault
+fault_of_book_why why.NoMemory = NoMemory
+fault_of_book_why other = BadBook (book_why_number other)
 
 -- why a text is no account book, as a command says it
-abbrev pub of_book : BookFault → Fault
-of_book fault = of_why fault.why
+abbrev pub fault_of_book : BookFault → Fault
+fault_of_book fault = fault_of_book_why fault.why

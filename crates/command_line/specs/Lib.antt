@@ -1,4 +1,3 @@
--- Faults with their exit statuses, numbers, and the names of options.
+-- Faults with their exit statuses, and the names of options.
 pub mod Fault
-pub mod Number
 pub mod Options

@@ -89,7 +89,8 @@ impl Fault {
         }
     }
 
-    /// The exit status: REFUSED, or USAGE where the user can give other words, or FAILED for files, sockets, streams and memory.
+    /// The exit status: USAGE where a value or the password is not in its form or an option is missing, FAILED for files, sockets,
+    /// streams and memory, else REFUSED.
     pub fn status(&self) -> u8
         ensures { result ≡ status_of self.now }
     {
@@ -124,9 +125,9 @@ impl From<AllocError> for Fault {
 
 impl From<BookFault> for Fault {
     ghost use Rattle.std.specs.Prelude.{◌≡◌};
-    ghost use Rattle.command_line.specs.Fault.{of_book};
+    ghost use Rattle.command_line.specs.Fault.{fault_of_book};
 
-    ghost from_gives = { λ book fault. fault ≡ of_book book };
+    ghost from_gives = { λ book fault. fault ≡ fault_of_book book };
 
     fn from(fault: BookFault) -> Fault {
         match fault.why {

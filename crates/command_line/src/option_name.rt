@@ -4,7 +4,7 @@ ghost use Rattle.command_line.specs.Options.{option_name};
 
 use std::fmt;
 
-/// An option whose value the program judges, or takes as it is.
+/// An option of the program that has a value.
 #[derive(Clone, Copy, Debug)]
 pub enum OptionName {
     /// `--book`

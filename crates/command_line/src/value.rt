@@ -1,12 +1,11 @@
 //! Judges the values of options.
-ghost use Rattle.std.specs.Prelude.{◌≡◌, ◌≢◌, ◌≤◌, ◌<◌, ◌^◌, ◌↔◌, ◌⊎◌, ℕ, List, Ok, length, IsTrue, IfSome, IfNone, IfOk, IfErr};
+ghost use Rattle.std.specs.Prelude.{◌≡◌, ◌≢◌, ◌≤◌, ◌<◌, ◌^◌, ◌⊎◌, ℕ, List, Ok, length, IfSome, IfNone, IfOk, IfErr};
 ghost use Rattle.std.specs.Fmt.{decimal};
 ghost use Rattle.hex.specs.Hex.{decode_of};
 ghost use Rattle.mac_core.specs.Mechanism.{name_of};
 ghost use Rattle.scram_text.specs.Class.{IsNoncePart, IsPlainName, IsSalt};
-ghost use Rattle.otp_core.specs.Secret.{IsSecretLength};
-ghost use Rattle.otp_core.specs.Ranges.{IsMoment};
-ghost use Rattle.command_line.specs.Number.{IsPlainNumber};
+ghost use Rattle.otp_core.specs.Ranges.{IsSecretLength};
+ghost use Rattle.otp_core.specs.Ranges.{IsMoment, least_digits, most_digits};
 ghost use Rattle.otp_core.specs.Hash.{hash_name};
 
 use crate::fault::Fault;
@@ -16,27 +15,13 @@ use otp_core::{Digits, LAST_MOMENT, LEAST_DIGITS, MOST_DIGITS, Moment, OtpHash, 
 use scram_text::{NoncePart, PlainName, Salt};
 use std::alloc::Global;
 
-// Whether the digits begin with no plus, and with no needless zero.
-fn is_bare(digits: &[u8]) -> bool
-    ensures { IsTrue result ↔ IsPlainNumber digits.now }
-{
-    match digits {
-        [b'+', ..] | [b'0', _, ..] => false,
-        _ => true,
-    }
-}
-
 /// The number that `text` spells in decimal: `0`, or a digit 1 to 9 and any digits. None where it
 /// spells no number below 2^64 in this form.
 pub fn number(text: &str) -> Option<u64>
     ensures some { IfSome result (λ n. (text.now ≡ decimal n) × (n < 2 ^ 64)) }
     ensures none { IfNone result ((n : ℕ) → n < 2 ^ 64 → text.now ≢ decimal n) }
 {
-    if is_bare(text.as_bytes()) {
-        text.parse().ok()
-    } else {
-        None
-    }
+    scram_text::decimal(text.as_bytes())
 }
 
 /// The number from `least` to `most` that `text` spells in decimal. Answers BadValue of the option
@@ -58,28 +43,22 @@ pub fn count(text: &str) -> Result<u32, Fault>
     ensures err { IfErr result (λ fault. (fault ≡ Fault.BadValue OptionName.Count)
         × ((n : ℕ) → 1 ≤ n → n < 2 ^ 32 → text.now ≢ decimal n)) }
 {
-    match within(OptionName::Count, text, 1, u64::from(u32::MAX)) {
-        Ok(n) => Ok(n as u32),
-        Err(fault) => Err(fault),
-    }
+    let n = within(OptionName::Count, text, 1, u64::from(u32::MAX))?;
+    Ok(n as u32)
 }
 
 /// The number of digits of a code that `text` spells, 6 to 8. Answers BadValue for any other text.
 pub fn digits(text: &str) -> Result<Digits, Fault>
     ensures ok { IfOk result (λ digits. text.now ≡ decimal digits) }
     ensures err { IfErr result (λ fault. (fault ≡ Fault.BadValue OptionName.Digits)
-        × ((n : ℕ) → 6 ≤ n → n ≤ 8 → text.now ≢ decimal n)) }
+        × ((n : ℕ) → least_digits ≤ n → n ≤ most_digits → text.now ≢ decimal n)) }
 {
     let (least, most) = (u64::from(LEAST_DIGITS), u64::from(MOST_DIGITS));
-    match within(OptionName::Digits, text, least, most) {
-        Ok(n) => {
-            let Ok(digits) = Digits::new(n as u8) else {
-                unreachable!()
-            };
-            Ok(digits)
-        }
-        Err(fault) => Err(fault),
-    }
+    let n = within(OptionName::Digits, text, least, most)?;
+    let Ok(digits) = Digits::new(n as u8) else {
+        unreachable!()
+    };
+    Ok(digits)
 }
 
 /// The moment that `text` spells in seconds since 1970, at most 253402300799. Answers BadValue of the
@@ -89,15 +68,11 @@ pub fn moment(option: OptionName, text: &str) -> Result<Moment, Fault>
     ensures err { IfErr result (λ fault. (fault ≡ Fault.BadValue option)
         × ((n : ℕ) → IsMoment n → text.now ≢ decimal n)) }
 {
-    match within(option, text, 0, LAST_MOMENT) {
-        Ok(seconds) => {
-            let Some(moment) = Moment::new(seconds) else {
-                unreachable!()
-            };
-            Ok(moment)
-        }
-        Err(fault) => Err(fault),
-    }
+    let seconds = within(option, text, 0, LAST_MOMENT)?;
+    let Some(moment) = Moment::new(seconds) else {
+        unreachable!()
+    };
+    Ok(moment)
 }
 
 /// The account name of this text, 1 to 255 bytes from space to tilde. Answers BadValue for any other text.
@@ -124,10 +99,7 @@ fn plain_name(option: OptionName, text: &str) -> Result<PlainName, Fault>
     ensures err { IfErr result (λ fault. (fault ≡ Fault.BadValue option)
         × (IsPlainName text.now → ⊥)) }
 {
-    match PlainName::new(text.as_bytes()) {
-        Some(name) => Ok(name),
-        None => Err(Fault::BadValue(option)),
-    }
+    PlainName::new(text.as_bytes()).ok_or(Fault::BadValue(option))
 }
 
 /// What one end adds to the nonce, of this text: 1 to 256 bytes from `!` to tilde, without a comma. Answers BadValue of
@@ -137,10 +109,7 @@ pub fn nonce(option: OptionName, text: &str) -> Result<NoncePart, Fault>
     ensures err { IfErr result (λ fault. (fault ≡ Fault.BadValue option)
         × (IsNoncePart text.now → ⊥)) }
 {
-    match NoncePart::new(text.as_bytes()) {
-        Some(nonce) => Ok(nonce),
-        None => Err(Fault::BadValue(option)),
-    }
+    NoncePart::new(text.as_bytes()).ok_or(Fault::BadValue(option))
 }
 
 /// The SCRAM mechanism of this name: SCRAM-SHA-1 or SCRAM-SHA-256. Answers BadValue for any other text.
@@ -149,10 +118,7 @@ pub fn mechanism(name: &str) -> Result<Mechanism, Fault>
     ensures err { IfErr result (λ fault. (fault ≡ Fault.BadValue OptionName.Mechanism)
         × ((mechanism : Mechanism) → name.now ≢ name_of mechanism)) }
 {
-    match Mechanism::of_name(name.as_bytes()) {
-        Some(mechanism) => Ok(mechanism),
-        None => Err(Fault::BadValue(OptionName::Mechanism)),
-    }
+    Mechanism::of_name(name.as_bytes()).ok_or(Fault::BadValue(OptionName::Mechanism))
 }
 
 /// The hash function of this name: `sha1`, `sha256` or `sha512`. Answers BadValue for any other text.
@@ -161,10 +127,7 @@ pub fn hash(name: &str) -> Result<OtpHash, Fault>
     ensures err { IfErr result (λ fault. (fault ≡ Fault.BadValue OptionName.Hash)
         × ((hash : OtpHash) → name.now ≢ hash_name hash)) }
 {
-    match OtpHash::of_name(name) {
-        Some(hash) => Ok(hash),
-        None => Err(Fault::BadValue(OptionName::Hash)),
-    }
+    OtpHash::of_name(name).ok_or(Fault::BadValue(OptionName::Hash))
 }
 
 // The bytes that `text` spells in hexadecimal, in either case. Answers BadValue of the option for any
@@ -189,10 +152,7 @@ pub fn salt(alloc: Global, text: &str) -> Result<Salt, Fault>
         × ((salt : List ℕ) → decode_of text.now ≡ Ok salt → IsSalt salt → ⊥))) }
 {
     let bytes = bytes(alloc, OptionName::Salt, text)?;
-    match Salt::new(bytes.as_slice()) {
-        Some(salt) => Ok(salt),
-        None => Err(Fault::BadValue(OptionName::Salt)),
-    }
+    Salt::new(bytes.as_slice()).ok_or(Fault::BadValue(OptionName::Salt))
 }
 
 /// The secret that `text` spells in hexadecimal, in either case, 10 to 64 bytes. Answers BadValue for
@@ -203,8 +163,5 @@ pub fn secret(alloc: Global, text: &str) -> Result<Secret, Fault>
         × ((secret : List ℕ) → decode_of text.now ≡ Ok secret → IsSecretLength (length secret) → ⊥))) }
 {
     let bytes = bytes(alloc, OptionName::Secret, text)?;
-    match Secret::new(bytes.as_slice()) {
-        Ok(secret) => Ok(secret),
-        Err(_) => Err(Fault::BadValue(OptionName::Secret)),
-    }
+    Secret::new(bytes.as_slice()).map_err(|_| Fault::BadValue(OptionName::Secret))
 }

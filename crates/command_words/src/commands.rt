@@ -13,8 +13,8 @@ const STATUSES: &str =
     "Exit status: 0 done, passed and clean; 1 refused or at fault; 2 wrong usage, or a value or password
 that is not in its form; 3 a file, a socket, the input or output failed, or memory ran out.";
 
-// What stands after the options in the help of each command: notes, and an example that runs as it stands, after those that it names.
-// All files of the examples are in a folder that nobody else can enter.
+// What stands after the options in the help of each command: notes, and an example, which runs as it stands once the examples that it
+// names have run. All files of the examples are in a folder that nobody else can enter.
 
 const KEYS_NOTES: &str =
     "Prints `stored=` and `server=`, each with a key in hexadecimal. The password is the first line of
@@ -55,11 +55,12 @@ const VERIFY_NOTES: &str =
     "Each line of standard input is an attempt. Its reply is PASS, the moment and the counter that
 passed, or FAIL or LOCKED and the moment. PASS and FAIL are printed once the book is saved; LOCKED
 saves nothing. The run holds the book until the input ends; others wait for it, up to 30 seconds.
-Exit status 0 means that every reply was PASS, also where there was none.
+Exit status 0 means that every reply was PASS, also where there was none. So let nobody in by the
+status alone: look for PASS.
 
-A line as `SYNC 399871 520489`, with two codes in a row, finds a HOTP token that ran ahead of the
-book: it passes where the first is the code of `next` or of one of the `sync_ahead` counters after
-it, and the second that of the counter after that.
+A line such as `SYNC 399871 520489`, with two codes in a row, finds a HOTP token that ran ahead of
+the book: it passes where the first is the code of `next` or of one of the `sync_ahead` counters
+after it, and the second that of the counter after that.
 
 Only you and root may be able to write the book's folder and the folders above it.
 
@@ -88,8 +89,8 @@ const AUDIT_NOTES: &str =
     "The book is the one that the log began with, so keep a copy of it: a token has moved on since. It
 is read as it is, without a lock, and nothing is written. Standard input is read only where the log
 is /dev/stdin. Prints `clean` and the counts of sessions, accepted logins and codes that passed, or
-the first line at fault, why, and what was due. Exit status 0 means that the log is clean, 3 also
-that a read of it failed.
+the first line at fault, why, and what was due. Exit status 0 means that the log is clean, 1 that a
+line is at fault or that there are too many lines, 3 also that a read of the log failed.
 
 Example, after that of enrol: a log whose client leaves at once
   printf '%s\\n' 'SCRAMLOG 1' 'S MECHS SCRAM-SHA-256 SCRAM-SHA-1' 'C GONE' E >logins/log.txt
@@ -109,8 +110,8 @@ Example, after those of enrol and audit:
 
 const LOGIN_NOTES: &str =
     "The first line of standard input is the password, and each line after it a code, sent once the
-client is logged in. A line as `SYNC 399871 520489` is two codes in a row. Typed at a terminal, all
-is shown.
+client is logged in. A line such as `SYNC 399871 520489` is two codes in a row. Typed at a terminal,
+all is shown.
 
 Both ends run here: a server over the book, and a client. They talk through a socket, whose file is
 made for this run and removed at its end. Put it into a folder that nobody else can enter; a file
@@ -119,8 +120,8 @@ what any server would tell it, and ends the login where the server does not show
 account's keys.
 
 Prints the server's log, each line before the client is told of it. Codes are saved before they are
-told; the run holds the book to the end of the input, and other runs wait for it, up to
-30 seconds. Exit status 0 means that the login was accepted and every code passed.
+told; the run holds the book to the end of the input, and other runs wait for it, up to 30 seconds.
+Exit status 0 means that the login was accepted and every code passed.
 
 Nonces are made of 18 random bytes each, unless they are given: give them only to repeat a recorded
 login. Only you and root may be able to write the book's folder and the folders above it.
@@ -144,9 +145,9 @@ event and ends the run, with exit status 1.
 
 Prints the log, of version 2, each event's lines before the next event is read. What client N is to
 be told is in the lines that begin with its number and ` S `. Codes are saved before they are told;
-the run holds the book to the end of the input, and other runs wait for it, up to 30
-seconds. Where the save of a code fails the log ends with that client's ` S HALT`, and the run with
-it. Where the first save fails nothing is printed.
+the run holds the book to the end of the input, and other runs wait for it, up to 30 seconds. Where
+the save of a code fails the log ends with that client's ` S HALT`, and the run with it. Where the
+first save fails nothing is printed.
 
 Only you and root may be able to write the book's folder and the folders above it.
 
@@ -347,7 +348,7 @@ fn login<'a>(alloc: Global) -> Result<Command<'a>, AllocError>
     let mechanism = "SCRAM-SHA-1 or SCRAM-SHA-256 [default: the best that is offered]";
     let moment = "The moment of the codes, in seconds since 1970 [default: the clock's]";
     Command::new(alloc, "login")
-        .about("Logs a user in to a server over a book, and prints the server's log")
+        .about("Runs one login over a book, as server and as client, and prints the server's log")
         .after_help(LOGIN_NOTES)
         .arg(book(alloc))?
         .arg(name(alloc))?
@@ -379,7 +380,7 @@ fn hall<'a>(alloc: Global) -> Result<Command<'a>, AllocError>
     ensures { IfOk result (HasOptions (codes "hall") hall_options) }
 {
     Command::new(alloc, "hall")
-        .about("Lets many users in at a time over a book, by events, and prints the log of all")
+        .about("Judges up to 64 logins at a time over a book, by events, and prints the log of all")
         .after_help(HALL_NOTES)
         .arg(book(alloc))
 }
@@ -392,7 +393,7 @@ pub fn scramotp<'a>(alloc: Global) -> Result<Command<'a>, AllocError>
         .bin_name("scramotp")?
         .version("0.1.0")
         .about(
-            "SCRAM keys and logins, one-time codes, a book of accounts that have them, and the audit of a log",
+            "Judges SCRAM logins and one-time codes by a book of accounts, and audits logs of them",
         )
         .after_help(STATUSES)
         .subcommand_required(true)

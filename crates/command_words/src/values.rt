@@ -6,19 +6,19 @@ use clap::ArgMatches;
 use command_line::OptionName;
 
 /// The value of an option, its default included, or None where none was given.
-pub fn optional<'a>(words: &ArgMatches<'a>, option: OptionName) -> Option<&'a str>
-    ensures { option_map (λ text. text.now) result ≡ value_of words.now option }
+pub fn optional<'a>(matches: &ArgMatches<'a>, option: OptionName) -> Option<&'a str>
+    ensures { option_map (λ text. text.now) result ≡ value_of matches.now option }
 {
     let name = option.name();
-    words.get_str(name)
+    matches.get_str(name)
 }
 
 /// The value of an option that is required or has a default. It is empty where none was given, as of an option that the
 /// command does not have.
-pub fn given<'a>(words: &ArgMatches<'a>, option: OptionName) -> &'a str
-    ensures { result.now ≡ given_value words.now option }
+pub fn given<'a>(matches: &ArgMatches<'a>, option: OptionName) -> &'a str
+    ensures { result.now ≡ given_value matches.now option }
 {
-    match optional(words, option) {
+    match optional(matches, option) {
         Some(text) => text,
         None => "",
     }

@@ -1,4 +1,5 @@
--- Lemmas: what the proofs of this crate and of those above it cite.
+-- Lemmas: what the proofs of this crate cite.
+pub mod Base64Texts
 pub mod ClientLines
 pub mod EventWords
 pub mod Faults

@@ -16,14 +16,14 @@ use Rattle.commands.specs.Talked.{Talked, IsTold}
 use Rattle.commands.specs.declared.login.client_end.ClientEnd.{ClientEnd}
 use Rattle.commands.specs.declared.login.client_end.User.{User}
 use Rattle.commands.specs.declared.login.client_end.Next.{Next}
-use Rattle.commands.specs.declared.login.client_end.Next.TheVariants.{Says, IsIn, Leaves}
+use Rattle.commands.specs.declared.login.client_end.Next.TheVariants.{Says, LoggedIn, Leaves}
 use Rattle.commands.specs.declared.login.client_end.Stage.{Stage}
 use Rattle.commands.specs.declared.login.client_end.Stage.TheVariants.{Silent, Begun, Proved, Over}
 
 -- a fact of what the client says, where it says anything
 abbrev pub IfSays : Next → (List ℕ → Type 0) → Type 0
 IfSays (Says line) fact = fact line.items
-IfSays IsIn fact = Unit {0}
+IfSays LoggedIn fact = Unit {0}
 IfSays Leaves fact = Unit {0}
 
 -- a line of the client, with its LF
@@ -85,15 +85,15 @@ ShowsKeys (Proved client) line = (message : List ℕ) × IsLine line (from_serve
 ShowsKeys stage line = ⊥
 
 -- the client has begun no login, or waits for the challenge of one or for the signature, or is done
-abbrev pub IsInLogin : Stage → Type 0
-IsInLogin Silent = Unit {0}
-IsInLogin (Begun client) = (login : Started) × IsStarted client login
-IsInLogin (Proved client) = (login : Answered) × IsExpecting client login
-IsInLogin Over = Unit {0}
+abbrev pub HasItsLogin : Stage → Type 0
+HasItsLogin Silent = Unit {0}
+HasItsLogin (Begun client) = (login : Started) × IsStarted client login
+HasItsLogin (Proved client) = (login : Answered) × IsExpecting client login
+HasItsLogin Over = Unit {0}
 
 -- such a client has to leave at a line: there is nothing that it may say, and the line does not show the account's keys
 abbrev pub HasToLeave : ClientEnd → (told : List ℕ) → Type 0
-HasToLeave client told = IsInLogin client.stage
+HasToLeave client told = HasItsLogin client.stage
     → ((said : List ℕ) (new : Stage) → MaySay client client.stage told said new → ⊥) × (ShowsKeys client.stage told → ⊥)
 
 -- the login is one of this user, by this nonce and this password

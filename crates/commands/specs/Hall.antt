@@ -35,19 +35,19 @@ use Rattle.commands.specs.PrintedLog.{IsLogFault}
 -- what happens to a hall: a client comes, and this is the server's part of its nonce; or the client of the session of this number
 -- says a line at this moment; or it goes away
 pub data InputEvent : Type 0 where
-  opens : (own : List ℕ) → InputEvent
+  opens : (server_nonce : List ℕ) → InputEvent
   says : (session moment : ℕ) (text : List ℕ) → InputEvent
   goes : (session moment : ℕ) → InputEvent
 
 -- the input line for it
 abbrev pub event_text : InputEvent → List ℕ
-event_text (opens own) = codes "open " ++ own
+event_text (opens server_nonce) = codes "open " ++ server_nonce
 event_text (says session moment text) = codes "line " ++ (decimal session ++ (byte " " ∷ (decimal moment ++ (byte " " ∷ text))))
 event_text (goes session moment) = codes "gone " ++ (decimal session ++ (byte " " ∷ decimal moment))
 
 -- its nonce, its number and its moment are in their ranges
 abbrev pub IsEventInRange : InputEvent → Type 0
-IsEventInRange (opens own) = IsNoncePart own
+IsEventInRange (opens server_nonce) = IsNoncePart server_nonce
 IsEventInRange (says session moment text) = IsSessionNumber session × IsMoment moment
 IsEventInRange (goes session moment) = IsSessionNumber session × IsMoment moment
 
@@ -63,13 +63,13 @@ does_at session goes_away moment = goes session moment
 
 -- the event is that of a session that is not open
 abbrev pub IsOfNobody : {S : Type 0} → HallFields S → InputEvent → Type 0
-IsOfNobody hall (opens own) = ⊥
+IsOfNobody hall (opens server_nonce) = ⊥
 IsOfNobody hall (says session moment text) = phase_in hall session ≡ None
 IsOfNobody hall (goes session moment) = phase_in hall session ≡ None
 
 -- by these calls of a hall the event is that of a session that is not open: the session stands where none has begun, or where it is over
 abbrev pub IsOfNoSession : Accounts → List (Numbered Call) → InputEvent → Type 0
-IsOfNoSession accounts calls (opens own) = ⊥
+IsOfNoSession accounts calls (opens server_nonce) = ⊥
 IsOfNoSession accounts calls (says session moment text) = IsSessionRun accounts (of_number session calls) between
 IsOfNoSession accounts calls (goes session moment) = IsSessionRun accounts (of_number session calls) between
 
@@ -83,7 +83,7 @@ IsBadEvent line hall = SaysNothing line ⊎ ((event : InputEvent) × SaysEvent l
 
 -- the call of a hall by which it hears an event: a greeting, or one of the session of its number
 abbrev pub IsCallFor : InputEvent → Numbered Call → Type 0
-IsCallFor (opens own) c = c.value.asked ≡ greets own
+IsCallFor (opens server_nonce) c = c.value.asked ≡ greets server_nonce
 IsCallFor (says session moment text) c = (c.number ≡ session) × (c.value.asked ≡ hears (sends text) moment)
 IsCallFor (goes session moment) c = (c.number ≡ session) × (c.value.asked ≡ hears goes_away moment)
 
@@ -98,7 +98,7 @@ pub record SaysEvents (input : Option (List ℕ)) (last : List (List ℕ)) : Typ
   pub are : IfSome input (λ bytes. AreLinesOf bytes (lines ++ last))
   pub said : AllZip SaysEvent lines events
 
--- what a hall hears, where this is known of its store, and these are the texts that are stored
+-- what a hall hears: `facts` are those of its store, and `IsStored` holds of each text that is stored
 module _ {S : Type 0} (facts : S → StoreFacts) (IsStored : List ℕ → Type 0) where
   -- a hall that began with this book has heard these events, the latest of which comes first, and the log took its lines after
   -- what it had before

@@ -39,7 +39,7 @@ use Rattle.command_io.specs.Input.{TakesLine, IsUnread, LinesInTurn}
 use Rattle.command_words.specs.Values.{value_of, given_value}
 use Rattle.commands.specs.Nonces.{AreNonces}
 use Rattle.commands.specs.PrintedLog.{IsLogFault, IsUnsavedOrUnlogged}
-use Rattle.commands.specs.Sent.{Says}
+use Rattle.commands.specs.Sent.{SaysCodes}
 use Rattle.commands.specs.Talked.{Talked, IsTold, LogSays}
 use Rattle.commands.specs.declared.login.client_end.User.{User}
 
@@ -47,38 +47,42 @@ use Rattle.commands.specs.declared.login.client_end.User.{User}
 abbrev pub IsGiven : (given : Option ℕ) → (moment : ℕ) → Type 0
 IsGiven given moment = IfSome given (λ m. moment ≡ m)
 
--- where a desk is asked to begin a session, this is the server's part of the nonce; and where it hears its client, the moment is such
-abbrev pub IsAskedWith : (own : List ℕ) → (IsNow : ℕ → Type 0) → Asked → Type 0
-IsAskedWith own IsNow (greets part) = part ≡ own
-IsAskedWith own IsNow (hears event moment) = IsNow moment
+-- where a desk is asked to begin a session, this is the server's part of the nonce; where it hears its client, `IsNow` holds of the
+-- moment
+abbrev pub IsAskedWith : (server_nonce : List ℕ) → (IsNow : ℕ → Type 0) → Asked → Type 0
+IsAskedWith server_nonce IsNow (greets part) = part ≡ server_nonce
+IsAskedWith server_nonce IsNow (hears event moment) = IsNow moment
 
--- the log of a desk, where this is known of its store, these are the texts that are stored, and its clock gives such moments
+-- the log of a desk: `facts` are those of its store, `IsStored` holds of each text that is stored, and `IsNow` of each moment of its
+-- clock
 module _ {S : Type 0} (facts : S → StoreFacts) (IsStored : List ℕ → Type 0) (IsNow : ℕ → Type 0) where
   -- a desk that began with this book has answered some calls, each session begun with this part of the nonce and heard by the clock, and
   -- the log took their lines after what it had before
-  pub record IsDeskLog (start : BookFields) (before : Option (List ℕ)) (own : List ℕ) (desk : Desk S) (log : SinkFacts) : Type 0 where
+  pub record IsDeskLog (start : BookFields) (before : Option (List ℕ)) (server_nonce : List ℕ) (desk : Desk S) (log : SinkFacts)
+      : Type 0 where
     pub calls : List Call
     pub stands : IsDeskAfter facts IsStored start calls desk
-    pub asked : AllByRecursion (λ c. IsAskedWith own IsNow c.asked) calls
+    pub asked : AllByRecursion (λ c. IsAskedWith server_nonce IsNow c.asked) calls
     pub logged : Appends before log.given (log_bytes (run_lines calls))
 
   -- where the log was that of the desk, with this part of the nonce, it is so still
-  abbrev pub StaysItsLogWith : (own : List ℕ) → (old : Desk S) → (log : SinkFacts) → (new : Desk S) → (log' : SinkFacts) → Type 0
-  StaysItsLogWith own old log new log' =
-      (start : BookFields) (before : Option (List ℕ)) → IsDeskLog start before own old log → IsDeskLog start before own new log'
+  abbrev pub StaysItsLogWith : (server_nonce : List ℕ) → (old : Desk S) → (log : SinkFacts) → (new : Desk S) → (log' : SinkFacts) → Type 0
+  StaysItsLogWith server_nonce old log new log' =
+      (start : BookFields) (before : Option (List ℕ)) → IsDeskLog start before server_nonce old log
+      → IsDeskLog start before server_nonce new log'
 
-  -- whatever was heard by the desk meanwhile: where the log was the desk's, it is the desk's still
+  -- where the log was that of the desk, with whichever part of the nonce, it is so still
   abbrev pub StaysItsLog : (old : Desk S) → (log : SinkFacts) → (new : Desk S) → (log' : SinkFacts) → Type 0
-  StaysItsLog old log new log' = (own : List ℕ) → StaysItsLogWith own old log new log'
+  StaysItsLog old log new log' = (server_nonce : List ℕ) → StaysItsLogWith server_nonce old log new log'
 
   -- what holds of the log after a fault: the fault is that it has failed, or it is still the desk's
   abbrev pub IsLogAfterFault : (old : Desk S) → (log : SinkFacts) → (new : Desk S) → (log' : SinkFacts) → Fault → Type 0
   IsLogAfterFault old log new log' fault = IsLogFault log' fault ⊎ StaysItsLog old log new log'
 
   -- `IsLogAfterFault`, of a desk with this part of the nonce
-  abbrev pub IsLogAfterFaultWith : (own : List ℕ) → (old : Desk S) → (log : SinkFacts) → (new : Desk S) → (log' : SinkFacts) → Fault
-      → Type 0
-  IsLogAfterFaultWith own old log new log' fault = IsLogFault log' fault ⊎ StaysItsLogWith own old log new log'
+  abbrev pub IsLogAfterFaultWith : (server_nonce : List ℕ) → (old : Desk S) → (log : SinkFacts) → (new : Desk S) → (log' : SinkFacts)
+      → Fault → Type 0
+  IsLogAfterFaultWith server_nonce old log new log' fault = IsLogFault log' fault ⊎ StaysItsLogWith server_nonce old log new log'
 
 -- a source gives no line of at most so many bytes with its LF: it has failed, or it has ended, or these bytes have no LF
 pub record GivesNoLine (most : ℕ) (old new : SourceFacts) : Type 0 where
@@ -89,19 +93,19 @@ pub record GivesNoLine (most : ℕ) (old new : SourceFacts) : Type 0 where
 
 -- why a client is not served, as the command says it: the book, whose file has this path, can't be saved, the log has failed, or
 -- memory ran out, also for what is to be sent
-abbrev pub IsFaultOf : (path : List ℕ) → ServeFault → Fault → Type 0
-IsFaultOf path serve.Halted fault = IsUnwritten path fault
-IsFaultOf path serve.Unwritable fault = ⊥
-IsFaultOf path serve.NoMemory fault = fault ≡ NoMemory
-IsFaultOf path serve.WriteFault fault = fault ≡ NoMemory
-IsFaultOf path serve.LogFault fault = fault ≡ CannotWriteOutput
+abbrev pub IsFaultOfServing : (path : List ℕ) → ServeFault → Fault → Type 0
+IsFaultOfServing path serve.Halted fault = IsUnwritten path fault
+IsFaultOfServing path serve.Unwritable fault = ⊥
+IsFaultOfServing path serve.NoMemory fault = fault ≡ NoMemory
+IsFaultOfServing path serve.WriteFault fault = fault ≡ NoMemory
+IsFaultOfServing path serve.LogFault fault = fault ≡ CannotWriteOutput
 
--- a turn's fault is one of these, and it is the log only where that has failed
+-- the fault of a turn: the socket fails; the book, whose file has this path, can't be saved; memory ran out; or the log has failed
 abbrev pub IsFaultInTurn : (path : List ℕ) → (log : SinkFacts) → Fault → Type 0
 IsFaultInTurn path log fault = (fault ≡ Socket) ⊎ IsUnsavedOrUnlogged path log fault
 
--- what is sent for an input line, by what the line says: the line itself where it is two codes in a row; else `CODE ` and the line, of
--- which a longer one is cut one byte past the longest line, so that it is too long
+-- what is sent for an input line, by what the line says: the line itself where it is two codes in a row; else `CODE ` and at most the
+-- first 6201 bytes of the line. A line with more is too long either way.
 abbrev pub sent_for : List ℕ → CodeTexts → List ℕ
 sent_for line (TwoTexts first second) = line ++ byte "\n" ∷ []
 sent_for line (OneText text) = codes "CODE " ++ (take (longest_line + 1) line ++ byte "\n" ∷ [])
@@ -114,7 +118,7 @@ IsPassLine line = (moment counter : ℕ) × IsLine line (from_server (replies mo
 -- PASS
 pub record SendsLine (line : List ℕ) (old : Talked) (passed : Bool) (new : Talked) : Type 0 where
   pub texts : CodeTexts
-  pub says : Says line texts
+  pub says : SaysCodes line texts
   pub sent : Appends old.said new.said (sent_for line texts)
   pub reply : List ℕ
   pub is_line : LacksLf reply
@@ -123,25 +127,26 @@ pub record SendsLine (line : List ℕ) (old : Talked) (passed : Bool) (new : Tal
 
 -- the client is logged in, and then sends each line of its input, which passes
 pub record IsInAndPasses (user : User) (nonce password : List ℕ) (input : Option (List ℕ)) (old new : Talked) : Type 0 where
-  pub there : Talked
-  pub is_in : IsLoggedIn user nonce password old there
-  pub passes : LinesInTurn SendsLine input [] there true new
+  pub middle : Talked
+  pub is_in : IsLoggedIn user nonce password old middle
+  pub passes : LinesInTurn SendsLine input [] middle true new
 
 -- the log is that of a desk over these accounts, each of whose sessions was begun with this server's part of the nonce, so that each
 -- challenge has it, and whose clock gave such moments, so that each reply bears one
-pub record IsRunLog (accounts : Accounts) (own : List ℕ) (IsNow : ℕ → Type 0) (log : List ℕ) : Type 0 where
+pub record IsRunLog (accounts : Accounts) (server_nonce : List ℕ) (IsNow : ℕ → Type 0) (log : List ℕ) : Type 0 where
   pub calls : List Call
   pub place : Place
   pub is_run : IsRun accounts calls place
-  pub asked : AllByRecursion (λ c. IsAskedWith own IsNow c.asked) calls
+  pub asked : AllByRecursion (λ c. IsAskedWith server_nonce IsNow c.asked) calls
   pub is_log : log ≡ log_bytes (run_lines calls)
 
--- after the bytes from before stands a log of this kind, as a clean one, by the accounts of a book, of a desk with this part of the
--- nonce, whose clock gave such moments; and the store has saved the text of the book to which the replies in it lead
+-- what was there before is followed by a log of this kind, for example a clean one, judged by the accounts of a book. It is the log
+-- of a desk with this part of the nonce, whose clock gave such moments; and the store has saved the text of the book to which the replies
+-- in it lead
 abbrev pub HasSavedLog : (IsStored : List ℕ → Type 0) → (IsNow : ℕ → Type 0) → (IsOfKind : Accounts → List ℕ → Type 0) → BookFields
-    → (own : List ℕ) → (before after : Option (List ℕ)) → Type 0
-HasSavedLog IsStored IsNow IsOfKind book own before after =
-    (log : List ℕ) × IsOfKind (accounts_in book) log × IsRunLog (accounts_in book) own IsNow log × Appends before after log
+    → (server_nonce : List ℕ) → (before after : Option (List ℕ)) → Type 0
+HasSavedLog IsStored IsNow IsOfKind book server_nonce before after =
+    (log : List ℕ) × IsOfKind (accounts_in book) log × IsRunLog (accounts_in book) server_nonce IsNow log × Appends before after log
     × IsLogSaved IsStored book log
 
 -- the client is logged in, each line passes, and then the server says nothing more
@@ -166,35 +171,35 @@ pub record IsUserAsked (words : ArgMatches) (user : User) : Type 0 where
   pub is_authzid : user.authzid ≡ value_of words option.As
   pub is_mechanism : option_map name_of user.mechanism ≡ value_of words option.Mechanism
 
--- such a log is printed, of the user whom the words describe, by the nonce that they give, or a fresh one where they give none, and by
+-- `PrintsPasses` holds of the user whom the words describe, by the nonce that they give, or a fresh one where they give none, and by
 -- the password that is the first line of the input
 pub record PrintsPassesAsked {File : Type 0} (bytes_of : File → Option (List ℕ)) (words : ArgMatches) (input old new : Option (List ℕ))
     : Type 0 where
   pub user : User
   pub is_user : IsUserAsked words user
   pub nonce : List ℕ
-  pub own : List ℕ
-  pub are_nonces : AreNonces bytes_of words nonce own
+  pub server_nonce : List ℕ
+  pub are_nonces : AreNonces bytes_of words nonce server_nonce
   pub password : List ℕ
   pub has_lf : Bool
   pub rest : Option (List ℕ)
   pub is_first : TakesLine input password has_lf rest
   pub passes : PrintsPasses user nonce password rest old new
 
--- a log of this kind, as a clean one, is printed, by a book that was read from a file, of a desk whose part of the nonce is the one that
--- the words give, or a fresh one, and whose moment is the one that they give, where they give one; and the text of the book after what it
--- tells was written to a file
+-- a log of this kind, for example a clean one, is printed. It is judged by a book that was read from a file. The desk's part of the nonce
+-- is the one that the words give, or a fresh one; each moment is the one that they give, where they give one. The text of the book after
+-- what the log tells was written to a file
 pub record PrintsLogin {File : Type 0} (bytes_of written_to : File → Option (List ℕ)) (words : ArgMatches)
     (IsOfKind : Accounts → List ℕ → Type 0) (old new : Option (List ℕ)) : Type 0 where
   pub text : List ℕ
   pub book : BookFields
   pub is_read : IsReadBook bytes_of text book
   pub nonce : List ℕ
-  pub own : List ℕ
-  pub are_nonces : AreNonces bytes_of words nonce own
+  pub server_nonce : List ℕ
+  pub are_nonces : AreNonces bytes_of words nonce server_nonce
   pub moment : Option ℕ
   pub is_moment : option_map decimal moment ≡ value_of words option.Moment
-  pub printed : HasSavedLog (IsWritten written_to) (IsGiven moment) IsOfKind book own old new
+  pub printed : HasSavedLog (IsWritten written_to) (IsGiven moment) IsOfKind book server_nonce old new
 
 -- an option of `login` refuses the value that the words give, and the fault names it
 abbrev pub HasBadLoginValue : ArgMatches → Fault → Type 0
@@ -206,7 +211,7 @@ HasBadLoginValue words fault =
     ⊎ (GivesBadValue option.ServerNonce words fault ⊎ GivesBadValue option.Moment words fault))))
 
 -- what a login begins with is not there: an option refuses its value, the first line of the input is no password or can't be read, the
--- book can't be held or read, or the file of random bytes can't be read
+-- book can't be held or read, the file of random bytes can't be read, or memory ran out
 abbrev pub CannotPrepare : {File : Type 0} → (bytes_of : File → Option (List ℕ)) → ArgMatches → (input : Option (List ℕ)) → Fault → Type 0
 CannotPrepare bytes_of words input fault =
     HasBadLoginValue words fault

@@ -13,20 +13,21 @@ abbrev pub IsNonceOf : (given : Option (List ℕ)) → (random nonce : List ℕ)
 IsNonceOf (Some given) random nonce = (random ≡ []) × (nonce ≡ given)
 IsNonceOf None random nonce = (length random ≡ 18) × (nonce ≡ base64 random)
 
--- a source of random bytes loses those of a nonce
+-- a source of random bytes gives those of a nonce
 abbrev pub TakesNonce : (old : Option (List ℕ)) → (given : Option (List ℕ)) → (nonce : List ℕ) → (new : Option (List ℕ)) → Type 0
 TakesNonce old given nonce new = (random : List ℕ) × IsNonceOf given random nonce × Consumes old new random
 
--- a source of random bytes loses those of the client's nonce and of the server's part, one after the other: no byte is in both
+-- a source of random bytes gives those of the client's nonce and of the server's part, one after the other: no byte is in both
 abbrev pub TakesNonces : (old : Option (List ℕ)) → (given_client given_server : Option (List ℕ)) → (client server : List ℕ)
     → (new : Option (List ℕ)) → Type 0
 TakesNonces old given_client given_server client server new =
-    (there : Option (List ℕ)) × TakesNonce old given_client client there × TakesNonce there given_server server new
+    (middle : Option (List ℕ)) × TakesNonce old given_client client middle × TakesNonce middle given_server server new
 
 -- the client's nonce and the server's part of it are those that the words give; or each that they do not give is the base64 text of the
 -- next 18 bytes of a file
-abbrev pub AreNonces : {File : Type 0} → (bytes_of : File → Option (List ℕ)) → ArgMatches → (nonce own : List ℕ) → Type 0
-AreNonces {File} bytes_of words nonce own =
-    ((value_of words option.ClientNonce ≡ Some nonce) × (value_of words option.ServerNonce ≡ Some own))
+abbrev pub AreNonces : {File : Type 0} → (bytes_of : File → Option (List ℕ)) → ArgMatches → (nonce server_nonce : List ℕ) → Type 0
+AreNonces {File} bytes_of words nonce server_nonce =
+    ((value_of words option.ClientNonce ≡ Some nonce) × (value_of words option.ServerNonce ≡ Some server_nonce))
     ⊎ ((file : File) × (after : File)
-    × TakesNonces (bytes_of file) (value_of words option.ClientNonce) (value_of words option.ServerNonce) nonce own (bytes_of after))
+    × TakesNonces (bytes_of file) (value_of words option.ClientNonce) (value_of words option.ServerNonce) nonce server_nonce
+    (bytes_of after))

@@ -1,6 +1,5 @@
 -- What a run of the program does: the command that its words name, and the exit status that goes with the command's answer.
-use Rattle.std.specs.Prelude.{ℕ, ◌≡◌, ◌⊎◌, Bool, true, false, List, [], ◌∷◌, ◌++◌, MatchResult}
-use Rattle.std.specs.Str.{byte}
+use Rattle.std.specs.Prelude.{ℕ, ◌≡◌, ◌⊎◌, Bool, true, false, List, [], MatchResult}
 use Rattle.std.specs.Io.KnownBytes.{Appends, Keeps}
 use Rattle.std.specs.declared.option.Option.{Option}
 use Rattle.std.specs.declared.option.Option.TheVariants.{Some}
@@ -15,10 +14,10 @@ use Rattle.command_line.specs.declared.fault.Fault.{Fault}
 use Rattle.command_line.specs.declared.fault.Fault.TheVariants.{BadEvent, CannotWriteOutput}
 use Rattle.command_words.specs.Commands.CommandName.{Keys, Enrol, Code, Verify, Unlock, Login, Hall, Audit, Upgrade}
 use Rattle.command_words.specs.Commands.{CommandName, program, word_of}
-use Rattle.account_commands.specs.Code.{CannotPrintCode, IsCodeAsked}
+use Rattle.account_commands.specs.Code.{CannotPrintCode, PrintsCodeAsked}
 use Rattle.account_commands.specs.Enrol.{CannotEnrol, EnrolsAsked}
-use Rattle.command_io.specs.HeldBook.{CannotUnlock, UnlocksAsked}
 use Rattle.account_commands.specs.Keys.{CannotPrintKeys, PrintsKeysAsked}
+use Rattle.account_commands.specs.Unlock.{CannotUnlock, UnlocksAsked}
 use Rattle.command_io.specs.Printed.{PrintsNothing}
 use Rattle.log_grammar.specs.Versions.{IsClean, IsFront}
 use Rattle.commands.specs.Audit.{CannotAudit, CannotUpgrade, PrintsAudit, PrintsUpgrade}
@@ -36,10 +35,6 @@ answer_status false = 1
 abbrev pub exit_status : Result ℕ Fault → ℕ
 exit_status (Ok status) = status
 exit_status (Err fault) = status_of fault
-
--- the code that the words ask for is printed
-abbrev pub PrintsCodeAsked : (words : ArgMatches) → (old new : Option (List ℕ)) → Type 0
-PrintsCodeAsked words old new = (code : List ℕ) × IsCodeAsked words code × Appends old new (code ++ byte "\n" ∷ [])
 
 -- the words of a command line name this command, and give these values for its options
 abbrev pub Names : (found : Option (Text × List Row)) → CommandName → ArgMatches → Type 0

@@ -23,8 +23,8 @@ pub record Talked : Type 0 where
 -- the client of a talk, by its end of the connection and by the log
 abbrev pub talked_in : {S R W L C : Type 0} → (R → SourceFacts) → (W → SinkFacts) → (L → SinkFacts) → Talk S R W L C → Talked
 talked_in source sink log talk = record {
-  said = (sink talk.wires.of_client.writer).given;
-  untold = (source talk.wires.of_client.reader).left;
+  said = (sink talk.ends.client.writer).given;
+  untold = (source talk.ends.client.reader).left;
   logged = (log talk.log).given;
 }
 

@@ -22,7 +22,7 @@ use Rattle.command_io.specs.BadValues.{HasBadValue}
 use Rattle.command_io.specs.HeldBook.{HeldFacts, held_shown, IsReadBook, IsReplySaved, IsReplyUnsaved, IsUnheld}
 use Rattle.command_io.specs.HeldBook.{LacksToken}
 use Rattle.command_io.specs.Input.{LinesInTurn, IsUnread}
-use Rattle.commands.specs.Sent.{Says}
+use Rattle.commands.specs.Sent.{SaysCodes}
 use Rattle.command_words.specs.Values.{given_value}
 use Rattle.command_io.specs.declared.held_book.HeldBook.{HeldBook}
 
@@ -33,7 +33,7 @@ is_passed Fail = false
 is_passed Locked = false
 
 -- the line that is printed for a reply to a code at a moment
-abbrev pub printed_reply : Reply → ℕ → List ℕ
+abbrev pub printed_reply : Reply → (moment : ℕ) → List ℕ
 printed_reply reply moment = reply_text moment (Some reply) ++ byte "\n" ∷ []
 
 -- the book that a run of `verify` holds, and what it has printed, where that is known
@@ -56,12 +56,12 @@ IsReplyLost path name moment sent old fault new =
     IsReplyUnsaved old.held name moment sent new.held × IsTokenFault path (account_at old.held.book name) fault
     × (new.printed ≡ old.printed)
 
--- how the lines of an input are answered, where these are the texts that are stored
+-- how the lines of an input are answered: `IsStored` holds of each text that is stored
 module _ (IsStored : List ℕ → Type 0) where
   -- a line is answered: the reply is due to what it says, what the reply changes is saved, and then the reply is printed
   pub record IsLineAnswered (name : List ℕ) (moment : ℕ) (line : List ℕ) (old : VerifyRun) (reply : Reply) (new : VerifyRun) : Type 0 where
     pub sent : CodeTexts
-    pub says : Says line sent
+    pub says : SaysCodes line sent
     pub saved : IsReplySaved IsStored old.held name moment sent reply new.held
     pub printed : Appends old.printed new.printed (printed_reply reply moment)
 
@@ -73,7 +73,8 @@ module _ (IsStored : List ℕ → Type 0) where
   -- a fault at a line: the reply to what it says is not saved, or it is saved and not printed
   abbrev pub FailsAtLine : (path name : List ℕ) → (moment : ℕ) → (line : List ℕ) → (old : VerifyRun) → Fault → (new : VerifyRun) → Type 0
   FailsAtLine path name moment line old fault new =
-      (sent : CodeTexts) × Says line sent × (IsReplyLost path name moment sent old fault new ⊎ IsReplyUntold name moment sent old fault new)
+      (sent : CodeTexts) × SaysCodes line sent
+      × (IsReplyLost path name moment sent old fault new ⊎ IsReplyUntold name moment sent old fault new)
 
   -- a line is answered, and whether its code passed
   abbrev pub AnswersLine : (name : List ℕ) → (moment : ℕ) → (line : List ℕ) → VerifyRun → (passed : Bool) → VerifyRun → Type 0
@@ -88,12 +89,12 @@ module _ (IsStored : List ℕ → Type 0) where
       → (new : VerifyRun) → Type 0
   AnswersFirstLines path name moment input old fault new =
       ((last : List (List ℕ)) × (all_passed : Bool) × LinesInTurn (AnswersLine name moment) input last old all_passed new × IsUnread fault)
-      ⊎ ((line : List ℕ) × (last : List (List ℕ)) × (all_passed : Bool) × (there : VerifyRun)
-      × LinesInTurn (AnswersLine name moment) input (line ∷ last) old all_passed there
-      × FailsAtLine path name moment line there fault new)
+      ⊎ ((line : List ℕ) × (last : List (List ℕ)) × (all_passed : Bool) × (middle : VerifyRun)
+      × LinesInTurn (AnswersLine name moment) input (line ∷ last) old all_passed middle
+      × FailsAtLine path name moment line middle fault new)
 
--- a run of `verify` does not begin: an option refuses its value, the book can't be held or read, or a book that was read has no token
--- for the name
+-- a run of `verify` does not begin: an option refuses its value, the book can't be held or read, a book that was read has no token for
+-- the name, or memory ran out
 abbrev pub CannotBegin : {File : Type 0} → (bytes_of : File → Option (List ℕ)) → ArgMatches → Fault → Type 0
 CannotBegin bytes_of words fault =
     HasBadValue (option.Name ∷ option.Moment ∷ []) words fault

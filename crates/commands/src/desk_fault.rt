@@ -1,7 +1,7 @@
 //! Why a desk or a hall can't go on, as a command says it.
 ghost use Rattle.std.specs.Prelude.{◌≡◌, ◌≢◌};
 ghost use Rattle.command_line.specs.Fault.{IsUnwritten};
-ghost use Rattle.commands.specs.Login.{IsFaultOf};
+ghost use Rattle.commands.specs.Login.{IsFaultOfServing};
 
 use command_line::Fault;
 use sasl_desk::{DeskFault, ServeFault};
@@ -18,7 +18,7 @@ pub fn save_fault(alloc: Global, path: &str) -> Fault
 }
 
 /// The fault of a command whose desk or hall refuses a call. Halted is CannotWrite of the book: a command asks
-/// nothing more of a desk or a hall that has halted, so Halted comes of `begin` alone, whose save failed.
+/// nothing more of a desk or a hall that has halted, so Halted comes from `begin` alone, where the save failed.
 /// NoNumber can't come here, since an input has fewer lines than there are numbers; it is CannotWrite too.
 pub fn fault_of_desk(alloc: Global, path: &str, fault: DeskFault) -> Fault
     requires { fault ≢ DeskFault.Unwritable }
@@ -36,7 +36,7 @@ pub fn fault_of_desk(alloc: Global, path: &str, fault: DeskFault) -> Fault
 /// where memory runs out.
 pub fn fault_of_serving(alloc: Global, path: &str, fault: ServeFault) -> Fault
     requires { fault ≢ ServeFault.Unwritable }
-    ensures { IsFaultOf path.now fault result }
+    ensures { IsFaultOfServing path.now fault result }
 {
     match fault {
         ServeFault::Halted => save_fault(alloc, path),

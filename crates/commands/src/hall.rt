@@ -8,7 +8,7 @@ mod logged_hall;
 
 use crate::printed_log::PrintedLog;
 use account_book::BookStore;
-use book_file::Lockable;
+use book_file::BookFileExt;
 use clap::ArgMatches;
 use command_io::held_book::HeldBook;
 use command_io::input::Lines;
@@ -30,14 +30,14 @@ use std::time::Clock;
 /// be saved, in this order, then for each line CannotReadInput, BadEvent, CannotWrite and CannotWriteOutput, and NoMemory.
 pub fn hall<R, I, O, E>(
     rt: &R,
-    words: &ArgMatches<'_>,
+    matches: &ArgMatches<'_>,
     input: &mut I,
     output: O,
     faults: &mut E,
 ) -> (Result<(), Fault>, O)
 where
     R: Files + Clock + AllocGlobal,
-    R::File: Lockable,
+    R::File: BookFileExt,
     I: TerminalInput,
     O: Write + Drop,
     E: TerminalOutput,
@@ -48,9 +48,9 @@ where
         (O.contents output) (O.contents result.1))) }
     ensures bad { IsErrOf result.0 Fault.BadEvent
         → RunsToBadEvent R.File.remaining R.File.contents (I.remaining input.old) (O.contents output) (O.contents result.1) }
-    ensures why { IfErr result.0 (CannotRunHall R.File.remaining words.now) }
+    ensures why { IfErr result.0 (CannotRunHall R.File.remaining matches.now) }
 {
-    match open_book::open(rt, given(words, OptionName::Book), faults) {
+    match open_book::open(rt, given(matches, OptionName::Book), faults) {
         Ok(held) => {
             ask(input, faults, EVENTS);
             hear_input(rt.alloc(), held, input, output)

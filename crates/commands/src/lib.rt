@@ -13,8 +13,8 @@ mod login;
 mod printed_log;
 mod program;
 mod progress;
-mod reply;
-mod sent;
+mod reply_line;
+mod sent_codes;
 mod upgrade;
 mod verify;
 

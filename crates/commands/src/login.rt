@@ -27,7 +27,7 @@ mod talk;
 
 use crate::printed_log::PrintedLog;
 use account_book::BookStore;
-use book_file::{FileStore, Lockable};
+use book_file::{BookFileExt, FileStore};
 use clap::ArgMatches;
 use client_end::ClientEnd;
 use clock::{GivenMoment, LoginClock};
@@ -43,7 +43,7 @@ use otp_core::Moment;
 use sasl_desk::laws::{log_is_a_front, log_is_clean, log_is_saved};
 use sasl_log::{LONGEST_LINE, Sink, Source};
 use scram_text::{NoncePart, Password};
-use socket::Ends;
+use socket::Connection;
 use std::alloc::Global;
 use std::fs::Files;
 use std::io::{BufRead, Write};
@@ -76,34 +76,35 @@ struct LoginSetup<'a, S, I> {
 /// for each line CannotReadInput, CannotWrite, CannotWriteOutput and Socket, and NoMemory.
 pub fn login<R, I, O, E>(
     rt: &R,
-    words: &ArgMatches<'_>,
+    matches: &ArgMatches<'_>,
     input: &mut I,
     output: O,
     faults: &mut E,
 ) -> (Result<bool, Fault>, O)
 where
     R: Files + Net + Clock + AllocGlobal,
-    R::File: Lockable,
+    R::File: BookFileExt,
     I: TerminalInput,
     O: Write + Drop,
     E: TerminalOutput,
-    ensures ok { OnOk result.0 (PrintsLogin R.File.remaining R.File.contents words.now IsClean (O.contents output) (O.contents result.1)) }
+    ensures ok { OnOk result.0 (PrintsLogin R.File.remaining R.File.contents matches.now IsClean (O.contents output)
+        (O.contents result.1)) }
     // It answers true only where the log has a login of the user whom the words describe, by the nonce that they give, or a fresh
     // one where they give none, and by the password that is the input's first line, and then nothing but passes, one for each
     // further line of the input. Of the answer false it promises no more than the log.
-    ensures passes { result.0 ≡ Ok true → PrintsPassesAsked R.File.remaining words.now (I.remaining input.old) (O.contents output)
+    ensures passes { result.0 ≡ Ok true → PrintsPassesAsked R.File.remaining matches.now (I.remaining input.old) (O.contents output)
         (O.contents result.1) }
     ensures err { IfErr result.0 (λ fault. StopsAfter fault (O.contents output) (O.contents result.1)
-        (PrintsLogin R.File.remaining R.File.contents words.now IsFront (O.contents output) (O.contents result.1))) }
-    ensures why { IfErr result.0 (CannotLogIn R.File.remaining words.now (I.remaining input.old)) }
+        (PrintsLogin R.File.remaining R.File.contents matches.now IsFront (O.contents output) (O.contents result.1))) }
+    ensures why { IfErr result.0 (CannotLogIn R.File.remaining matches.now (I.remaining input.old)) }
 {
-    let login = match prepare(rt, words, input, faults) {
+    let login = match prepare(rt, matches, input, faults) {
         Ok(login) => login,
         Err(fault) => return (Err(fault), output),
     };
-    match socket::open(rt, given(words, OptionName::Socket)) {
-        // `Brand` stands for `login.moment` (`ghosts-talk_over` in proofs/login/login/Invariants.antt).
-        Ok((ends, _file)) => talk_over::<Brand, R, _, _, _>(rt, login, &ends, output),
+    match socket::open(rt, given(matches, OptionName::Socket)) {
+        // In this call the moment of `Brand` is `login.moment`: `ghosts-talk_over` in proofs/login/login/Invariants.antt says so.
+        Ok((connection, _file)) => talk_over::<Brand, R, _, _, _>(rt, login, &connection, output),
         Err(fault) => (Err(fault), output),
     }
 }
@@ -111,31 +112,31 @@ where
 // Judges the options, asks for the input, and reads the password, the book and the random bytes.
 fn prepare<'a, R, I, E>(
     rt: &'a R,
-    words: &'a ArgMatches<'_>,
+    matches: &'a ArgMatches<'_>,
     input: &'a mut I,
     faults: &mut E,
 ) -> Result<LoginSetup<'a, FileStore<'a, R>, I>, Fault>
 where
     R: Files + Clock + AllocGlobal,
-    R::File: Lockable,
+    R::File: BookFileExt,
     I: TerminalInput,
     E: TerminalOutput,
-    ensures user { IfOk result (λ login. IsUserAsked words.now login.client.user) }
-    ensures nonces { IfOk result (λ login. AreNonces R.File.remaining words.now login.client.nonce login.server_nonce) }
-    ensures moment { IfOk result (λ login. option_map decimal login.moment ≡ value_of words.now OptionName.Moment) }
+    ensures user { IfOk result (λ login. IsUserAsked matches.now login.client.user) }
+    ensures nonces { IfOk result (λ login. AreNonces R.File.remaining matches.now login.client.nonce login.server_nonce) }
+    ensures moment { IfOk result (λ login. option_map decimal login.moment ≡ value_of matches.now OptionName.Moment) }
     ensures password { IfOk result (λ login. (has_lf : Bool)
         × TakesLine (I.remaining input.old) login.client.password has_lf (I.remaining login.lines.input.now)) }
     ensures book { IfOk result (λ login. IsReadBook R.File.remaining (⟦<FileStore<'a, R> as BookStore>⟧.facts login.held.store).saved
         login.held.book) }
-    ensures path { IfOk result (λ login. login.held.path.now ≡ given_value words.now OptionName.Book) }
-    ensures err { IfErr result (CannotPrepare R.File.remaining words.now (I.remaining input.old)) }
+    ensures path { IfOk result (λ login. login.held.path.now ≡ given_value matches.now OptionName.Book) }
+    ensures err { IfErr result (CannotPrepare R.File.remaining matches.now (I.remaining input.old)) }
 {
-    let options = read_options(words)?;
+    let options = read_options(matches)?;
     ask(input, faults, LOGIN);
     let mut lines = Lines::new(input);
     let password = read_password(rt.alloc(), &mut lines)?;
-    let held = open_book::open(rt, given(words, OptionName::Book), faults)?;
-    let random = given(words, OptionName::Random);
+    let held = open_book::open(rt, given(matches, OptionName::Book), faults)?;
+    let random = given(matches, OptionName::Random);
     let nonces = nonces::both(rt, random, options.client_nonce, options.server_nonce)?;
     Ok(LoginSetup {
         held,
@@ -151,7 +152,7 @@ where
 fn talk_over<G, R, S, I, O>(
     rt: &R,
     login: LoginSetup<'_, S, I>,
-    ends: &Ends,
+    connection: &Connection,
     output: O,
 ) -> (Result<bool, Fault>, O)
 where
@@ -182,9 +183,22 @@ where
     let clock = LoginClock::<R, G>::new(rt, moment);
     log_is_a_front::<S>();
     log_is_saved::<S>();
-    match Talk::begin(alloc, held, ends.wires(), PrintedLog::new(output), clock) {
+    match Talk::begin(
+        alloc,
+        held,
+        connection.ends(),
+        PrintedLog::new(output),
+        clock,
+    ) {
         Ok(mut talk) => {
-            let passed = converse(alloc, &mut talk, ends, server_nonce, client, &mut lines);
+            let passed = converse(
+                alloc,
+                &mut talk,
+                connection,
+                server_nonce,
+                client,
+                &mut lines,
+            );
             (passed, talk.into_log().into_output())
         }
         Err((log, fault)) => (Err(fault), log.into_output()),
@@ -196,7 +210,7 @@ where
 fn converse<S, R, W, L, C, I>(
     alloc: Global,
     talk: &mut Talk<'_, S, R, W, L, C>,
-    ends: &Ends,
+    connection: &Connection,
     server_nonce: NoncePart,
     client: ClientEnd,
     lines: &mut Lines<'_, I>,
@@ -226,7 +240,7 @@ where
     log_is_clean::<S>();
     log_is_saved::<S>();
     let passed = talk.log_in_and_send(alloc, server_nonce, client, lines)?;
-    hang_up(alloc, talk, ends)?;
+    hang_up(alloc, talk, connection)?;
     Ok(passed)
 }
 
@@ -235,7 +249,7 @@ where
 fn hang_up<S, R, W, L, C>(
     alloc: Global,
     talk: &mut Talk<'_, S, R, W, L, C>,
-    ends: &Ends,
+    connection: &Connection,
 ) -> Result<(), Fault>
 where
     S: BookStore + Drop,
@@ -243,7 +257,7 @@ where
     W: Sink + Drop,
     L: Sink + Drop,
     C: sasl_desk::Clock + Drop,
-    ensures client { talk.new.wires.of_client ≡ talk.old.wires.of_client }
+    ensures client { talk.new.ends.client ≡ talk.old.ends.client }
     ensures silent { OnOk result (LogSays (L.facts talk.old.log).given (L.facts talk.new.log).given []) }
     ensures log { OnOk result (StaysItsLog S.facts S.IsStored C.IsNow talk.old.desk (L.facts talk.old.log)
         talk.new.desk (L.facts talk.new.log)) }
@@ -255,7 +269,7 @@ where
     if talk.is_closed() {
         return Ok(());
     }
-    ends.hang_up()?;
+    connection.hang_up()?;
     let said = talk.turn(alloc)?;
     if !talk.is_closed() || !said.is_empty() {
         return Err(Fault::Socket);

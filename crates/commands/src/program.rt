@@ -15,7 +15,7 @@ use account_commands::code::code;
 use account_commands::enrol::enrol;
 use account_commands::keys::keys;
 use account_commands::unlock::unlock;
-use book_file::Lockable;
+use book_file::BookFileExt;
 use clap::error::ErrorKind;
 use clap::{ArgMatches, Error};
 use command_io::output::print_and_flush;
@@ -37,11 +37,12 @@ use std::time::Clock;
 pub fn run<R, S, I, O, E>(rt: &R, words: &[S], input: &mut I, output: O, faults: &mut E) -> (u8, O)
 where
     R: Files + Net + Clock + AllocGlobal,
-    R::File: Lockable,
+    R::File: BookFileExt,
     S: AsStr,
     I: TerminalInput,
     O: Write + Drop,
     E: TerminalOutput,
+    // Follows from `ends`.
     ensures most { result.0 ≤ 3 }
     ensures ends { EndsRun R.File.remaining R.File.contents (map S.text words.now) result.0 (I.remaining input.old) (O.contents output)
         (O.contents result.1) }
@@ -79,7 +80,7 @@ where
     }
     let mut output = output;
     match print_help(alloc, error, &mut output) {
-        Ok(()) => (0, output),
+        Ok(()) => (DONE, output),
         Err(fault) => (report(alloc, faults, fault), output),
     }
 }
@@ -118,7 +119,7 @@ fn dispatch<R, I: TerminalInput, O: Write + Drop, E: TerminalOutput>(
 ) -> (Result<u8, Fault>, O)
 where
     R: Files + Net + Clock + AllocGlobal,
-    R::File: Lockable,
+    R::File: BookFileExt,
     requires { NamesCommand (subcommand_rows_of matches.now) }
     ensures most { IfOk result.0 (λ status. status ≤ 3) }
     ensures ends { EndsCommand R.File.remaining R.File.contents (subcommand_rows_of matches.now) result.0 (I.remaining input.old)
@@ -144,7 +145,7 @@ fn run_command<R, I: TerminalInput, O: Write + Drop, E: TerminalOutput>(
 ) -> (Result<u8, Fault>, O)
 where
     R: Files + Net + Clock + AllocGlobal,
-    R::File: Lockable,
+    R::File: BookFileExt,
     requires { NamesCommand (subcommand_rows_of matches.now) }
     ensures most { IfOk result.0 (λ status. status ≤ 3) }
     ensures ends { EndsCommand R.File.remaining R.File.contents (subcommand_rows_of matches.now) result.0 (I.remaining input.old)
@@ -153,24 +154,24 @@ where
     let alloc = rt.alloc();
     let mut output = output;
     match matches.subcommand() {
-        Some(("keys", words)) => (done(keys(alloc, words, input, &mut output, faults)), output),
-        Some(("enrol", words)) => (done(enrol(rt, words, input, &mut output, faults)), output),
-        Some(("code", words)) => (done(code(alloc, words, &mut output)), output),
-        Some(("verify", words)) => (
-            answered(verify(rt, words, input, &mut output, faults)),
+        Some(("keys", inner)) => (done(keys(alloc, inner, input, &mut output, faults)), output),
+        Some(("enrol", inner)) => (done(enrol(rt, inner, input, &mut output, faults)), output),
+        Some(("code", inner)) => (done(code(alloc, inner, &mut output)), output),
+        Some(("verify", inner)) => (
+            answered(verify(rt, inner, input, &mut output, faults)),
             output,
         ),
-        Some(("unlock", words)) => (done(unlock(rt, words, &mut output, faults)), output),
-        Some(("login", words)) => {
-            let (passed, output) = login(rt, words, input, output, faults);
+        Some(("unlock", inner)) => (done(unlock(rt, inner, &mut output, faults)), output),
+        Some(("login", inner)) => {
+            let (passed, output) = login(rt, inner, input, output, faults);
             (answered(passed), output)
         }
-        Some(("hall", words)) => {
-            let (ended, output) = hall(rt, words, input, output, faults);
+        Some(("hall", inner)) => {
+            let (ended, output) = hall(rt, inner, input, output, faults);
             (done(ended), output)
         }
-        Some(("audit", words)) => (audit(rt, words, &mut output, faults), output),
-        Some(("upgrade", words)) => (upgrade(rt, words, &mut output, faults), output),
+        Some(("audit", inner)) => (audit(rt, inner, &mut output, faults), output),
+        Some(("upgrade", inner)) => (upgrade(rt, inner, &mut output, faults), output),
         _ => unreachable!(),
     }
 }

@@ -7,7 +7,7 @@ use std::io::{Read, Write};
 use std::time::{Clock, Instant};
 
 /// The seconds in which nothing is shown.
-const QUIET: u64 = 2;
+const QUIET_SECONDS: u64 = 2;
 
 /// Shows someone who waits at a terminal how many lines and bytes were read: on one line, after two seconds, anew each second.
 #[derive(Drop)]
@@ -57,7 +57,7 @@ impl<'a, R: Clock, E: TerminalOutput> Progress<'a, R, E> {
             return;
         };
         let seconds = elapsed.as_secs();
-        if seconds >= QUIET && self.shown_at != Some(seconds) {
+        if seconds >= QUIET_SECONDS && self.shown_at != Some(seconds) {
             self.shown_at = Some(seconds);
             let _ = write!(self.faults, "\r{} lines, {} bytes", self.lines, self.bytes);
             let _ = self.faults.flush();

@@ -4,10 +4,10 @@ ghost use Rattle.std.specs.Io.KnownBytes.{Appends};
 ghost use Rattle.commands.specs.Verify.{is_passed, printed_reply, run_of, IsLineAnswered, IsUnprinted, CannotBegin, FailsAtLine};
 ghost use Rattle.commands.specs.Verify.{AnswersAllLines, AnswersFirstLines, VerifiesAllLines, VerifiesFirstLines};
 
-use crate::reply;
-use crate::sent::sent_by;
+use crate::reply_line;
+use crate::sent_codes::sent_by;
 use account_book::{BookStore, Reply};
-use book_file::Lockable;
+use book_file::BookFileExt;
 use clap::ArgMatches;
 use command_io::held_book::HeldBook;
 use command_io::input::Lines;
@@ -30,27 +30,27 @@ use std::time::Clock;
 /// CannotReadInput, CannotWrite and CannotWriteOutput, and NoMemory.
 pub fn verify<R, I, O, E>(
     rt: &R,
-    words: &ArgMatches<'_>,
+    matches: &ArgMatches<'_>,
     input: &mut I,
     output: &mut O,
     faults: &mut E,
 ) -> Result<bool, Fault>
 where
     R: Files + Clock + AllocGlobal,
-    R::File: Lockable,
+    R::File: BookFileExt,
     I: TerminalInput,
     O: Write,
     E: TerminalOutput,
-    ensures ok { IfOk result (λ all_passed. VerifiesAllLines R.File.remaining R.File.contents words.now (I.remaining input.old)
+    ensures ok { IfOk result (λ all_passed. VerifiesAllLines R.File.remaining R.File.contents matches.now (I.remaining input.old)
         (O.contents output.old) all_passed (O.contents output.new)) }
-    ensures err { IfErr result (λ fault. (CannotBegin R.File.remaining words.now fault × (O.contents output.new ≡ O.contents output.old))
-        ⊎ VerifiesFirstLines R.File.remaining R.File.contents words.now (I.remaining input.old) (O.contents output.old) fault
+    ensures err { IfErr result (λ fault. (CannotBegin R.File.remaining matches.now fault × (O.contents output.new ≡ O.contents output.old))
+        ⊎ VerifiesFirstLines R.File.remaining R.File.contents matches.now (I.remaining input.old) (O.contents output.old) fault
         (O.contents output.new)) }
 {
     let alloc = rt.alloc();
-    let name = value::name(given(words, OptionName::Name))?;
-    let moment = value::moment(OptionName::Moment, given(words, OptionName::Moment))?;
-    let mut held = open_book::open(rt, given(words, OptionName::Book), faults)?;
+    let name = value::name(given(matches, OptionName::Name))?;
+    let moment = value::moment(OptionName::Moment, given(matches, OptionName::Moment))?;
+    let mut held = open_book::open(rt, given(matches, OptionName::Book), faults)?;
     held.check_token(&name)?;
     ask(input, faults, CODES);
     answer_lines(alloc, &mut held, &name, moment, input, output)
@@ -116,7 +116,7 @@ fn print_reply<O: Write>(
     ensures printed { OnOk result (Appends (O.contents output.old) (O.contents output.new) (printed_reply reply moment)) }
     ensures err { IfErr result (λ fault. IsUnprinted fault (O.contents output.old) (O.contents output.new)) }
 {
-    let line = reply::text_of(alloc, moment, Some(reply))?;
+    let line = reply_line::text_of(alloc, moment, Some(reply))?;
     let text = format!(in alloc; "{line}\n")?;
     print_and_flush(text.as_bytes(), output)
 }

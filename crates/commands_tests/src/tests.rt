@@ -5,7 +5,7 @@ mod books;
 mod prompts;
 mod streams;
 
-use book_file::Lockable;
+use book_file::BookFileExt;
 use commands::run;
 use std::fs::Files;
 use std::io;
@@ -16,7 +16,7 @@ use std::test::Fail;
 use std::time::Clock;
 use streams::{Faults, Input};
 
-// The words of RFC 5802's example, and what the program prints for them and the password `pencil`.
+// The words of RFC 5802's example; what is printed for them and the password `pencil` is by Python's hashlib.
 const KEYS: [&str; 8] = [
     "scramotp",
     "keys",
@@ -95,12 +95,12 @@ impl Write for Stuck {
 fn check<R>(rt: &R, words: &[&str], input: &str, want: (u8, &str, &str))
 where
     R: Abort + Files + Net + Clock + AllocGlobal,
-    R::File: Lockable,
+    R::File: BookFileExt,
 {
     check_at_terminals(rt, words, input, (false, false), want);
 }
 
-// So where the input and the faults are terminals or not.
+// The same, where the input and the faults are at a terminal or not, as `are_terminals` says of each.
 fn check_at_terminals<R>(
     rt: &R,
     words: &[&str],
@@ -110,7 +110,7 @@ fn check_at_terminals<R>(
 )
 where
     R: Abort + Files + Net + Clock + AllocGlobal,
-    R::File: Lockable,
+    R::File: BookFileExt,
 {
     let mut output = Vec::new(rt.alloc());
     let mut input = Input::new(input, are_terminals.0);

@@ -2,8 +2,8 @@
 use std::alloc::Global;
 use std::test::Fail;
 
-/// A book with the account of the RFC's user, whose keys are those of the password `pencil`, in the form in which a book is
-/// written. No account has a token.
+/// A book with the account of the RFC's user, whose keys are those of the password `pencil` by Python's hashlib, in the form in
+/// which a book is written. No account has a token.
 pub const BOOK: &str = "decoy_count = 4096
 decoy_key = \"000102030405060708090a0b0c0d0e0f101112131415161718191a1b1c1d1e1f\"
 format = 1

@@ -10,7 +10,7 @@ pub struct Memory {
     /// The text that it holds.
     pub saved: String,
 
-    // None where it is the text that was saved
+    // The text of the save that failed, where the store still holds the one from before; else None.
     asked: Option<String>,
 
     failed: bool,
@@ -24,8 +24,8 @@ pub struct Memory {
 }
 
 impl Memory {
-    /// A store that holds an empty text, whose save of this number fails, counted from 1, and with 0 none: before the new
-    /// text is in its place, or, where `is_late`, after it.
+    /// A store that holds an empty text. The save of the number `failing`, counted from 1, fails; where that is 0, none does. It fails
+    /// before the new text is in its place, or, where `is_late`, after it.
     pub fn new(alloc: Global, failing: u64, is_late: bool) -> Memory
         ensures { result.saves ≡ 0 }
     {

@@ -1,6 +1,6 @@
 //! An open file, whose calls are noted.
 use crate::calls::Calls;
-use book_file::Lockable;
+use book_file::BookFileExt;
 use std::fs::{File, Metadata, OpenFile, Permissions};
 use std::io;
 use std::io::{Read, Seek, SeekFrom, Write};
@@ -66,10 +66,10 @@ impl OpenFile for FaultyFile<'_> {
     }
 }
 
-impl Lockable for FaultyFile<'_> {
-    fn try_hold(&self) -> io::Result<bool> {
-        self.calls.make("try_hold", self.path.as_str())?;
-        self.file.try_hold()
+impl BookFileExt for FaultyFile<'_> {
+    fn try_lock_now(&self) -> io::Result<bool> {
+        self.calls.make("try_lock_now", self.path.as_str())?;
+        self.file.try_lock_now()
     }
 
     fn set_owner(&self, owner: u32, group: u32) -> io::Result<()> {

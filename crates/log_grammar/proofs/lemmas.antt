@@ -2,7 +2,7 @@
 pub mod ListEnds
 pub mod completions
 pub mod demands
-pub mod headline_laws
+pub mod session_laws
 pub mod kinds
 pub mod lines
 pub mod login_laws

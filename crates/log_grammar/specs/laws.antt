@@ -6,13 +6,13 @@ pub mod LogLaws
 pub mod Logins
 pub mod Outcomes
 pub mod Replies
-pub mod Headline
+pub mod BySessions
 pub mod Reasons
 pub mod Examples
 pub mod NumberedLaws
 pub mod NumberedLineLaws
 pub mod NumberedLogLaws
-pub mod NumberedHeadline
+pub mod NumberedBySessions
 pub mod NumberedReasons
 pub mod NumberedReplies
 pub mod NumberedExamples

@@ -1,4 +1,4 @@
--- The grammar once more, as who writes or reads a log one line at a time needs it: a place is a state, and a line leads from one
+-- The grammar once more, for a program that writes or reads a log line by line: a place is a state, and a line leads from one
 -- to the next. Laws say that it is the grammar of the folder above.
 pub mod Steps
 pub mod DueClasses

@@ -2,12 +2,12 @@
 //! are (`account_book::laws::books_are_in_range`).
 ghost use Rattle.std.specs.Prelude.{ℕ, ◌↔◌, List, []};
 ghost use Rattle.book_format.specs.Book.{BookFields, IsBook};
-ghost use Rattle.log_grammar.specs.Bytes.{IsCut};
+ghost use Rattle.log_grammar.specs.Bytes.{IsSplit};
 ghost use Rattle.log_grammar.specs.Demands.{AllCanBeChallenged};
 ghost use Rattle.log_grammar.specs.Books.{accounts_in};
-ghost use Rattle.log_grammar.specs.Versions.{IsFront, IsFaultLine, BeginsClean, IsFirstToBeginNoClean};
+ghost use Rattle.log_grammar.specs.Versions.{IsFront, IsFaultLine, BeginsClean, IsFirstOutsideCleanLogs};
 
-use crate::headline::{fault_lines_begin_no_clean_log, fronts_are_what_begins_clean_logs};
+use crate::by_sessions::{fault_lines_begin_no_clean_log, fronts_are_what_begins_clean_logs};
 use crate::laws::fronts_begin_clean;
 
 /// A challenge can be written for each account of a book, and for each decoy.
@@ -26,7 +26,7 @@ pub fn fronts_of_books_begin_clean()
 
 /// Whole lines are a front exactly where they begin a clean log, for every account book.
 pub fn fronts_of_books_are_what_begins_clean_logs()
-    ensures { (book : BookFields) → IsBook book → (bytes : List ℕ) (texts : List (List ℕ)) → IsCut bytes texts []
+    ensures { (book : BookFields) → IsBook book → (bytes : List ℕ) (texts : List (List ℕ)) → IsSplit bytes texts []
         → IsFront (accounts_in book) bytes ↔ BeginsClean (accounts_in book) bytes }
 {
     fronts_are_what_begins_clean_logs();
@@ -35,8 +35,9 @@ pub fn fronts_of_books_are_what_begins_clean_logs()
 
 /// The fault line is the first line that begins no clean log, for every account book.
 pub fn fault_lines_of_books_begin_no_clean_log()
-    ensures { (book : BookFields) → IsBook book → (bytes : List ℕ) (texts : List (List ℕ)) (rest : List ℕ) (k : ℕ) → IsCut bytes texts rest
-        → IsFaultLine (accounts_in book) bytes k ↔ IsFirstToBeginNoClean (accounts_in book) bytes texts k }
+    ensures { (book : BookFields) → IsBook book → (bytes : List ℕ) (texts : List (List ℕ)) (rest : List ℕ) (k : ℕ)
+        → IsSplit bytes texts rest
+        → IsFaultLine (accounts_in book) bytes k ↔ IsFirstOutsideCleanLogs (accounts_in book) bytes texts k }
 {
     fault_lines_begin_no_clean_log();
     books_are_fit();

@@ -2,7 +2,7 @@
 ghost use Rattle.std.specs.Prelude.{ℕ, ◌≡◌, ◌⊎◌, ◌↔◌, List, [], ◌∷◌, ◌++◌, reverse, take};
 ghost use Rattle.log_grammar.specs.Payload.{IsMessage};
 ghost use Rattle.log_grammar.specs.Lines.{Line, LogLine, client_text, resp, IsLine, IsLogLine, IsNoLogLine};
-ghost use Rattle.log_grammar.specs.Bytes.{ended_by_lf, IsCut};
+ghost use Rattle.log_grammar.specs.Bytes.{ended_by_lf, IsSplit};
 ghost use Rattle.log_grammar.specs.LoggedReply.{LoggedReply};
 ghost use Rattle.log_grammar.specs.Places.{Place};
 ghost use Rattle.log_grammar.specs.Demands.{Accounts, demands, AreReplies};
@@ -13,10 +13,11 @@ ghost use Rattle.log_grammar.specs.Versions.{IsFront, IsClean, IsFaultLine, IsWh
 ghost use Rattle.log_grammar.specs.Why.{Why};
 
 use crate::laws::{
-    are_cut, are_cut_one_way, clean_logs_are_fronts, each_account_has_its_history,
-    each_log_is_judged, escapes_one_message, fronts_begin_with_fronts, goes_on_by_a_line,
-    goes_on_by_no_other, has_one_fault_line, has_one_reading, has_one_why, is_one_line,
-    is_one_log_line, line_is_decided, log_line_is_decided, moments_are_in_range,
+    bytes_are_split, bytes_are_split_one_way, clean_logs_are_fronts, each_account_has_its_history,
+    each_fault_has_one_reason, each_log_is_judged, each_text_is_at_most_one_line,
+    each_text_is_at_most_one_log_line, escapes_one_message, fronts_begin_with_fronts,
+    goes_on_by_a_line, goes_on_by_no_other, has_one_fault_line, line_is_decided,
+    log_line_is_decided, logs_have_one_reading, moments_are_in_range,
 };
 
 /// Each text is one line of the protocol or none, and one line of a log or none.
@@ -26,22 +27,22 @@ pub fn each_text_is_one_line_or_none()
     ensures log { (text : List ℕ)
         → ((line : LogLine) × IsLogLine text line × ((other : LogLine) → IsLogLine text other → other ≡ line)) ⊎ IsNoLogLine text }
 {
-    is_one_line();
+    each_text_is_at_most_one_line();
     line_is_decided();
-    is_one_log_line();
+    each_text_is_at_most_one_log_line();
     log_line_is_decided();
 }
 
 /// All bytes are cut into lines in exactly one way.
 pub fn bytes_are_cut_in_one_way()
-    ensures { (bytes : List ℕ) → (texts : List (List ℕ)) × (rest : List ℕ) × IsCut bytes texts rest
-        × ((others : List (List ℕ)) (other : List ℕ) → IsCut bytes others other → (others ≡ texts) × (other ≡ rest)) }
+    ensures { (bytes : List ℕ) → (texts : List (List ℕ)) × (rest : List ℕ) × IsSplit bytes texts rest
+        × ((others : List (List ℕ)) (other : List ℕ) → IsSplit bytes others other → (others ≡ texts) × (other ≡ rest)) }
 {
-    are_cut();
-    are_cut_one_way();
+    bytes_are_split();
+    bytes_are_split_one_way();
 }
 
-/// A line has one message: no two that a client may send are spelled alike.
+/// A RESP line has one message: no two messages are spelled alike in one.
 pub fn lines_bear_one_message()
     ensures { (one other : List ℕ) → IsMessage one → IsMessage other → client_text (resp one) ≡ client_text (resp other) → one ≡ other }
 {
@@ -60,13 +61,13 @@ pub fn logs_go_on_exactly_so()
 {
     goes_on_by_a_line();
     goes_on_by_no_other();
-    has_one_reading();
+    logs_have_one_reading();
 }
 
 /// The first lines of a clean log are a front.
 pub fn first_lines_of_clean_logs_are_fronts()
     ensures { (accounts : Accounts) (bytes : List ℕ) (texts : List (List ℕ)) (k : ℕ)
-        → IsClean accounts bytes → IsCut bytes texts [] → IsFront accounts (ended_by_lf (take k texts)) }
+        → IsClean accounts bytes → IsSplit bytes texts [] → IsFront accounts (ended_by_lf (take k texts)) }
 {
     clean_logs_are_fronts();
     fronts_begin_with_fronts();
@@ -76,7 +77,7 @@ pub fn first_lines_of_clean_logs_are_fronts()
 pub fn clean_logs_have_no_fault()
     ensures { (accounts : Accounts) (bytes : List ℕ) (k : ℕ) → IsClean accounts bytes → IsFaultLine accounts bytes k → ⊥ }
 {
-    are_cut_one_way();
+    bytes_are_split_one_way();
     first_lines_of_clean_logs_are_fronts();
 }
 
@@ -86,7 +87,7 @@ pub fn logs_have_one_judgement()
         → IsWhy accounts bytes k why → IsWhy accounts bytes j other → (k ≡ j) × (why ≡ other) }
 {
     has_one_fault_line();
-    has_one_why();
+    each_fault_has_one_reason();
 }
 
 /// Each log has exactly one answer: it is clean, or it is not, and one line of it is at fault for one reason.
@@ -101,8 +102,8 @@ pub fn each_log_has_one_answer()
     logs_have_one_judgement();
 }
 
-/// In a log that is read from bytes, what was told of each account is a legal history of its token; where it has no
-/// token, each code was told to have no reply.
+/// In a log that is read from bytes, what was told of each account is a legal history of its token; where it has no token, none of its
+/// codes has a reply.
 pub fn logs_have_legal_histories()
     ensures { (accounts : Accounts) (bytes : List ℕ) (lines : List LogLine) (rest : List ℕ) (place : Place) (told : List LoggedReply)
         → AreLines bytes lines rest → Spells (demands accounts) lines place told

@@ -22,7 +22,7 @@ ghost use Rattle.log_grammar.specs.Why.{other_reply, refused_with};
 ghost use Rattle.log_grammar.specs.Upgrades.{original_text};
 ghost use Rattle.log_grammar.specs.laws.Logins.{Exchange, IsLoginTo, login_session};
 ghost use Rattle.log_grammar.specs.laws.Replies.{passes, next_two};
-ghost use Rattle.log_grammar.specs.laws.Examples.{first_text, offer_text, first_alone, one_session, bare_no, AreWhole};
+ghost use Rattle.log_grammar.specs.laws.Examples.{header_one_text, offer_text, first_alone, one_session, bare_no, AreWhole};
 
 use crate::laws::classes_follow_the_place;
 use crate::logins::other_answers_to_logins_are_at_fault;
@@ -79,16 +79,16 @@ pub fn cut_logs()
 /// an `S OK`, or an `S NO` with a message, where a bare `S NO` is due.
 pub fn faulty_logs()
     ensures first { (accounts : Accounts) → IsWhy accounts (ended_by_lf (codes "E" ∷ [])) 1 no_line }
-    ensures order { (accounts : Accounts) → IsWhy accounts (ended_by_lf (first_text ∷ codes "C ABORT" ∷ [])) 2 out_of_order }
+    ensures order { (accounts : Accounts) → IsWhy accounts (ended_by_lf (header_one_text ∷ codes "C ABORT" ∷ [])) 2 out_of_order }
     ensures end { (accounts : Accounts) → IsWhy accounts (one_session (codes "C GONE" ∷ offer_text ∷ [])) 4 out_of_order }
     ensures halt { (accounts : Accounts) → IsWhy accounts (one_session (codes "S HALT" ∷ [])) 3 out_of_order }
     ensures mechs { (accounts : Accounts) → IsWhy accounts
-        (ended_by_lf (first_text ∷ codes "S MECHS SCRAM-SHA-1" ∷ [])) 2 other_mechs }
+        (ended_by_lf (header_one_text ∷ codes "S MECHS SCRAM-SHA-1" ∷ [])) 2 other_mechs }
     ensures outcome { (accounts : Accounts) → IsWhy accounts
         (one_session (codes "C AUTH PLAIN" ∷ codes "S CONT :" ∷ [])) 4 (other_outcome (refused_with [])) }
     ensures challenge { (accounts : Accounts) → IsWhy accounts
         (one_session (codes "C AUTH SCRAM-SHA-1" ∷ codes "S NO :" ∷ [])) 4 other_challenge }
-    ensures first_again { (accounts : Accounts) → IsWhy accounts (ended_by_lf (first_text ∷ first_text ∷ [])) 2 out_of_order }
+    ensures first_again { (accounts : Accounts) → IsWhy accounts (ended_by_lf (header_one_text ∷ header_one_text ∷ [])) 2 out_of_order }
     ensures accepted { (accounts : Accounts) → IsWhy accounts
         (one_session (codes "C ABORT" ∷ codes "S OK :" ∷ [])) 4 (other_outcome (refused_with [])) }
     ensures message { (accounts : Accounts) → IsWhy accounts
@@ -138,7 +138,7 @@ pub fn lines_have_6202_bytes_at_most()
         → AreWhole texts log → Begins (demands accounts) log place told → LacksLf text → 6203 ≤ length text
         → IsWhy accounts (ended_by_lf (texts ++ text ∷ [])) (length texts + 1) no_line }
     ensures second { (accounts : Accounts) (text : List ℕ) → LacksLf text → 6203 ≤ length text
-        → IsWhy accounts (ended_by_lf (first_text ∷ text ∷ [])) 2 no_line }
+        → IsWhy accounts (ended_by_lf (header_one_text ∷ text ∷ [])) 2 no_line }
     ensures second_part { (accounts : Accounts) (rest : List ℕ) → LacksLf rest → 6203 ≤ length rest
         → IsWhy accounts (first_alone ++ rest) 2 no_line }
     ensures second_cut { (accounts : Accounts) (rest : List ℕ) → LacksLf rest → 1 ≤ length rest → length rest ≤ 6202

@@ -1,6 +1,6 @@
 //! Laws of lines and logs, for proofs that rest on this crate: each is the promise of a function that does nothing.
 ghost use Rattle.log_grammar.specs.laws.LineLaws.{EscapesOneMessage, EachTextIsAtMostOneLine, EachTextIsAtMostOneLogLine, LineIsDecided};
-ghost use Rattle.log_grammar.specs.laws.LineLaws.{LogLineIsDecided, WrittenLinesAreRead, LinesLackLf, BytesAreCut, BytesAreCutOneWay};
+ghost use Rattle.log_grammar.specs.laws.LineLaws.{LogLineIsDecided, WrittenLinesAreRead, LinesLackLf, BytesAreSplit, BytesAreSplitOneWay};
 ghost use Rattle.log_grammar.specs.laws.LogLaws.{GoesOnByALine, GoesOnByNoOther, LogsHaveOneReading, FrontsBeginWithFronts};
 ghost use Rattle.log_grammar.specs.laws.LogLaws.{CleanLogsAreFronts, EachAccountHasItsHistory, MomentsAreInRange, HasOneFaultLine};
 ghost use Rattle.log_grammar.specs.laws.LogLaws.{EachFaultHasOneReason, EachLogIsJudged, ClassesFollowThePlace, FrontsBeginClean};
@@ -18,12 +18,12 @@ pub fn escapes_one_message()
 {}
 
 /// A text is at most one line of the protocol.
-pub fn is_one_line()
+pub fn each_text_is_at_most_one_line()
     ensures { EachTextIsAtMostOneLine }
 {}
 
 /// A text is at most one line of a log.
-pub fn is_one_log_line()
+pub fn each_text_is_at_most_one_log_line()
     ensures { EachTextIsAtMostOneLogLine }
 {}
 
@@ -42,7 +42,7 @@ pub fn log_line_is_decided()
 pub fn written_lines_are_read()
     ensures { WrittenLinesAreRead }
 {
-    is_one_log_line();
+    each_text_is_at_most_one_log_line();
     lines_lack_lf();
 }
 
@@ -52,13 +52,13 @@ pub fn lines_lack_lf()
 {}
 
 /// All bytes are lines, each with its LF, and what follows the last LF.
-pub fn are_cut()
-    ensures { BytesAreCut }
+pub fn bytes_are_split()
+    ensures { BytesAreSplit }
 {}
 
 /// Bytes are cut into lines in one way.
-pub fn are_cut_one_way()
-    ensures { BytesAreCutOneWay }
+pub fn bytes_are_split_one_way()
+    ensures { BytesAreSplitOneWay }
 {}
 
 /// At a place where a line may stand, with the reply that is due where it is one, a log goes on with it.
@@ -72,7 +72,7 @@ pub fn goes_on_by_no_other()
 {}
 
 /// The place after a log's lines, and what was told in them, follow from the lines.
-pub fn has_one_reading()
+pub fn logs_have_one_reading()
     ensures { LogsHaveOneReading }
 {
     has_one_client_first();
@@ -106,7 +106,7 @@ pub fn has_one_fault_line()
 {}
 
 /// There is at most one reason why a line is at fault.
-pub fn has_one_why()
+pub fn each_fault_has_one_reason()
     ensures { EachFaultHasOneReason }
 {
     has_one_client_first();

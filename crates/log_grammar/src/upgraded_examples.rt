@@ -4,8 +4,8 @@ ghost use Rattle.log_grammar.specs.Bytes.{ended_by_lf};
 ghost use Rattle.log_grammar.specs.Demands.{Accounts};
 ghost use Rattle.log_grammar.specs.Versions.{IsClean, IsWhy};
 ghost use Rattle.log_grammar.specs.Why.{is_cut, no_line, out_of_order, other_mechs, other_challenge, other_outcome, refused_with};
-ghost use Rattle.log_grammar.specs.laws.Examples.{first_text};
-ghost use Rattle.log_grammar.specs.laws.UpgradedExamples.{second_text, one_numbered, numbered_no};
+ghost use Rattle.log_grammar.specs.laws.Examples.{header_one_text};
+ghost use Rattle.log_grammar.specs.laws.UpgradedExamples.{header_two_text, one_numbered, numbered_no};
 
 use scram_text::laws::{has_one_client_first, spells_one_name};
 
@@ -13,7 +13,7 @@ use scram_text::laws::{has_one_client_first, spells_one_name};
 /// due, or by going away; one of a mechanism that is not offered; one whose first message is refused; one that ends
 /// after the empty challenge; and two sessions, one after the other.
 pub fn clean_upgraded_logs()
-    ensures first { (accounts : Accounts) → IsClean accounts (ended_by_lf (second_text ∷ [])) }
+    ensures first { (accounts : Accounts) → IsClean accounts (ended_by_lf (header_two_text ∷ [])) }
     ensures aborted { (accounts : Accounts) → IsClean accounts (one_numbered (codes "1 C ABORT" ∷ numbered_no)) }
     ensures bad { (accounts : Accounts) → IsClean accounts (one_numbered (codes "1 C BAD" ∷ numbered_no)) }
     ensures gone { (accounts : Accounts) → IsClean accounts (one_numbered (codes "1 C GONE" ∷ codes "1 E" ∷ [])) }
@@ -56,11 +56,12 @@ pub fn cut_upgraded_logs()
 /// message, where a bare `S NO` is due; a first line of either version again; and a line without a number, or a first line
 /// with one.
 pub fn faulty_upgraded_logs()
-    ensures order { (accounts : Accounts) → IsWhy accounts (ended_by_lf (second_text ∷ codes "1 C ABORT" ∷ [])) 2 out_of_order }
+    ensures order { (accounts : Accounts) → IsWhy accounts (ended_by_lf (header_two_text ∷ codes "1 C ABORT" ∷ [])) 2 out_of_order }
     ensures end { (accounts : Accounts) → IsWhy accounts
         (one_numbered (codes "1 C GONE" ∷ codes "1 S MECHS SCRAM-SHA-256 SCRAM-SHA-1" ∷ [])) 4 out_of_order }
     ensures halt { (accounts : Accounts) → IsWhy accounts (one_numbered (codes "1 S HALT" ∷ [])) 3 out_of_order }
-    ensures mechs { (accounts : Accounts) → IsWhy accounts (ended_by_lf (second_text ∷ codes "1 S MECHS SCRAM-SHA-1" ∷ [])) 2 other_mechs }
+    ensures mechs { (accounts : Accounts)
+        → IsWhy accounts (ended_by_lf (header_two_text ∷ codes "1 S MECHS SCRAM-SHA-1" ∷ [])) 2 other_mechs }
     ensures outcome { (accounts : Accounts) → IsWhy accounts
         (one_numbered (codes "1 C AUTH PLAIN" ∷ codes "1 S CONT :" ∷ [])) 4 (other_outcome (refused_with [])) }
     ensures challenge { (accounts : Accounts) → IsWhy accounts
@@ -71,10 +72,10 @@ pub fn faulty_upgraded_logs()
         (one_numbered (codes "1 C BAD" ∷ codes "1 S NO :e=other-error" ∷ [])) 4 (other_outcome (refused_with [])) }
     ensures not_first { (accounts : Accounts) → IsWhy accounts
         (one_numbered (codes "1 C AUTH SCRAM-SHA-1 :" ∷ codes "1 S CONT :" ∷ [])) 4 (other_outcome (refused_with [])) }
-    ensures second_again { (accounts : Accounts) → IsWhy accounts (ended_by_lf (second_text ∷ second_text ∷ [])) 2 out_of_order }
-    ensures first_again { (accounts : Accounts) → IsWhy accounts (ended_by_lf (second_text ∷ first_text ∷ [])) 2 out_of_order }
-    ensures unnumbered { (accounts : Accounts) → IsWhy accounts (ended_by_lf (second_text ∷ codes "C ABORT" ∷ [])) 2 no_line }
-    ensures numbered_first { (accounts : Accounts) → IsWhy accounts (ended_by_lf (second_text ∷ codes "1 SCRAMLOG 1" ∷ [])) 2 no_line }
+    ensures second_again { (accounts : Accounts) → IsWhy accounts (ended_by_lf (header_two_text ∷ header_two_text ∷ [])) 2 out_of_order }
+    ensures first_again { (accounts : Accounts) → IsWhy accounts (ended_by_lf (header_two_text ∷ header_one_text ∷ [])) 2 out_of_order }
+    ensures unnumbered { (accounts : Accounts) → IsWhy accounts (ended_by_lf (header_two_text ∷ codes "C ABORT" ∷ [])) 2 no_line }
+    ensures numbered_first { (accounts : Accounts) → IsWhy accounts (ended_by_lf (header_two_text ∷ codes "1 SCRAMLOG 1" ∷ [])) 2 no_line }
 {
     has_one_client_first();
     spells_one_name();

@@ -1,15 +1,15 @@
 //! Laws of upgraded logs, whole logs of version 1 with the numbers of their sessions, as bytes: each is the promise of a
 //! function that does nothing.
-ghost use Rattle.log_grammar.specs.laws.UpgradedLogs.{RenumberedLogsAreClean, UpgradedLogsAreClean, UpgradedLogsHaveTheSameFault};
+ghost use Rattle.log_grammar.specs.laws.UpgradedLogs.{LogsWithNumbersAreClean, UpgradedLogsAreClean, UpgradedLogsHaveTheSameFault};
 ghost use Rattle.log_grammar.specs.laws.UpgradedLogs.{UpgradedLogsHaveTheSameCounts};
 
 use crate::consequences::{clean_logs_have_no_fault, logs_have_one_judgement};
 use crate::laws::each_log_is_judged;
 
-/// A log of version 1 is clean exactly where it is, as one of version 2, with each line after the first numbered by one more
-/// than the `E` lines before it: so of all lines, where one session at least may be open.
-pub fn renumbered_logs_are_clean()
-    ensures { RenumberedLogsAreClean }
+/// Where each line after the first gets the number that is one more than the number of `E` lines before it, the lines are those of a
+/// clean log of version 1 exactly where the numbered lines are those of a clean log of version 2, if one session at least may be open.
+pub fn logs_with_numbers_are_clean()
+    ensures { LogsWithNumbersAreClean }
 {}
 
 /// The bytes of a log of version 1 are clean exactly where those of the upgraded log are.

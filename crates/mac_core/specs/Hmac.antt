@@ -1,29 +1,29 @@
--- HMAC (RFC 2104, section 2) over any hash function H. `hash` is H on whole messages, and `block` is the
--- length of its blocks in bytes.
+-- HMAC (RFC 2104, section 2; FIPS 198-1, whose name K0 is used here) over any hash function H. `hash` is H on whole
+-- messages, and `block` is the length of its blocks in bytes.
 use Rattle.std.specs.Prelude.{ℕ, ◌-◌, List, [], ◌++◌, length, map, replicate, bit_xor, nat_lt, if◌then◌else◌}
 use Rattle.mac_core.specs.declared.hmac.Mac.{Mac}
-use Rattle.mac_core.specs.declared.hmac.Prepared.{Prepared}
+use Rattle.mac_core.specs.declared.hmac.PreparedKey.{PreparedKey}
 
 -- K0: the key, or its digest where it is longer than a block, with zeros after it up to a block
-abbrev pub padded_key : (List ℕ → List ℕ) → ℕ → List ℕ → List ℕ
+abbrev pub padded_key : (hash : List ℕ → List ℕ) → (block : ℕ) → (key : List ℕ) → List ℕ
 padded_key hash block key =
     let short = if nat_lt block (length key) then hash key else key in
     short ++ replicate (block - length short) 0
 
 -- each byte of a block xor one byte, as K0 xor ipad and K0 xor opad are
-abbrev pub xor_each : ℕ → List ℕ → List ℕ
+abbrev pub xor_each : (byte : ℕ) → (bytes : List ℕ) → List ℕ
 xor_each byte bytes = map (λ x. bit_xor x byte) bytes
 
 -- K0 xor ipad, what the inner hash takes in before the text
-abbrev pub inner_block : (List ℕ → List ℕ) → ℕ → List ℕ → List ℕ
+abbrev pub inner_block : (hash : List ℕ → List ℕ) → (block : ℕ) → (key : List ℕ) → List ℕ
 inner_block hash block key = xor_each 0x36 (padded_key hash block key)
 
 -- K0 xor opad, what the outer hash takes in before the inner digest
-abbrev pub outer_block : (List ℕ → List ℕ) → ℕ → List ℕ → List ℕ
+abbrev pub outer_block : (hash : List ℕ → List ℕ) → (block : ℕ) → (key : List ℕ) → List ℕ
 outer_block hash block key = xor_each 0x5C (padded_key hash block key)
 
 -- HMAC(K, t) = H((K0 xor opad) ++ H((K0 xor ipad) ++ t))
-unfoldable pub hmac : (List ℕ → List ℕ) → ℕ → List ℕ → List ℕ → List ℕ
+unfoldable pub hmac : (hash : List ℕ → List ℕ) → (block : ℕ) → (key text : List ℕ) → List ℕ
 hmac hash block key text =
     hash (outer_block hash block key ++ hash (inner_block hash block key ++ text))
 
@@ -35,5 +35,6 @@ pub record IsMacOf {H : Type 0} (holds : H → List ℕ → Type 0) (hash : List
   pub outer : holds mac.outer (outer_block hash block key)
 
 -- a prepared key is a running MAC of that key that has taken in no text
-abbrev pub IsPreparedFor : {H : Type 0} → (H → List ℕ → Type 0) → (List ℕ → List ℕ) → ℕ → Prepared H → List ℕ → Type 0
+abbrev pub IsPreparedFor : {H : Type 0} → (holds : H → List ℕ → Type 0) → (hash : List ℕ → List ℕ) → (block : ℕ) → PreparedKey H
+    → (key : List ℕ) → Type 0
 IsPreparedFor holds hash block prepared key = IsMacOf holds hash block prepared.empty key []

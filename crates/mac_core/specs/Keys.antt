@@ -14,33 +14,34 @@ int_one = 0 ∷ 0 ∷ 0 ∷ 1 ∷ []
 
 -- U k of Hi under a MAC: U 1 is the MAC of the salt and INT(1), and each later one the MAC of the
 -- one before it. U 0 is the salt and INT(1), of which U 1 is the MAC.
-unfoldable pub iterated : (List ℕ → List ℕ) → List ℕ → ℕ → List ℕ
+unfoldable pub iterated : (mac : List ℕ → List ℕ) → (salt : List ℕ) → (k : ℕ) → List ℕ
 iterated mac salt zero = salt ++ int_one
 iterated mac salt (suc k) = mac (iterated mac salt k)
 
 -- U 1 xor U 2 xor .. xor U n, for n from 1
-unfoldable pub xor_of_iterated : (List ℕ → List ℕ) → List ℕ → ℕ → List ℕ
+unfoldable pub xor_of_iterated : (mac : List ℕ → List ℕ) → (salt : List ℕ) → (n : ℕ) → List ℕ
 xor_of_iterated mac salt zero = []
 xor_of_iterated mac salt (suc zero) = iterated mac salt 1
 xor_of_iterated mac salt (suc (suc n)) =
     xor_bytes (xor_of_iterated mac salt (suc n)) (iterated mac salt (suc (suc n)))
 
 -- Hi(str, salt, i), which is PBKDF2 (RFC 8018) with HMAC and one block of output
-abbrev pub hi : (List ℕ → List ℕ) → ℕ → List ℕ → List ℕ → ℕ → List ℕ
+abbrev pub hi : (hash : List ℕ → List ℕ) → (block : ℕ) → (str salt : List ℕ) → (i : ℕ) → List ℕ
 hi hash block str salt i = xor_of_iterated (hmac hash block str) salt i
 
--- SaltedPassword = Hi(password, salt, i)
-abbrev pub salted_password : (List ℕ → List ℕ) → ℕ → List ℕ → List ℕ → ℕ → List ℕ
+-- SaltedPassword = Hi(Normalize(password), salt, i). The password is given normalised: `Password` of scram_text admits only
+-- those that SASLprep leaves as they are.
+abbrev pub salted_password : (hash : List ℕ → List ℕ) → (block : ℕ) → (password salt : List ℕ) → (i : ℕ) → List ℕ
 salted_password hash block password salt i = hi hash block password salt i
 
 -- ClientKey = HMAC(SaltedPassword, "Client Key")
-abbrev pub client_key : (List ℕ → List ℕ) → ℕ → List ℕ → List ℕ
+abbrev pub client_key : (hash : List ℕ → List ℕ) → (block : ℕ) → (salted : List ℕ) → List ℕ
 client_key hash block salted = hmac hash block salted (codes "Client Key")
 
 -- StoredKey = H(ClientKey)
-abbrev pub stored_key : (List ℕ → List ℕ) → List ℕ → List ℕ
+abbrev pub stored_key : (hash : List ℕ → List ℕ) → (client : List ℕ) → List ℕ
 stored_key hash client = hash client
 
 -- ServerKey = HMAC(SaltedPassword, "Server Key")
-abbrev pub server_key : (List ℕ → List ℕ) → ℕ → List ℕ → List ℕ
+abbrev pub server_key : (hash : List ℕ → List ℕ) → (block : ℕ) → (salted : List ℕ) → List ℕ
 server_key hash block salted = hmac hash block salted (codes "Server Key")

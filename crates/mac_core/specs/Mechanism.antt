@@ -20,12 +20,12 @@ abbrev pub name_of : Mechanism → List ℕ
 name_of ScramSha1 = codes "SCRAM-SHA-1"
 name_of ScramSha256 = codes "SCRAM-SHA-256"
 
--- the mechanism's name is one of those in the text, between which there are spaces
-abbrev pub IsOffered : Mechanism → List ℕ → Type 0
+-- the text is a list of names with one space between each two, and the mechanism's name is one of them
+abbrev pub IsOffered : Mechanism → (names : List ℕ) → Type 0
 IsOffered mechanism names = Contains (slice_split (λ c. c == byte " ") names) (name_of mechanism)
 
 -- H of the mechanism
-abbrev pub hash_by : Mechanism → List ℕ → List ℕ
+abbrev pub hash_by : Mechanism → (text : List ℕ) → List ℕ
 hash_by ScramSha1 = sha1
 hash_by ScramSha256 = sha256
 
@@ -35,23 +35,23 @@ length_by ScramSha1 = 20
 length_by ScramSha256 = 32
 
 -- HMAC of the mechanism
-abbrev pub hmac_by : Mechanism → List ℕ → List ℕ → List ℕ
+abbrev pub hmac_by : Mechanism → (key text : List ℕ) → List ℕ
 hmac_by mechanism = hmac (hash_by mechanism) 64
 
 -- Hi of the mechanism; that of a password is its SaltedPassword
-abbrev pub hi_by : Mechanism → List ℕ → List ℕ → ℕ → List ℕ
+abbrev pub hi_by : Mechanism → (str salt : List ℕ) → (i : ℕ) → List ℕ
 hi_by mechanism = hi (hash_by mechanism) 64
 
 -- ClientKey of a SaltedPassword
-abbrev pub client_key_by : Mechanism → List ℕ → List ℕ
+abbrev pub client_key_by : Mechanism → (salted : List ℕ) → List ℕ
 client_key_by mechanism = client_key (hash_by mechanism) 64
 
 -- StoredKey of a ClientKey
-abbrev pub stored_key_by : Mechanism → List ℕ → List ℕ
+abbrev pub stored_key_by : Mechanism → (client_key : List ℕ) → List ℕ
 stored_key_by mechanism = stored_key (hash_by mechanism)
 
 -- ServerKey of a SaltedPassword
-abbrev pub server_key_by : Mechanism → List ℕ → List ℕ
+abbrev pub server_key_by : Mechanism → (salted : List ℕ) → List ℕ
 server_key_by mechanism = server_key (hash_by mechanism) 64
 
 -- StoredKey of a password (RFC 5802, section 3)
@@ -64,7 +64,7 @@ abbrev pub password_server_key : Mechanism → (password salt : List ℕ) → (c
 password_server_key mechanism password salt count = server_key_by mechanism (hi_by mechanism password salt count)
 
 -- the running MAC stands for this key and text under the mechanism
-abbrev pub IsScramMac : Mechanism → ScramMac → List ℕ → List ℕ → Type 0
+abbrev pub IsScramMac : Mechanism → ScramMac → (key text : List ℕ) → Type 0
 IsScramMac ScramSha1 (BySha1 mac) key text =
     IsMacOf (λ (h : HSha1) (m : List ℕ). Holds h.hasher m) sha1 64 mac key text
 IsScramMac ScramSha256 (BySha256 mac) key text =

@@ -13,7 +13,7 @@ const OPAD: u8 = 0x5C;
 // The longest block of the hash functions here, that of SHA-512.
 const MOST_BLOCK: usize = 128;
 
-// A padded key, K0 of RFC 2104.
+// A padded key: K0 of FIPS 198-1, section 4.
 type Block = ArrayVec<u8, MOST_BLOCK>;
 
 // The key with zeros after it up to a block, where it is no longer than one.
@@ -108,16 +108,16 @@ impl<H: HashFn> Mac<H> {
 /// A key for HMAC whose two padded blocks are hashed already, so that a MAC of a short text takes
 /// two compressions instead of four.
 #[derive(Drop)]
-pub struct Prepared<H> {
+pub struct PreparedKey<H> {
     empty: Mac<H>,
 }
 
-impl<H: HashFn> Prepared<H> {
+impl<H: HashFn> PreparedKey<H> {
     /// Prepares `key`, which may have any length.
     pub fn new(key: &[u8]) -> Self
         ensures { IsPreparedFor H.holds H.digest_of H.BLOCK result key.now }
     {
-        Prepared {
+        PreparedKey {
             empty: Mac::new(key),
         }
     }

@@ -5,7 +5,7 @@ ghost use Rattle.mac_core.specs.Keys.{xor_bytes, int_one, iterated, hi, salted_p
 
 use crate::bytes::copy_of;
 use crate::digest::{HashFn, Tag};
-use crate::hmac::Prepared;
+use crate::hmac::PreparedKey;
 use crate::mac;
 
 /// The xor of `a` and `b`, byte by byte. They have the same length, and so has the result.
@@ -23,7 +23,7 @@ pub fn xor(a: &Tag, b: &Tag) -> Tag
 }
 
 // U(1) of Hi: the MAC of the salt and INT(1).
-fn first_round<H: HashFn>(key: &Prepared<H>, salt: &[u8]) -> Tag
+fn first_round<H: HashFn>(key: &PreparedKey<H>, salt: &[u8]) -> Tag
     ensures value { (str : List ℕ) → IsPreparedFor H.holds H.digest_of H.BLOCK key.now str
         → result.items ≡ hmac H.digest_of H.BLOCK str (salt.now ++ int_one) }
     ensures len { length result.items ≡ H.LEN }
@@ -41,7 +41,7 @@ pub fn hi<H: HashFn>(password: &[u8], salt: &[u8], count: u32) -> Tag
     ensures value { result.items ≡ hi H.digest_of H.BLOCK password.now salt.now count }
     ensures len { length result.items ≡ H.LEN }
 {
-    let key = Prepared::<H>::new(password);
+    let key = PreparedKey::<H>::new(password);
     let mut last = first_round(&key, salt);
     let mut sum = copy_of(last.as_slice());
     for round in 1..count {

@@ -22,7 +22,7 @@ mod mechanism;
 
 pub use bytes::copy_of;
 pub use digest::{HSha1, HSha256, HSha512, HashFn, Tag};
-pub use hmac::Prepared;
+pub use hmac::PreparedKey;
 pub use keys::{ScramKeys, client_key, hi, scram_keys, server_key, stored_key, xor};
 pub use mechanism::{Mechanism, ScramMac};
 

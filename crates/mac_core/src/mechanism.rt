@@ -12,10 +12,10 @@ use crate::keys::ScramKeys;
 /// A SCRAM mechanism without channel binding.
 #[derive(Clone, Copy, Debug, PartialEq, Eq)]
 pub enum Mechanism {
-    /// SCRAM-SHA-1 (RFC 5802): values of 20 bytes.
+    /// SCRAM-SHA-1 (RFC 5802): digests of 20 bytes.
     ScramSha1,
 
-    /// SCRAM-SHA-256 (RFC 7677): values of 32 bytes.
+    /// SCRAM-SHA-256 (RFC 7677): digests of 32 bytes.
     ScramSha256,
 }
 

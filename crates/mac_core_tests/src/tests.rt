@@ -1,8 +1,9 @@
 //! Values from outside: RFC 2202, RFC 4231 and NIST's examples for HMAC, RFC 6070 and RFC 7914 for Hi,
-//! and the example of RFC 5802 for the keys.
+//! the proof and the signature of RFC 5802's example, and the keys of the users of RFC 5802 and RFC 7677 by Python's
+//! hashlib.
 use mac_core::hmac::Mac;
 use mac_core::{
-    HSha1, HSha256, HSha512, HashFn, Mechanism, Prepared, ScramMac, Tag, client_key, hi, mac,
+    HSha1, HSha256, HSha512, HashFn, Mechanism, PreparedKey, ScramMac, Tag, client_key, hi, mac,
     scram_keys, server_key, stored_key, xor,
 };
 use std::alloc::{AllocError, Global};
@@ -179,8 +180,9 @@ fn check_mac<H: HashFn>(
     want: &str,
 ) -> Result<(), AllocError> {
     let alloc = rt.alloc();
-    let prepared = Prepared::<H>::new(key);
+    let prepared = PreparedKey::<H>::new(key);
     for tag in [mac::<H>(key, text), prepared.mac(text)] {
+        assert_eq!(rt; tag.len(), H::LEN, "want {want}");
         assert!(rt;
             hex_of(alloc, &tag)?.as_str().starts_with(want),
             "want {want}"
@@ -194,6 +196,7 @@ fn check_mac<H: HashFn>(
         running.add(back);
         copied.add(back);
         for tag in [running.done(), copied.done()] {
+            assert_eq!(rt; tag.len(), H::LEN, "cut at {cut}, want {want}");
             assert!(rt;
                 hex_of(alloc, &tag)?.as_str().starts_with(want),
                 "cut at {cut}, want {want}"
@@ -255,7 +258,7 @@ fn keys_of_one_block(rt: HostRuntime) -> Result<(), Fail> {
     Ok(())
 }
 
-// RFC 6070 without its case of two blocks.
+// RFC 6070 without its case of two blocks, and without the longest, which stands below.
 #[test]
 fn hi_by_sha1(rt: HostRuntime) -> Result<(), Fail> {
     for (password, salt, count, want) in SHA1_KEYS {
@@ -292,7 +295,8 @@ fn hi_at_its_longest_case(rt: HostRuntime) -> Result<(), Fail> {
     Ok(())
 }
 
-// RFC 5802, section 5: the keys of its password, the client's proof and the server's signature.
+// RFC 5802, section 5: the client's proof and the server's signature. The RFC prints no keys: those that lead to them are
+// by Python's hashlib.
 #[test]
 fn keys_of_the_example(rt: HostRuntime) -> Result<(), Fail> {
     let alloc = rt.alloc();
@@ -370,7 +374,7 @@ fn a_client_takes_the_longer_hash_that_is_offered(rt: HostRuntime) {
     }
 }
 
-// The keys of the example, by a mechanism that is chosen at run time.
+// Those keys, by a mechanism that is chosen at run time, and Hi of the first case of RFC 7914, section 11.
 #[test]
 fn keys_by_mechanism(rt: HostRuntime) -> Result<(), Fail> {
     let alloc = rt.alloc();
@@ -402,6 +406,41 @@ fn keys_by_mechanism(rt: HostRuntime) -> Result<(), Fail> {
     Ok(())
 }
 
+// The salt of RFC 7677, section 3; the keys of its user, whose password is `pencil`, are by Python's hashlib.
+#[test]
+fn keys_by_the_longer_hash(rt: HostRuntime) -> Result<(), Fail> {
+    let alloc = rt.alloc();
+    let sha256 = Mechanism::ScramSha256;
+    let salt = [
+        0x5b, 0x6d, 0x99, 0x68, 0x9d, 0x12, 0x35, 0x8e, 0xec, 0xa0, 0x4b, 0x14, 0x12, 0x36, 0xfa,
+        0x81,
+    ];
+    let salted = sha256.hi(b"pencil", &salt, 4096);
+    let client = sha256.client_key(&salted);
+    let keys = sha256.scram_keys(b"pencil", &salt, 4096);
+    let stored = "586e5df283e6dceb5c3e791d8b8528ec191e664045ce971792e2e6b5bb13e2a6";
+    let server = "c1f3cbc1c13a9d35a14c0990eed97629ea225863e566a4314ab99f3f00e5d9d5";
+    let values = [
+        (
+            &salted,
+            "c4a49510323ab4f952cac1fa99441939e78ea74d6be81ddf7096e87513dc615d",
+        ),
+        (
+            &client,
+            "a60fc923d67e8644a92d16b96eda5ef4656b0c725c484374be25535576996e8b",
+        ),
+        (&sha256.stored_key(&client), stored),
+        (&sha256.server_key(&salted), server),
+        (&keys.stored, stored),
+        (&keys.server, server),
+    ];
+    for (tag, want) in values {
+        assert_eq!(rt; hex_of(alloc, tag)?.as_str(), want);
+    }
+    Ok(())
+}
+
+// RFC 2202, section 2, case 2, and RFC 4231, section 4.3.
 #[test]
 fn running_mac_by_mechanism(rt: HostRuntime) -> Result<(), Fail> {
     let alloc = rt.alloc();

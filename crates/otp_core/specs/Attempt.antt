@@ -1,4 +1,4 @@
--- Attempts at passing a token. A history is the list of those so far, the latest first.
+-- Attempts to pass with codes of a token. A history is the list of those so far, the latest first.
 use Rattle.std.specs.Prelude.{ℕ, ◌-◌, List, [], ◌∷◌}
 use Rattle.std.specs.List.{flat_map}
 use Rattle.otp_core.specs.declared.token.answer.Reply.{Reply}
@@ -16,10 +16,10 @@ pub record Attempt : Type 0 where
   pub reply : Reply
 
 -- an attempt of these parts
-abbrev pub attempt_of : ℕ → CodeTexts → Reply → Attempt
+abbrev pub attempt_of : (moment : ℕ) → (sent : CodeTexts) → Reply → Attempt
 attempt_of moment sent reply = record { moment = moment; sent = sent; reply = reply }
 
--- the counters of what passed: of two codes also the one before
+-- the counters that a pass uses: that of the one code; of two codes, that of the second and the one before it
 abbrev pub counters_of : CodeTexts → ℕ → List ℕ
 counters_of (OneText text) counter = counter ∷ []
 counters_of (TwoTexts first second) counter = counter ∷ (counter - 1) ∷ []

@@ -23,16 +23,16 @@ truncated tag =
     from_be_bytes w32 (slice_index tag at ∷ slice_index tag (at + 1) ∷ slice_index tag (at + 2) ∷ slice_index tag (at + 3) ∷ []) % 2 ^ 31
 
 -- the last `count` decimal digits of a number as ASCII, leading zeros included
-unfoldable pub last_digits : ℕ → ℕ → List ℕ
+unfoldable pub last_digits : (count number : ℕ) → List ℕ
 last_digits zero number = []
 last_digits (suc count) number = last_digits count (number / 10) ++ (byte "0" + number % 10) ∷ []
 
 -- Truncate of a tag: its truncation modulo 10 ^ digits, in that many digits
-abbrev pub code_of : ℕ → List ℕ → List ℕ
+abbrev pub code_of : (digits : ℕ) → (tag : List ℕ) → List ℕ
 code_of digits tag = last_digits digits (truncated tag % 10 ^ digits)
 
 -- HOTP(K, C) = Truncate(HMAC(K, C)), the counter in 8 bytes, most significant first
-abbrev pub hotp_text : (List ℕ → List ℕ) → ℕ → ℕ → List ℕ → ℕ → List ℕ
+abbrev pub hotp_text : (hash : List ℕ → List ℕ) → (block digits : ℕ) → (key : List ℕ) → (counter : ℕ) → List ℕ
 hotp_text hash block digits key counter = code_of digits (hmac hash block key (to_be_bytes w64 counter))
 
 -- a code's text: 6 to 8 ASCII digits
@@ -53,9 +53,9 @@ otp_block_by Sha256 = 64
 otp_block_by Sha512 = 128
 
 -- HOTP with this hash function, as RFC 6238, section 1.2, allows for TOTP
-abbrev pub hotp_text_by : OtpHash → ℕ → List ℕ → ℕ → List ℕ
+abbrev pub hotp_text_by : OtpHash → (digits : ℕ) → (key : List ℕ) → (counter : ℕ) → List ℕ
 hotp_text_by hash = hotp_text (otp_hash_by hash) (otp_block_by hash)
 
 -- T, the number of whole steps of x seconds from t0 to a moment
-abbrev pub steps_from : ℕ → ℕ → ℕ → ℕ
+abbrev pub steps_from : (t0 x moment : ℕ) → ℕ
 steps_from t0 x moment = (moment - t0) / x

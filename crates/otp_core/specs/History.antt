@@ -8,11 +8,11 @@ use Rattle.otp_core.specs.declared.token.kinds.TokenFields.{TokenFields}
 use Rattle.otp_core.specs.declared.token.kinds.TokenFields.TheVariants.{Hotp, Totp}
 
 -- each reply of a history is the one due after the attempts before it, and each moment is in its range
-abbrev pub IsLegal : TokenFields → List Attempt → Type 0
+abbrev pub IsLegal : (start : TokenFields) → (history : List Attempt) → Type 0
 IsLegal start [] = Unit {0}
 IsLegal start (a ∷ before) = IsMoment a.moment × IsDueReply start before a.moment a.sent a.reply × IsLegal start before
 
--- a token's settings: the token with its state blanked
+-- a token's settings: the token with its state cleared, so next, drift and failures are 0 and there is no last step
 abbrev pub settings_of : TokenFields → TokenFields
 settings_of (Hotp t) = Hotp (record t { next = 0; failures = 0 })
 settings_of (Totp t) = Totp (record t { last = None; drift = pos 0; failures = 0 })

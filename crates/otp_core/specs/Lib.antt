@@ -4,9 +4,9 @@ pub mod Fault
 pub mod Hash
 pub mod History
 pub mod Laws
+pub mod Passes
 pub mod Ranges
 pub mod Reply
-pub mod Secret
 pub mod Settings
 pub mod State
 pub mod Window

@@ -9,6 +9,10 @@ least_secret = 10
 abbrev pub most_secret : ℕ
 most_secret = 64
 
+-- a secret has 10 to 64 bytes; RFC 4226, section 4, requires 16
+abbrev pub IsSecretLength : ℕ → Type 0
+IsSecretLength length = (least_secret ≤ length) × (length ≤ most_secret)
+
 -- the least number of digits of a code (RFC 4226, section 5.3)
 abbrev pub least_digits : ℕ
 least_digits = 6

@@ -10,7 +10,7 @@ use Rattle.otp_core.specs.declared.token.kinds.TokenFields.{TokenFields}
 use Rattle.otp_core.specs.declared.token.kinds.TokenFields.TheVariants.{Hotp, Totp}
 
 -- the text of a token's code at a counter
-abbrev pub code_text : TokenFields → ℕ → List ℕ
+abbrev pub code_text : TokenFields → (c : ℕ) → List ℕ
 code_text (Hotp t) c = hotp_text_by Sha1 t.digits t.secret c
 code_text (Totp t) c = hotp_text_by t.hash t.digits t.secret c
 
@@ -31,20 +31,20 @@ failures_after_reply Fail before = before + 1
 failures_after_reply Locked before = before
 
 -- the failures after a history: those since the last pass; without a pass, all of them and the start's
-abbrev pub failures_after : TokenFields → List Attempt → ℕ
+abbrev pub failures_after : (start : TokenFields) → (history : List Attempt) → ℕ
 failures_after start [] = failures_of start
 failures_after start (a ∷ before) = failures_after_reply a.reply (failures_after start before)
 
 -- the text that was sent is the code of a counter that can pass; or the texts are the codes of a counter and the one
 -- after it, which is the one that passes
-abbrev pub IsFitting : TokenFields → List Attempt → ℕ → CodeTexts → ℕ → Type 0
+abbrev pub IsFitting : (start : TokenFields) → (history : List Attempt) → (moment : ℕ) → CodeTexts → (c : ℕ) → Type 0
 IsFitting start history moment (CodeTexts.OneText text) c = IsCandidate start history moment c × (code_text start c ≡ text)
 IsFitting start history moment (CodeTexts.TwoTexts first second) c =
     (w : ℕ) × (c ≡ w + 1) × IsPairCandidate start history w × (code_text start w ≡ first) × (code_text start (w + 1) ≡ second)
 
 -- the reply that is due: Locked where the failures have reached the limit, else Pass of the least
 -- counter that fits, else Fail
-abbrev pub IsDueReply : TokenFields → List Attempt → ℕ → CodeTexts → Reply → Type 0
+abbrev pub IsDueReply : (start : TokenFields) → (history : List Attempt) → (moment : ℕ) → CodeTexts → Reply → Type 0
 IsDueReply start history moment sent Locked = limit_of start ≤ failures_after start history
 IsDueReply start history moment sent (Pass c) =
     (failures_after start history < limit_of start)

@@ -1,4 +1,4 @@
--- The settings of tokens and their ranges.
+-- The fields of tokens, settings and state, and their ranges.
 use Rattle.std.specs.Prelude.{◌+◌, ◌≤◌, ◌≡◌, ◌⊎◌, List, [], ◌∷◌, nat_abs}
 use Rattle.std.specs.Option.{ForSome}
 use Rattle.otp_core.specs.Ranges.{most_counter, most_look_ahead, most_sync_ahead, longest_step, most_steps, most_drift, most_limit}
@@ -12,26 +12,26 @@ use Rattle.otp_core.specs.declared.token.kinds.TotpFields.{TotpFields}
 use Rattle.otp_core.specs.declared.token.kinds.TokenFields.{TokenFields}
 use Rattle.otp_core.specs.declared.token.kinds.TokenFields.TheVariants.{Hotp, Totp}
 
--- a setting, and what its range asks of it
+-- a field that has a range, and what the range asks of it
 pub record Ranged : Type 1 where
   pub setting : Setting
   pub IsIn : Type 0
 
--- each setting is in its range
+-- each field is in its range
 abbrev pub AreInRange : List Ranged → Type 0
 AreInRange [] = Unit {0}
 AreInRange (r ∷ rest) = r.IsIn × AreInRange rest
 
--- this setting is the first that is not in its range
+-- this field is the first that is not in its range
 abbrev pub IsFirstOutside : List Ranged → Setting → Type 0
 IsFirstOutside [] found = ⊥
 IsFirstOutside (r ∷ rest) found = ((r.IsIn → ⊥) × (found ≡ r.setting)) ⊎ (r.IsIn × IsFirstOutside rest found)
 
--- a setting with its range
+-- a field with its range
 abbrev pub range : Setting → Type 0 → Ranged
 range setting IsIn = record { setting = setting; IsIn = IsIn }
 
--- the settings of a HOTP token that have a range, in the order of its fields
+-- the fields of a HOTP token that have a range, in their order
 abbrev pub hotp_ranges : HotpFields → List Ranged
 hotp_ranges t =
     range Next (t.next ≤ most_counter + 1)
@@ -41,7 +41,7 @@ hotp_ranges t =
     ∷ range Failures (t.failures ≤ t.limit)
     ∷ []
 
--- the settings of a TOTP token that have a range, in the order of its fields
+-- the fields of a TOTP token that have a range, in their order
 abbrev pub totp_ranges : TotpFields → List Ranged
 totp_ranges t =
     range Step ((1 ≤ t.step) × (t.step ≤ longest_step))
@@ -67,7 +67,7 @@ abbrev pub IsInRange : TokenFields → Type 0
 IsInRange (Hotp t) = IsHotpInRange t
 IsInRange (Totp t) = IsTotpInRange t
 
--- the refusal names the first setting that is not in its range
+-- the refusal names the first field that is not in its range
 abbrev pub IsRefusalOf : List Ranged → OtpFault → Type 0
 IsRefusalOf ranges refusal = (setting : Setting) × (refusal ≡ fault.Setting setting) × IsFirstOutside ranges setting
 

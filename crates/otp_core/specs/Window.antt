@@ -16,34 +16,34 @@ abbrev pub greatest : List ℕ → Option ℕ
 greatest [] = None
 greatest (c ∷ counters) = Some (option_map_or (λ most. max c most) (greatest counters) c)
 
--- HOTP's first counter: one more than the greatest that passed, or the start's next where none did
-abbrev pub first_in_window : ℕ → List ℕ → ℕ
+-- the first counter of HOTP's window: one more than the greatest that passed, or the start's next where none did
+abbrev pub first_in_window : (next : ℕ) → (counters : List ℕ) → ℕ
 first_in_window next counters = option_map_or (λ most. most + 1) (greatest counters) next
 
 -- a counter of HOTP's window (RFC 4226, section 7.4)
-pub record IsInWindow (first ahead c : ℕ) : Type 0 where
+pub record IsInHotpWindow (first ahead c : ℕ) : Type 0 where
   pub not_before : first ≤ c
   pub within : c ≤ first + ahead
   pub most : c ≤ most_counter
 
 -- T, TOTP's present step (RFC 6238, section 4.2)
-abbrev pub step_at : TotpFields → ℕ → ℕ
+abbrev pub step_at : TotpFields → (moment : ℕ) → ℕ
 step_at t moment = steps_from t.t0 t.step moment
 
--- the drift after a reply: by how many steps the code that passed was ahead of the present one
-abbrev pub drift_after_reply : Reply → ℤ → ℤ → ℤ
+-- the drift after a reply: by how many steps the step that passed was ahead of the present step
+abbrev pub drift_after_reply : Reply → (now before : ℤ) → ℤ
 drift_after_reply (Pass w) now before = pos w -ℤ now
 drift_after_reply Fail now before = before
 drift_after_reply Locked now before = before
 
 -- the drift after a history: that of the last pass, or the start's where there is none
-abbrev pub drift_after : TotpFields → List Attempt → ℤ
+abbrev pub drift_after : (start : TotpFields) → (history : List Attempt) → ℤ
 drift_after t [] = t.drift
 drift_after t (a ∷ before) = drift_after_reply a.reply (pos (step_at t a.moment)) (drift_after t before)
 
 -- a step of TOTP's window (RFC 6238, sections 5.2 and 6): the present step moved by the drift, from
 -- `back` steps before it to `ahead` steps after it, and at most max_drift from the present step
-pub record IsStepNear (now : ℕ) (drift : ℤ) (back ahead max_drift w : ℕ) : Type 0 where
+pub record IsInTotpWindow (now : ℕ) (drift : ℤ) (back ahead max_drift w : ℕ) : Type 0 where
   pub not_before : ((pos now +ℤ drift) -ℤ pos back) ≤ℤ pos w
   pub not_after : pos w ≤ℤ ((pos now +ℤ drift) +ℤ pos ahead)
   pub not_early : now ≤ w + max_drift
@@ -53,18 +53,18 @@ pub record IsStepNear (now : ℕ) (drift : ℤ) (back ahead max_drift w : ℕ) :
 abbrev pub IsAbove : List ℕ → ℕ → Type 0
 IsAbove counters w = AllByRecursion (λ c. c < w) counters
 
--- two codes in a row can pass, the first of them that of this counter: HOTP looks further ahead for them than for one
--- (RFC 4226, section 7.4)
-abbrev pub IsPairCandidate : TokenFields → List Attempt → ℕ → Type 0
-IsPairCandidate (Hotp t) history w = IsInWindow (first_in_window t.next (used_in history)) t.sync_ahead w × (w + 1 ≤ most_counter)
+-- two codes in a row can pass, the first of them that of this counter. It is among HOTP's first counter and the sync_ahead
+-- counters after it (RFC 4226, section 7.4). With a TOTP token two codes in a row never pass.
+abbrev pub IsPairCandidate : (start : TokenFields) → (history : List Attempt) → (c : ℕ) → Type 0
+IsPairCandidate (Hotp t) history w = IsInHotpWindow (first_in_window t.next (used_in history)) t.sync_ahead w × (w + 1 ≤ most_counter)
 IsPairCandidate (Totp t) history w = ⊥
 
 -- the counter can pass at a moment, after a history from a start. A step of TOTP passes once, and
 -- after it no earlier one (RFC 6238, section 5.2).
-abbrev pub IsCandidate : TokenFields → List Attempt → ℕ → ℕ → Type 0
-IsCandidate (Hotp t) history moment c = IsInWindow (first_in_window t.next (used_in history)) t.look_ahead c
+abbrev pub IsCandidate : (start : TokenFields) → (history : List Attempt) → (moment c : ℕ) → Type 0
+IsCandidate (Hotp t) history moment c = IsInHotpWindow (first_in_window t.next (used_in history)) t.look_ahead c
 IsCandidate (Totp t) history moment w =
     (t.t0 ≤ moment)
-    × IsStepNear (step_at t moment) (drift_after t history) t.back t.ahead t.max_drift w
+    × IsInTotpWindow (step_at t moment) (drift_after t history) t.back t.ahead t.max_drift w
     × ForSome t.last (λ l. l < w)
     × IsAbove (used_in history) w

@@ -8,7 +8,7 @@ use crate::digits::Digits;
 use crate::moment::Moment;
 use crate::secret::Secret;
 use arrayvec::ArrayVec;
-use mac_core::{HashFn, Prepared, Tag};
+use mac_core::{HashFn, PreparedKey, Tag};
 use std::marker::Model;
 
 /// A one-time code: 6 to 8 ASCII digits. Contracts see it as the list of their bytes.
@@ -76,7 +76,7 @@ pub fn truncate(tag: &Tag, digits: Digits) -> Code
 /// The HOTP value of `counter` under a key that was prepared once (RFC 4226, section 5.3). Where
 /// `counter` is made by `step`, it is the TOTP value (RFC 6238, section 4.2), and `H` is then the
 /// token's hash function.
-pub fn hotp_with<H: HashFn>(prepared: &Prepared<H>, counter: u64, digits: Digits) -> Code
+pub fn hotp_with<H: HashFn>(prepared: &PreparedKey<H>, counter: u64, digits: Digits) -> Code
     ensures { (key : List ℕ) → IsPreparedFor H.holds H.digest_of H.BLOCK prepared.now key
         → result ≡ hotp_text H.digest_of H.BLOCK digits key counter }
 {
@@ -87,7 +87,7 @@ pub fn hotp_with<H: HashFn>(prepared: &Prepared<H>, counter: u64, digits: Digits
 pub fn hotp<H: HashFn>(secret: &Secret, counter: u64, digits: Digits) -> Code
     ensures { result ≡ hotp_text H.digest_of H.BLOCK digits secret.now counter }
 {
-    hotp_with(&Prepared::<H>::new(secret.bytes()), counter, digits)
+    hotp_with(&PreparedKey::<H>::new(secret.bytes()), counter, digits)
 }
 
 /// The TOTP counter of a moment (RFC 6238, section 4.2): the number of whole steps of `x` seconds

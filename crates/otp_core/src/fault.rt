@@ -35,7 +35,8 @@ impl OtpFault {
     }
 }
 
-/// A setting of a token that has a range of its own.
+/// A field of a token that has a range of its own: one of its settings or of its state. The book's text and refusal 42 call both
+/// settings.
 #[derive(Clone, Copy, Debug, PartialEq, Eq)]
 pub enum Setting {
     /// HOTP's next counter.
@@ -56,7 +57,7 @@ pub enum Setting {
     /// How many steps TOTP looks ahead of the present step, moved by the drift.
     Ahead,
 
-    /// The most steps that a step that passes may be from the present one.
+    /// How far, in steps, a step that passes may be from the present one.
     MaxDrift,
 
     /// TOTP's last accepted step.

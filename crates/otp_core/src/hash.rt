@@ -47,8 +47,7 @@ impl OtpHash {
         }
     }
 
-    /// The HOTP value of `counter` under `secret` (RFC 4226, section 5.3),
-    /// with this hash function.
+    /// The HOTP value of `counter` under `secret` (RFC 4226, section 5.3), with this hash function.
     pub fn hotp(self, secret: &Secret, counter: u64, digits: Digits) -> Code
         ensures { result ≡ hotp_text_by self digits secret.now counter }
     {

@@ -26,14 +26,13 @@ pub fn histories_join()
     ensures { HistoriesJoin }
 {}
 
-/// A legal history that goes on from where another one led is legal from the start on: from both pasts, failures and the
-/// counters that can pass are the same.
+/// A legal history that goes on from where another one led is legal from the start on, since after both pasts the failures, and the
+/// counters that can pass, are the same.
 pub fn legal_histories_join()
     ensures { LegalHistoriesJoin }
 {}
 
-/// No two replies are due to one attempt: from the start and the history it follows whether a
-/// recorded reply is right.
+/// No two replies are due to one attempt. So the start and the history decide whether a recorded reply is right.
 pub fn only_one_reply_is_due()
     ensures { OnlyOneReplyIsDue }
 {}

@@ -32,6 +32,6 @@ pub use moment::{LAST_MOMENT, Moment};
 pub use secret::{LEAST_SECRET, MOST_SECRET, Secret};
 pub use sent::Sent;
 pub use token::{
-    HotpFields, LONGEST_STEP, MOST_COUNTER, MOST_DRIFT, MOST_LIMIT, MOST_LOOK_AHEAD, MOST_STEPS,
-    MOST_SYNC_AHEAD, Reply, Token, TokenFields, TotpFields,
+    HotpFields, LONGEST_STEP, MOST_COUNTER, MOST_DRIFT, MOST_LIMIT, MOST_LOOK_AHEAD,
+    MOST_STEPS_ASIDE, MOST_SYNC_AHEAD, Reply, Token, TokenFields, TotpFields,
 };

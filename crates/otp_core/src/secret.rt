@@ -1,6 +1,6 @@
 //! A token's secret: the key of its codes.
 ghost use Rattle.std.specs.Prelude.{◌≡◌, List, ℕ, length, MatchResult};
-ghost use Rattle.otp_core.specs.Secret.{IsSecretLength};
+ghost use Rattle.otp_core.specs.Ranges.{IsSecretLength};
 ghost use Rattle.otp_core.specs.declared.fault.OtpFault.TheVariants.{SecretLength};
 
 use crate::fault::OtpFault;

@@ -19,10 +19,10 @@ use crate::fault::OtpFault;
 use crate::moment::{LAST_MOMENT, Moment};
 use crate::sent::Sent;
 pub use answer::Reply;
-use answer::{answer, answer_pair};
+use answer::{judge_one, judge_pair};
 pub use kinds::{
-    HotpFields, LONGEST_STEP, MOST_COUNTER, MOST_DRIFT, MOST_LIMIT, MOST_LOOK_AHEAD, MOST_STEPS,
-    MOST_SYNC_AHEAD, TokenFields, TotpFields,
+    HotpFields, LONGEST_STEP, MOST_COUNTER, MOST_DRIFT, MOST_LIMIT, MOST_LOOK_AHEAD,
+    MOST_STEPS_ASIDE, MOST_SYNC_AHEAD, TokenFields, TotpFields,
 };
 use std::marker::Model;
 
@@ -120,7 +120,7 @@ impl Token {
     /// Judges two texts as codes in a row at `moment`, so that a HOTP counter that ran far ahead is found again (RFC 4226,
     /// section 7.4): `Locked` where the failures have reached the limit; else `Pass` with the counter of the second text,
     /// where the texts are the codes of two counters in a row, the first of them among `next` and the `sync_ahead` counters
-    /// after it, by the least such pair; else `Fail`. Two codes never pass a TOTP token. For every start and history that
+    /// after it, by the least such pair; else `Fail`. With a TOTP token two codes never pass. For every start and history that
     /// lead to this token, the reply is the one due after them, and with this attempt added they lead to the token as it is
     /// afterwards: both counters of a pair that passed are used.
     ///
@@ -149,8 +149,8 @@ impl Token {
     {
         prove!(moment.seconds() <= LAST_MOMENT);
         match sent {
-            Sent::One(text) => answer(&mut self.fields, moment, text),
-            Sent::Two(first, second) => answer_pair(&mut self.fields, moment, first, second),
+            Sent::One(text) => judge_one(&mut self.fields, moment, text),
+            Sent::Two(first, second) => judge_pair(&mut self.fields, moment, first, second),
         }
     }
 

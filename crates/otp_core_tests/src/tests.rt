@@ -1,6 +1,6 @@
 //! Values from outside: RFC 4226, section 5.4 and appendix D, and RFC 6238, appendix B; the codes of a
 //! few other counters are from Python's hmac.
-use mac_core::{HSha1, HSha256, HSha512, HashFn, Prepared, Tag};
+use mac_core::{HSha1, HSha256, HSha512, HashFn, PreparedKey, Tag};
 use otp_core::{
     Code, Digits, HotpFields, Moment, OtpFault, OtpHash, Reply, Secret, Sent, Setting, Token,
     TokenFields, TotpFields, hotp, hotp_with, step, truncate,
@@ -10,7 +10,8 @@ use std::test::Fail;
 
 mod pairs;
 
-// The secret of RFC 6238, appendix B; its first 20 bytes are also that of RFC 4226, appendix D.
+// The longest seed of the program in RFC 6238, appendix A. Its first 20 and 32 bytes are the other two; the codes of
+// all three are in appendix B. The 20 bytes are the secret of RFC 4226, appendix D, too.
 const SECRET: &[u8; 64] = b"1234567890123456789012345678901234567890123456789012345678901234";
 
 fn moment(rt: &impl Abort, seconds: u64) -> Moment {
@@ -28,7 +29,7 @@ fn check_code<H: HashFn>(
 ) -> Result<(), OtpFault> {
     let secret = Secret::new(key)?;
     let digits = Digits::new(count)?;
-    let prepared = Prepared::<H>::new(key);
+    let prepared = PreparedKey::<H>::new(key);
     for code in [
         hotp::<H>(&secret, counter, digits),
         hotp_with(&prepared, counter, digits),
@@ -100,7 +101,8 @@ fn truncation_of_rfc(rt: HostRuntime) {
     }
 }
 
-// The offset is in the last of 32 bytes and not in the twentieth; the top bit is dropped.
+// The offset is in the last of 32 bytes and not in the twentieth; the top bit is dropped. By hand: 7F000000 in hexadecimal
+// is 2130706432.
 #[test]
 fn truncation_of_long_tag(rt: HostRuntime) {
     let mut tag = [0; 32];
@@ -311,6 +313,22 @@ fn unlock_sets_failures_alone(rt: HostRuntime) {
     }
 }
 
+#[test]
+fn unlock_of_a_totp_token(rt: HostRuntime) {
+    let token = Token::totp(totp_fields(&rt, (30, 0, 1, 9), (Some(7), -9, 3, 2)));
+    let mut token = token.ok().expect(&rt, "a token");
+    token.unlock();
+    match token.copy().fields() {
+        TokenFields::Totp(fields) => {
+            let state = (fields.last, fields.drift, fields.limit, fields.failures);
+            assert_eq!(rt; state, (Some(7), -9, 3, 0));
+            let window = (fields.step, fields.back, fields.ahead, fields.max_drift);
+            assert_eq!(rt; window, (30, 0, 1, 9));
+        }
+        TokenFields::Hotp(_) => panic!(rt; "a token of the other kind"),
+    }
+}
+
 // Makes attempts one after the other, each a moment and a text, and compares the replies.
 fn check_attempts(
     rt: &impl Abort,
@@ -393,6 +411,42 @@ fn hotp_edges(rt: HostRuntime) {
         Token::hotp(hotp_fields(&rt, (2380, 20, 0, 3, 0))),
         &attempts,
     );
+}
+
+// The codes are those of RFC 6238, appendix B. A code of another hash function's row does not pass.
+#[test]
+fn totp_attempts_of_each_hash(rt: HostRuntime) -> Result<(), Fail> {
+    for (hash, len, other, code) in [
+        (OtpHash::Sha1, 20, "68084774", "07081804"),
+        (OtpHash::Sha256, 32, "25091201", "68084774"),
+        (OtpHash::Sha512, 64, "07081804", "25091201"),
+    ] {
+        let mut fields = totp_fields(&rt, (30, 0, 1, 1), (None, 0, 3, 0));
+        fields.hash = hash;
+        fields.secret = Secret::new(&SECRET[..len])?;
+        let attempts = [
+            (1111111109, other, Reply::Fail),
+            (1111111109, code, Reply::Pass(37037036)),
+            (1111111109, code, Reply::Fail),
+        ];
+        check_attempts(&rt, Token::totp(fields), &attempts);
+    }
+    Ok(())
+}
+
+// A step of a minute that is counted from the tenth second. The codes are those of the steps 1 and 2 in RFC 6238, appendix
+// B, and by Python's hmac.
+#[test]
+fn totp_attempts_of_other_steps(rt: HostRuntime) {
+    let mut fields = totp_fields(&rt, (60, 0, 0, 0), (None, 0, 3, 0));
+    fields.t0 = moment(&rt, 10);
+    let attempts = [
+        (69, "94287082", Reply::Fail),
+        (129, "94287082", Reply::Pass(1)),
+        (129, "94287082", Reply::Fail),
+        (130, "37359152", Reply::Pass(2)),
+    ];
+    check_attempts(&rt, Token::totp(fields), &attempts);
 }
 
 // The codes are those of RFC 6238, appendix B, and of RFC 4226, appendix D, in eight digits.

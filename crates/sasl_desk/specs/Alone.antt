@@ -8,7 +8,7 @@ use Rattle.sasl_desk.specs.Runs.{Asked, greets, hears, Call}
 
 -- two requests are the same, at whichever moments: greetings with one part of the nonce, or clients that do the same
 abbrev pub IsSameRequest : Asked → Asked → Type 0
-IsSameRequest (greets own) (greets other) = own ≡ other
+IsSameRequest (greets server_nonce) (greets other) = server_nonce ≡ other
 IsSameRequest (hears event moment) (hears other later) = event ≡ other
 IsSameRequest one other = ⊥
 

@@ -2,7 +2,7 @@
 use Rattle.std.specs.Prelude.{ℕ, ◌≡◌, ◌+◌, ◌⊎◌, true, false, Bool, List, [], ◌∷◌, ◌++◌, reverse, length, filter}
 use Rattle.book_format.specs.Book.{BookFields}
 use Rattle.book_format.specs.Trees.{IsBookText}
-use Rattle.account_book.specs.SavedBooks.{needs_save, WasSaved}
+use Rattle.account_book.specs.SavedBooks.{needs_save, HasStoredText}
 use Rattle.account_book.specs.Store.{StoreFacts}
 use Rattle.log_grammar.specs.Books.{accounts_in}
 use Rattle.log_grammar.specs.Lines.{LogLine, said, heard, replies, halt, asking, log_bytes}
@@ -12,7 +12,7 @@ use Rattle.log_grammar.specs.Demands.{Accounts, demands}
 use Rattle.log_grammar.specs.Begins.{Begins}
 use Rattle.sasl_desk.specs.Events.{ClientEvent}
 use Rattle.sasl_desk.specs.Keeper.{IsAttemptJudged}
-use Rattle.sasl_desk.specs.Runs.{Asked, hears, Call, call_of, run_lines, own_part, wire_bytes, IsRun}
+use Rattle.sasl_desk.specs.Runs.{Asked, hears, Call, call_of, run_lines, server_nonce_of, wire_bytes, IsRun}
 use Rattle.sasl_desk.specs.Sessions.{IsSessionAt, CanBeWritten}
 use Rattle.sasl_desk.specs.Spent.{AreSpent, spent_by}
 use Rattle.sasl_desk.specs.declared.session.Session.{Session}
@@ -20,7 +20,7 @@ use Rattle.sasl_desk.specs.declared.session.Session.TheVariants.{WaitAuth, WaitF
 use Rattle.sasl_desk.specs.declared.keeper.Keeper.{Keeper}
 use Rattle.sasl_desk.specs.declared.turn.AfterTurn.{AfterTurn}
 use Rattle.sasl_desk.specs.declared.turn.AfterTurn.TheVariants.{Going, Over}
-use Rattle.sasl_desk.specs.declared.turn.AfterTurn.TheVariants as left
+use Rattle.sasl_desk.specs.declared.turn.AfterTurn.TheVariants as after
 use Rattle.sasl_desk.specs.declared.desk.Desk.{Desk}
 use Rattle.sasl_desk.specs.declared.desk.state.State.{State}
 use Rattle.sasl_desk.specs.declared.desk.state.State.TheVariants.{Closed, Open, Halted}
@@ -37,14 +37,14 @@ session_phase (WaitCode name) = phase.WaitCode
 -- the phase of a desk
 abbrev pub phase_of : State → Phase
 phase_of Closed = phase.Closed
-phase_of (Open going own) = session_phase going
+phase_of (Open going server_nonce) = session_phase going
 phase_of Halted = phase.Halted
 
 -- the state of a desk whose log stands at this place. A desk that has halted may stand at any.
-abbrev pub IsStateAt : Accounts → (own : List ℕ) → Place → State → Type 0
-IsStateAt accounts own at Closed = at ≡ between
-IsStateAt accounts own at (Open going kept) = IsSessionAt accounts at going × (kept ≡ own)
-IsStateAt accounts own at Halted = Unit {0}
+abbrev pub IsStateAt : Accounts → (server_nonce : List ℕ) → Place → State → Type 0
+IsStateAt accounts server_nonce place Closed = place ≡ between
+IsStateAt accounts server_nonce place (Open going kept) = IsSessionAt accounts place going × (kept ≡ server_nonce)
+IsStateAt accounts server_nonce place Halted = Unit {0}
 
 -- the store has not failed, and holds the text of the book, of which this holds
 pub record HoldsBook (IsStored : List ℕ → Type 0) (book : BookFields) (store : StoreFacts) : Type 0 where
@@ -52,7 +52,7 @@ pub record HoldsBook (IsStored : List ℕ → Type 0) (book : BookFields) (store
   pub saved : IsBookText store.saved book
   pub stored : IsStored store.saved
 
--- the attempt of a call: of the account whose client waits for a code at this place, at the moment that was handed in, with
+-- the attempt of a call: of the account whose client may send a code at this place, at the moment that was handed in, with
 -- what the client sent
 pub record IsAttemptOf (asked : Asked) (at : Place) (lines : List LogLine) (t : LoggedReply) : Type 0 where
   pub event : ClientEvent
@@ -65,7 +65,7 @@ pub record IsAttemptOf (asked : Asked) (at : Place) (lines : List LogLine) (t : 
 -- the latest call judged this attempt
 abbrev pub IsLatestAttempt : Accounts → List Call → LoggedReply → Type 0
 IsLatestAttempt accounts [] t = ⊥
-IsLatestAttempt accounts (c ∷ before) t = (at : Place) × IsRun accounts before at × IsAttemptOf c.asked at c.lines t
+IsLatestAttempt accounts (c ∷ before) t = (place : Place) × IsRun accounts before place × IsAttemptOf c.asked place c.lines t
 
 -- the store has failed as it saved the book with the attempt of the latest call: it holds the text of the book from before
 -- it, which was saved, or that of the book with it
@@ -77,23 +77,23 @@ pub record IsLostAfter (IsStored : List ℕ → Type 0) (accounts : Accounts) (c
   pub is_latest : IsLatestAttempt accounts calls t
   pub is_told : IsAttemptJudged book t next
   pub saved : (IsBookText store.saved book × IsStored store.saved) ⊎ IsBookText store.saved next
-  pub before : WasSaved IsStored book
+  pub before : HasStoredText IsStored book
 
 -- what the store holds where the log stands at this place: after `S HALT` the last save has failed; at every other place the
 -- store holds the book
 abbrev pub IsStoredAt : (IsStored : List ℕ → Type 0) → Accounts → List Call → Place → BookFields → StoreFacts → Type 0
 IsStoredAt IsStored accounts calls halted book store = IsLostAfter IsStored accounts calls book store
-IsStoredAt IsStored accounts calls at book store = HoldsBook IsStored book store
+IsStoredAt IsStored accounts calls place book store = HoldsBook IsStored book store
 
 -- the book after what was told, the latest first: each attempt was judged by the book before it
-abbrev pub IsBookWith : BookFields → List LoggedReply → BookFields → Type 0
+abbrev pub IsBookWith : (start : BookFields) → (told : List LoggedReply) → (book : BookFields) → Type 0
 IsBookWith start [] book = book ≡ start
 IsBookWith start (t ∷ before) book = (old : BookFields) × IsBookWith start before old × IsAttemptJudged old t book
 
 -- the counters that replies use, with their accounts, the latest first
-abbrev pub all_spent : List LoggedReply → List (List ℕ × ℕ)
-all_spent [] = []
-all_spent (t ∷ before) = spent_by t ++ all_spent before
+abbrev pub spent_by_all : List LoggedReply → List (List ℕ × ℕ)
+spent_by_all [] = []
+spent_by_all (t ∷ before) = spent_by t ++ spent_by_all before
 
 -- a desk that began with a book has answered these calls, the latest of which comes first
 pub record IsDeskAfter {S : Type 0} (facts : S → StoreFacts) (IsStored : List ℕ → Type 0) (start : BookFields) (calls : List Call)
@@ -107,12 +107,12 @@ pub record IsDeskAfter {S : Type 0} (facts : S → StoreFacts) (IsStored : List 
   pub begins : Begins (demands (accounts_in start)) (run_lines calls) place told
   pub writable : CanBeWritten (run_lines calls)
   -- the session waits for what is due there, or the desk has halted
-  pub is_state : IsStateAt (accounts_in start) (own_part calls) place desk.state
+  pub is_state : IsStateAt (accounts_in start) (server_nonce_of calls) place desk.state
   -- the book has each attempt in it, and the store holds its text, except after a save in which the store failed
   pub is_book : IsBookWith start (reverse told) desk.keeper.book
   pub is_stored : IsStoredAt IsStored (accounts_in start) calls place desk.keeper.book (facts desk.keeper.store)
   -- what was spent before is spent, and each counter that a reply used
-  pub spent : (ps : List (List ℕ × ℕ)) → AreSpent ps start → AreSpent (all_spent (reverse told) ++ ps) desk.keeper.book
+  pub spent : (ps : List (List ℕ × ℕ)) → AreSpent ps start → AreSpent (spent_by_all (reverse told) ++ ps) desk.keeper.book
 
 -- the desk of this keeper, in this state
 abbrev pub desk_of : {S : Type 0} → Keeper S → State → Desk S
@@ -125,12 +125,12 @@ pub record IsSameDesk {S : Type 0} (old new : Desk S) : Type 0 where
   pub state : new.state ≡ old.state
 
 -- the state of a desk whose session was left so
-abbrev pub state_after : AfterTurn → (own : List ℕ) → State
-state_after (Going going) own = Open going own
-state_after Over own = Closed
-state_after (left.Halted going) own = Halted
+abbrev pub state_after : AfterTurn → (server_nonce : List ℕ) → State
+state_after (Going going) server_nonce = Open going server_nonce
+state_after Over server_nonce = Closed
+state_after (after.Halted going) server_nonce = Halted
 
--- a line that stands for a save: a reply that needs one, and HALT
+-- a line for which the store was asked to save: a reply that needs it, or HALT
 abbrev pub is_saving : LogLine → Bool
 is_saving (said (replies moment reply)) = needs_save reply
 is_saving (said halt) = true
@@ -144,13 +144,14 @@ pub record Answers {S : Type 0} (facts : S → StoreFacts) (IsStored : List ℕ 
   pub sent : wire' ≡ wire ++ wire_bytes lines
   pub stands : (start : BookFields) (calls : List Call) → IsDeskAfter facts IsStored start calls old
       → IsDeskAfter facts IsStored start (call_of asked lines ∷ calls) new
+  -- the store was asked for one save for each such line: a reply that needs one, or HALT
   pub saves : (start : BookFields) (calls : List Call) → IsDeskAfter facts IsStored start calls old
       → (facts new.keeper.store).saves ≡ (facts old.keeper.store).saves + length (filter is_saving lines)
-  -- what the store was given to save is the text of the book with the attempt of this call
+  -- where the store was asked to save, it was given the text of the book with the attempt of this call
   pub asks : (start : BookFields) (calls : List Call) (s : IsDeskAfter facts IsStored start calls old) → (filter is_saving lines ≡ [] → ⊥)
       → (t : LoggedReply) × (next : BookFields) × IsAttemptOf asked s.place lines t × IsAttemptJudged old.keeper.book t next
       × IsBookText (facts new.keeper.store).asked next
-  -- a call without such a line leaves the book and the store as they are
+  -- a call without a reply that needs a save, and without HALT, leaves the book and the store as they are
   pub quiet : filter is_saving lines ≡ [] → (new.keeper.book ≡ old.keeper.book) × (facts new.keeper.store ≡ facts old.keeper.store)
   -- a call halts the desk only by a save in which the store failed, and the book is then as before
   pub halts : phase_of new.state ≡ phase.Halted → ((facts new.keeper.store).failed ≡ true) × (new.keeper.book ≡ old.keeper.book)

@@ -1,7 +1,7 @@
 -- What a client does, as its bytes.
 use Rattle.std.specs.Prelude.{ℕ, List}
-use Rattle.sasl_desk.specs.declared.session.turn.Event.{Event}
-use Rattle.sasl_desk.specs.declared.session.turn.Event.TheVariants.{Line, Gone}
+use Rattle.sasl_desk.specs.declared.session.event.Event.{Event}
+use Rattle.sasl_desk.specs.declared.session.event.Event.TheVariants.{Line, Gone}
 
 -- a client sends a line, whose bytes these are, or goes away
 pub data ClientEvent : Type 0 where

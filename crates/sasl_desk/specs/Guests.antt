@@ -8,5 +8,5 @@ abbrev pub is_of : ℕ → Guest → Bool
 is_of n guest = guest.number == n
 
 -- a guest of these parts
-abbrev pub guest_of : (number : ℕ) → Session → (own : List ℕ) → Guest
-guest_of number going own = record { number = number; session = going; own = own }
+abbrev pub guest_of : (number : ℕ) → Session → (server_nonce : List ℕ) → Guest
+guest_of number going server_nonce = record { number = number; session = going; server_nonce = server_nonce }

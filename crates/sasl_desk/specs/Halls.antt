@@ -17,10 +17,10 @@ use Rattle.log_grammar.specs.Demands.{Accounts, demands}
 use Rattle.log_grammar.specs.Numbered.{Numbered, numbered, of_number, begun, closed_in, SpellsNumbered}
 use Rattle.log_grammar.specs.Versions.{most_open}
 use Rattle.log_grammar.specs.NumberedLines.{numbered_text, IsNumberedWritable, last_session_number}
-use Rattle.sasl_desk.specs.Desks.{session_phase, IsStoredAt, HoldsBook, IsBookWith, IsAttemptOf, all_spent, is_saving}
+use Rattle.sasl_desk.specs.Desks.{session_phase, IsStoredAt, HoldsBook, IsBookWith, IsAttemptOf, spent_by_all, is_saving}
 use Rattle.sasl_desk.specs.Guests.{is_of}
 use Rattle.sasl_desk.specs.Keeper.{IsAttemptJudged}
-use Rattle.sasl_desk.specs.Runs.{Asked, greets, Call, call_of, own_part, wire_bytes, IsRun}
+use Rattle.sasl_desk.specs.Runs.{Asked, greets, Call, call_of, server_nonce_of, wire_bytes, IsRun}
 use Rattle.sasl_desk.specs.Sessions.{IsSessionAt}
 use Rattle.sasl_desk.specs.Spent.{AreSpent}
 use Rattle.sasl_desk.specs.declared.keeper.Keeper.{Keeper}
@@ -65,13 +65,13 @@ busy_lines = said busy ∷ ended ∷ []
 -- the calls of one session, the latest first, each with the lines by which it is answered, as at a desk; or its one greeting,
 -- where it was turned away. The session then stands at this place.
 abbrev pub IsSessionRun : Accounts → List Call → Place → Type 0
-IsSessionRun accounts calls at =
-    IsRun accounts calls at ⊎ ((own : List ℕ) × (calls ≡ call_of (greets own) busy_lines ∷ []) × (at ≡ between))
+IsSessionRun accounts calls place =
+    IsRun accounts calls place ⊎ ((server_nonce : List ℕ) × (calls ≡ call_of (greets server_nonce) busy_lines ∷ []) × (place ≡ between))
 
 -- a guest's session stands at the place of its number, with the server's part of the nonce with which it was greeted
 abbrev pub IsSeated : Accounts → List (Numbered Call) → (ℕ → Place) → Guest → Type 0
 IsSeated accounts calls places guest =
-    IsSessionAt accounts (places guest.number) guest.session × (guest.own ≡ own_part (of_number guest.number calls))
+    IsSessionAt accounts (places guest.number) guest.session × (guest.server_nonce ≡ server_nonce_of (of_number guest.number calls))
 
 -- what the store holds after these calls: where the latest was answered by `S HALT`, its save has failed; else the book
 abbrev pub IsStoredAfter : (IsStored : List ℕ → Type 0) → Accounts → List (Numbered Call) → (ℕ → Place) → BookFields → StoreFacts → Type 0
@@ -104,19 +104,19 @@ pub record IsHallAfter {S : Type 0} (facts : S → StoreFacts) (IsStored : List 
   pub is_book : IsBookWith start (reverse told) hall.keeper.book
   pub is_stored : IsStoredAfter IsStored (accounts_in start) calls places hall.keeper.book (facts hall.keeper.store)
   -- what was spent before is spent, and each counter that a reply used
-  pub spent : (ps : List (List ℕ × ℕ)) → AreSpent ps start → AreSpent (all_spent (reverse told) ++ ps) hall.keeper.book
+  pub spent : (ps : List (List ℕ × ℕ)) → AreSpent ps start → AreSpent (spent_by_all (reverse told) ++ ps) hall.keeper.book
 
 -- the phase is that of this place: what the client may do there, and where no session is open, Closed. Of Halted nothing is said, since
 -- a halt may come at any place.
 abbrev pub IsPhaseOf : Place → Phase → Type 0
-IsPhaseOf at phase.Closed = at ≡ between
-IsPhaseOf at phase.WaitAuth = at ≡ offered
-IsPhaseOf at phase.WaitFirst = (mechanism : List ℕ) × (at ≡ waits_first mechanism)
-IsPhaseOf at phase.WaitFinal =
-    (mechanism : List ℕ) × (account : List ℕ) × (first : List ℕ) × (challenge : List ℕ)
-    × (at ≡ waits_final mechanism account first challenge)
-IsPhaseOf at phase.WaitCode = (account : List ℕ) × (at ≡ waits_code account)
-IsPhaseOf at phase.Halted = Unit {0}
+IsPhaseOf place phase.Closed = place ≡ between
+IsPhaseOf place phase.WaitAuth = place ≡ offered
+IsPhaseOf place phase.WaitFirst = (mechanism : List ℕ) × (place ≡ waits_first mechanism)
+IsPhaseOf place phase.WaitFinal =
+    (mechanism : List ℕ) × (account : List ℕ) × (client_first : List ℕ) × (server_first : List ℕ)
+    × (place ≡ waits_final mechanism account client_first server_first)
+IsPhaseOf place phase.WaitCode = (account : List ℕ) × (place ≡ waits_code account)
+IsPhaseOf place phase.Halted = Unit {0}
 
 -- the phase of a guest's session: after a halt it is Halted
 abbrev pub guest_phase : (is_halted : Bool) → Option Guest → Option Phase
@@ -128,7 +128,8 @@ guest_phase false (Some guest) = Some (session_phase guest.session)
 abbrev pub phase_in : {S : Type 0} → HallFields S → ℕ → Option Phase
 phase_in hall n = guest_phase hall.is_halted (find (is_of n) hall.guests)
 
--- two halls have the same book, store and open sessions, in whichever order, and have given the same numbers
+-- two halls have the same book, store and open sessions, in whichever order, have given the same numbers, and have both halted
+-- or neither
 pub record IsSameHall {S : Type 0} (old new : HallFields S) : Type 0 where
   pub book : new.keeper.book ≡ old.keeper.book
   pub store : new.keeper.store ≡ old.keeper.store
@@ -142,24 +143,25 @@ pub record AnswersIn {S : Type 0} (facts : S → StoreFacts) (IsStored : List �
   pub lines : List LogLine
   pub logged : log' ≡ log ++ numbered_bytes (map (numbered n) lines)
   pub sent : wire' ≡ wire ++ wire_bytes lines
-  -- and the phase that is answered is that of the place where the session then stands
+  -- the hall has answered one call more, and the phase that is answered is that of the place where the session then stands
   pub stands : (start : BookFields) (calls : List (Numbered Call)) → IsHallAfter facts IsStored start calls old
       → (after : IsHallAfter facts IsStored start (numbered n (call_of asked lines) ∷ calls) new) × IsPhaseOf (after.places n) phase_after
-  -- which is Halted exactly where the hall has halted
+  -- the phase that is answered is Halted exactly where the hall has halted
   pub tells : (phase_after ≡ phase.Halted) ↔ (new.is_halted ≡ true)
+  -- the store was asked for one save for each such line: a reply that needs one, or HALT
   pub saves : (start : BookFields) (calls : List (Numbered Call)) → IsHallAfter facts IsStored start calls old
       → (facts new.keeper.store).saves ≡ (facts old.keeper.store).saves + length (filter is_saving lines)
-  -- what the store was given to save is the text of the book with the attempt of this call
+  -- where the store was asked to save, it was given the text of the book with the attempt of this call
   pub asks : (start : BookFields) (calls : List (Numbered Call)) (s : IsHallAfter facts IsStored start calls old)
       → (filter is_saving lines ≡ [] → ⊥)
       → (t : LoggedReply) × (next : BookFields) × IsAttemptOf asked (s.places n) lines t × IsAttemptJudged old.keeper.book t next
       × IsBookText (facts new.keeper.store).asked next
-  -- a call without such a line leaves the book and the store as they are
+  -- a call without a reply that needs a save, and without HALT, leaves the book and the store as they are
   pub quiet : filter is_saving lines ≡ [] → (new.keeper.book ≡ old.keeper.book) × (facts new.keeper.store ≡ facts old.keeper.store)
   -- a call halts the hall only by a save in which the store failed, and the book is then as before
   pub halts : new.is_halted ≡ true → ((facts new.keeper.store).failed ≡ true) × (new.keeper.book ≡ old.keeper.book)
 
 -- the phase of the session of a number is that of its place, and there is none exactly where no session is open
 abbrev pub IsPhaseIn : Place → Option Phase → Type 0
-IsPhaseIn at None = at ≡ between
-IsPhaseIn at (Some phase) = (at ≢ between) × IsPhaseOf at phase
+IsPhaseIn place None = place ≡ between
+IsPhaseIn place (Some phase) = (place ≢ between) × IsPhaseOf place phase

@@ -1,9 +1,9 @@
 -- What is read of a client in a turn.
 use Rattle.std.specs.Prelude.{ℕ, ◌≡◌, List, [], ◌∷◌}
 use Rattle.sasl_log.specs.Source.{SourceFacts}
-use Rattle.sasl_log.specs.ReadsText.{ReadsText}
-use Rattle.sasl_log.specs.declared.text.LineEnd.{LineEnd}
-use Rattle.sasl_log.specs.declared.text.LineEnd.TheVariants.{ByLf, ByTheEnd, TooLong, ByFault}
+use Rattle.sasl_log.specs.ReadsLineBytes.{ReadsLineBytes}
+use Rattle.sasl_log.specs.declared.line_bytes.LineEnd.{LineEnd}
+use Rattle.sasl_log.specs.declared.line_bytes.LineEnd.TheVariants.{ByLf, ByTheEnd, TooLong, ByFault}
 use Rattle.log_grammar.specs.Lines.{longest_line}
 use Rattle.sasl_desk.specs.Events.{ClientEvent, sends, goes_away}
 
@@ -20,7 +20,7 @@ line_read text ended = record { text = text; ended = ended }
 -- this was read of a source, and nothing after it: a line that is not too long, and its LF; one byte more than a line may have,
 -- without an LF; or no more bytes than a line may have, without an LF, after which the input ended or a read failed
 pub record ReadsLine (old : SourceFacts) (read : LineRead) (new : SourceFacts) : Type 0 where
-  pub text_read : ReadsText longest_line old read.text read.ended new
+  pub text_read : ReadsLineBytes longest_line old read.text read.ended new
 
 -- what a client did whose bytes end so: it sent them, also where they are too many, or it has gone away
 abbrev pub event_by : List ℕ → LineEnd → ClientEvent

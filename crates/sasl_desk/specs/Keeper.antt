@@ -8,7 +8,7 @@ use Rattle.book_format.specs.Book.{BookFields}
 use Rattle.book_format.specs.Trees.{IsBookText}
 use Rattle.account_book.specs.SavedBooks.{needs_save, SavesBook}
 use Rattle.account_book.specs.Store.{StoreFacts, IsFailedSave}
-use Rattle.account_book.specs.Tokens.{IsAnswered}
+use Rattle.account_book.specs.Tokens.{IsBookAttempt}
 use Rattle.log_grammar.specs.Lines.{IsReplyInRange}
 use Rattle.log_grammar.specs.LoggedReply.{LoggedReply, logged_reply_of}
 use Rattle.sasl_desk.specs.declared.fault.DeskFault.{DeskFault}
@@ -20,36 +20,38 @@ use Rattle.sasl_desk.specs.declared.keeper.CodeJudged.TheVariants.{Replied, Lost
 -- by it, and nothing else
 pub record IsAttemptJudged (old : BookFields) (t : LoggedReply) (new : BookFields) : Type 0 where
   pub is_moment : IsMoment t.moment
-  pub answered : IsAnswered old t.account t.moment t.sent t.reply new
+  pub answered : IsBookAttempt old t.account t.moment t.sent t.reply new
 
 -- the store fails in a save of the text of this book, or had failed before
-pub record LosesText (was : StoreFacts) (book : BookFields) (now : StoreFacts) : Type 0 where
+pub record FailsToSave (old_store : StoreFacts) (book : BookFields) (new_store : StoreFacts) : Type 0 where
   pub text : List ℕ
   pub is_text : IsBookText text book
-  pub lost : ((was.failed ≡ true) × (now ≡ was)) ⊎ IsFailedSave was text now
+  pub lost : ((old_store.failed ≡ true) × (new_store ≡ old_store)) ⊎ IsFailedSave old_store text new_store
 
 -- why a keeper has not begun: memory ran out, and the store was not asked; or its save failed
-abbrev pub IsNotBegun : (was : StoreFacts) → BookFields → DeskFault → (now : StoreFacts) → Type 0
-IsNotBegun was book NoMemory now = now ≡ was
-IsNotBegun was book Halted now = LosesText was book now
-IsNotBegun was book Unwritable now = ⊥
-IsNotBegun was book NoNumber now = ⊥
+abbrev pub IsNotBegun : (old_store : StoreFacts) → BookFields → DeskFault → (new_store : StoreFacts) → Type 0
+IsNotBegun old_store book NoMemory new_store = new_store ≡ old_store
+IsNotBegun old_store book Halted new_store = FailsToSave old_store book new_store
+IsNotBegun old_store book Unwritable new_store = ⊥
+IsNotBegun old_store book NoNumber new_store = ⊥
 
 -- a book that has changed is saved; where nothing has, nothing is asked of the store
-abbrev pub IsKept : (IsStored : List ℕ → Type 0) → (has_changed : Bool) → BookFields → StoreFacts → BookFields → StoreFacts → Type 0
-IsKept IsStored true old was new now = SavesBook IsStored was new now
-IsKept IsStored false old was new now = (new ≡ old) × (now ≡ was)
+abbrev pub IsKept : (IsStored : List ℕ → Type 0) → (has_changed : Bool) → (old_book : BookFields) → (old_store : StoreFacts)
+    → (new_book : BookFields) → (new_store : StoreFacts) → Type 0
+IsKept IsStored true old_book old_store new_book new_store = SavesBook IsStored old_store new_book new_store
+IsKept IsStored false old_book old_store new_book new_store = (new_book ≡ old_book) × (new_store ≡ old_store)
 
 -- what came of a code: a reply that is due and kept; or the store failed in saving the book with the reply that was due
-abbrev pub IsJudged : (IsStored : List ℕ → Type 0) → (old : BookFields) → (was : StoreFacts) → (name : List ℕ) → (moment : ℕ) → CodeTexts
-    → CodeJudged → (new : BookFields) → (now : StoreFacts) → Type 0
-IsJudged IsStored old was name moment sent (Replied reply) new now =
-    IsAttemptJudged old (logged_reply_of name moment sent reply) new × IsKept IsStored (needs_save reply) old was new now
-IsJudged IsStored old was name moment sent Lost new now =
-    (new ≡ old)
+abbrev pub IsJudged : (IsStored : List ℕ → Type 0) → (old_book : BookFields) → (old_store : StoreFacts) → (name : List ℕ)
+    → (moment : ℕ) → CodeTexts → CodeJudged → (new_book : BookFields) → (new_store : StoreFacts) → Type 0
+IsJudged IsStored old_book old_store name moment sent (Replied reply) new_book new_store =
+    IsAttemptJudged old_book (logged_reply_of name moment sent reply) new_book
+    × IsKept IsStored (needs_save reply) old_book old_store new_book new_store
+IsJudged IsStored old_book old_store name moment sent Lost new_book new_store =
+    (new_book ≡ old_book)
     × ((reply : Option Reply) × (next : BookFields) × (needs_save reply ≡ true)
-    × IsAttemptJudged old (logged_reply_of name moment sent reply) next
-    × LosesText was next now)
+    × IsAttemptJudged old_book (logged_reply_of name moment sent reply) next
+    × FailsToSave old_store next new_store)
 
 -- the reply that is due needs a save
 abbrev pub IsToBeSaved : BookFields → (name : List ℕ) → (moment : ℕ) → CodeTexts → Type 0

@@ -2,7 +2,7 @@
 -- hall, and what holds over all runs.
 pub mod Events
 pub mod Turns
-pub mod Waiting
+pub mod ChallengedLogin
 pub mod Sessions
 pub mod Bounds
 pub mod Prefix

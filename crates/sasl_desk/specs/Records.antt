@@ -16,22 +16,22 @@ is_record bad = true
 is_record gone = true
 is_record line = false
 
--- the server's parts of nonces, with the one for which a client was greeted
+-- the server's parts of nonces, with that of a greeting put before them
 abbrev pub nonces_with : Asked → List (List ℕ) → List (List ℕ)
-nonces_with (greets own) before = own ∷ before
+nonces_with (greets server_nonce) before = server_nonce ∷ before
 nonces_with (hears event moment) before = before
 
--- the server's parts of the nonces for which clients were greeted, the latest first
+-- the server's parts of the nonces with which clients were greeted, the latest first
 abbrev pub nonces_in : List Call → List (List ℕ)
 nonces_in [] = []
 nonces_in (c ∷ before) = nonces_with c.asked (nonces_in before)
 
 -- the records after a request: a greeting adds none; what a client did adds its record, at the place where the log stood
 abbrev pub HasRecordOf : Accounts → Asked → (before : List Call) → (Earlier : List LogLine → Type 0) → List LogLine → Type 0
-HasRecordOf accounts (greets own) before Earlier records = Earlier records
+HasRecordOf accounts (greets server_nonce) before Earlier records = Earlier records
 HasRecordOf accounts (hears event moment) before Earlier records =
-    (at : Place) × (earlier : List LogLine) × (kept : LogLine)
-    × IsRun accounts before at × IsRecord event at kept × Earlier earlier × (records ≡ earlier ++ kept ∷ [])
+    (place : Place) × (earlier : List LogLine) × (kept : LogLine)
+    × IsRun accounts before place × IsRecord event place kept × Earlier earlier × (records ≡ earlier ++ kept ∷ [])
 
 -- the lines are the records of what clients did in these calls, in its order: the latest call, which comes first, has the
 -- last record
@@ -48,4 +48,4 @@ pub record HasItsRecords (accounts : Accounts) (calls : List Call) : Type 0 wher
 -- the records of a session of a hall: as at a desk; or it was turned away, when it was greeted, and nothing more was asked of it
 abbrev pub HasSessionRecords : Accounts → List Call → Type 0
 HasSessionRecords accounts calls =
-    HasItsRecords accounts calls ⊎ ((own : List ℕ) × (calls ≡ call_of (greets own) busy_lines ∷ []))
+    HasItsRecords accounts calls ⊎ ((server_nonce : List ℕ) × (calls ≡ call_of (greets server_nonce) busy_lines ∷ []))

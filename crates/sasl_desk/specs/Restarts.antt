@@ -9,7 +9,7 @@ use Rattle.log_grammar.specs.LoggedReply.{LoggedReply}
 use Rattle.log_grammar.specs.Numbered.{Numbered}
 use Rattle.sasl_desk.specs.Keeper.{IsAttemptJudged}
 use Rattle.sasl_desk.specs.Runs.{Call}
-use Rattle.sasl_desk.specs.Desks.{IsDeskAfter, all_spent}
+use Rattle.sasl_desk.specs.Desks.{IsDeskAfter, spent_by_all}
 use Rattle.sasl_desk.specs.Halls.{HallFields, IsHallAfter}
 use Rattle.sasl_desk.specs.Spent.{spent_by}
 use Rattle.sasl_desk.specs.declared.desk.Desk.{Desk}
@@ -21,9 +21,9 @@ pub record DeskRun : Type 0 where
   pub told : List LoggedReply
   pub left : BookFields
 
--- a desk that began with the book has answered the calls, and its log tells this. Where it stops, between two calls or in
--- the midst of one, the store holds the text of a book that it left: its own, or, as a save was under way or failed, that
--- with one more attempt. A stop within `begin` leaves the text from before, or that of the same book, and is no run.
+-- a desk that began with the book has answered the calls, and its log tells this. `left` is the book whose text the store holds
+-- when the desk has stopped, between two calls or within one: the desk's own or, where a save was under way or had failed, perhaps
+-- that with one more attempt. A stop within `begin` leaves the text from before, or that of the same book, and is no run.
 pub record IsDeskRunOf {S : Type 0} (facts : S → StoreFacts) (IsStored : List ℕ → Type 0) (r : DeskRun) : Type 0 where
   pub desk : Desk S
   pub stands : IsDeskAfter facts IsStored r.start r.calls desk
@@ -76,20 +76,21 @@ IsChange facts IsStored (unlocked name) old new = IsUnlocked old name new
 IsChange facts IsStored (added name account) old new = IsAdded old name account new
 
 -- changes, the latest first, each of the book that the one before left, from the first book to the last
-abbrev pub AreChanges : {S : Type 0} → (S → StoreFacts) → (IsStored : List ℕ → Type 0) → BookFields → List Change → BookFields → Type 0
+abbrev pub AreChanges : {S : Type 0} → (S → StoreFacts) → (IsStored : List ℕ → Type 0) → (first : BookFields) → List Change
+    → (last : BookFields) → Type 0
 AreChanges facts IsStored first [] last = last ≡ first
 AreChanges facts IsStored first (c ∷ before) last =
     (middle : BookFields) × AreChanges facts IsStored first before middle × IsChange facts IsStored c middle last
 
 -- the counters that the replies of a change use, with their accounts
 abbrev pub spent_by_change : Change → List (List ℕ × ℕ)
-spent_by_change (desk_ran r) = all_spent (reverse r.told)
-spent_by_change (hall_ran r) = all_spent (reverse r.told)
+spent_by_change (desk_ran r) = spent_by_all (reverse r.told)
+spent_by_change (hall_ran r) = spent_by_all (reverse r.told)
 spent_by_change (judged t) = spent_by t
 spent_by_change (unlocked name) = []
 spent_by_change (added name account) = []
 
 -- the counters that the replies of all changes use, with their accounts
-abbrev pub spent_in : List Change → List (List ℕ × ℕ)
-spent_in [] = []
-spent_in (c ∷ before) = spent_by_change c ++ spent_in before
+abbrev pub spent_by_changes : List Change → List (List ℕ × ℕ)
+spent_by_changes [] = []
+spent_by_changes (c ∷ before) = spent_by_change c ++ spent_by_changes before

@@ -1,7 +1,7 @@
--- What was saved of a log's replies: the book in which each of them is judged.
+-- What was saved of a log's replies: the text of the book to which they lead.
 use Rattle.std.specs.Prelude.{ℕ, ◌≡◌, List, reverse}
 use Rattle.book_format.specs.Book.{BookFields}
-use Rattle.account_book.specs.SavedBooks.{WasSaved}
+use Rattle.account_book.specs.SavedBooks.{HasStoredText}
 use Rattle.log_grammar.specs.Books.{accounts_in}
 use Rattle.log_grammar.specs.Begins.{Begins}
 use Rattle.log_grammar.specs.Demands.{demands}
@@ -16,7 +16,7 @@ use Rattle.sasl_desk.specs.Desks.{IsBookWith}
 pub record IsToldSaved (IsStored : List ℕ → Type 0) (start : BookFields) (told : List LoggedReply) : Type 0 where
   pub last : BookFields
   pub is_last : IsBookWith start (reverse told) last
-  pub saved : WasSaved IsStored last
+  pub saved : HasStoredText IsStored last
 
 -- the store has saved the text of the book to which the replies in a log of version 1 lead
 pub record IsLogSaved (IsStored : List ℕ → Type 0) (start : BookFields) (log : List ℕ) : Type 0 where

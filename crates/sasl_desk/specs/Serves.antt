@@ -34,9 +34,9 @@ pub record AnswersAll {S : Type 0} (facts : S → StoreFacts) (IsStored : List �
   pub saves : (start : BookFields) (before : List Call) → IsDeskAfter facts IsStored start before old
       → (facts new.keeper.store).saves ≡ (facts old.keeper.store).saves + length (filter is_saving (call_lines calls))
 
--- the desk has not halted, but for a store that has failed
-abbrev pub HaltsByStore : {S : Type 0} → (S → StoreFacts) → Desk S → Type 0
-HaltsByStore facts desk = phase_of desk.state ≡ phase.Halted → (facts desk.keeper.store).failed ≡ true
+-- where the desk has halted, its store has failed
+abbrev pub HaltsOnlyByStore : {S : Type 0} → (S → StoreFacts) → Desk S → Type 0
+HaltsOnlyByStore facts desk = phase_of desk.state ≡ phase.Halted → (facts desk.keeper.store).failed ≡ true
 
 -- the desk answered what it was asked, and its lines were written
 pub record IsDone {S : Type 0} (facts : S → StoreFacts) (IsStored : List ℕ → Type 0) (asked : Asked) (old new : Desk S)
@@ -44,7 +44,7 @@ pub record IsDone {S : Type 0} (facts : S → StoreFacts) (IsStored : List ℕ �
   pub lines : List LogLine
   pub answers : AnswersAll facts IsStored old (call_of asked lines ∷ []) new
   pub written : AreWritten lines wire wire' log log'
-  pub halts : HaltsByStore facts new
+  pub halts : HaltsOnlyByStore facts new
 
 -- the desk answered what it was asked, and its lines were logged, but the wire to the client has failed
 pub record IsUnsent {S : Type 0} (facts : S → StoreFacts) (IsStored : List ℕ → Type 0) (asked : Asked) (old new : Desk S)
@@ -53,7 +53,7 @@ pub record IsUnsent {S : Type 0} (facts : S → StoreFacts) (IsStored : List ℕ
   pub answers : AnswersAll facts IsStored old (call_of asked lines ∷ []) new
   pub logged : Appends log.given log'.given (log_bytes lines)
   pub failed : wire'.failed ≡ true
-  pub halts : HaltsByStore facts new
+  pub halts : HaltsOnlyByStore facts new
 
 -- the desk answered what it was asked, but the log has failed: the desk has halted then, and nothing was sent
 pub record IsUnlogged {S : Type 0} (facts : S → StoreFacts) (IsStored : List ℕ → Type 0) (asked : Asked) (old new : Desk S)
@@ -116,85 +116,87 @@ reads_in [] = []
 reads_in (e ∷ before) = e.read ∷ reads_in before
 
 -- the calls of a session: its greeting, with this server's part of the nonce, and its turns, the latest of which comes first
-abbrev pub session_calls : (own : List ℕ) → (greeting : List LogLine) → List ServedTurn → List Call
-session_calls own greeting [] = call_of (greets own) greeting ∷ []
-session_calls own greeting (e ∷ before) = call_in e ∷ session_calls own greeting before
+abbrev pub session_calls : (server_nonce : List ℕ) → (greeting : List LogLine) → List ServedTurn → List Call
+session_calls server_nonce greeting [] = call_of (greets server_nonce) greeting ∷ []
+session_calls server_nonce greeting (e ∷ before) = call_in e ∷ session_calls server_nonce greeting before
 
 -- a session as far as these turns: its client was greeted, what it sent was read and answered, turn by turn, at a moment of the
 -- clock, and all lines were written
-pub record IsServedUpTo {S : Type 0} (facts : S → StoreFacts) (IsStored : List ℕ → Type 0) (IsNow : ℕ → Type 0) (own : List ℕ)
+pub record IsServedUpTo {S : Type 0} (facts : S → StoreFacts) (IsStored : List ℕ → Type 0) (IsNow : ℕ → Type 0) (server_nonce : List ℕ)
     (turns : List ServedTurn) (old new : Service S) : Type 0 where
   pub greeting : List LogLine
   pub reads : ReadsLines old.input (reads_in turns) new.input
   pub moments : AllByRecursion (λ e. IsNow e.moment) turns
-  pub answers : AnswersAll facts IsStored old.desk (session_calls own greeting turns) new.desk
-  pub written : AreWritten (call_lines (session_calls own greeting turns)) old.wire new.wire old.log new.log
-  pub halts : HaltsByStore facts new.desk
+  pub answers : AnswersAll facts IsStored old.desk (session_calls server_nonce greeting turns) new.desk
+  pub written : AreWritten (call_lines (session_calls server_nonce greeting turns)) old.wire new.wire old.log new.log
+  pub halts : HaltsOnlyByStore facts new.desk
 
--- a session that its turns, of which there are no more than the most, have ended
-pub record IsServedToEnd {S : Type 0} (facts : S → StoreFacts) (IsStored : List ℕ → Type 0) (IsNow : ℕ → Type 0) (own : List ℕ)
+-- a session that has ended, or in which the desk has halted, after at most `most_turns` turns
+pub record IsServedToEnd {S : Type 0} (facts : S → StoreFacts) (IsStored : List ℕ → Type 0) (IsNow : ℕ → Type 0) (server_nonce : List ℕ)
     (old new : Service S) : Type 0 where
   pub turns : List ServedTurn
   pub few : length turns ≤ most_turns
-  pub served : IsServedUpTo facts IsStored IsNow own turns old new
+  pub served : IsServedUpTo facts IsStored IsNow server_nonce turns old new
   pub ended : (phase_of new.desk.state ≡ phase.Closed) ⊎ (phase_of new.desk.state ≡ phase.Halted)
 
 -- a session whose turns are used up. Nothing more was read of its client.
-pub record HasUsedAllTurns {S : Type 0} (facts : S → StoreFacts) (IsStored : List ℕ → Type 0) (IsNow : ℕ → Type 0) (own : List ℕ)
+pub record HasUsedAllTurns {S : Type 0} (facts : S → StoreFacts) (IsStored : List ℕ → Type 0) (IsNow : ℕ → Type 0) (server_nonce : List ℕ)
     (old middle new : Service S) : Type 0 where
   pub turns : List ServedTurn
   pub all : length turns ≡ most_turns
-  pub served : IsServedUpTo facts IsStored IsNow own turns old middle
+  pub served : IsServedUpTo facts IsStored IsNow server_nonce turns old middle
   pub unread : new.input ≡ middle.input
 
--- a session whose turns are used up, and whose client was then taken for gone
-pub record IsCutOff {S : Type 0} (facts : S → StoreFacts) (IsStored : List ℕ → Type 0) (IsNow : ℕ → Type 0) (own : List ℕ)
+-- a session whose turns are used up, and whose client was then treated as gone
+pub record IsCutOff {S : Type 0} (facts : S → StoreFacts) (IsStored : List ℕ → Type 0) (IsNow : ℕ → Type 0) (server_nonce : List ℕ)
     (old new : Service S) : Type 0 where
   pub middle : Service S
-  pub used_up : HasUsedAllTurns facts IsStored IsNow own old middle new
+  pub used_up : HasUsedAllTurns facts IsStored IsNow server_nonce old middle new
   pub moment : ℕ
   pub is_now : IsNow moment
   pub done : IsDone facts IsStored (hears goes_away moment) middle.desk new.desk middle.wire new.wire middle.log new.log
 
 -- a session was served: its turns ended it, or it was cut off when they were used up
-abbrev pub IsServed : {S : Type 0} → (S → StoreFacts) → (IsStored : List ℕ → Type 0) → (IsNow : ℕ → Type 0) → (own : List ℕ)
+abbrev pub IsServed : {S : Type 0} → (S → StoreFacts) → (IsStored : List ℕ → Type 0) → (IsNow : ℕ → Type 0) → (server_nonce : List ℕ)
     → (old new : Service S) → Type 0
-IsServed facts IsStored IsNow own old new = IsServedToEnd facts IsStored IsNow own old new ⊎ IsCutOff facts IsStored IsNow own old new
+IsServed facts IsStored IsNow server_nonce old new =
+    IsServedToEnd facts IsStored IsNow server_nonce old new ⊎ IsCutOff facts IsStored IsNow server_nonce old new
 
 -- the client was not greeted, for this reason
-pub record FailsInGreeting {S : Type 0} (facts : S → StoreFacts) (IsStored : List ℕ → Type 0) (own : List ℕ) (old new : Service S)
+pub record FailsInGreeting {S : Type 0} (facts : S → StoreFacts) (IsStored : List ℕ → Type 0) (server_nonce : List ℕ) (old new : Service S)
     (fault : ServeFault) : Type 0 where
   pub unread : new.input ≡ old.input
-  pub undone : IsUndone facts IsStored (greets own) old.desk new.desk old.wire new.wire old.log new.log fault
+  pub undone : IsUndone facts IsStored (greets server_nonce) old.desk new.desk old.wire new.wire old.log new.log fault
 
 -- a turn was not served, for this reason, and the desk had not halted before it. All turns before it were served.
-pub record FailsInTurn {S : Type 0} (facts : S → StoreFacts) (IsStored : List ℕ → Type 0) (IsNow : ℕ → Type 0) (own : List ℕ)
+pub record FailsInTurn {S : Type 0} (facts : S → StoreFacts) (IsStored : List ℕ → Type 0) (IsNow : ℕ → Type 0) (server_nonce : List ℕ)
     (old new : Service S) (fault : ServeFault) : Type 0 where
   pub middle : Service S
   pub turns : List ServedTurn
   pub few : length turns < most_turns
-  pub served : IsServedUpTo facts IsStored IsNow own turns old middle
+  pub served : IsServedUpTo facts IsStored IsNow server_nonce turns old middle
   pub moment : ℕ
   pub goes_on : fault ≢ Halted
   pub is_now : IsNow moment
   pub undone : IsTurnFault facts IsStored moment middle new fault
 
--- the turns were used up, and the client could not be taken for gone, for this reason
-pub record FailsAtEnd {S : Type 0} (facts : S → StoreFacts) (IsStored : List ℕ → Type 0) (IsNow : ℕ → Type 0) (own : List ℕ)
+-- the turns were used up, and the client could not be treated as gone, for this reason
+pub record FailsAtEnd {S : Type 0} (facts : S → StoreFacts) (IsStored : List ℕ → Type 0) (IsNow : ℕ → Type 0) (server_nonce : List ℕ)
     (old new : Service S) (fault : ServeFault) : Type 0 where
   pub middle : Service S
-  pub used_up : HasUsedAllTurns facts IsStored IsNow own old middle new
+  pub used_up : HasUsedAllTurns facts IsStored IsNow server_nonce old middle new
   pub moment : ℕ
   pub is_now : IsNow moment
   pub undone : IsUndone facts IsStored (hears goes_away moment) middle.desk new.desk middle.wire new.wire middle.log new.log fault
 
 -- why a session was not served to its end
-abbrev pub IsServeFault : {S : Type 0} → (S → StoreFacts) → (IsStored : List ℕ → Type 0) → (IsNow : ℕ → Type 0) → (own : List ℕ)
+abbrev pub IsServeFault : {S : Type 0} → (S → StoreFacts) → (IsStored : List ℕ → Type 0) → (IsNow : ℕ → Type 0) → (server_nonce : List ℕ)
     → (old new : Service S) → ServeFault → Type 0
-IsServeFault facts IsStored IsNow own old new fault =
-    FailsInGreeting facts IsStored own old new fault ⊎ FailsInTurn facts IsStored IsNow own old new fault
-    ⊎ FailsAtEnd facts IsStored IsNow own old new fault
+IsServeFault facts IsStored IsNow server_nonce old new fault =
+    FailsInGreeting facts IsStored server_nonce old new fault ⊎ FailsInTurn facts IsStored IsNow server_nonce old new fault
+    ⊎ FailsAtEnd facts IsStored IsNow server_nonce old new fault
 
 -- a text with more bytes than a client's line may have is recorded as `C BAD`, wherever it is sent
 abbrev pub LongTextsAreBad : Type 0
-LongTextsAreBad = (text : List ℕ) (at : Place) (kept : LogLine) → longest_line < length text → IsRecord (sends text) at kept → kept ≡ bad
+LongTextsAreBad = (text : List ℕ) (place : Place) (kept : LogLine) → longest_line < length text
+    → IsRecord (sends text) place kept → kept ≡ bad

@@ -12,7 +12,7 @@ use Rattle.book_format.specs.Book.{BookFields}
 use Rattle.account_book.specs.Tokens.{token_at}
 use Rattle.log_grammar.specs.Books.{accounts_in}
 use Rattle.log_grammar.specs.LoggedReply.{LoggedReply}
-use Rattle.log_grammar.specs.Demands.{IsToldDue}
+use Rattle.log_grammar.specs.Demands.{IsLoggedReplyDue}
 use Rattle.sasl_log.specs.Tokens.{IsBookAfter}
 
 -- the account has a token, and this counter is below each that can pass with it, alone or as the first of a pair, at
@@ -39,7 +39,7 @@ used_by_answer sent None = []
 used_by_answer sent (Some reply) = used_in_reply sent reply
 
 -- counters, each with this account
-abbrev pub of_account : List ℕ → List ℕ → List (List ℕ × ℕ)
+abbrev pub of_account : (name : List ℕ) → (counters : List ℕ) → List (List ℕ × ℕ)
 of_account name [] = []
 of_account name (c ∷ counters) = (name, c) ∷ of_account name counters
 
@@ -51,5 +51,5 @@ spent_by t = of_account t.account (used_by_answer t.sent t.reply)
 -- of replies, of any number of runs that go on from one another's books, no counter of an account passes twice
 abbrev pub SpentStaysSpent : Type 0
 SpentStaysSpent = (old new : BookFields) (t : LoggedReply) (ps : List (List ℕ × ℕ)) → IsMoment t.moment
-    → IsToldDue (accounts_in old) [] t → IsBookAfter (accounts_in old) (t ∷ []) new
+    → IsLoggedReplyDue (accounts_in old) [] t → IsBookAfter (accounts_in old) (t ∷ []) new
     → AreSpent ps old → AreSpent (spent_by t ++ ps) new

@@ -63,7 +63,7 @@ pub enum ServeFault {
 }
 
 impl ServeFault {
-    /// The number of the fault: 72, 73, 99, 74 or 75.
+    /// The number of the fault: 72 to 75, or 99.
     pub fn number(&self) -> u16
         ensures { result ≡ serve_number self.now }
     {

@@ -107,7 +107,7 @@ impl<S: BookStore> Keeper<S> {
     }
 }
 
-/// Each moment is in its range.
+/// A moment is in its range by its type; the proof alone needs this.
 pub(crate) fn moment_is_in_range(moment: Moment)
     ensures { IsMoment moment }
 {

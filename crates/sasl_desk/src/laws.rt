@@ -6,10 +6,10 @@ ghost use Rattle.log_grammar.specs.Books.{accounts_in};
 ghost use Rattle.log_grammar.specs.Versions.{IsFront, IsClean};
 ghost use Rattle.log_grammar.specs.Lines.{LogLine, said, halt, log_bytes};
 ghost use Rattle.log_grammar.specs.LoggedReply.{LoggedReply};
-ghost use Rattle.sasl_desk.specs.Desks.{IsDeskAfter, phase_of, all_spent};
+ghost use Rattle.sasl_desk.specs.Desks.{IsDeskAfter, phase_of, spent_by_all};
 ghost use Rattle.sasl_desk.specs.Keeper.{IsAttemptJudged};
 ghost use Rattle.sasl_desk.specs.Records.{HasItsRecords};
-ghost use Rattle.sasl_desk.specs.Restarts.{IsDeskRunLeaving, Change, AreChanges, spent_in};
+ghost use Rattle.sasl_desk.specs.Restarts.{IsDeskRunLeaving, Change, AreChanges, spent_by_changes};
 ghost use Rattle.sasl_desk.specs.Runs.{Call, run_lines, wire_bytes};
 ghost use Rattle.sasl_desk.specs.Saved.{IsLogSaved};
 ghost use Rattle.sasl_desk.specs.Serves.{LongTextsAreBad};
@@ -25,7 +25,7 @@ use account_book::laws::{added_is_apart, tokens_are_apart};
 use log_grammar::laws::goes_on_by_no_other;
 use otp_core::laws::{begins_with_itself, candidates_are_new, legal_histories_join};
 
-/// What was spent stays spent over every reply, and the counters that a reply uses are others, and are spent then.
+/// A counter that was spent stays spent, whatever the reply; those that a reply uses were not spent before it, and are spent then.
 pub fn spent_stays_spent()
     ensures { SpentStaysSpent }
 {
@@ -58,8 +58,8 @@ pub fn log_is_clean<S: BookStore>()
     goes_on_by_no_other();
 }
 
-/// A desk's log offers mechanisms once for each client that was greeted, and records what its clients did, each as is due where
-/// it was done, in its order: nothing is left out, and nothing is invented.
+/// A desk's log offers mechanisms once for each client that was greeted, and records what its clients did, in its order, each thing as
+/// is due at the place where the log then stood: nothing is left out, and nothing is invented.
 pub fn log_has_its_records<S: BookStore>()
     ensures { (start : BookFields) (calls : List Call) (desk : Desk S) → IsDeskAfter S.facts S.IsStored start calls desk
         → HasItsRecords (accounts_in start) calls }
@@ -101,10 +101,10 @@ pub fn stops_leave_runs<S: BookStore>()
 pub fn told_counters_are_saved<S: BookStore>()
     ensures ended { (start : BookFields) (calls : List Call) (desk : Desk S) (s : IsDeskAfter S.facts S.IsStored start calls desk)
         (ps : List (List ℕ × ℕ)) → AreSpent ps start
-        → (saved : BookFields) × IsBookText (S.facts desk.keeper.store).saved saved × AreSpent (all_spent (reverse s.told) ++ ps) saved }
+        → (saved : BookFields) × IsBookText (S.facts desk.keeper.store).saved saved × AreSpent (spent_by_all (reverse s.told) ++ ps) saved }
     ensures within { (start : BookFields) (calls : List Call) (desk : Desk S) (s : IsDeskAfter S.facts S.IsStored start calls desk)
         (ps : List (List ℕ × ℕ)) (t : LoggedReply) (next : BookFields) → AreSpent ps start → IsAttemptJudged desk.keeper.book t next
-        → AreSpent (all_spent (reverse s.told) ++ ps) next }
+        → AreSpent (spent_by_all (reverse s.told) ++ ps) next }
 {
     begins_with_itself();
     spent_stays_spent();
@@ -116,7 +116,7 @@ pub fn told_counters_are_saved<S: BookStore>()
 pub fn no_counter_passes_twice<S: BookStore>()
     ensures { (first : BookFields) (changes : List Change) (last : BookFields) (ps : List (List ℕ × ℕ))
         → AreChanges S.facts S.IsStored first changes last → AreSpent ps first
-        → AreSpent (spent_in changes ++ ps) last }
+        → AreSpent (spent_by_changes changes ++ ps) last }
 {
     begins_with_itself();
     candidates_are_new();
@@ -125,7 +125,7 @@ pub fn no_counter_passes_twice<S: BookStore>()
     added_is_apart();
 }
 
-/// A text of more than 6200 bytes, as a client's line of that length is handed in, is recorded as `C BAD`.
+/// A text of more than 6200 bytes is recorded as `C BAD`. So is a line that is too long, which `serve_turn` cuts after 6201.
 pub fn long_texts_are_bad()
     ensures { LongTextsAreBad }
 {}

@@ -25,5 +25,7 @@ pub use hall::Hall;
 pub use keeper::{CodeJudged, Keeper};
 pub use otp_core::{Moment, Reply, Sent};
 pub use serving::{serve, serve_turn};
-pub use session::{Answer, Event, Heard, Phase, Recorded, Saying, Session, Turn, Waiting};
+pub use session::{
+    Answer, ChallengedLogin, Event, HearResult, Phase, Recorded, Saying, Session, Turn,
+};
 pub use write::{MOST_BYTES, MOST_NUMBERED_BYTES};

@@ -16,26 +16,26 @@ ghost use Rattle.sasl_desk.specs.Sessions.{IsSessionAt, IsLineOf, heard_lines, C
 ghost use Rattle.sasl_desk.specs.Sessions.{ComesOfEvent, ComesOfLine, IsOfCode, AsksFor, AsksForEvent};
 
 mod answer;
+mod challenged_login;
+mod event;
 mod first;
 mod hear;
 mod line;
 mod phase;
-mod turn;
-mod waiting;
 
 use account_book::Book;
-use hear::{departed, hear_code, hear_final, hear_first, hear_offered, spoiled};
+pub use challenged_login::ChallengedLogin;
+pub use event::{Answer, Event, HearResult, Recorded, Saying, Turn};
+use hear::{bad_turn, gone_turn, hear_auth, hear_code, hear_final, hear_first};
 use line::client_line;
-use log_grammar::laws::is_one_line;
+use log_grammar::laws::each_text_is_at_most_one_line;
 use mac_core::Mechanism;
 pub use phase::Phase;
 use sasl_log::ClientLine;
 use scram_text::{NoncePart, PlainName};
 use std::alloc::{Allocator, Global};
-pub use turn::{Answer, Event, Heard, Recorded, Saying, Turn};
-pub use waiting::Waiting;
 
-/// Where a session stands: what its client may do next.
+/// An open session: where it stands, with what it keeps of its login.
 #[derive(Drop)]
 pub enum Session {
     /// The mechanisms were offered, and the client chooses one.
@@ -45,44 +45,44 @@ pub enum Session {
     WaitFirst(Mechanism),
 
     /// The client was challenged, and its client-final message is due.
-    WaitFinal(Waiting),
+    WaitFinal(ChallengedLogin),
 
     /// The login to this account was accepted, and the client may send codes.
     WaitCode(PlainName),
 }
 
 impl Session {
-    /// Hears what the client does: the turn is answered, or a code is to be judged. `own` is the server's part of the
+    /// Hears what the client does: the turn is answered, or a code is to be judged. `server_nonce` is the server's part of the
     /// nonce, for all of the session. The message of what is said is put into `message`, which is empty before. On an
-    /// error, which is that memory ran out, the session is handed back, `message` is empty, and nothing was heard: it comes
-    /// only at a line that bears a message.
+    /// error, which is that memory ran out, the session is handed back, `message` is empty, and nothing was heard. An error
+    /// comes only at a line that bears a message.
     pub fn hear<'a, A: Allocator>(
         self,
         alloc: Global,
         event: Event<'a>,
         book: &Book,
-        own: &NoncePart,
+        server_nonce: &NoncePart,
         message: &mut Vec<u8, A>,
-    ) -> Result<Heard<'a>, Session>
+    ) -> Result<HearResult<'a>, Session>
         requires { message.old.items ≡ [] }
         // Where the session stands at a place, the event is recorded and answered as is due there.
-        ensures heard { (accounts : Accounts) (at : Place) → KeepsEntries accounts book.now → IsSessionAt accounts at self
-            → IfOk result (λ heard. ComesOfEvent accounts own.now (event_shown event.entry) at heard message.new.items) }
+        ensures heard { (accounts : Accounts) (place : Place) → KeepsEntries accounts book.now → IsSessionAt accounts place self
+            → IfOk result (λ heard. ComesOfEvent accounts server_nonce.now (event_shown event.entry) place heard message.new.items) }
         // All lines of it can be written.
         ensures lines { IfOk result (λ heard. CanBeWritten (heard_lines heard message.new.items)) }
         // A code is to be judged only where the session waits for one.
         ensures asks { IfOk result (λ heard. IsOfCode heard self) }
-        // And only the one that the client sent.
+        // A code is to be judged only where the client sent it.
         ensures asked { IfOk result (λ heard. AsksForEvent heard (event_shown event.entry)) }
         ensures err { IfErr result (λ session. (session ≡ self) × (message.new.items ≡ [])) }
         ensures memory { OnErr result ((line : grammar.ClientLine) × IsLineOf (event_shown event.entry) line × BearsMessage line) }
     {
-        is_one_line();
+        each_text_is_at_most_one_line();
         match event {
-            Event::Gone => Ok(Heard::Answered(departed())),
+            Event::Gone => Ok(HearResult::Answered(gone_turn())),
             Event::Line(text) => match client_line(text) {
-                Some(line) => self.hear_line(alloc, line, book, own, message),
-                None => Ok(Heard::Answered(spoiled())),
+                Some(line) => self.hear_line(alloc, line, book, server_nonce, message),
+                None => Ok(HearResult::Answered(bad_turn())),
             },
         }
     }
@@ -93,13 +93,13 @@ impl Session {
         alloc: Global,
         line: ClientLine<'a>,
         book: &Book,
-        own: &NoncePart,
+        server_nonce: &NoncePart,
         message: &mut Vec<u8, A>,
-    ) -> Result<Heard<'a>, Session>
+    ) -> Result<HearResult<'a>, Session>
         requires empty { message.old.items ≡ [] }
         requires line { CanBeLine (from_client (client_shown line)) }
-        ensures heard { (accounts : Accounts) (at : Place) → KeepsEntries accounts book.now → IsSessionAt accounts at self
-            → IfOk result (λ heard. ComesOfLine accounts own.now (client_shown line.entry) at heard message.new.items) }
+        ensures heard { (accounts : Accounts) (place : Place) → KeepsEntries accounts book.now → IsSessionAt accounts place self
+            → IfOk result (λ heard. ComesOfLine accounts server_nonce.now (client_shown line.entry) place heard message.new.items) }
         ensures lines { IfOk result (λ heard. CanBeWritten (heard_lines heard message.new.items)) }
         ensures asks { IfOk result (λ heard. IsOfCode heard self) }
         ensures asked { IfOk result (λ heard. AsksFor heard (client_shown line.entry)) }
@@ -107,14 +107,23 @@ impl Session {
         ensures memory { OnErr result (BearsMessage (client_shown line.entry)) }
     {
         match self {
-            Session::WaitAuth => Ok(Heard::Answered(hear_offered(
-                alloc, line, book, own, message,
+            Session::WaitAuth => Ok(HearResult::Answered(hear_auth(
+                alloc,
+                line,
+                book,
+                server_nonce,
+                message,
             )?)),
-            Session::WaitFirst(mechanism) => Ok(Heard::Answered(hear_first(
-                alloc, mechanism, line, book, own, message,
+            Session::WaitFirst(mechanism) => Ok(HearResult::Answered(hear_first(
+                alloc,
+                mechanism,
+                line,
+                book,
+                server_nonce,
+                message,
             )?)),
             Session::WaitFinal(waiting) => {
-                Ok(Heard::Answered(hear_final(alloc, waiting, line, message)?))
+                Ok(HearResult::Answered(hear_final(alloc, waiting, line, message)?))
             }
             Session::WaitCode(name) => Ok(hear_code(name, line)),
         }

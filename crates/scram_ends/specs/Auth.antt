@@ -7,34 +7,33 @@ use Rattle.mac_core.specs.declared.mechanism.Mechanism.{Mechanism}
 use Rattle.scram_text.specs.Messages.{ClientFirstParts, bare_text, ClientFinalParts, client_final_without_proof}
 use Rattle.scram_ends.specs.Entry.{Keys, password_keys}
 
--- AuthMessage as far as the challenge: client-first-bare, comma, server-first, comma. A message's text
--- is that of its parts, so each is here as it was sent.
-abbrev pub auth_to_challenge : ClientFirstParts → List ℕ → List ℕ
+-- AuthMessage as far as the challenge: client-first-bare, comma, server-first, comma. The bare_text of client-first's parts is
+-- the text that was sent.
+abbrev pub auth_to_challenge : ClientFirstParts → (server_first : List ℕ) → List ℕ
 auth_to_challenge first challenge = bare_text first ++ byte "," ∷ [] ++ challenge ++ byte "," ∷ []
 
--- AuthMessage: after these, client-final-without-proof
-abbrev pub auth_message : ClientFirstParts → List ℕ → ClientFinalParts → List ℕ
+-- AuthMessage = client-first-message-bare "," server-first-message "," client-final-message-without-proof
+abbrev pub auth_message : ClientFirstParts → (server_first : List ℕ) → ClientFinalParts → List ℕ
 auth_message first challenge final = auth_to_challenge first challenge ++ client_final_without_proof final
 
 -- ClientSignature = HMAC(StoredKey, AuthMessage)
-abbrev pub client_signature : Mechanism → Keys → List ℕ → List ℕ
+abbrev pub client_signature : Mechanism → Keys → (auth : List ℕ) → List ℕ
 client_signature m keys auth = hmac_by m keys.stored auth
 
 -- ServerSignature = HMAC(ServerKey, AuthMessage)
-abbrev pub server_signature : Mechanism → Keys → List ℕ → List ℕ
+abbrev pub server_signature : Mechanism → Keys → (auth : List ℕ) → List ℕ
 server_signature m keys auth = hmac_by m keys.server auth
 
--- the proof has the length of H, and the client key that it hides, ClientProof xor ClientSignature, is
--- the one whose digest the server stores
+-- ClientProof is as long as a digest of H, and H(ClientProof XOR ClientSignature) = StoredKey
 pub record IsProof (m : Mechanism) (keys : Keys) (auth proof : List ℕ) : Type 0 where
   pub len : length proof ≡ length_by m
   pub opens : stored_key_by m (xor_bytes proof (client_signature m keys auth)) ≡ keys.stored
 
 -- ClientProof = ClientKey xor ClientSignature, for the keys of a password
-abbrev pub proof_of : Mechanism → List ℕ → List ℕ → ℕ → List ℕ → List ℕ
+abbrev pub proof_of : Mechanism → (password salt : List ℕ) → (count : ℕ) → (auth : List ℕ) → List ℕ
 proof_of m password salt count auth =
     xor_bytes (client_key_by m (hi_by m password salt count)) (client_signature m (password_keys m password salt count) auth)
 
 -- the server signature that a client expects, for the server key of its password
-abbrev pub signature_of : Mechanism → List ℕ → List ℕ → ℕ → List ℕ → List ℕ
-signature_of m password salt count auth = server_signature m (password_keys m password salt count) auth
+abbrev pub expected_signature : Mechanism → (password salt : List ℕ) → (count : ℕ) → (auth : List ℕ) → List ℕ
+expected_signature m password salt count auth = server_signature m (password_keys m password salt count) auth

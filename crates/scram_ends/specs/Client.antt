@@ -7,7 +7,7 @@ use Rattle.scram_text.specs.Messages.{verified, failed, ServerFinalParts, IsServ
 use Rattle.scram_text.specs.Faults.{IsServerFirstFault, IsServerFinalFault}
 use Rattle.scram_text.specs.declared.fault.WriteFault.{WriteFault}
 use Rattle.scram_ends.specs.Stages.{Started, Answered}
-use Rattle.scram_ends.specs.Opening.{IsLonger}
+use Rattle.scram_ends.specs.Opening.{ExtendsNonce}
 use Rattle.scram_ends.specs.Honest.{IsHonestFirst, IsHonest, honest_signature}
 use Rattle.scram_ends.specs.declared.client.Limits.{Limits}
 use Rattle.scram_ends.specs.declared.client.ClientOne.{ClientOne}
@@ -48,35 +48,35 @@ pub record IsExpecting (w : ClientTwo) (l : Answered) : Type 0 where
   pub expected : w.expected.items ≡ signature
 
 -- a client within these limits, with this nonce of its own, answers the challenge
-pub record IsAnswerable (limits : Limits) (own server_first : List ℕ) (challenge : ServerFirstParts) : Type 0 where
+pub record IsAnswerable (limits : Limits) (client_nonce server_first : List ℕ) (challenge : ServerFirstParts) : Type 0 where
   pub is_challenge : IsServerFirst server_first challenge
   pub not_mandatory : server_first_mandatory challenge ≡ false
-  pub longer : IsLonger own challenge.nonce
+  pub longer : ExtendsNonce client_nonce challenge.nonce
   pub at_least : limits.least ≤ challenge.count
   pub at_most : challenge.count ≤ limits.most
 
 -- the count is outside the client's limits
-abbrev pub IsOutside : Limits → ℕ → Type 0
+abbrev pub IsOutside : Limits → (count : ℕ) → Type 0
 IsOutside limits count = (count < limits.least) ⊎ (limits.most < count)
 
 -- why a client with this nonce of its own does not answer a challenge, the first reason that holds: the
--- text is no server-first message, with its first fault; it is mandatory; its nonce does not begin with
--- the client's; it is the client's; its count is outside the limits
-abbrev pub IsChallengeFault : Limits → List ℕ → List ℕ → ClientFault → Type 0
-IsChallengeFault limits own server_first (Text fault) = ((p : ServerFirstParts) → IsServerFirst server_first p → ⊥)
+-- text is no server-first message, with its first fault; it asks for a mandatory extension; its nonce does not begin with
+-- the client's; its nonce is the client's own, with nothing added; its count is outside the limits
+abbrev pub IsChallengeFault : Limits → (client_nonce server_first : List ℕ) → ClientFault → Type 0
+IsChallengeFault limits client_nonce server_first (Text fault) = ((p : ServerFirstParts) → IsServerFirst server_first p → ⊥)
     × IsServerFirstFault server_first fault
-IsChallengeFault limits own server_first Mandatory = (p : ServerFirstParts) × IsServerFirst server_first p
+IsChallengeFault limits client_nonce server_first Mandatory = (p : ServerFirstParts) × IsServerFirst server_first p
     × (server_first_mandatory p ≡ true)
-IsChallengeFault limits own server_first NonceNotMine =
+IsChallengeFault limits client_nonce server_first NonceNotMine =
     (p : ServerFirstParts) × IsServerFirst server_first p × (server_first_mandatory p ≡ false)
-    × ((more : List ℕ) → p.nonce ≢ own ++ more)
-IsChallengeFault limits own server_first NonceNotLonger =
-    (p : ServerFirstParts) × IsServerFirst server_first p × (server_first_mandatory p ≡ false) × (p.nonce ≡ own)
-IsChallengeFault limits own server_first CountOutside =
+    × ((more : List ℕ) → p.nonce ≢ client_nonce ++ more)
+IsChallengeFault limits client_nonce server_first NonceNotLonger =
+    (p : ServerFirstParts) × IsServerFirst server_first p × (server_first_mandatory p ≡ false) × (p.nonce ≡ client_nonce)
+IsChallengeFault limits client_nonce server_first CountOutside =
     (p : ServerFirstParts) × IsServerFirst server_first p × (server_first_mandatory p ≡ false)
-    × IsLonger own p.nonce × IsOutside limits p.count
-IsChallengeFault limits own server_first ServerRefused = ⊥
-IsChallengeFault limits own server_first WrongSignature = ⊥
+    × ExtendsNonce client_nonce p.nonce × IsOutside limits p.count
+IsChallengeFault limits client_nonce server_first ServerRefused = ⊥
+IsChallengeFault limits client_nonce server_first WrongSignature = ⊥
 
 -- the client has answered the challenge, or would have: its answer was not written
 abbrev pub HasAnswered : Result ClientTwo OneRefused → Type 0
@@ -97,9 +97,9 @@ IfBack (Err (Back client fault)) fact = fact client fault
 IfBack (Err (Spent fault)) fact = Unit {0}
 
 -- why a client that expects this signature does not take the server for authentic, the first reason that
--- holds: the text is no server-final message, with its first fault; it is mandatory; it is an error; its
--- verifier is another
-abbrev pub IsLastFault : List ℕ → List ℕ → ClientFault → Type 0
+-- holds: the text is no server-final message, with its first fault; it asks for a mandatory extension; it says `e=`; its
+-- verifier is not this signature
+abbrev pub IsLastFault : (signature server_final : List ℕ) → ClientFault → Type 0
 IsLastFault signature server_final (Text fault) = ((p : ServerFinalParts) → IsServerFinal server_final p → ⊥)
     × IsServerFinalFault server_final fault
 IsLastFault signature server_final Mandatory = (p : ServerFinalParts) × IsServerFinal server_final p × (server_final_mandatory p ≡ true)

@@ -12,7 +12,7 @@ pub record Keys : Type 0 where
   pub server : List ℕ
 
 -- an account for one mechanism: its salt, its iteration count, its keys, and the other names that it
--- may act as. A decoy, which stands in for a name without keys, has none.
+-- may act as. A decoy, which stands in for a name without keys, has no keys.
 pub record Entry : Type 0 where
   pub salt : List ℕ
   pub count : ℕ
@@ -28,6 +28,6 @@ abbrev pub entry_of : KeysView → Entry
 entry_of view = record { salt = view.salt; count = view.count; keys = option_map keys_of view.keys; act_as = view.act_as.now }
 
 -- the keys of a password (RFC 5802, section 3)
-abbrev pub password_keys : Mechanism → List ℕ → List ℕ → ℕ → Keys
+abbrev pub password_keys : Mechanism → (password salt : List ℕ) → (count : ℕ) → Keys
 password_keys m password salt count =
     record { stored = password_stored_key m password salt count; server = password_server_key m password salt count }

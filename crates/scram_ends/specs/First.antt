@@ -14,10 +14,10 @@ use Rattle.scram_ends.specs.declared.recorded.RecordedFault.TheVariants.{First, 
 
 -- the server's challenge to a client-first message: the client's nonce followed by the server's own
 -- part, the account's salt and count, and no extensions
-pub record IsChallengeTo (e : Entry) (client_first own server_first : List ℕ) : Type 0 where
+pub record IsChallengeTo (e : Entry) (client_first server_nonce server_first : List ℕ) : Type 0 where
   pub first : ClientFirstParts
   pub is_first : IsClientFirst client_first first
-  pub is_challenge : IsServerFirst server_first (server_first_of (first.nonce ++ own) e.salt e.count [])
+  pub is_challenge : IsServerFirst server_first (server_first_of (first.nonce ++ server_nonce) e.salt e.count [])
 
 -- what a server takes from a client-first message that it takes up
 pub record ShowsAcceptedFirst (taken : AcceptedFirst) (first : ClientFirstParts) : Type 0 where
@@ -35,8 +35,8 @@ pub record ShowsOpening (taken : AcceptedFirst) (sent : List ℕ) (o : Opening) 
   pub nonce : sent ≡ o.challenge.nonce
 
 -- why a server takes up no login, the first reason that holds: the text is no client-first message, with
--- its first fault; it is mandatory; its flag is "p=" and a name; a name in it is not plain
-abbrev pub IsRefusedWith : List ℕ → FirstFault → Type 0
+-- its first fault; it asks for a mandatory extension; its flag is "p=" and a name; a name in it is not plain
+abbrev pub IsRefusedWith : (client_first : List ℕ) → FirstFault → Type 0
 IsRefusedWith client_first (Text fault) = ((p : ClientFirstParts) → IsClientFirst client_first p → ⊥)
     × IsClientFirstFault client_first fault
 IsRefusedWith client_first Mandatory = (p : ClientFirstParts) × IsClientFirst client_first p × (client_first_mandatory p ≡ true)
@@ -49,7 +49,7 @@ IsRefusedWith client_first OutsideProfile =
 
 -- why two recorded texts open no login of this account, the first reason that holds: a server does not
 -- take up the first text, or it does and the second is no challenge to it
-abbrev pub IsRecordedFault : Entry → List ℕ → List ℕ → RecordedFault → Type 0
+abbrev pub IsRecordedFault : Entry → (client_first server_first : List ℕ) → RecordedFault → Type 0
 IsRecordedFault e client_first server_first (First fault) = IsRefusedWith client_first fault
 IsRecordedFault e client_first server_first NotThisChallenge =
     ((p : ClientFirstParts) × (name : List ℕ) × (authzid : Option (List ℕ)) × IsClientFirst client_first p × IsTakenUp p name authzid)

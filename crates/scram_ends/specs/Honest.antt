@@ -1,22 +1,21 @@
 -- The messages of an honest client (RFC 5802, section 3): one that has the password and makes each
 -- message as the RFC says.
-use Rattle.std.specs.Prelude.{ℕ, ◌≡◌, false, List, [], codes}
+use Rattle.std.specs.Prelude.{ℕ, ◌≡◌, List, [], IfSome}
 use Rattle.std.specs.declared.option.Option.{Option}
-use Rattle.scram_text.specs.Messages.{ClientFirstParts, header_text, IsClientFirst, client_first_mandatory, ServerFirstParts, IsServerFirst}
+use Rattle.scram_text.specs.Class.{IsPlainName}
+use Rattle.scram_text.specs.Messages.{ClientFirstParts, header_text, IsClientFirst, ServerFirstParts, IsServerFirst}
 use Rattle.scram_text.specs.Messages.{ClientFinalParts, IsClientFinal}
+use Rattle.scram_text.specs.Written.{client_first_of}
+use Rattle.scram_text.specs.declared.client_first.Flag.TheVariants.{NoBinding}
 use Rattle.scram_ends.specs.Stages.{Answered}
-use Rattle.scram_ends.specs.Auth.{auth_message, proof_of, signature_of}
-use Rattle.scram_ends.specs.Opening.{IsNameOf, IsAuthzidOf}
+use Rattle.scram_ends.specs.Auth.{auth_message, proof_of, expected_signature}
 
 -- client-first of this name, name to act as and nonce, with the flag `n` and no extensions
 pub record IsHonestFirst (name : List ℕ) (authzid : Option (List ℕ)) (nonce client_first : List ℕ) (first : ClientFirstParts) : Type 0 where
   pub is_first : IsClientFirst client_first first
-  pub flag : first.flag ≡ codes "n"
-  pub not_mandatory : client_first_mandatory first ≡ false
-  pub no_extensions : first.extensions ≡ []
-  pub is_name : IsNameOf name first.name
-  pub is_authzid : IsAuthzidOf authzid first.authzid
-  pub own : first.nonce ≡ nonce
+  pub parts : first ≡ client_first_of NoBinding authzid name nonce []
+  pub plain : IsPlainName name
+  pub plain_authzid : IfSome authzid IsPlainName
 
 -- client-final of this login: the gs2-header of client-first as channel field, the challenge's nonce, no
 -- extensions, and the proof of the password under the challenge's salt and count
@@ -39,5 +38,5 @@ pub record IsHonest (l : Answered) : Type 0 where
 -- the server signature that an honest client expects, by its password's own server key
 abbrev pub honest_signature : (l : Answered) → IsHonest l → List ℕ
 honest_signature l honest =
-    signature_of l.mechanism l.password honest.challenge.salt honest.challenge.count
+    expected_signature l.mechanism l.password honest.challenge.salt honest.challenge.count
     (auth_message honest.first l.server_first honest.final)

@@ -36,13 +36,13 @@ AcceptsExactlyValid = (l : Challenged) (client_final server_final : List ℕ)
     ↔ IsValidLogin l client_final server_final
 
 -- an honest client logs in where the account's keys are those of the password, the server challenges it
--- and the name to act as is allowed: acceptance is due, with the signature that the client expects,
--- and the message due shows it
+-- and the name to act as is allowed: acceptance is due, with the signature that the client expects, the
+-- message due shows it, and the login is valid
 abbrev pub HonestLogsIn : Type 0
-HonestLogsIn = (e : Entry) (own : List ℕ) (l : Answered) → e.keys ≡ Some (password_keys l.mechanism l.password e.salt e.count)
-    → IsAllowed e l.name l.authzid → 1 ≤ length own → IsChallengeTo e l.client_first own l.server_first
+HonestLogsIn = (e : Entry) (server_nonce : List ℕ) (l : Answered) → e.keys ≡ Some (password_keys l.mechanism l.password e.salt e.count)
+    → IsAllowed e l.name l.authzid → 1 ≤ length server_nonce → IsChallengeTo e l.client_first server_nonce l.server_first
     → (honest : IsHonest l)
-    → let here = challenged_login e l.mechanism l.client_first l.server_first in
+    → let login = challenged_login e l.mechanism l.client_first l.server_first in
     let signature = honest_signature l honest in
-    IsDue here l.client_final (accept signature) × IsAuthentic (due_text (accept signature)) signature
-    × IsValidLogin here l.client_final (due_text (accept signature))
+    IsDue login l.client_final (accept signature) × IsAuthentic (due_text (accept signature)) signature
+    × IsValidLogin login l.client_final (due_text (accept signature))

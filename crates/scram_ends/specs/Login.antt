@@ -8,8 +8,8 @@ use Rattle.scram_ends.specs.Stages.{Challenged}
 use Rattle.scram_ends.specs.Auth.{auth_message, server_signature, IsProof}
 use Rattle.scram_ends.specs.Opening.{Opening, IsOpening, IsAllowed}
 
--- the text is a server-final message whose verifier is this signature. It may have extensions, but none
--- that must be known.
+-- the text is a server-final message whose verifier is this signature. It may have extensions, but no
+-- mandatory one.
 pub record IsAuthentic (text signature : List ℕ) : Type 0 where
   pub last : ServerFinalParts
   pub is_last : IsServerFinal text last

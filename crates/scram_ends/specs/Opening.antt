@@ -15,7 +15,7 @@ pub record IsNameOf (name part : List ℕ) : Type 0 where
   pub spelled : SpellsName name part
 
 -- the name to act as, of `a=`: there is none, or its saslname spells this plain name
-abbrev pub IsAuthzidOf : Option (List ℕ) → Option (List ℕ) → Type 0
+abbrev pub IsAuthzidOf : (authzid part : Option (List ℕ)) → Type 0
 IsAuthzidOf None None = Unit {0}
 IsAuthzidOf (Some name) (Some part) = IsNameOf name part
 IsAuthzidOf None (Some part) = ⊥
@@ -33,8 +33,8 @@ pub record IsTakenUp (first : ClientFirstParts) (name : List ℕ) (authzid : Opt
   pub is_authzid : IsAuthzidOf authzid first.authzid
 
 -- the nonce is the client's own, followed by something of the server's
-abbrev pub IsLonger : List ℕ → List ℕ → Type 0
-IsLonger own nonce = (more : List ℕ) × (nonce ≡ own ++ more) × (1 ≤ length more)
+abbrev pub ExtendsNonce : (client_nonce nonce : List ℕ) → Type 0
+ExtendsNonce client_nonce nonce = (more : List ℕ) × (nonce ≡ client_nonce ++ more) × (1 ≤ length more)
 
 -- the parts of the first two messages, and the names in plain bytes
 pub record Opening : Type 0 where
@@ -50,11 +50,11 @@ pub record IsOpening (e : Entry) (client_first server_first : List ℕ) (o : Ope
   pub taken_up : IsTakenUp o.first o.name o.authzid
   pub is_challenge : IsServerFirst server_first o.challenge
   pub not_mandatory : server_first_mandatory o.challenge ≡ false
-  pub longer : IsLonger o.first.nonce o.challenge.nonce
+  pub longer : ExtendsNonce o.first.nonce o.challenge.nonce
   pub salt : o.challenge.salt ≡ e.salt
   pub count : o.challenge.count ≡ e.count
 
 -- the name to act as is allowed to the account of this name: it is that name, or one in the account's act_as
-abbrev pub IsAllowed : Entry → List ℕ → Option (List ℕ) → Type 0
+abbrev pub IsAllowed : Entry → (name : List ℕ) → (authzid : Option (List ℕ)) → Type 0
 IsAllowed e name None = Unit {0}
 IsAllowed e name (Some authzid) = (authzid ≡ name) ⊎ Contains e.act_as authzid

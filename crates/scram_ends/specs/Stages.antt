@@ -1,5 +1,4 @@
--- A login at each of its stages. The values of this crate keep none of the messages: their contracts say
--- which login they stand for.
+-- A login at each of its stages. No value of this crate keeps a whole login: the contracts say which login it stands for.
 use Rattle.std.specs.Prelude.{ℕ, List}
 use Rattle.std.specs.declared.option.Option.{Option}
 use Rattle.mac_core.specs.declared.mechanism.Mechanism.{Mechanism}

@@ -1,4 +1,5 @@
--- What a waiting server stands for: it keeps none of the messages, but two MACs that have taken them in.
+-- What a waiting server stands for. It keeps no message whole: of the first two it keeps the nonce, the gs2-header and, where
+-- the account has keys, two MACs that have taken in AuthMessage as far as the challenge.
 use Rattle.std.specs.Prelude.{ℕ, ◌≡◌, ◌↔◌, IsTrue, List}
 use Rattle.std.specs.declared.option.Option.{Option}
 use Rattle.std.specs.declared.option.Option.TheVariants.{None, Some}
@@ -13,16 +14,15 @@ use Rattle.scram_ends.specs.Opening.{Opening, IsOpening, IsAllowed}
 use Rattle.scram_ends.specs.declared.signing.Signing.{Signing}
 use Rattle.scram_ends.specs.declared.server.ServerWait.{ServerWait}
 
--- the keys at work are those of the account, and both MACs have taken in AuthMessage as far as the
--- challenge
+-- the value signs by these keys under this mechanism: it keeps StoredKey, and both its MACs, by StoredKey and by ServerKey,
+-- have taken in the text `front`
 pub record IsSigning (s : Signing) (m : Mechanism) (keys : Keys) (front : List ℕ) : Type 0 where
   pub mechanism : s.mechanism ≡ m
   pub stored : s.stored.items ≡ keys.stored
   pub client : IsScramMac m s.client keys.stored front
   pub server : IsScramMac m s.server keys.server front
 
--- where the account has keys, they are at work and both MACs have taken in AuthMessage as far as the
--- challenge; a decoy has none at work
+-- where there are keys, the value signs by them and its MACs have taken in `front`; where there are none, nothing signs
 abbrev pub IsSigningFor : Option Signing → Mechanism → Option Keys → List ℕ → Type 0
 IsSigningFor None m None front = Unit {0}
 IsSigningFor (Some s) m (Some keys) front = IsSigning s m keys front

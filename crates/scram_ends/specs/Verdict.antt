@@ -5,7 +5,7 @@ use Rattle.std.specs.List.{AllByRecursion}
 use Rattle.std.specs.declared.option.Option.TheVariants.{Some}
 use Rattle.scram_text.specs.Messages.{header_text, ClientFinalParts, IsClientFinal, client_final_mandatory, VerifierOrError, verified}
 use Rattle.scram_text.specs.Messages.{failed, ServerFinalParts, server_final_text}
-use Rattle.scram_text.specs.Rows.{IsFirstUnmet}
+use Rattle.scram_text.specs.FirstUnmet.{IsFirstUnmet}
 use Rattle.scram_ends.specs.Entry.{Keys}
 use Rattle.scram_ends.specs.Stages.{Challenged}
 use Rattle.scram_ends.specs.Auth.{auth_message, server_signature, IsProof}
@@ -18,12 +18,12 @@ use Rattle.scram_ends.specs.declared.verdict.Verdict.TheVariants as verdict
 use Rattle.scram_ends.specs.declared.verdict.Judged.{Judged}
 use Rattle.scram_ends.specs.declared.verdict.Judged.TheVariants as judged
 
--- the rows of the table, in order. InvalidEncoding is none of them: it is the answer to a text that is no client-final
--- message.
-abbrev pub rows : List Refusal
-rows = ExtensionsNotSupported ∷ OtherNonce ∷ Channel ∷ InvalidProof ∷ NotAuthorised ∷ []
+-- the refusals that come from the parts of client-final, in the order in which they are judged. InvalidEncoding is none of
+-- them: it is the answer to a text that is no client-final message.
+abbrev pub refusals_in_order : List Refusal
+refusals_in_order = ExtensionsNotSupported ∷ OtherNonce ∷ Channel ∷ InvalidProof ∷ NotAuthorised ∷ []
 
--- what each row asks of the parts of client-final, given the opening: no extension that must be known; the nonce that was
+-- what each row asks of the parts of client-final, given the opening: no mandatory extension; the nonce that was
 -- sent; the gs2-header of client-first as channel field; a proof by keys that the account has; a name that it may act as.
 -- InvalidEncoding is no row, and asks nothing.
 abbrev pub Asks : Refusal → Challenged → Opening → ClientFinalParts → Type 0
@@ -42,10 +42,10 @@ pub data Due : Type 0 where
 
 -- the verdict on the parts, given the opening: the refusal of the first row that they do not meet, or acceptance where they
 -- meet all, with the server's signature by keys that the account has
-abbrev pub IsWeighed : Challenged → Opening → ClientFinalParts → Due → Type 0
-IsWeighed l o final (refuse r) = IsFirstUnmet (λ row. Asks row l o final) rows r
-IsWeighed l o final (accept signature) =
-    AllByRecursion (λ row. Asks row l o final) rows
+abbrev pub IsVerdictOn : Challenged → Opening → ClientFinalParts → Due → Type 0
+IsVerdictOn l o final (refuse r) = IsFirstUnmet (λ row. Asks row l o final) refusals_in_order r
+IsVerdictOn l o final (accept signature) =
+    AllByRecursion (λ row. Asks row l o final) refusals_in_order
     × ((keys : Keys) × (l.entry.keys ≡ Some keys)
     × (signature ≡ server_signature l.mechanism keys (auth_message o.first l.server_first final)))
 
@@ -55,11 +55,11 @@ pub record IsDueToParts (l : Challenged) (client_final : List ℕ) (d : Due) : T
   pub final : ClientFinalParts
   pub is_opening : IsOpening l.entry l.client_first l.server_first opening
   pub is_final : IsClientFinal client_final final
-  pub weighed : IsWeighed l opening final d
+  pub weighed : IsVerdictOn l opening final d
 
 -- what is due to a text that comes as client-final: InvalidEncoding where it is no client-final message, else the verdict on
 -- its parts
-abbrev pub IsDue : Challenged → List ℕ → Due → Type 0
+abbrev pub IsDue : Challenged → (client_final : List ℕ) → Due → Type 0
 IsDue l client_final d =
     (((final : ClientFinalParts) → IsClientFinal client_final final → ⊥) × (d ≡ refuse InvalidEncoding))
     ⊎ IsDueToParts l client_final d

@@ -21,10 +21,10 @@ use thiserror::Error;
 /// The least iteration count that a client usually accepts: what servers should ask for at least (RFC 5802, section 5.1).
 const USUAL_LEAST: u32 = 4096;
 
-/// The most, at which a proof takes a client a second or two.
+/// The greatest iteration count that a client usually accepts: a proof then takes it a second or two.
 const USUAL_MOST: u32 = 1_000_000;
 
-/// A client that has sent nothing yet.
+/// The client's end of a login, which `Client::start` begins. No value of it is needed.
 #[derive(Clone, Copy, Debug, PartialEq, Eq)]
 pub struct Client;
 
@@ -39,8 +39,7 @@ pub struct Limits {
 }
 
 impl Limits {
-    /// 4096 to 1000000. The RFCs ask for at least 4096 (RFC 5802, section 5.1); the most is this crate's
-    /// own.
+    /// 4096 to 1000000. RFC 5802, section 5.1, asks servers for at least 4096; the most is this crate's own.
     pub fn usual() -> Limits
         ensures { AreUsual result }
     {
@@ -110,7 +109,7 @@ impl From<TextFault> for ClientFault {
 
 /// A client that has sent its first message and waits for the challenge.
 ///
-/// It does not keep the message, so its contracts say which one it stands for.
+/// It keeps the message as its gs2-header and its bare message, and its contracts say which login it stands for.
 #[derive(Drop)]
 pub struct ClientOne {
     mechanism: Mechanism,

@@ -59,9 +59,9 @@ impl From<TextFault> for FirstFault {
     }
 }
 
-/// The name that a client-first message gives, in plain bytes: a server looks its account up. Answers the
-/// first of these faults: 20 where the text is no client-first message, 21 where it is mandatory, 22 where
-/// its flag is `p=`, and 23 where the name or the name to act as is outside its limits.
+/// The name that a client-first message gives, in plain bytes: a server looks its account up. Answers the first of these faults:
+/// 20 where the text is no client-first message, 21 where it asks for a mandatory extension, 22 where its flag is `p=`, and 23
+/// where the name or the name to act as is outside its limits.
 pub fn first_name(client_first: &[u8]) -> Result<PlainName, FirstFault>
     ensures ok { IfOk result (λ name. (first : ClientFirstParts) × (authzid : Option (List ℕ))
         × IsClientFirst client_first.now first × IsTakenUp first name authzid) }

@@ -1,4 +1,4 @@
-//! Bytes in fixed buffers.
+//! Two byte strings joined in a fixed buffer, and compared.
 ghost use Rattle.std.specs.Prelude.{◌≡◌, ◌≤◌, ◌+◌, ◌↔◌, ◌++◌, length, IsTrue};
 
 use arrayvec::ArrayVec;
@@ -16,7 +16,7 @@ pub(crate) fn concatenated<const N: usize>(front: &[u8], back: &[u8]) -> ArrayVe
     bytes
 }
 
-/// Whether the bytes are the same. `==` says so too, but a proof can't use that.
+/// Whether the bytes are the same. `==` says so too, but a proof can't use that. Its time is not constant.
 pub(crate) fn are_same(one: &[u8], other: &[u8]) -> bool
     ensures { IsTrue result ↔ (one.now ≡ other.now) }
 {

@@ -2,7 +2,8 @@
 use mac_core::ScramKeys;
 use scram_text::{PlainName, Salt};
 
-/// An account as one mechanism sees it, or a decoy for a name that has no keys.
+/// What a server keeps of a name for one mechanism: an account's keys, or a decoy. It is an "entry", in the words of the
+/// definitions.
 #[derive(Drop)]
 pub struct KeysView<'a> {
     /// The salt that the server sends.
@@ -11,7 +12,7 @@ pub struct KeysView<'a> {
     /// The iteration count that the server sends, at least 1.
     pub count: u32,
 
-    /// The keys, each as long as the mechanism's values. None is a decoy: it gets a challenge as
+    /// The keys, each as long as the mechanism's digests. None is a decoy: it gets a challenge as
     /// every name does, and no proof passes.
     pub keys: Option<ScramKeys>,
 

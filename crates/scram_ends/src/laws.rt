@@ -2,17 +2,18 @@
 //! nothing.
 ghost use Rattle.scram_ends.specs.Laws.{AtMostOneIsDue, SomeIsDue, AcceptsExactlyValid, RefusedIsNotTakenUp};
 
-/// At most one verdict is due to a login.
+/// At most one verdict is due to a text that comes as client-final.
 pub fn at_most_one_verdict_is_due()
     ensures { AtMostOneIsDue }
 {}
 
-/// After an opening some verdict is due to every text.
+/// Where the first two messages open a login, some verdict is due to every text that comes as client-final.
 pub fn some_verdict_is_due()
     ensures { SomeIsDue }
 {}
 
-/// Acceptance is due exactly where there is a valid login.
+/// A login is valid exactly where acceptance is due to its client-final message and its server-final message bears the
+/// signature.
 pub fn acceptance_is_due_to_valid_logins()
     ensures { AcceptsExactlyValid }
 {}

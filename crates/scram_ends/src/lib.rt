@@ -6,8 +6,8 @@
 //! a login that was recorded, and take no memory.
 //!
 //! `specs/` defines a login by its whole messages: which verdict is due to it, when it is valid, and what
-//! an honest client sends. `laws` has what follows from these definitions: exactly one verdict is due to
-//! every client-final message, and acceptance exactly to valid logins.
+//! an honest client sends. `laws` has what follows from these definitions: where the first two messages open a
+//! login, exactly one verdict is due to every text that comes as client-final, and acceptance exactly to valid logins.
 //!
 //! ```rust
 //! use scram_ends::first_name;

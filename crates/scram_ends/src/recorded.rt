@@ -6,7 +6,7 @@ ghost use Rattle.scram_text.specs.Messages.{ClientFirstParts, IsClientFirst, Ser
 ghost use Rattle.scram_text.specs.Shown.{ShowsServerFirst};
 ghost use Rattle.scram_ends.specs.Entry.{entry_of};
 ghost use Rattle.scram_ends.specs.Stages.{challenged_login};
-ghost use Rattle.scram_ends.specs.Opening.{IsTakenUp, IsLonger, Opening, IsOpening};
+ghost use Rattle.scram_ends.specs.Opening.{IsTakenUp, ExtendsNonce, Opening, IsOpening};
 ghost use Rattle.scram_ends.specs.First.{IsRecordedFault};
 ghost use Rattle.scram_ends.specs.Standing.{StandsFor};
 ghost use Rattle.scram_ends.specs.Faults.{recorded_number};
@@ -54,9 +54,9 @@ impl From<FirstFault> for RecordedFault {
 
 impl ServerWait {
     /// A server after a recorded client-first message and challenge. Answers a fault of the client-first
-    /// message as `first_name` does, else 31 where the second text is no server-first message, or a
-    /// mandatory one, or its nonce does not begin with the client's or is the client's, or its salt or
-    /// count is not the account's.
+    /// message as `first_name` does, else 31 where the second text is no server-first message, or asks for a
+    /// mandatory extension, or its nonce does not begin with the client's or is the client's with nothing added, or its
+    /// salt or count is not the account's.
     pub fn recorded(
         mechanism: Mechanism,
         view: &KeysView<'_>,
@@ -99,7 +99,7 @@ fn is_challenge_to(view: &KeysView<'_>, nonce: &[u8], challenge: &ServerFirst<'_
 
 // Whether the nonce begins with the client's and is longer.
 fn is_longer(nonce: &[u8], client: &[u8]) -> bool
-    ensures { IsTrue result ↔ IsLonger client.now nonce.now }
+    ensures { IsTrue result ↔ ExtendsNonce client.now nonce.now }
 {
     nonce.len() > client.len() && nonce.starts_with(client)
 }

@@ -20,7 +20,7 @@ ghost use Rattle.scram_ends.specs.Entry.{entry_of};
 ghost use Rattle.scram_ends.specs.Stages.{Challenged, challenged_login};
 ghost use Rattle.scram_ends.specs.Auth.{auth_to_challenge};
 ghost use Rattle.scram_ends.specs.Opening.{IsTakenUp, IsAllowed, Opening, IsOpening};
-ghost use Rattle.scram_ends.specs.Verdict.{Due, refuse, IsDue, IsWeighed, due_of, due_text, final_due, verdict_of};
+ghost use Rattle.scram_ends.specs.Verdict.{Due, refuse, IsDue, IsVerdictOn, due_of, due_text, final_due, verdict_of};
 ghost use Rattle.scram_ends.specs.Login.{IsValidLogin};
 ghost use Rattle.scram_ends.specs.Standing.{IsSigningFor, StandsFor, IsSpentBy};
 ghost use Rattle.scram_ends.specs.First.{IsRefusedWith, IsChallengeTo, ShowsOpening};
@@ -80,7 +80,7 @@ pub struct ServerWait {
 
 /// Appends the challenge to a client-first message to `out`: the client's nonce with `own` after it, the
 /// account's salt and its count. Answers a fault of the client-first message as `first_name` does, else 99
-/// NoMemory, only where `out` had no room reserved for the challenge; `out` is then unchanged.
+/// NoMemory, only where `out` had no room reserved for the challenge. After each of these faults `out` is unchanged.
 pub fn server_first<A: Allocator>(
     mechanism: Mechanism,
     view: &KeysView<'_>,
@@ -97,7 +97,7 @@ pub fn server_first<A: Allocator>(
     ensures unchanged { UnchangedOnErr result out.old out.new }
     ensures first { IfErr result (λ r. (f : FirstFault) → r ≡ FirstRefused.First f
         → IsRefusedWith client_first.now f) }
-    // After a client-first message that is taken up, the only fault is that memory ran out.
+    // A fault of writing comes only after a client-first message that is taken up, and is only that memory ran out.
     ensures taken { IfErr result (λ r. (f : WriteFault) → r ≡ FirstRefused.Write f
         → (f ≡ WriteFault.NoMemory) × ((first : ClientFirstParts) × (name : List ℕ)
         × (authzid : Option (List ℕ)) × IsClientFirst client_first.now first × IsTakenUp first name authzid)) }
@@ -201,10 +201,10 @@ impl ServerWait {
     }
 
     // The verdict on the parts.
-    #[tactic(auto, using(scram_text::proofs::lemmas::Rows::first_found))]
+    #[tactic(auto, using(scram_text::proofs::lemmas::FirstUnmet::first_found))]
     fn weigh(&self, last: &ClientFinal<'_>) -> Judged
         ensures { (l : Challenged) (s : StandsFor self.now l) (p : ClientFinalParts)
-            → ShowsClientFinal last.now p → IsWeighed l s.opening p (due_of result) }
+            → ShowsClientFinal last.now p → IsVerdictOn l s.opening p (due_of result) }
     {
         if last.mandatory {
             return Judged::Refused(Refusal::ExtensionsNotSupported);
@@ -230,9 +230,9 @@ impl ServerWait {
     /// Appends the server's final message to `out`, and returns the verdict that it bears: that the login
     /// is accepted, or why not, as `judge` decides.
     ///
-    /// After a fault `out` is unchanged. After 99 NoMemory, which comes only where `out` had no room reserved for the
-    /// message, of at most 2048 bytes, the value that is handed back is as before. After 16 or 17, which no value
-    /// that stands for a login meets, it is spent, and answers this fault to every later call.
+    /// After a fault `out` is unchanged. 99 NoMemory comes only where `out` had no room reserved for the message, which has at
+    /// most 2048 bytes; the value that is handed back is then as before. After 16 or 17, which no value that stands for a login
+    /// meets, the value is spent: each later call of `finish` answers the same fault, and `judge` refuses as InvalidProof.
     pub fn finish<A: Allocator>(
         self,
         client_final: &[u8],
@@ -242,7 +242,8 @@ impl ServerWait {
         ensures ok { IfOk result (λ v. (l : Challenged) → StandsFor self l
             → (d : Due) × IsDue l client_final.now d × (v ≡ verdict_of d)
             × (out.new.items ≡ out.old.items ++ due_text d) × IsServerFinal (due_text d) (final_due d)) }
-        // A login is accepted exactly where it is valid.
+        // A login is accepted exactly where it is valid: this follows from `ok` and the law
+        // `acceptance_is_due_to_valid_logins`.
         ensures valid { IfOk result (λ v. (l : Challenged) → StandsFor self l
             → (server_final : List ℕ) × (out.new.items ≡ out.old.items ++ server_final)
             × ((v ≡ Verdict.Accepted) ↔ IsValidLogin l client_final.now server_final)) }
@@ -252,11 +253,9 @@ impl ServerWait {
         ensures again { (fault : WriteFault) → IsSpentBy self fault
             → IsErrAnd result (λ r. (r.0 ≡ self) × (r.1 ≡ fault)) }
         // Where the value stands for a login, the only fault is that memory ran out.
-        ensures memory { IfErr result (λ r. (l : Challenged) → StandsFor self l
-            → r.1 ≡ WriteFault.NoMemory) }
         ensures no_memory { IfErr result (λ r. (l : Challenged) → StandsFor self l
-            → (d : Due) × IsDue l client_final.now d × (length (due_text d) ≤ longest_message)
-            × LacksRoom out.old (due_text d)) }
+            → (r.1 ≡ WriteFault.NoMemory) × ((d : Due) × IsDue l client_final.now d
+            × (length (due_text d) ≤ longest_message) × LacksRoom out.old (due_text d))) }
     {
         if let Some(fault) = self.spent {
             return Err((self, fault));

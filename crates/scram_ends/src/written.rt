@@ -36,7 +36,7 @@ pub(crate) fn write_challenge<A: Allocator>(
     write_server_first(nonce, salt, count, b"", out)
 }
 
-// 1 to 64 bytes fit a field: a law, which rules out the writer's other faults.
+// 1 to 64 bytes fit a field, so the writer has no other fault; the proof alone needs this.
 fn fits_a_field(bytes: &[u8])
     requires some { 1 ≤ length bytes.now }
     requires most { length bytes.now ≤ 64 }

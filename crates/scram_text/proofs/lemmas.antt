@@ -1,4 +1,5 @@
 -- Lemmas: what the proofs of this crate and of those above it cite.
+pub mod AttrVals
 pub mod Base64
 pub mod ClientFinal
 pub mod ClientFirst
@@ -12,7 +13,7 @@ pub mod MessagesDecided
 pub mod Names
 pub mod Parts
 pub mod Places
-pub mod Rows
+pub mod FirstUnmet
 pub mod ServerFinal
 pub mod ServerFirst
 pub mod Texts

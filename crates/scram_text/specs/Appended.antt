@@ -5,7 +5,8 @@ use Rattle.std.specs.Prelude.{ℕ, ◌+◌, ◌≤◌, ◌<◌, ◌≡◌, List,
 abbrev pub UnchangedOnErr : {T E Z : Type 0} → Result T E → (old new : Vec ℕ Z) → Type 0
 UnchangedOnErr result old new = OnErr result (vec_items new ≡ vec_items old) × (vec_capacity old ≤ vec_capacity new)
 
--- where the call answers Ok, the text is appended; where it answers Err, nothing is
+-- where the call answers Ok, the text is appended; where it answers Err, nothing is; in both cases the vector keeps the room
+-- that it has
 abbrev pub IsAppended : {T E Z : Type 0} → Result T E → (old new : Vec ℕ Z) → (text : List ℕ) → Type 0
 IsAppended result old new text = OnOk result (vec_items new ≡ vec_items old ++ text) × UnchangedOnErr result old new
 

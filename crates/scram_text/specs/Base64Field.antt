@@ -1,18 +1,17 @@
--- The base64 fields of a message: texts of the STANDARD engine (RFC 4648, section 4).
-use Rattle.std.specs.Prelude.{ℕ, ◌≡◌, ◌≤◌, ◌+◌, ◌*◌, ◌/◌, List, length}
+-- The base64 fields of a message (RFC 4648, section 4).
+use Rattle.std.specs.Prelude.{ℕ, ◌≡◌, ◌≤◌, List, length}
 use Rattle.std.specs.declared.result.Result.{Result}
 use Rattle.std.specs.declared.result.Result.TheVariants.{Ok}
 use Rattle.base64.specs.declared.decode.DecodeError.{DecodeError}
 use Rattle.base64.specs.Engines.{standard}
-use Rattle.base64.specs.GeneralPurpose.{encode_of, decode_of, IsBytes}
-use Rattle.scram_text.specs.Limits.{longest_channel}
+use Rattle.base64.specs.GeneralPurpose.{encode_of, decode_of}
 use Rattle.scram_text.specs.Name.{LacksComma}
 
--- the engine's text of these bytes: padded, with unused bits zero. That of "n,," is "biws".
+-- the base64 of these bytes, padded and with no unused bits set: that of "n,," is "biws"
 unfoldable pub base64 : List ℕ → List ℕ
 base64 bytes = encode_of standard bytes
 
--- what the engine decodes a text to, or its error
+-- the bytes that a base64 text is decoded to, or the error
 unfoldable pub reading : List ℕ → Result (List ℕ) DecodeError
 reading text = decode_of standard text
 
@@ -28,9 +27,3 @@ pub record IsField (most : ℕ) (bytes : List ℕ) : Type 0 where
   pub at_least : 1 ≤ length bytes
   pub at_most : length bytes ≤ most
   pub field : IsBase64Of (base64 bytes) bytes
-
--- base64 has its usual form: the text of 1 to 1536 bytes has no comma, is decoded to them, and has
--- four bytes for each three begun
-abbrev pub HasUsualBase64 : Type 0
-HasUsualBase64 = (bytes : List ℕ) → IsBytes bytes → 1 ≤ length bytes → length bytes ≤ longest_channel
-    → IsBase64Of (base64 bytes) bytes × (length (base64 bytes) ≡ 4 * ((length bytes + 2) / 3))

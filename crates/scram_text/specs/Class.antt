@@ -43,8 +43,8 @@ IsPlainName name = IsRunOf is_plain longest_name name
 abbrev pub IsPassword : List ℕ → Type 0
 IsPassword password = IsRunOf is_plain longest_password password
 
--- a nonce of at most so many characters: 1*(printable)
-abbrev pub IsNonce : ℕ → List ℕ → Type 0
+-- a nonce of 1 to `most` characters: 1*(printable)
+abbrev pub IsNonce : (most : ℕ) → (nonce : List ℕ) → Type 0
 IsNonce most nonce = IsRunOf is_printable most nonce
 
 -- what one end adds to a nonce: 1 to 256 characters

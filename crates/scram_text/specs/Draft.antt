@@ -8,7 +8,7 @@ pub record IsDraftOf {most : ℕ} (draft : Draft most) (text : List ℕ) : Type 
   pub held : draft.over ≡ false → draft.text.items ≡ text
   pub over : draft.over ≡ true → most < length text
 
--- a text that is not empty, with a comma before it
+-- a comma and the text, or nothing where the text is empty
 abbrev pub after_comma : List ℕ → List ℕ
 after_comma [] = []
 after_comma (c ∷ text) = byte "," ∷ c ∷ text

@@ -5,10 +5,10 @@ use Rattle.std.specs.List.{zip}
 use Rattle.std.specs.Str.{byte}
 use Rattle.std.specs.declared.option.Option.{Option}
 use Rattle.scram_text.specs.Limits.{longest_channel, longest_message, longest_nonce, longest_nonce_part, longest_salt, longest_tag}
-use Rattle.scram_text.specs.Rows.{IsFirstUnmet}
+use Rattle.scram_text.specs.FirstUnmet.{IsFirstUnmet}
 use Rattle.scram_text.specs.Class.{IsNonce, IsText}
 use Rattle.scram_text.specs.Name.{IsSaslName}
-use Rattle.scram_text.specs.Parts.{parts, is_headed, is_flag, authzid_text, IsHeaded, IsValue, IsExtension, SpellsCount, SpellsField}
+use Rattle.scram_text.specs.Parts.{parts, is_named, is_flag, authzid_text, IsAttrVal, IsValue, IsExtension, SpellsCount, SpellsField}
 use Rattle.scram_text.specs.declared.fault.TextFault.{TextFault}
 use Rattle.scram_text.specs.declared.fault.TextWhy.{TextWhy}
 use Rattle.scram_text.specs.declared.fault.TextWhy.TheVariants.{TooLong, NotText, Missing, Flag, Authzid, Mandatory, Name, Nonce, Salt}
@@ -41,7 +41,7 @@ write_number OverLimit = 17
 write_number NoMemory = 99
 
 -- a fault of this part, for this reason
-abbrev pub fault : ℕ → TextWhy → TextFault
+abbrev pub fault : (part : ℕ) → TextWhy → TextFault
 fault part why = record { part = part; why = why }
 
 -- the part is nothing, or "a=" and a saslname
@@ -50,22 +50,22 @@ IsAuthzid part = (authzid : Option (List ℕ)) × (part ≡ authzid_text authzid
 
 -- what a part has to be at the place that gives this fault, in a message whose nonce has at most `most`
 -- characters
-abbrev pub Fits : ℕ → TextWhy → List ℕ → Type 0
+abbrev pub Fits : (most : ℕ) → TextWhy → (part : List ℕ) → Type 0
 Fits most TooLong part = Unit {0}
 Fits most NotText part = Unit {0}
 Fits most Missing part = Unit {0}
 Fits most Flag part = IsTrue (is_flag part)
 Fits most Authzid part = IsAuthzid part
-Fits most Mandatory part = IsHeaded (byte "m") IsValue part
-Fits most Name part = IsHeaded (byte "n") IsSaslName part
-Fits most Nonce part = IsHeaded (byte "r") (IsNonce most) part
-Fits most Salt part = IsHeaded (byte "s") (SpellsField longest_salt) part
-Fits most Count part = IsHeaded (byte "i") SpellsCount part
-Fits most Channel part = IsHeaded (byte "c") (SpellsField longest_channel) part
+Fits most Mandatory part = IsAttrVal (byte "m") IsValue part
+Fits most Name part = IsAttrVal (byte "n") IsSaslName part
+Fits most Nonce part = IsAttrVal (byte "r") (IsNonce most) part
+Fits most Salt part = IsAttrVal (byte "s") (SpellsField longest_salt) part
+Fits most Count part = IsAttrVal (byte "i") SpellsCount part
+Fits most Channel part = IsAttrVal (byte "c") (SpellsField longest_channel) part
 Fits most Extension part = IsExtension part
-Fits most Proof part = IsHeaded (byte "p") (SpellsField longest_tag) part
-Fits most Verifier part = IsHeaded (byte "v") (SpellsField longest_tag) part
-Fits most ErrorValue part = IsHeaded (byte "e") IsValue part
+Fits most Proof part = IsAttrVal (byte "p") (SpellsField longest_tag) part
+Fits most Verifier part = IsAttrVal (byte "v") (SpellsField longest_tag) part
+Fits most ErrorValue part = IsAttrVal (byte "e") IsValue part
 
 -- the fault is of the first part that does not fit its place, with parts counted from k
 pub record IsFirstMisfit (most : ℕ) (places : List TextWhy) (k : ℕ) (pieces : List (List ℕ)) (f : TextFault) : Type 0 where
@@ -73,30 +73,25 @@ pub record IsFirstMisfit (most : ℕ) (places : List TextWhy) (k : ℕ) (pieces 
   pub first : IsFirstUnmet (λ row. Fits most row.0 row.1) (zip places pieces) (f.why, part)
   pub number : f.part ≡ k + length first.before
 
--- the first part that is no extension, where all have to be, with parts counted from k
-abbrev pub IsExtensionMisfit : ℕ → List (List ℕ) → TextFault → Type 0
-IsExtensionMisfit k pieces f =
-    (most : ℕ) → IsFirstMisfit most (replicate (length pieces) Extension) k pieces f
-
 -- the places of n parts: the fixed ones of the front and of the back, and extensions between them
-abbrev pub places : List TextWhy → List TextWhy → ℕ → List TextWhy
+abbrev pub places : (front back : List TextWhy) → (n : ℕ) → List TextWhy
 places front back n = front ++ (replicate (n - (length front + length back)) Extension ++ back)
 
 -- a part is missing, or does not fit its place
-abbrev pub IsPartFault : ℕ → List TextWhy → List TextWhy → List (List ℕ) → TextFault → Type 0
+abbrev pub IsPartFault : (most : ℕ) → (front back : List TextWhy) → (pieces : List (List ℕ)) → TextFault → Type 0
 IsPartFault most front back pieces f =
     ((length pieces < length front + length back) × (f ≡ fault (length pieces) Missing))
     ⊎ ((length front + length back ≤ length pieces)
     × IsFirstMisfit most (places front back (length pieces)) 0 pieces f)
 
--- the text is over the limit, or is no text
+-- the text has more than 2048 bytes, or is not UTF-8 without NUL
 abbrev pub IsWholeFault : List ℕ → TextFault → Type 0
 IsWholeFault text f =
     ((longest_message < length text) × (f ≡ fault 0 TooLong))
     ⊎ ((length text ≤ longest_message) × (IsText text → ⊥) × (f ≡ fault 0 NotText))
 
 -- the first fault of a text that is no message with these fixed places
-abbrev pub IsFault : ℕ → List TextWhy → List TextWhy → List ℕ → TextFault → Type 0
+abbrev pub IsFault : (most : ℕ) → (front back : List TextWhy) → (text : List ℕ) → TextFault → Type 0
 IsFault most front back text f =
     IsWholeFault text f
     ⊎ ((length text ≤ longest_message) × IsText text × IsPartFault most front back (parts text) f)
@@ -108,7 +103,7 @@ first_of (part ∷ pieces) = part
 
 -- the place of a mandatory extension, where the first part begins with "m=", and then the later places
 abbrev pub marked_places : List (List ℕ) → List TextWhy → List TextWhy
-marked_places pieces later = if is_headed (byte "m") (first_of pieces) then Mandatory ∷ later else later
+marked_places pieces later = if is_named (byte "m") (first_of pieces) then Mandatory ∷ later else later
 
 -- the places of client-first: its bare message is what follows the second part
 abbrev pub client_first_places : List (List ℕ) → List TextWhy
@@ -132,12 +127,12 @@ IsClientFinalFault text f = IsFault longest_nonce (Channel ∷ Nonce ∷ []) (Pr
 
 -- the place of a first part of server-final: one that begins with "e=" is an error
 abbrev pub result_place : List ℕ → TextWhy
-result_place part = if is_headed (byte "e") part then ErrorValue else Verifier
+result_place part = if is_named (byte "e") part then ErrorValue else Verifier
 
 -- the places of server-final
 abbrev pub server_final_places : List (List ℕ) → List TextWhy
 server_final_places pieces = result_place (first_of pieces) ∷ []
 
--- the first fault of a text that is no server-final message
+-- the first fault of a text that is no server-final message. It has no nonce, so the limit of a nonce plays no part.
 abbrev pub IsServerFinalFault : List ℕ → TextFault → Type 0
 IsServerFinalFault text f = IsFault longest_nonce (server_final_places (parts text)) [] text f

@@ -1,16 +1,22 @@
--- The laws of the grammar: that base64 fields hold all bytes within the limits, that parts are UTF-8, that a text is a message with at
--- most one list of parts, and that it is decided whether it is one. That base64 has its usual form is in `Base64Field`.
-use Rattle.std.specs.Prelude.{ℕ, ◌≡◌, ◌≤◌, ◌⊎◌, List, length}
+-- The laws of the grammar: that base64 has its usual form, that its fields hold all bytes within the limits, that parts are
+-- UTF-8, that a text is a message in at most one way, and that it is decided whether it is one.
+use Rattle.std.specs.Prelude.{ℕ, ◌≡◌, ◌≤◌, ◌⊎◌, ◌+◌, ◌*◌, ◌/◌, List, length}
 use Rattle.std.specs.List.{AllByRecursion}
 use Rattle.std.specs.Str.{IsUtf8}
 use Rattle.base64.specs.GeneralPurpose.{IsBytes}
 use Rattle.scram_text.specs.Limits.{longest_channel}
 use Rattle.scram_text.specs.Class.{IsPlainName}
 use Rattle.scram_text.specs.Name.{SpellsName}
-use Rattle.scram_text.specs.Base64Field.{IsField}
+use Rattle.scram_text.specs.Base64Field.{base64, IsBase64Of, IsField}
 use Rattle.scram_text.specs.Parts.{parts}
 use Rattle.scram_text.specs.Messages.{ClientFirstParts, IsClientFirst, ServerFirstParts, IsServerFirst, ClientFinalParts, IsClientFinal}
 use Rattle.scram_text.specs.Messages.{ServerFinalParts, IsServerFinal}
+
+-- base64 has its usual form: the text of 1 to 1536 bytes has no comma, is decoded to them, and has
+-- four bytes for each three begun
+abbrev pub HasUsualBase64 : Type 0
+HasUsualBase64 = (bytes : List ℕ) → IsBytes bytes → 1 ≤ length bytes → length bytes ≤ longest_channel
+    → IsBase64Of (base64 bytes) bytes × (length (base64 bytes) ≡ 4 * ((length bytes + 2) / 3))
 
 -- bytes within the limits fit a field
 abbrev pub FieldsHoldBytes : Type 0
@@ -30,7 +36,7 @@ abbrev pub NameIsDecided : Type 0
 NameIsDecided = (spelled : List ℕ) → ((name : List ℕ) × IsPlainName name × SpellsName name spelled)
     ⊎ ((name : List ℕ) → IsPlainName name → SpellsName name spelled → ⊥)
 
--- a text is a client-first message with at most one list of parts
+-- a text is a client-first message in at most one way
 abbrev pub HasOneClientFirst : Type 0
 HasOneClientFirst = (text : List ℕ) (p q : ClientFirstParts) → IsClientFirst text p → IsClientFirst text q → p ≡ q
 
@@ -39,7 +45,7 @@ abbrev pub ClientFirstIsDecided : Type 0
 ClientFirstIsDecided = (text : List ℕ) → ((p : ClientFirstParts) × IsClientFirst text p)
     ⊎ ((p : ClientFirstParts) → IsClientFirst text p → ⊥)
 
--- a text is a server-first message with at most one list of parts
+-- a text is a server-first message in at most one way
 abbrev pub HasOneServerFirst : Type 0
 HasOneServerFirst = (text : List ℕ) (p q : ServerFirstParts) → IsServerFirst text p → IsServerFirst text q → p ≡ q
 
@@ -48,7 +54,7 @@ abbrev pub ServerFirstIsDecided : Type 0
 ServerFirstIsDecided = (text : List ℕ) → ((p : ServerFirstParts) × IsServerFirst text p)
     ⊎ ((p : ServerFirstParts) → IsServerFirst text p → ⊥)
 
--- a text is a client-final message with at most one list of parts
+-- a text is a client-final message in at most one way
 abbrev pub HasOneClientFinal : Type 0
 HasOneClientFinal = (text : List ℕ) (p q : ClientFinalParts) → IsClientFinal text p → IsClientFinal text q → p ≡ q
 
@@ -57,7 +63,7 @@ abbrev pub ClientFinalIsDecided : Type 0
 ClientFinalIsDecided = (text : List ℕ) → ((p : ClientFinalParts) × IsClientFinal text p)
     ⊎ ((p : ClientFinalParts) → IsClientFinal text p → ⊥)
 
--- a text is a server-final message with at most one list of parts
+-- a text is a server-final message in at most one way
 abbrev pub HasOneServerFinal : Type 0
 HasOneServerFinal = (text : List ℕ) (p q : ServerFinalParts) → IsServerFinal text p → IsServerFinal text q → p ≡ q
 

@@ -4,7 +4,7 @@ pub mod Name
 pub mod Base64Field
 pub mod Parts
 pub mod Messages
-pub mod Rows
+pub mod FirstUnmet
 pub mod Faults
 pub mod Shown
 pub mod Pieces

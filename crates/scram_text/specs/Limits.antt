@@ -34,10 +34,6 @@ longest_salt = 64
 abbrev pub longest_tag : ℕ
 longest_tag = 64
 
--- the most parts of a message: one more than it can have commas
-abbrev pub most_parts : ℕ
-most_parts = longest_message + 1
-
 -- the greatest iteration count
 abbrev pub most_count : ℕ
 most_count = 4294967295

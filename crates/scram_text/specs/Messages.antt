@@ -35,7 +35,7 @@ bare_text p = joined (bare_parts p)
 unfoldable pub client_first_text : ClientFirstParts → List ℕ
 client_first_text p = header_text p ++ bare_text p
 
--- the message asks for an extension that must be known
+-- the message asks for a mandatory extension
 abbrev pub client_first_mandatory : ClientFirstParts → Bool
 client_first_mandatory p = is_some p.mext || have_mandatory p.extensions
 
@@ -66,7 +66,7 @@ server_first_text p =
     joined (mext_parts p.mext ++ ((codes "r=" ++ p.nonce) ∷ (codes "s=" ++ base64 p.salt)
     ∷ (codes "i=" ++ decimal p.count) ∷ p.extensions))
 
--- the message asks for an extension that must be known
+-- the message asks for a mandatory extension
 abbrev pub server_first_mandatory : ServerFirstParts → Bool
 server_first_mandatory p = is_some p.mext || have_mandatory p.extensions
 
@@ -97,7 +97,7 @@ client_final_without_proof p = joined ((codes "c=" ++ base64 p.channel) ∷ (cod
 unfoldable pub client_final_text : ClientFinalParts → List ℕ
 client_final_text p = client_final_without_proof p ++ byte "," ∷ (codes "p=" ++ base64 p.proof)
 
--- the message asks for an extension that must be known
+-- the message asks for a mandatory extension
 abbrev pub client_final_mandatory : ClientFinalParts → Bool
 client_final_mandatory p = have_mandatory p.extensions
 
@@ -136,7 +136,7 @@ IsVerifierOrError (failed value) = IsValue value
 unfoldable pub server_final_text : ServerFinalParts → List ℕ
 server_final_text p = joined (verifier_or_error_text p.outcome ∷ p.extensions)
 
--- the message asks for an extension that must be known
+-- the message asks for a mandatory extension
 abbrev pub server_final_mandatory : ServerFinalParts → Bool
 server_final_mandatory p = have_mandatory p.extensions
 

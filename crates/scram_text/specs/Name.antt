@@ -20,7 +20,7 @@ abbrev pub is_escaped : List ℕ → Bool
 is_escaped [] = true
 is_escaped (c ∷ rest) = (not (c == byte "=") || ends_escape rest) && is_escaped rest
 
--- saslname = 1*(value-safe-char / "=2C" / "=3D"), as in a message that is a text: "a=2Cb"
+-- saslname = 1*(value-safe-char / "=2C" / "=3D"), as "a=2Cb", in a message that is a text
 pub record IsSaslName (spelled : List ℕ) : Type 0 where
   pub at_least : 1 ≤ length spelled
   pub no_comma : LacksComma spelled
@@ -35,5 +35,5 @@ abbrev pub name_spelling : List ℕ → List ℕ
 name_spelling name = flat_map escape name
 
 -- the saslname spells this name
-abbrev pub SpellsName : List ℕ → List ℕ → Type 0
+abbrev pub SpellsName : (name spelled : List ℕ) → Type 0
 SpellsName name spelled = spelled ≡ name_spelling name

@@ -24,14 +24,14 @@ parts_of_some None = []
 parts_of_some (Some text) = parts text
 
 -- the part begins with this letter and `=`
-abbrev pub is_headed : ℕ → List ℕ → Bool
-is_headed letter [] = false
-is_headed letter (a ∷ []) = false
-is_headed letter (a ∷ b ∷ value) = (a == letter) && (b == byte "=")
+abbrev pub is_named : (letter : ℕ) → (part : List ℕ) → Bool
+is_named letter [] = false
+is_named letter (a ∷ []) = false
+is_named letter (a ∷ b ∷ value) = (a == letter) && (b == byte "=")
 
 -- the part is this letter, `=` and a value of the class
-abbrev pub IsHeaded : ℕ → (List ℕ → Type 0) → List ℕ → Type 0
-IsHeaded letter class part = (value : List ℕ) × (part ≡ letter ∷ byte "=" ∷ value) × class value
+abbrev pub IsAttrVal : (letter : ℕ) → (class : List ℕ → Type 0) → (part : List ℕ) → Type 0
+IsAttrVal letter class part = (value : List ℕ) × (part ≡ letter ∷ byte "=" ∷ value) × class value
 
 -- value = 1*value-char, in a text
 pub record IsValue (value : List ℕ) : Type 0 where
@@ -68,25 +68,17 @@ abbrev pub SpellsCount : List ℕ → Type 0
 SpellsCount value = (count : ℕ) × (value ≡ decimal count) × IsCount count
 
 -- the value is the base64 of 1 to `most` bytes
-abbrev pub SpellsField : ℕ → List ℕ → Type 0
+abbrev pub SpellsField : (most : ℕ) → (value : List ℕ) → Type 0
 SpellsField most value = (bytes : List ℕ) × (value ≡ base64 bytes) × IsField most bytes
 
--- the part is a letter, `=`, and one byte or more
-abbrev pub is_attribute : List ℕ → Bool
-is_attribute [] = false
-is_attribute (a ∷ []) = false
-is_attribute (a ∷ b ∷ []) = false
-is_attribute (a ∷ b ∷ c ∷ value) = is_letter a && (b == byte "=")
-
--- an extension: attr-val = ALPHA "=" value, whose value has no comma
-pub record IsExtension (part : List ℕ) : Type 0 where
-  pub attribute : IsTrue (is_attribute part)
-  pub no_comma : LacksComma part
+-- an extension: attr-val = ALPHA "=" value
+abbrev pub IsExtension : (part : List ℕ) → Type 0
+IsExtension part = (letter : ℕ) × IsTrue (is_letter letter) × IsAttrVal letter IsValue part
 
 -- extensions = attr-val *("," attr-val), or none
 abbrev pub AreExtensions : List (List ℕ) → Type 0
 AreExtensions extensions = AllByRecursion IsExtension extensions
 
--- an extension is named "m", so the message is mandatory
+-- one of the extensions is mandatory: it is named "m"
 abbrev pub have_mandatory : List (List ℕ) → Bool
-have_mandatory extensions = list_any (is_headed (byte "m")) extensions
+have_mandatory extensions = list_any (is_named (byte "m")) extensions

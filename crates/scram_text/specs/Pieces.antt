@@ -1,13 +1,13 @@
 -- What the readers cut a message into before they read its parts. For private functions alone: no public contract cites this file.
-use Rattle.std.specs.Prelude.{◌≡◌, ◌≤◌, ◌+◌, [], ◌∷◌, ◌++◌, List, ℕ, length, IfSome, is_some}
+use Rattle.std.specs.Prelude.{◌≡◌, ◌≤◌, ◌+◌, [], ◌∷◌, ◌++◌, List, ℕ, length, replicate, IfSome, is_some, Bool, false, ◌&&◌, ◌==◌}
 use Rattle.std.specs.Str.{byte}
 use Rattle.std.specs.Option.{option_copied}
-use Rattle.scram_text.specs.Class.{IsText, IsNonce}
+use Rattle.scram_text.specs.Class.{IsText, IsNonce, is_letter}
 use Rattle.scram_text.specs.Name.{IsSaslName}
 use Rattle.scram_text.specs.Messages.{ClientFirstParts, bare_parts, client_first_mandatory}
 use Rattle.std.specs.declared.option.Option.{Option}
-use Rattle.scram_text.specs.Limits.{longest_message, longest_nonce_part, most_parts}
-use Rattle.scram_text.specs.Parts.{parts, parts_of_some, mext_parts, joined, IsValue, is_headed, AreExtensions}
+use Rattle.scram_text.specs.Limits.{longest_message, longest_nonce_part}
+use Rattle.scram_text.specs.Parts.{parts, parts_of_some, mext_parts, joined, IsValue, is_named, AreExtensions}
 use Rattle.scram_text.specs.Faults.{IsFirstMisfit, places, first_of, marked_places}
 use Rattle.scram_text.specs.declared.client_final.Pieces.{Pieces}
 use Rattle.scram_text.specs.declared.server_first.Pieces.{Pieces as ServerPieces}
@@ -16,17 +16,33 @@ use Rattle.scram_text.specs.declared.client_first.BarePieces.{BarePieces}
 use Rattle.scram_text.specs.declared.client_first.Bare.{Bare}
 use Rattle.scram_text.specs.declared.fault.TextFault.{TextFault}
 use Rattle.scram_text.specs.declared.fault.TextWhy.{TextWhy}
-use Rattle.scram_text.specs.declared.fault.TextWhy.TheVariants.{Name, Nonce}
+use Rattle.scram_text.specs.declared.fault.TextWhy.TheVariants.{Name, Nonce, Extension}
+
+-- the most parts of a message: one more than it can have commas
+abbrev pub most_parts : ℕ
+most_parts = longest_message + 1
+
+-- the first part that is no extension, where all have to be, with parts counted from k
+abbrev pub IsExtensionMisfit : ℕ → List (List ℕ) → TextFault → Type 0
+IsExtensionMisfit k pieces f =
+    (most : ℕ) → IsFirstMisfit most (replicate (length pieces) Extension) k pieces f
+
+-- the part is a letter, `=`, and one byte or more
+abbrev pub is_attribute : List ℕ → Bool
+is_attribute [] = false
+is_attribute (a ∷ []) = false
+is_attribute (a ∷ b ∷ []) = false
+is_attribute (a ∷ b ∷ c ∷ value) = is_letter a && (b == byte "=")
 
 -- the parts of a text that may be client-final
-pub record IsCutFinal (message : List ℕ) (pieces : Pieces) : Type 0 where
+pub record IsCutClientFinal (message : List ℕ) (pieces : Pieces) : Type 0 where
   pub short : length message ≤ longest_message
   pub is_text : IsText message
   pub whole : message ≡ pieces.without_proof.now ++ byte "," ∷ pieces.proof.now
   pub cut : parts pieces.without_proof.now ≡ pieces.channel.now ∷ pieces.nonce.now ∷ parts_of_some (option_copied pieces.rest)
   pub cut_whole : parts message ≡ pieces.channel.now ∷ pieces.nonce.now
       ∷ (parts_of_some (option_copied pieces.rest) ++ pieces.proof.now ∷ [])
-  pub count : pieces.count ≡ length (parts message)
+  pub count : pieces.parts ≡ length (parts message)
   pub few : length (parts message) ≤ most_parts
   pub channel_len : length pieces.channel.now ≤ longest_message
 
@@ -34,7 +50,7 @@ pub record IsCutFinal (message : List ℕ) (pieces : Pieces) : Type 0 where
 pub record IsMarked (pieces rest : List (List ℕ)) (mext : Option (List ℕ)) : Type 0 where
   pub cut : pieces ≡ mext_parts mext ++ rest
   pub value : IfSome mext IsValue
-  pub headed : is_headed (byte "m") (first_of pieces) ≡ is_some mext
+  pub headed : is_named (byte "m") (first_of pieces) ≡ is_some mext
 
 -- the first part begins with "m=" and is no mandatory extension: it is the first misfit
 abbrev pub IsMextMisfit : ℕ → List (List ℕ) → TextFault → Type 0
@@ -42,18 +58,18 @@ IsMextMisfit k pieces f =
     (most : ℕ) (later : List TextWhy) → IsFirstMisfit most (places (marked_places pieces later) [] (length pieces)) k pieces f
 
 -- the parts of a text that may be server-first
-pub record IsCutServer (message : List ℕ) (pieces : ServerPieces) : Type 0 where
+pub record IsCutServerFirst (message : List ℕ) (pieces : ServerPieces) : Type 0 where
   pub short : length message ≤ longest_message
   pub is_text : IsText message
   pub mext : Option (List ℕ)
   pub marked : IsMarked (parts message) (pieces.nonce.now ∷ pieces.salt.now ∷ pieces.count.now
       ∷ parts_of_some (option_copied pieces.rest)) mext
-  pub is_marked : pieces.marked ≡ is_some mext
+  pub is_marked : pieces.has_mext ≡ is_some mext
   pub index : pieces.index ≡ length (mext_parts mext)
   pub few : length (parts message) ≤ most_parts
 
 -- the parts of a text that may be client-first
-pub record IsCutFirst (message : List ℕ) (pieces : FirstPieces) : Type 0 where
+pub record IsCutClientFirst (message : List ℕ) (pieces : FirstPieces) : Type 0 where
   pub short : length message ≤ longest_message
   pub is_text : IsText message
   pub header : message ≡ pieces.header.now ++ pieces.bare.now
@@ -66,13 +82,13 @@ pub record IsCutFirst (message : List ℕ) (pieces : FirstPieces) : Type 0 where
 pub record IsCutBare (bare : List ℕ) (pieces : BarePieces) : Type 0 where
   pub mext : Option (List ℕ)
   pub marked : IsMarked (parts bare) (pieces.name.now ∷ pieces.nonce.now ∷ parts_of_some (option_copied pieces.rest)) mext
-  pub is_marked : pieces.marked ≡ is_some mext
+  pub is_marked : pieces.has_mext ≡ is_some mext
   pub index : pieces.index ≡ 2 + length (mext_parts mext)
 
 -- the parts of client-first-bare
 pub record IsBare (pieces : List (List ℕ)) (p : ClientFirstParts) : Type 0 where
   pub cut : pieces ≡ bare_parts p
-  pub headed : is_headed (byte "m") (first_of pieces) ≡ is_some p.mext
+  pub headed : is_named (byte "m") (first_of pieces) ≡ is_some p.mext
   pub mext : IfSome p.mext IsValue
   pub name : IsSaslName p.name
   pub nonce : IsNonce longest_nonce_part p.nonce

@@ -47,7 +47,7 @@ pub record ShowsClientFinal (m : ClientFinal) (p : ClientFinalParts) : Type 0 wh
   pub extensions : m.extensions.now ≡ joined p.extensions
   pub proof : m.proof.items ≡ p.proof
 
--- what a result says
+-- the verifier or the error value that a result holds
 abbrev pub verifier_or_error_of : FinalResult → VerifierOrError
 verifier_or_error_of (Verifier signature) = verified signature.items
 verifier_or_error_of (ErrorValue value) = failed value.now

@@ -9,7 +9,7 @@ use Rattle.scram_text.specs.Name.{name_spelling}
 use Rattle.scram_text.specs.Base64Field.{IsField}
 use Rattle.scram_text.specs.Parts.{parts, is_flag, IsValue, IsCount, AreExtensions}
 use Rattle.scram_text.specs.Messages.{ClientFirstParts, ServerFirstParts, ClientFinalParts, client_final_without_proof, VerifierOrError}
-use Rattle.scram_text.specs.Messages.{verified, failed, ServerFinalParts}
+use Rattle.scram_text.specs.Messages.{verified, failed, IsVerifierOrError, ServerFinalParts}
 use Rattle.scram_text.specs.Shown.{flag_text}
 use Rattle.scram_text.specs.declared.client_first.Flag.{Flag}
 use Rattle.scram_text.specs.declared.client_final.ClientFinalWithoutProof.{ClientFinalWithoutProof}
@@ -25,7 +25,7 @@ pub record IsExtensionText (extensions : List ℕ) : Type 0 where
   pub each : AreExtensions (extension_parts extensions)
 
 -- the parts of the client-first message that is written; names are given in plain bytes
-abbrev pub client_first_of : Flag → Option (List ℕ) → List ℕ → List ℕ → List ℕ → ClientFirstParts
+abbrev pub client_first_of : Flag → (authzid : Option (List ℕ)) → (name nonce extensions : List ℕ) → ClientFirstParts
 client_first_of flag authzid name nonce extensions = record {
   flag = flag_text flag;
   authzid = option_map name_spelling authzid;
@@ -35,13 +35,13 @@ client_first_of flag authzid name nonce extensions = record {
   extensions = extension_parts extensions;
 }
 
--- the arguments for client-first whose types do not keep them in their classes are in them
+-- the flag and the extensions for client-first are in their classes; the types of the other arguments keep those in theirs
 pub record CanBeClientFirst (flag : Flag) (extensions : List ℕ) : Type 0 where
   pub flag_class : IsTrue (is_flag (flag_text flag))
   pub extensions_class : IsExtensionText extensions
 
 -- the parts of the server-first message that is written
-abbrev pub server_first_of : List ℕ → List ℕ → ℕ → List ℕ → ServerFirstParts
+abbrev pub server_first_of : (nonce salt : List ℕ) → (count : ℕ) → (extensions : List ℕ) → ServerFirstParts
 server_first_of nonce salt count extensions = record {
   mext = None;
   nonce = nonce;
@@ -58,7 +58,7 @@ pub record CanBeServerFirst (nonce salt : List ℕ) (count : ℕ) (extensions : 
   pub extensions_class : IsExtensionText extensions
 
 -- the parts of the client-final message that is written
-abbrev pub client_final_of : List ℕ → List ℕ → List ℕ → List ℕ → ClientFinalParts
+abbrev pub client_final_of : (channel nonce extensions proof : List ℕ) → ClientFinalParts
 client_final_of channel nonce extensions proof = record {
   channel = channel;
   nonce = nonce;
@@ -66,22 +66,19 @@ client_final_of channel nonce extensions proof = record {
   proof = proof;
 }
 
+-- the arguments for client-final without its proof are in their classes
+pub record CanBeClientFinalWithoutProof (channel nonce extensions : List ℕ) : Type 0 where
+  pub channel_class : IsField longest_channel channel
+  pub nonce_class : IsNonce longest_nonce nonce
+  pub extensions_class : IsExtensionText extensions
+
 -- the arguments for client-final are in their classes
 pub record CanBeClientFinal (channel nonce extensions proof : List ℕ) : Type 0 where
-  pub channel_class : IsField longest_channel channel
-  pub nonce_class : IsNonce longest_nonce nonce
-  pub extensions_class : IsExtensionText extensions
+  pub without_proof : CanBeClientFinalWithoutProof channel nonce extensions
   pub proof_class : IsField longest_tag proof
 
--- the arguments for client-final without its proof are in their classes
-pub record CanBeWithoutProof (channel nonce extensions : List ℕ) : Type 0 where
-  pub channel_class : IsField longest_channel channel
-  pub nonce_class : IsNonce longest_nonce nonce
-  pub extensions_class : IsExtensionText extensions
-
--- the value is the text before the proof of client-final with these parts, which are in their classes. It is so whatever
--- their proof.
-pub record IsWithoutProof (w : ClientFinalWithoutProof) (p : ClientFinalParts) : Type 0 where
+-- the value holds the client-final-message-without-proof of these parts, which are in their classes. Their proof plays no part.
+pub record IsClientFinalWithoutProof (w : ClientFinalWithoutProof) (p : ClientFinalParts) : Type 0 where
   pub held : w.text.items ≡ client_final_without_proof p
   pub channel : IsField longest_channel p.channel
   pub nonce : IsNonce longest_nonce p.nonce
@@ -89,15 +86,15 @@ pub record IsWithoutProof (w : ClientFinalWithoutProof) (p : ClientFinalParts) :
   pub is_text : IsText (client_final_without_proof p)
 
 -- the parts of the server-final message that is written
-abbrev pub server_final_of : VerifierOrError → List ℕ → ServerFinalParts
+abbrev pub server_final_of : VerifierOrError → (extensions : List ℕ) → ServerFinalParts
 server_final_of outcome extensions = record { outcome = outcome; extensions = extension_parts extensions }
 
 -- an outcome is in its class: an error value is a text as well
-abbrev pub CanBeTold : VerifierOrError → Type 0
-CanBeTold (verified signature) = IsField longest_tag signature
-CanBeTold (failed value) = IsValue value × IsText value
+abbrev pub CanBeVerifierOrError : VerifierOrError → Type 0
+CanBeVerifierOrError (verified signature) = IsVerifierOrError (verified signature)
+CanBeVerifierOrError (failed value) = IsVerifierOrError (failed value) × IsText value
 
 -- the arguments for server-final are in their classes
 pub record CanBeServerFinal (outcome : VerifierOrError) (extensions : List ℕ) : Type 0 where
-  pub outcome_class : CanBeTold outcome
+  pub outcome_class : CanBeVerifierOrError outcome
   pub extensions_class : IsExtensionText extensions

@@ -2,7 +2,7 @@
 ghost use Rattle.std.specs.Prelude.{◌≡◌, ◌==◌, ◌↔◌, IsTrue, not};
 ghost use Rattle.std.specs.List.{list_all};
 ghost use Rattle.std.specs.Str.{byte};
-ghost use Rattle.scram_text.specs.Class.{is_printable, is_plain, is_letter, is_cb_char, IsNonce, IsRunOf, IsText};
+ghost use Rattle.scram_text.specs.Class.{is_comma, is_printable, is_plain, is_letter, is_cb_char, IsNonce, IsRunOf, IsText};
 ghost use Rattle.scram_text.specs.Parts.{is_cb_name};
 
 /// Whether the byte is printable = %x21-2B / %x2D-7E.
@@ -10,6 +10,13 @@ pub(crate) fn is_printable(byte: u8) -> bool
     ensures { result ≡ is_printable byte }
 {
     (0x21..=0x7E).contains(&byte) && byte != b','
+}
+
+/// Whether no byte is a comma.
+pub(crate) fn lacks_comma(bytes: &[u8]) -> bool
+    ensures { result ≡ list_all (λ c. not (is_comma c)) bytes.now }
+{
+    bytes.iter().all(|byte| *byte != b',')
 }
 
 /// Whether the byte is one of %x20-7E.

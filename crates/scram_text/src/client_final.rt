@@ -13,10 +13,10 @@ ghost use Rattle.scram_text.specs.Class.{IsText};
 ghost use Rattle.scram_text.specs.Base64Field.{IsField};
 ghost use Rattle.scram_text.specs.Messages.{ClientFinalParts, client_final_without_proof, client_final_text, IsClientFinal};
 ghost use Rattle.scram_text.specs.Draft.{IsDraftOf};
-ghost use Rattle.scram_text.specs.Written.{client_final_of, CanBeClientFinal, CanBeWithoutProof, IsWithoutProof};
+ghost use Rattle.scram_text.specs.Written.{client_final_of, CanBeClientFinal, CanBeClientFinalWithoutProof, IsClientFinalWithoutProof};
 ghost use Rattle.scram_text.specs.Faults.{IsClientFinalFault};
 ghost use Rattle.scram_text.specs.Shown.{ShowsClientFinal};
-ghost use Rattle.scram_text.specs.Pieces.{IsCutFinal};
+ghost use Rattle.scram_text.specs.Pieces.{IsCutClientFinal};
 ghost use Rattle.scram_text.specs.Appended.{UnchangedOnErr, IsAppended, LacksRoom};
 
 use crate::draft::MessageDraft;
@@ -55,7 +55,7 @@ pub fn read_client_final(message: &[u8]) -> Result<ClientFinal<'_>, TextFault>
     // The text is a message with the parts that are returned.
     ensures found { IfOk result (λ m. (p : ClientFinalParts) × IsClientFinal message.now p
         × ShowsClientFinal m p) }
-    // If it is a message with any parts, these are returned.
+    // Where the text is a message, its parts are returned.
     ensures only { (p : ClientFinalParts) → IsClientFinal message.now p
         → IsOkAnd result (λ m. ShowsClientFinal m p) }
     ensures fault { IfErr result (λ f. IsClientFinalFault message.now f) }
@@ -83,9 +83,9 @@ fn read_parts(message: &[u8]) -> Result<ClientFinal<'_>, TextFault>
         });
     };
     let extensions = cut::extensions_of(pieces.rest, 2)?;
-    let Some(proof) = field::tag_of(pieces.proof, b'p') else {
+    let Some(proof) = field::short_bytes_of(pieces.proof, b'p') else {
         return Err(TextFault {
-            part: pieces.count - 1,
+            part: pieces.parts - 1,
             why: TextWhy::Proof,
         });
     };
@@ -102,7 +102,7 @@ fn read_parts(message: &[u8]) -> Result<ClientFinal<'_>, TextFault>
 // The parts of a text with at least three: the first two, those between, and the last.
 #[derive(Drop)]
 struct Pieces<'a> {
-    count: usize,
+    parts: usize,
     without_proof: &'a [u8],
     channel: &'a [u8],
     nonce: &'a [u8],
@@ -111,13 +111,13 @@ struct Pieces<'a> {
 }
 
 fn pieces_of(message: &[u8]) -> Result<Pieces<'_>, TextFault>
-    ensures cut { IfOk result (λ pieces. IsCutFinal message.now pieces) }
+    ensures cut { IfOk result (λ pieces. IsCutClientFinal message.now pieces) }
     ensures fault { IfErr result (λ f. IsClientFinalFault message.now f) }
 {
-    let count = cut::count_parts(message)?;
-    if count < 3 {
+    let parts = cut::checked_part_count(message)?;
+    if parts < 3 {
         return Err(TextFault {
-            part: count,
+            part: parts,
             why: TextWhy::Missing,
         });
     }
@@ -128,7 +128,7 @@ fn pieces_of(message: &[u8]) -> Result<Pieces<'_>, TextFault>
     let Some(rest) = rest else { unreachable!() };
     let (nonce, rest) = cut::cut(rest);
     Ok(Pieces {
-        count,
+        parts,
         without_proof,
         channel,
         nonce,
@@ -157,27 +157,25 @@ impl ClientFinalWithoutProof {
         extensions: &[u8],
     ) -> Result<ClientFinalWithoutProof, WriteFault>
         ensures ok { IfOk result (λ w. (proof : List ℕ)
-            → IsWithoutProof w (client_final_of channel.now nonce.now extensions.now proof)) }
-        ensures class { OnOk result (CanBeWithoutProof channel.now nonce.now extensions.now) }
+            → IsClientFinalWithoutProof w (client_final_of channel.now nonce.now extensions.now proof)) }
+        ensures class { OnOk result (CanBeClientFinalWithoutProof channel.now nonce.now extensions.now) }
         ensures unwritable { IsErrOf result WriteFault.Unwritable
-            → CanBeWithoutProof channel.now nonce.now extensions.now → ⊥ }
+            → CanBeClientFinalWithoutProof channel.now nonce.now extensions.now → ⊥ }
         ensures over_limit { IsErrOf result WriteFault.OverLimit
-            → CanBeWithoutProof channel.now nonce.now extensions.now
+            → CanBeClientFinalWithoutProof channel.now nonce.now extensions.now
             × (longest_message < length (client_final_without_proof (client_final_of channel.now nonce.now extensions.now []))) }
         ensures no_memory { IsErrOf result WriteFault.NoMemory → ⊥ }
     {
         if !is_writable(channel, nonce, extensions) {
             return Err(WriteFault::Unwritable);
         }
-        match draft_of(channel, nonce, extensions).finish() {
-            Ok(text) => Ok(ClientFinalWithoutProof { text }),
-            Err(fault) => Err(fault),
-        }
+        let text = draft_of(channel, nonce, extensions).finish()?;
+        Ok(ClientFinalWithoutProof { text })
     }
 
     /// The text, which a client signs.
     pub fn as_slice(&self) -> &[u8]
-        ensures { (p : ClientFinalParts) → IsWithoutProof self.now p
+        ensures { (p : ClientFinalParts) → IsClientFinalWithoutProof self.now p
             → result.now ≡ client_final_without_proof p }
     {
         self.text.as_slice()
@@ -185,24 +183,24 @@ impl ClientFinalWithoutProof {
 
     /// Appends the client-final message to `out`: the text, and the proof of 1 to 64 bytes. Answers 16
     /// Unwritable where the proof is outside its class, else 17 OverLimit where the message would have
-    /// more than 2048 bytes, else 99 NoMemory, only where `out` had no room reserved for the message;
-    /// `out` is then unchanged.
+    /// more than 2048 bytes, else 99 NoMemory, only where `out` had no room reserved for the message.
+    /// After each of these faults `out` is unchanged.
     pub fn write_with_proof<A: Allocator>(
         self,
         proof: &Tag,
         out: &mut Vec<u8, A>,
     ) -> Result<(), WriteFault>
-        ensures ok { (p : ClientFinalParts) → IsWithoutProof self p → p.proof ≡ proof.now.items
+        ensures ok { (p : ClientFinalParts) → IsClientFinalWithoutProof self p → p.proof ≡ proof.now.items
             → OnOk result (out.new.items ≡ out.old.items ++ client_final_text p) }
-        ensures is_message { (p : ClientFinalParts) → IsWithoutProof self p → p.proof ≡ proof.now.items
+        ensures is_message { (p : ClientFinalParts) → IsClientFinalWithoutProof self p → p.proof ≡ proof.now.items
             → OnOk result (IsClientFinal (client_final_text p) p) }
         ensures unchanged { UnchangedOnErr result out.old out.new }
         ensures unwritable { IsErrOf result WriteFault.Unwritable → IsField longest_tag proof.now.items → ⊥ }
         ensures over_limit { IsErrOf result WriteFault.OverLimit → IsField longest_tag proof.now.items
-            × ((p : ClientFinalParts) → IsWithoutProof self p → p.proof ≡ proof.now.items
+            × ((p : ClientFinalParts) → IsClientFinalWithoutProof self p → p.proof ≡ proof.now.items
             → longest_message < length (client_final_text p)) }
         ensures no_memory { IsErrOf result WriteFault.NoMemory
-            → (p : ClientFinalParts) → IsWithoutProof self p → p.proof ≡ proof.now.items
+            → (p : ClientFinalParts) → IsClientFinalWithoutProof self p → p.proof ≡ proof.now.items
             → IsClientFinal (client_final_text p) p
             × LacksRoom out.old (client_final_text p) }
     {
@@ -215,9 +213,9 @@ impl ClientFinalWithoutProof {
 
     fn with_proof(self, proof: &[u8]) -> MessageDraft
         requires { IsField longest_tag proof.now }
-        ensures draft { (p : ClientFinalParts) → IsWithoutProof self p → p.proof ≡ proof.now
+        ensures draft { (p : ClientFinalParts) → IsClientFinalWithoutProof self p → p.proof ≡ proof.now
             → IsDraftOf result (client_final_text p) }
-        ensures is_message { (p : ClientFinalParts) → IsWithoutProof self p → p.proof ≡ proof.now
+        ensures is_message { (p : ClientFinalParts) → IsClientFinalWithoutProof self p → p.proof ≡ proof.now
             → length (client_final_text p) ≤ longest_message → IsClientFinal (client_final_text p) p }
     {
         let mut draft = MessageDraft::of(self.text);
@@ -228,7 +226,7 @@ impl ClientFinalWithoutProof {
 }
 
 fn is_writable(channel: &[u8], nonce: &[u8], extensions: &[u8]) -> bool
-    ensures { IsTrue result ↔ CanBeWithoutProof channel.now nonce.now extensions.now }
+    ensures { IsTrue result ↔ CanBeClientFinalWithoutProof channel.now nonce.now extensions.now }
 {
     field::is_field(channel, LONGEST_CHANNEL)
         && class::is_nonce(nonce, LONGEST_NONCE)
@@ -236,7 +234,7 @@ fn is_writable(channel: &[u8], nonce: &[u8], extensions: &[u8]) -> bool
 }
 
 fn draft_of(channel: &[u8], nonce: &[u8], extensions: &[u8]) -> MessageDraft
-    requires { CanBeWithoutProof channel.now nonce.now extensions.now }
+    requires { CanBeClientFinalWithoutProof channel.now nonce.now extensions.now }
     ensures draft { (proof : List ℕ) → IsDraftOf result
         (client_final_without_proof (client_final_of channel.now nonce.now extensions.now proof)) }
     ensures is_text { (proof : List ℕ)
@@ -255,7 +253,7 @@ fn draft_of(channel: &[u8], nonce: &[u8], extensions: &[u8]) -> MessageDraft
 /// bytes, the nonce of 1 to 512 printable characters, the extensions as attr-vals with commas
 /// between them or empty, and the proof of 1 to 64 bytes. Answers 16 Unwritable where an argument is
 /// outside its class, else 17 OverLimit where the message would have more than 2048 bytes, else 99
-/// NoMemory, only where `out` had no room reserved for the message; `out` is then unchanged.
+/// NoMemory, only where `out` had no room reserved for the message. After each of these faults `out` is unchanged.
 #[tactic(auto, using(crate::proofs::lemmas::Composed::with_proof_longer))]
 pub fn write_client_final<A: Allocator>(
     channel: &[u8],
@@ -280,8 +278,6 @@ pub fn write_client_final<A: Allocator>(
     if !field::is_field(proof.as_slice(), LONGEST_TAG) {
         return Err(WriteFault::Unwritable);
     }
-    match ClientFinalWithoutProof::new(channel, nonce, extensions) {
-        Ok(without_proof) => without_proof.write_with_proof(proof, out),
-        Err(fault) => Err(fault),
-    }
+    let without_proof = ClientFinalWithoutProof::new(channel, nonce, extensions)?;
+    without_proof.write_with_proof(proof, out)
 }

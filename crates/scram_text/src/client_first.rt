@@ -10,7 +10,8 @@
 ghost use Rattle.std.specs.Prelude.{◌≡◌, ◌≤◌, ◌<◌, ◌+◌, [], length, IfOk, IfErr, IfSome, OnOk, IsTrue, IsOkAnd, IsErrOf, false};
 ghost use Rattle.std.specs.Prelude.{MatchOption};
 ghost use Rattle.std.specs.Option.{option_copied};
-ghost use Rattle.scram_text.specs.Limits.{longest_message, most_parts};
+ghost use Rattle.scram_text.specs.Limits.{longest_message};
+ghost use Rattle.scram_text.specs.Pieces.{most_parts};
 ghost use Rattle.scram_text.specs.Name.{IsSaslName};
 ghost use Rattle.scram_text.specs.Parts.{parts, is_flag, authzid_text};
 ghost use Rattle.scram_text.specs.Messages.{ClientFirstParts, client_first_text, IsClientFirst};
@@ -18,7 +19,7 @@ ghost use Rattle.scram_text.specs.Faults.{IsClientFirstFault, IsAuthzid, fault, 
 ghost use Rattle.scram_text.specs.Shown.{ShowsClientFirst, flag_text};
 ghost use Rattle.scram_text.specs.Draft.{IsDraftOf};
 ghost use Rattle.scram_text.specs.Written.{client_first_of, CanBeClientFirst};
-ghost use Rattle.scram_text.specs.Pieces.{IsCutFirst, IsCutBare, IsBare, ShowsBare, IsBareMisfit};
+ghost use Rattle.scram_text.specs.Pieces.{IsCutClientFirst, IsCutBare, IsBare, ShowsBare, IsBareMisfit};
 ghost use Rattle.scram_text.specs.Appended.{IsAppended, LacksRoom};
 
 use crate::draft::MessageDraft;
@@ -77,7 +78,7 @@ pub fn read_client_first(message: &[u8]) -> Result<ClientFirst<'_>, TextFault>
     // The text is a message with the parts that are returned.
     ensures found { IfOk result (λ m. (p : ClientFirstParts) × IsClientFirst message.now p
         × ShowsClientFirst m p) }
-    // If it is a message with any parts, these are returned.
+    // Where the text is a message, its parts are returned.
     ensures only { (p : ClientFirstParts) → IsClientFirst message.now p
         → IsOkAnd result (λ m. ShowsClientFirst m p) }
     ensures fault { IfErr result (λ f. IsClientFirstFault message.now f) }
@@ -122,21 +123,21 @@ struct Pieces<'a> {
 }
 
 fn pieces_of(message: &[u8]) -> Result<Pieces<'_>, TextFault>
-    ensures cut { IfOk result (λ pieces. IsCutFirst message.now pieces) }
+    ensures cut { IfOk result (λ pieces. IsCutClientFirst message.now pieces) }
     ensures fault { IfErr result (λ f. IsClientFirstFault message.now f) }
 {
-    let count = cut::count_parts(message)?;
-    if count < 3 {
+    let parts = cut::checked_part_count(message)?;
+    if parts < 3 {
         return Err(TextFault {
-            part: count,
+            part: parts,
             why: TextWhy::Missing,
         });
     }
     let (flag, authzid, rest) = cut::two_of(message);
     let Some(bare) = rest else { unreachable!() };
-    if count < cut::least_of(bare, 4) {
+    if parts < cut::least_of(bare, 4) {
         return Err(TextFault {
-            part: count,
+            part: parts,
             why: TextWhy::Missing,
         });
     }
@@ -210,7 +211,7 @@ fn read_bare(bare: &[u8]) -> Result<Bare<'_>, TextFault>
     };
     let extensions = cut::extensions_of(pieces.rest, pieces.index + 2)?;
     Ok(Bare {
-        mandatory: pieces.marked | extensions.mandatory,
+        mandatory: pieces.has_mext | extensions.mandatory,
         name,
         nonce,
         extensions: extensions.text,
@@ -220,7 +221,7 @@ fn read_bare(bare: &[u8]) -> Result<Bare<'_>, TextFault>
 // The parts after a mandatory extension: the first of them has this index in the message.
 #[derive(Drop)]
 struct BarePieces<'a> {
-    marked: bool,
+    has_mext: bool,
     index: usize,
     name: &'a [u8],
     nonce: &'a [u8],
@@ -232,11 +233,11 @@ fn bare_pieces_of(bare: &[u8]) -> Result<BarePieces<'_>, TextFault>
     ensures cut { IfOk result (λ pieces. IsCutBare bare.now pieces) }
     ensures fault { IfErr result (λ f. IsBareMisfit (parts bare.now) f) }
 {
-    let marked = cut::mext_of(bare, 2)?;
-    let (name, nonce, rest) = cut::two_of(marked.rest);
+    let after = cut::mext_of(bare, 2)?;
+    let (name, nonce, rest) = cut::two_of(after.rest);
     Ok(BarePieces {
-        marked: marked.marked,
-        index: marked.index,
+        has_mext: after.has_mext,
+        index: after.index,
         name,
         nonce,
         rest,
@@ -247,7 +248,7 @@ fn bare_pieces_of(bare: &[u8]) -> Result<BarePieces<'_>, TextFault>
 /// the name in plain bytes, which are spelled, the nonce, and the extensions as attr-vals with commas
 /// between them or empty. Answers 16 Unwritable where the flag's name or the extensions are outside
 /// their class, else 17 OverLimit where the message would have more than 2048 bytes, else 99 NoMemory,
-/// only where `out` had no room reserved for the message; `out` is then unchanged.
+/// only where `out` had no room reserved for the message. After each of these faults `out` is unchanged.
 pub fn write_client_first<A: Allocator>(
     flag: Flag<'_>,
     authzid: Option<&PlainName>,

@@ -4,20 +4,20 @@ ghost use Rattle.std.specs.Prelude.{is_some, OnOk, IfErr, MatchOption, true, fal
 ghost use Rattle.std.specs.Str.{byte};
 ghost use Rattle.std.specs.Option.{option_copied};
 ghost use Rattle.std.specs.declared.option.Option.{Option};
-ghost use Rattle.scram_text.specs.Limits.{longest_message, most_parts};
+ghost use Rattle.scram_text.specs.Limits.{longest_message};
 ghost use Rattle.scram_text.specs.Class.{is_comma, IsText};
 ghost use Rattle.scram_text.specs.Name.{LacksComma};
-ghost use Rattle.scram_text.specs.Parts.{parts, parts_of_some, joined, is_headed, is_attribute, AreExtensions, have_mandatory};
+ghost use Rattle.scram_text.specs.Parts.{parts, parts_of_some, joined, is_named, IsExtension, AreExtensions, have_mandatory};
 ghost use Rattle.scram_text.specs.Parts.{mext_parts};
-ghost use Rattle.scram_text.specs.Faults.{IsWholeFault, IsExtensionMisfit, first_of, marked_places};
+ghost use Rattle.scram_text.specs.Faults.{IsWholeFault, first_of, marked_places};
 ghost use Rattle.scram_text.specs.Written.{IsExtensionText};
-ghost use Rattle.scram_text.specs.Pieces.{IsMarked, IsMextMisfit};
+ghost use Rattle.scram_text.specs.Pieces.{most_parts, is_attribute, IsExtensionMisfit, IsMarked, IsMextMisfit};
 
 use crate::fault::{TextFault, TextWhy};
 use crate::{LONGEST_MESSAGE, class, field};
 
 /// The number of parts of a message. TooLong where it has over 2048 bytes, NotText where it is no text.
-pub(crate) fn count_parts(message: &[u8]) -> Result<usize, TextFault>
+pub(crate) fn checked_part_count(message: &[u8]) -> Result<usize, TextFault>
     ensures short { IfOk result (λ _. length message.now ≤ longest_message) }
     ensures is_text { IfOk result (λ _. IsText message.now) }
     ensures count { IfOk result (λ count. count ≡ length (parts message.now)) }
@@ -94,7 +94,7 @@ pub(crate) fn cut_last(text: &[u8]) -> Option<(&[u8], &[u8])>
 
 /// The value of a part with this letter, or None where the part has another form.
 pub(crate) fn headed(part: &[u8], letter: u8) -> Option<&[u8]>
-    ensures { MatchOption result (is_headed letter part.now ≡ false)
+    ensures { MatchOption result (is_named letter part.now ≡ false)
         (λ value. part.now ≡ letter ∷ byte "=" ∷ value.now) }
 {
     match part {
@@ -105,12 +105,20 @@ pub(crate) fn headed(part: &[u8], letter: u8) -> Option<&[u8]>
 
 /// Whether the part is named `m`.
 pub(crate) fn is_mandatory(part: &[u8]) -> bool
-    ensures { result ≡ is_headed (byte "m") part.now }
+    ensures { result ≡ is_named (byte "m") part.now }
 {
     matches!(part, [b'm', b'=', ..])
 }
 
-// Whether the part is attr-val = ALPHA "=" value.
+// Whether the part, which has no comma, is attr-val = ALPHA "=" value.
+fn is_extension(part: &[u8]) -> bool
+    requires { LacksComma part.now }
+    ensures { IsTrue result ↔ IsExtension part.now }
+{
+    is_attribute(part)
+}
+
+// Whether the part is a letter, `=`, and one byte or more.
 fn is_attribute(part: &[u8]) -> bool
     ensures { result ≡ is_attribute part.now }
 {
@@ -159,7 +167,7 @@ fn attributes(text: &[u8], first: usize) -> Result<bool, TextFault>
     let mut mandatory = false;
     while let Some(rest) = left {
         let (part, more) = cut(rest);
-        if !is_attribute(part) {
+        if !is_extension(part) {
             return Err(TextFault {
                 part: index,
                 why: TextWhy::Extension,
@@ -187,43 +195,53 @@ pub(crate) fn two_of(text: &[u8]) -> (&[u8], &[u8], Option<&[u8]>)
     (first, second, rest)
 }
 
-/// Whether the message, and so its first part, begins with `m=`.
-pub(crate) fn is_marked(text: &[u8]) -> bool
-    ensures { result ≡ is_headed (byte "m") (first_of (parts text.now)) }
+/// Whether the text begins with `m=`: as `is_mandatory`, but the clause speaks of the first part of the text.
+pub(crate) fn begins_with_mext(text: &[u8]) -> bool
+    ensures { result ≡ is_named (byte "m") (first_of (parts text.now)) }
 {
     is_mandatory(text)
 }
 
-/// The least number of parts of a message: the fixed ones, and one more where it begins with `m=`.
+/// The least number of parts of a message that needs `fixed` parts besides reserved-mext: one more where it has a reserved-mext. `text`
+/// is the message from the place of reserved-mext on.
 pub(crate) fn least_of(text: &[u8], fixed: usize) -> usize
     requires { fixed < 10 }
     ensures { result ≡ length (marked_places (parts text.now) []) + fixed }
 {
-    if is_marked(text) { fixed + 1 } else { fixed }
+    if begins_with_mext(text) {
+        fixed + 1
+    } else {
+        fixed
+    }
 }
 
-/// The text after a mandatory extension at its beginning, or the whole text where there is none.
+/// What follows the place of reserved-mext.
 #[derive(Drop)]
-pub(crate) struct Marked<'a> {
-    pub(crate) marked: bool,
+pub(crate) struct AfterMext<'a> {
+    // Whether a reserved-mext stood there.
+    pub(crate) has_mext: bool,
+
+    // The text after it, or the whole text.
     pub(crate) rest: &'a [u8],
+
+    // The index in the message of the first part of `rest`.
     pub(crate) index: usize,
 }
 
 /// Reads reserved-mext, "m=" and a value, where there is one. The text's first part has this index.
-pub(crate) fn mext_of(text: &[u8], index: usize) -> Result<Marked<'_>, TextFault>
+pub(crate) fn mext_of(text: &[u8], index: usize) -> Result<AfterMext<'_>, TextFault>
     requires few { index < 10 }
-    requires enough { is_headed (byte "m") (first_of (parts text.now)) ≡ true
+    requires enough { is_named (byte "m") (first_of (parts text.now)) ≡ true
         → 2 ≤ length (parts text.now) }
     ensures found { IfOk result (λ m. (mext : Option (List ℕ))
         × IsMarked (parts text.now) (parts m.rest.now) mext
-        × (m.marked ≡ is_some mext) × (m.index ≡ index + length (mext_parts mext))) }
+        × (m.has_mext ≡ is_some mext) × (m.index ≡ index + length (mext_parts mext))) }
     ensures rest_len { IfOk result (λ m. length m.rest.now ≤ length text.now) }
     ensures fault { IfErr result (λ f. IsMextMisfit index (parts text.now) f) }
 {
-    if !is_marked(text) {
-        return Ok(Marked {
-            marked: false,
+    if !begins_with_mext(text) {
+        return Ok(AfterMext {
+            has_mext: false,
             rest: text,
             index,
         });
@@ -236,8 +254,8 @@ pub(crate) fn mext_of(text: &[u8], index: usize) -> Result<Marked<'_>, TextFault
             why: TextWhy::Mandatory,
         });
     };
-    Ok(Marked {
-        marked: true,
+    Ok(AfterMext {
+        has_mext: true,
         rest,
         index: index + 1,
     })
@@ -256,7 +274,7 @@ fn are_attributes(text: &[u8]) -> bool
     let mut left = Some(text);
     while let Some(rest) = left {
         let (part, more) = cut(rest);
-        if !is_attribute(part) {
+        if !is_extension(part) {
             return false;
         }
         left = more;

@@ -15,7 +15,7 @@ pub enum TextWhy {
     #[error("a NUL or bytes that are not UTF-8: send a text")]
     NotText = 2,
 
-    /// It has fewer parts than the least number.
+    /// It has fewer parts than the message must have.
     #[error("a part is missing: send each part that the message must have")]
     Missing = 3,
 
@@ -59,7 +59,7 @@ pub enum TextWhy {
     #[error("the proof is not `p=` and the base64 of 1 to 64 bytes")]
     Proof = 13,
 
-    /// The part is neither an `e=` nor `v=` and the base64 of 1 to 64 bytes.
+    /// The part does not begin with `e=`, and is not `v=` and the base64 of 1 to 64 bytes.
     #[error("the verifier is not `v=` and the base64 of 1 to 64 bytes")]
     Verifier = 14,
 
@@ -105,7 +105,7 @@ pub enum WriteFault {
     #[error("an argument is not what the message may hold: pass one within its limits")]
     Unwritable = 16,
 
-    /// The message would have more than 2048 bytes.
+    /// The message would have more than 2048 bytes, or a `Draft` more than it can hold.
     #[error("the message would have more than 2048 bytes: pass shorter extensions")]
     OverLimit = 17,
 

@@ -6,19 +6,19 @@ ghost use Rattle.scram_text.specs.Limits.{longest_channel, longest_message, long
 ghost use Rattle.scram_text.specs.Class.{IsNonce};
 ghost use Rattle.scram_text.specs.Name.{IsSaslName, LacksComma};
 ghost use Rattle.scram_text.specs.Base64Field.{base64, IsField};
-ghost use Rattle.scram_text.specs.Parts.{IsHeaded, IsValue, IsCount, SpellsCount, SpellsField};
+ghost use Rattle.scram_text.specs.Parts.{IsAttrVal, IsValue, IsCount, SpellsCount, SpellsField};
 
 use crate::name::SaslText;
+use crate::number::decimal;
 use crate::secret::Salt;
-use crate::{LONGEST_CHANNEL, class, cut, name};
+use crate::{LONGEST_CHANNEL, class, cut};
 use arrayvec::ArrayVec;
 use base64::engine::general_purpose::STANDARD;
-use itoa::Buffer;
 use mac_core::{Tag, copy_of};
 
 /// The nonce of a part that is `r=` and 1 to `most` printable characters.
 pub(crate) fn nonce_of(part: &[u8], most: usize) -> Option<&[u8]>
-    ensures none { IfNone result (IsHeaded (byte "r") (IsNonce most) part.now → ⊥) }
+    ensures none { IfNone result (IsAttrVal (byte "r") (IsNonce most) part.now → ⊥) }
     ensures spelled { IfSome result (λ nonce. part.now ≡ codes "r=" ++ nonce.now) }
     ensures class { IfSome result (λ nonce. IsNonce most nonce.now) }
 {
@@ -32,7 +32,7 @@ pub(crate) fn nonce_of(part: &[u8], most: usize) -> Option<&[u8]>
 
 /// The name of a part that is `n=` or `a=` and a saslname.
 pub(crate) fn name_of(part: &[u8], letter: u8) -> Option<SaslText<'_>>
-    ensures none { IfNone result (IsHeaded letter IsSaslName part.now → ⊥) }
+    ensures none { IfNone result (IsAttrVal letter IsSaslName part.now → ⊥) }
     ensures spelled { IfSome result (λ name. part.now ≡ letter ∷ byte "=" ∷ name) }
     ensures class { IfSome result (λ name. IsSaslName name) }
 {
@@ -43,7 +43,7 @@ pub(crate) fn name_of(part: &[u8], letter: u8) -> Option<SaslText<'_>>
 /// The value of a part of a text that is `m=` or `e=` and one or more value-chars.
 pub(crate) fn value_of(part: &[u8], letter: u8) -> Option<&[u8]>
     requires { LacksComma part.now }
-    ensures none { IfNone result (IsHeaded letter IsValue part.now → ⊥) }
+    ensures none { IfNone result (IsAttrVal letter IsValue part.now → ⊥) }
     ensures spelled { IfSome result (λ value. part.now ≡ letter ∷ byte "=" ∷ value.now) }
     ensures class { IfSome result (λ value. IsValue value.now) }
 {
@@ -55,7 +55,7 @@ pub(crate) fn value_of(part: &[u8], letter: u8) -> Option<&[u8]>
 pub(crate) fn is_value(value: &[u8]) -> bool
     ensures { IsTrue result ↔ IsValue value.now }
 {
-    name::lacks_comma(value) && !value.is_empty()
+    class::lacks_comma(value) && !value.is_empty()
 }
 
 /// Whether the number is from 1 to 4294967295.
@@ -67,7 +67,7 @@ pub(crate) fn is_count(count: u32) -> bool
 
 /// The count of a part that is `i=` and a number from 1 to 4294967295.
 pub(crate) fn count_of(part: &[u8]) -> Option<u32>
-    ensures none { IfNone result (IsHeaded (byte "i") SpellsCount part.now → ⊥) }
+    ensures none { IfNone result (IsAttrVal (byte "i") SpellsCount part.now → ⊥) }
     ensures spelled { IfSome result (λ count. part.now ≡ codes "i=" ++ decimal count) }
     ensures class { IfSome result (λ count. IsCount count) }
 {
@@ -80,30 +80,19 @@ fn count(digits: &[u8]) -> Option<u32>
     ensures spelled { IfSome result (λ count. digits.now ≡ decimal count) }
     ensures class { IfSome result (λ count. IsCount count) }
 {
-    let Ok(text) = str::from_utf8(digits) else {
+    let Some(number) = decimal(digits) else {
         return None;
     };
-    let Ok(count) = text.parse::<u32>() else {
+    if number < 1 || 4_294_967_295 < number {
         return None;
-    };
-    if count > 0 && is_decimal(digits, count) {
-        Some(count)
-    } else {
-        None
     }
-}
-
-// Whether the digits are those of the number, with no sign and no leading zero.
-fn is_decimal(digits: &[u8], number: u32) -> bool
-    ensures { IsTrue result ↔ (digits.now ≡ decimal number) }
-{
-    digits == Buffer::new().format(number).as_bytes()
+    Some(number as u32)
 }
 
 /// The bytes of a part that is `c=` and the base64 of 1 to 1536 bytes.
 pub(crate) fn channel_of(part: &[u8]) -> Option<ArrayVec<u8, LONGEST_CHANNEL>>
     requires { length part.now ≤ longest_message }
-    ensures none { IfNone result (IsHeaded (byte "c") (SpellsField longest_channel) part.now → ⊥) }
+    ensures none { IfNone result (IsAttrVal (byte "c") (SpellsField longest_channel) part.now → ⊥) }
     ensures spelled { IfSome result (λ channel. part.now ≡ codes "c=" ++ base64 channel.items) }
     ensures class { IfSome result (λ channel. IsField longest_channel channel.items) }
 {
@@ -112,22 +101,22 @@ pub(crate) fn channel_of(part: &[u8]) -> Option<ArrayVec<u8, LONGEST_CHANNEL>>
 }
 
 /// The bytes of a part that is a letter, `=` and the base64 of 1 to 64 bytes.
-pub(crate) fn tag_of(part: &[u8], letter: u8) -> Option<Tag>
-    ensures none { IfNone result (IsHeaded letter (SpellsField longest_tag) part.now → ⊥) }
+pub(crate) fn short_bytes_of(part: &[u8], letter: u8) -> Option<Tag>
+    ensures none { IfNone result (IsAttrVal letter (SpellsField longest_tag) part.now → ⊥) }
     ensures spelled { IfSome result (λ tag. part.now ≡ letter ∷ byte "=" ∷ base64 tag.items) }
     ensures class { IfSome result (λ tag. IsField longest_tag tag.items) }
 {
     let text = cut::headed(part, letter)?;
-    short_field(text)
+    short_bytes(text)
 }
 
 /// The salt of a part that is `s=` and the base64 of 1 to 64 bytes.
 pub(crate) fn salt_of(part: &[u8]) -> Option<Salt>
-    ensures none { IfNone result (IsHeaded (byte "s") (SpellsField longest_salt) part.now → ⊥) }
+    ensures none { IfNone result (IsAttrVal (byte "s") (SpellsField longest_salt) part.now → ⊥) }
     ensures spelled { IfSome result (λ salt. part.now ≡ codes "s=" ++ base64 salt) }
     ensures class { IfSome result (λ salt. IsField longest_salt salt) }
 {
-    let bytes = tag_of(part, b's')?;
+    let bytes = short_bytes_of(part, b's')?;
     Salt::new(bytes.as_slice())
 }
 
@@ -142,9 +131,10 @@ fn long_field(text: &[u8]) -> Option<ArrayVec<u8, LONGEST_CHANNEL>>
     Some(copy_of(&buffer[..size]))
 }
 
-// The bytes of a tag's base64. A text of more than 88 characters is the base64 of no 64 bytes.
+// The 1 to 64 bytes whose base64 this is. The base64 of 64 bytes has 88 characters, so a longer text is none. 88 characters
+// decode to 66 bytes at most.
 #[tactic(auto, using(crate::proofs::lemmas::Base64::short_text))]
-fn short_field(text: &[u8]) -> Option<Tag>
+fn short_bytes(text: &[u8]) -> Option<Tag>
     ensures none { IfNone result (SpellsField longest_tag text.now → ⊥) }
     ensures spelled { IfSome result (λ field. text.now ≡ base64 field.items) }
     ensures class { IfSome result (λ field. IsField longest_tag field.items) }

@@ -1,6 +1,6 @@
 //! Laws of the grammar, for proofs that rest on this crate: each is the promise of a function that
 //! does nothing.
-ghost use Rattle.scram_text.specs.Base64Field.{HasUsualBase64};
+ghost use Rattle.scram_text.specs.Laws.{HasUsualBase64};
 ghost use Rattle.scram_text.specs.Laws.{FieldsHoldBytes, PartsAreUtf8, SpellsOneName, NameIsDecided, HasOneClientFirst};
 ghost use Rattle.scram_text.specs.Laws.{ClientFirstIsDecided, HasOneServerFirst, ServerFirstIsDecided, HasOneClientFinal};
 ghost use Rattle.scram_text.specs.Laws.{ClientFinalIsDecided, HasOneServerFinal, ServerFinalIsDecided};
@@ -26,47 +26,47 @@ pub fn spells_one_name()
     ensures { SpellsOneName }
 {}
 
-/// For every text there is a plain name that it spells, or there is none.
+/// Every text spells a plain name, or spells none.
 pub fn name_is_decided()
     ensures { NameIsDecided }
 {}
 
-/// A text is a client-first message with at most one list of parts.
+/// A text is a client-first message in at most one way.
 pub fn has_one_client_first()
     ensures { HasOneClientFirst }
 {}
 
-/// For every text there are parts of a client-first message that it has, or there are none.
+/// Every text is a client-first message, or is none.
 pub fn client_first_is_decided()
     ensures { ClientFirstIsDecided }
 {}
 
-/// A text is a server-first message with at most one list of parts.
+/// A text is a server-first message in at most one way.
 pub fn has_one_server_first()
     ensures { HasOneServerFirst }
 {}
 
-/// For every text there are parts of a server-first message that it has, or there are none.
+/// Every text is a server-first message, or is none.
 pub fn server_first_is_decided()
     ensures { ServerFirstIsDecided }
 {}
 
-/// A text is a client-final message with at most one list of parts.
+/// A text is a client-final message in at most one way.
 pub fn has_one_client_final()
     ensures { HasOneClientFinal }
 {}
 
-/// For every text there are parts of a client-final message that it has, or there are none.
+/// Every text is a client-final message, or is none.
 pub fn client_final_is_decided()
     ensures { ClientFinalIsDecided }
 {}
 
-/// A text is a server-final message with at most one list of parts.
+/// A text is a server-final message in at most one way.
 pub fn has_one_server_final()
     ensures { HasOneServerFinal }
 {}
 
-/// For every text there are parts of a server-final message that it has, or there are none.
+/// Every text is a server-final message, or is none.
 pub fn server_final_is_decided()
     ensures { ServerFinalIsDecided }
 {}

@@ -1,5 +1,5 @@
-//! The four messages of a SCRAM login (RFC 5802, section 7): read exactly where the grammar has
-//! them, with their only parts, and written in their one form.
+//! The four messages of a SCRAM login (RFC 5802, section 7). A reader takes exactly the texts of the grammar, each of which
+//! has its parts in one way only, and a writer writes them.
 //!
 //! Each reader's contract says that it returns the parts of a message, or the first fault of a text
 //! that is none. Readers take no memory: what they return are slices of the message and fixed
@@ -10,8 +10,8 @@
 //! their case: `N=`, `=2c` and the flag `Y` are refused. A message has at most 2048 bytes, a nonce
 //! of client-first at most 256 characters and any other at most 512, a salt, a proof and a verifier
 //! at most 64 bytes, and a count is at most 4294967295. A base64 text is padded and has no unused
-//! bits set. An extension that is named `m` makes a message mandatory: it is read, and the receiver
-//! has to fail.
+//! bits set. An extension that is named `m` is mandatory: the message is read, and the receiver has to
+//! fail.
 //!
 //! ```rust
 //! use scram_text::read_client_first;
@@ -30,6 +30,7 @@ mod fault;
 mod field;
 pub mod laws;
 mod name;
+mod number;
 mod secret;
 mod server_final;
 mod server_first;
@@ -41,6 +42,7 @@ pub use client_first::{ClientFirst, Flag, read_client_first, write_client_first}
 pub use draft::Draft;
 pub use fault::{TextFault, TextWhy, WriteFault};
 pub use name::{PlainName, SaslText, write_name};
+pub use number::decimal;
 pub use secret::{NoncePart, Password, Salt};
 pub use server_final::{FinalResult, ServerFinal, read_server_final, write_server_final};
 pub use server_first::{ServerFirst, read_server_first, write_server_first};

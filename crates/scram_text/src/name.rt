@@ -1,9 +1,8 @@
 //! User names: in plain bytes, and as a message spells them (RFC 5802, section 5.1).
-ghost use Rattle.std.specs.Prelude.{◌≡◌, ◌≤◌, ℕ, List, [], ◌++◌, length, ◌↔◌, IsTrue, not, ◌<◌, ◌+◌, IfSome, IfNone, IfErr, MatchOption};
+ghost use Rattle.std.specs.Prelude.{◌≡◌, ◌≤◌, ℕ, List, [], ◌++◌, length, ◌↔◌, IsTrue, ◌<◌, ◌+◌, IfSome, IfNone, IfErr, MatchOption};
 ghost use Rattle.std.specs.Option.{SomeIff};
-ghost use Rattle.std.specs.List.{list_all};
 ghost use Rattle.scram_text.specs.Limits.{longest_name};
-ghost use Rattle.scram_text.specs.Class.{IsPlainName, is_comma};
+ghost use Rattle.scram_text.specs.Class.{IsPlainName};
 ghost use Rattle.scram_text.specs.Name.{IsSaslName, LacksComma, SpellsName, escape, name_spelling, is_escaped, ends_escape};
 ghost use Rattle.scram_text.specs.Appended.{IsAppended, LacksRoom};
 
@@ -159,14 +158,7 @@ fn unescape(text: &[u8]) -> Option<(u8, &[u8])>
 fn is_saslname(spelled: &[u8]) -> bool
     ensures { IsTrue result ↔ IsSaslName spelled.now }
 {
-    lacks_comma(spelled) && is_escaped(spelled) && !spelled.is_empty()
-}
-
-/// Whether no byte is a comma.
-pub(crate) fn lacks_comma(bytes: &[u8]) -> bool
-    ensures { result ≡ list_all (λ c. not (is_comma c)) bytes.now }
-{
-    bytes.iter().all(|byte| *byte != b',')
+    class::lacks_comma(spelled) && is_escaped(spelled) && !spelled.is_empty()
 }
 
 // Whether each `=` begins `=2C` or `=3D`.

@@ -11,12 +11,12 @@ ghost use Rattle.scram_text.specs.Limits.{longest_message, longest_nonce, longes
 ghost use Rattle.scram_text.specs.Class.{IsText};
 ghost use Rattle.scram_text.specs.Name.{LacksComma};
 ghost use Rattle.scram_text.specs.Base64Field.{base64};
-ghost use Rattle.scram_text.specs.Parts.{is_headed};
+ghost use Rattle.scram_text.specs.Parts.{is_named};
 ghost use Rattle.scram_text.specs.Messages.{ServerFinalParts, IsServerFinal, IsVerifierOrError, verifier_or_error_text, server_final_text};
 ghost use Rattle.scram_text.specs.Faults.{IsServerFinalFault, Fits, fault, result_place};
 ghost use Rattle.scram_text.specs.Shown.{ShowsServerFinal, verifier_or_error_of};
 ghost use Rattle.scram_text.specs.Draft.{IsDraftOf};
-ghost use Rattle.scram_text.specs.Written.{server_final_of, CanBeTold, CanBeServerFinal};
+ghost use Rattle.scram_text.specs.Written.{server_final_of, CanBeVerifierOrError, CanBeServerFinal};
 ghost use Rattle.scram_text.specs.Appended.{IsAppended, LacksRoom};
 
 use crate::draft::MessageDraft;
@@ -56,7 +56,7 @@ pub fn read_server_final(message: &[u8]) -> Result<ServerFinal<'_>, TextFault>
     // The text is a message with the parts that are returned.
     ensures found { IfOk result (λ m. (p : ServerFinalParts) × IsServerFinal message.now p
         × ShowsServerFinal m p) }
-    // If it is a message with any parts, these are returned.
+    // Where the text is a message, its parts are returned.
     ensures only { (p : ServerFinalParts) → IsServerFinal message.now p
         → IsOkAnd result (λ m. ShowsServerFinal m p) }
     ensures fault { IfErr result (λ f. IsServerFinalFault message.now f) }
@@ -70,7 +70,7 @@ fn read_parts(message: &[u8]) -> Result<ServerFinal<'_>, TextFault>
         × ShowsServerFinal m p) }
     ensures fault { IfErr result (λ f. IsServerFinalFault message.now f) }
 {
-    cut::count_parts(message)?;
+    cut::checked_part_count(message)?;
     let (first, rest) = cut::cut(message);
     let result = result_of(first)?;
     let extensions = cut::extensions_of(rest, 1)?;
@@ -98,7 +98,7 @@ fn result_of(part: &[u8]) -> Result<FinalResult<'_>, TextFault>
             }),
         }
     } else {
-        match field::tag_of(part, b'v') {
+        match field::short_bytes_of(part, b'v') {
             Some(signature) => Ok(FinalResult::Verifier(signature)),
             None => Err(TextFault {
                 part: 0,
@@ -109,7 +109,7 @@ fn result_of(part: &[u8]) -> Result<FinalResult<'_>, TextFault>
 }
 
 fn is_error(part: &[u8]) -> bool
-    ensures { result ≡ is_headed (byte "e") part.now }
+    ensures { result ≡ is_named (byte "e") part.now }
 {
     matches!(part, [b'e', b'=', ..])
 }
@@ -118,7 +118,7 @@ fn is_error(part: &[u8]) -> bool
 /// the error value of one or more value-chars, and the extensions as attr-vals with commas between
 /// them or empty. Answers 16 Unwritable where an argument is outside its class, else 17 OverLimit
 /// where the message would have more than 2048 bytes, else 99 NoMemory, only where `out` had no room
-/// reserved for the message; `out` is then unchanged.
+/// reserved for the message. After each of these faults `out` is unchanged.
 pub fn write_server_final<A: Allocator>(
     outcome: FinalResult<'_>,
     extensions: &[u8],
@@ -144,7 +144,7 @@ pub fn write_server_final<A: Allocator>(
 }
 
 fn is_tellable(outcome: &FinalResult<'_>) -> bool
-    ensures { IsTrue result ↔ CanBeTold (verifier_or_error_of outcome.now) }
+    ensures { IsTrue result ↔ CanBeVerifierOrError (verifier_or_error_of outcome.now) }
 {
     match outcome {
         FinalResult::Verifier(signature) => field::is_field(signature.as_slice(), LONGEST_TAG),
@@ -158,13 +158,13 @@ fn draft_of(outcome: &FinalResult<'_>, extensions: &[u8]) -> MessageDraft
     ensures is_message { let p = server_final_of (verifier_or_error_of outcome.now) extensions.now in
         length (server_final_text p) ≤ longest_message → IsServerFinal (server_final_text p) p }
 {
-    let mut draft = told(outcome);
+    let mut draft = outcome_draft(outcome);
     draft.add_extensions(extensions);
     draft
 }
 
-fn told(outcome: &FinalResult<'_>) -> MessageDraft
-    requires { CanBeTold (verifier_or_error_of outcome.now) }
+fn outcome_draft(outcome: &FinalResult<'_>) -> MessageDraft
+    requires { CanBeVerifierOrError (verifier_or_error_of outcome.now) }
     ensures draft { IsDraftOf result (verifier_or_error_text (verifier_or_error_of outcome.now)) }
     ensures is_text { IsText (verifier_or_error_text (verifier_or_error_of outcome.now)) }
 {

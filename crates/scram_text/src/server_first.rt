@@ -12,7 +12,7 @@ ghost use Rattle.scram_text.specs.Draft.{IsDraftOf};
 ghost use Rattle.scram_text.specs.Written.{server_first_of, CanBeServerFirst};
 ghost use Rattle.scram_text.specs.Faults.{IsServerFirstFault};
 ghost use Rattle.scram_text.specs.Shown.{ShowsServerFirst};
-ghost use Rattle.scram_text.specs.Pieces.{IsCutServer};
+ghost use Rattle.scram_text.specs.Pieces.{IsCutServerFirst};
 ghost use Rattle.scram_text.specs.Appended.{IsAppended, LacksRoom};
 
 use crate::draft::MessageDraft;
@@ -47,7 +47,7 @@ pub fn read_server_first(message: &[u8]) -> Result<ServerFirst<'_>, TextFault>
     // The text is a message with the parts that are returned.
     ensures found { IfOk result (λ m. (p : ServerFirstParts) × IsServerFirst message.now p
         × ShowsServerFirst m p) }
-    // If it is a message with any parts, these are returned.
+    // Where the text is a message, its parts are returned.
     ensures only { (p : ServerFirstParts) → IsServerFirst message.now p
         → IsOkAnd result (λ m. ShowsServerFirst m p) }
     ensures fault { IfErr result (λ f. IsServerFirstFault message.now f) }
@@ -82,7 +82,7 @@ fn read_parts(message: &[u8]) -> Result<ServerFirst<'_>, TextFault>
     };
     let extensions = cut::extensions_of(pieces.rest, pieces.index + 3)?;
     Ok(ServerFirst {
-        mandatory: pieces.marked | extensions.mandatory,
+        mandatory: pieces.has_mext | extensions.mandatory,
         nonce,
         salt,
         count,
@@ -93,7 +93,7 @@ fn read_parts(message: &[u8]) -> Result<ServerFirst<'_>, TextFault>
 // The parts after a mandatory extension: the first of them has this index.
 #[derive(Drop)]
 struct Pieces<'a> {
-    marked: bool,
+    has_mext: bool,
     index: usize,
     nonce: &'a [u8],
     salt: &'a [u8],
@@ -102,23 +102,23 @@ struct Pieces<'a> {
 }
 
 fn pieces_of(message: &[u8]) -> Result<Pieces<'_>, TextFault>
-    ensures cut { IfOk result (λ pieces. IsCutServer message.now pieces) }
+    ensures cut { IfOk result (λ pieces. IsCutServerFirst message.now pieces) }
     ensures fault { IfErr result (λ f. IsServerFirstFault message.now f) }
 {
-    let count = cut::count_parts(message)?;
-    if count < cut::least_of(message, 3) {
+    let parts = cut::checked_part_count(message)?;
+    if parts < cut::least_of(message, 3) {
         return Err(TextFault {
-            part: count,
+            part: parts,
             why: TextWhy::Missing,
         });
     }
-    let marked = cut::mext_of(message, 0)?;
-    let (nonce, salt, rest) = cut::two_of(marked.rest);
+    let after = cut::mext_of(message, 0)?;
+    let (nonce, salt, rest) = cut::two_of(after.rest);
     let Some(rest) = rest else { unreachable!() };
     let (count, rest) = cut::cut(rest);
     Ok(Pieces {
-        marked: marked.marked,
-        index: marked.index,
+        has_mext: after.has_mext,
+        index: after.index,
         nonce,
         salt,
         count,
@@ -130,7 +130,7 @@ fn pieces_of(message: &[u8]) -> Result<Pieces<'_>, TextFault>
 /// characters, the salt, the count, which is at least 1, and the extensions as attr-vals with commas
 /// between them or empty. Answers 16 Unwritable where an argument is outside its class, else 17
 /// OverLimit where the message would have more than 2048 bytes, else 99 NoMemory, only where `out`
-/// had no room reserved for the message; `out` is then unchanged.
+/// had no room reserved for the message. After each of these faults `out` is unchanged.
 pub fn write_server_first<A: Allocator>(
     nonce: &[u8],
     salt: &Salt,

@@ -1,5 +1,5 @@
-//! `scramotp`: the keys of SCRAM logins (RFC 5802, RFC 7677), one-time codes (RFC 4226, RFC 6238), a book of accounts
-//! that have them, and the audit of a recorded log, on the command line.
+//! `scramotp`: SCRAM keys and logins (RFC 5802, RFC 7677), one-time codes (RFC 4226, RFC 6238), a book of accounts, and the
+//! audit of a log, on the command line.
 //!
 //! `main` hands the words, the streams and the runtime to `commands::run`, which does all the work.
 #![tactic(auto)]

@@ -25,6 +25,7 @@ looked_up : (name : List ℕ) (es : List (List ℕ × AccountFields))
 looked_up name [] = refl
 looked_up name (e ∷ es) = ap (cond (eq_by_cmp name_cmp name e.0) (Some e.1)) (looked_up name es)
 
+-- in the map of a list of accounts a name has the account that a look-up in the list finds
 map_get : (es : List (List ℕ × AccountFields)) (name : List ℕ)
     → map.get (from_entries {R = name_cmp} es) name ≡ lookup (is_at (name_cmp name)) es
 map_get es name = get-from_entries nat_list_cmp_total es name ∙ looked_up name es
@@ -40,7 +41,7 @@ map_same : (es : List (List ℕ × AccountFields)) (m : map.FinMap name_cmp Acco
 map_same es m alike =
     same_map nat_list_cmp_total (slice_cmp-IsAntisymmetric nat_cmp-IsAntisymmetric) _ _ (λ name. map_get es name ∙ alike name)
 
--- the map with an account at a name
+-- where a list's look-ups are those of another but for one name, its map is the other's with this account inserted there
 put_map : (es new : List (List ℕ × AccountFields)) (name : List ℕ) (account : AccountFields)
     → ((other : List ℕ) → lookup (is_at (name_cmp other)) new
     ≡ cond (is_at (name_cmp name) other) (Some account) (lookup (is_at (name_cmp other)) es))
@@ -52,7 +53,7 @@ put_map es new name account alike =
     ((eq_by_cmp_equiv nat_list_cmp_total).symm other name)
     ∙ ap (cond (is_at (name_cmp name) other) (Some account)) (map_get es other)))
 
--- the map without a name
+-- where a list's look-ups are those of another but for one name, which it has not, its map is the other's without this name
 removed_map : (es new : List (List ℕ × AccountFields)) (name : List ℕ)
     → ((other : List ℕ) → lookup (is_at (name_cmp other)) new
     ≡ cond (is_at (name_cmp name) other) None (lookup (is_at (name_cmp other)) es))
@@ -63,6 +64,7 @@ removed_map es new name alike =
     ∙ ap (λ b. cond b None (map.get (from_entries {R = name_cmp} es) other)) ((eq_by_cmp_equiv nat_list_cmp_total).symm other name)
     ∙ ap (cond (is_at (name_cmp name) other) None) (map_get es other)))
 
+-- where the account that a look-up finds is changed in the list, it is changed in the map; where none is found, neither changes
 map_of_changed : (es : List (List ℕ × AccountFields)) (name : List ℕ) (change : AccountFields → AccountFields)
     (o : Option AccountFields) → lookup (is_at (name_cmp name)) es ≡ o
     → from_entries {R = name_cmp} (option_map_or (λ account. set_value (is_at (name_cmp name)) es (change account)) o es)
@@ -74,6 +76,7 @@ map_of_changed es name change (Some account) found =
     (λ x y at. (eq_by_cmp_equiv nat_list_cmp_total).congr name x y at) other (change account) es
     (subst IsSome (sym found) refl))
 
+-- a book with the account of a name changed has it changed both in its order and as a map
 pub is_changed : (old : BookFields) (name : List ℕ) (change : AccountFields → AccountFields) (new : BookFields)
     → new ≡ with_changed old name change → IsChanged old name change new
 is_changed old name change new same = record {
@@ -83,11 +86,13 @@ is_changed old name change new same = record {
       (sym (map_get old.accounts name));
 }
 
+-- the two functions that choose one of three by an ordering choose the same
 in_order : {A : Type 0} (o : Ordering) (x y z : A) → match_ordering o x y z ≡ by_order o x y z
 in_order Less x y z = refl
 in_order Equal x y z = refl
 in_order Greater x y z = refl
 
+-- `insert_entry` and `put` insert an account at the same place
 entry_put : (es : List (List ℕ × AccountFields)) (name : List ℕ) (account : AccountFields)
     → insert_entry name_cmp es name account ≡ put name_cmp name account es
 entry_put [] name account = refl
@@ -96,7 +101,7 @@ entry_put (e ∷ es) name account =
     ∙ ap (λ rest. by_order (name_cmp name e.0) ((name, account) ∷ e ∷ es) ((e.0, account) ∷ es) (e ∷ rest))
     (entry_put es name account)
 
--- the account that a name has after another one was added
+-- after an account is added, its name has it, and each other name has what it had
 added_lookup : (es : List (List ℕ × AccountFields)) (name : List ℕ) (account : AccountFields) (other : List ℕ)
     → lookup (is_at (name_cmp other)) (insert_entry name_cmp es name account)
     ≡ cond (is_at (name_cmp name) other) (Some account) (lookup (is_at (name_cmp other)) es)
@@ -107,6 +112,7 @@ added_lookup es name account other =
     ∙ ap (λ b. cond b (Some account) (find name_cmp other es)) ((eq_by_cmp_equiv nat_list_cmp_total).symm other name)
     ∙ ap (cond (is_at (name_cmp name) other) (Some account)) (looked_up other es)
 
+-- a book with an account of a free name has it added both in its order and as a map
 pub is_added : (old : BookFields) (name : List ℕ) (account : AccountFields) (new : BookFields)
     → account_at old name ≡ None → new ≡ with_account old name account → IsAdded old name account new
 is_added old name account new free same = record {
@@ -117,11 +123,13 @@ is_added old name account new free same = record {
   };
 }
 
+-- the law: after an account is added, its name has it, and each other name has what it had
 pub added_is_apart : AddedIsApart
 added_is_apart old name account other =
     added_lookup old.accounts name account other
     ∙ ap (λ b. cond b (Some account) (account_at old other)) (is_eq-slice_cmp name other)
 
+-- a book without the account of a name has it removed both in its order and as a map
 pub is_removed : (inside old : BookFields) (name : List ℕ) (new : List (List ℕ × AccountFields)) → inside ≡ old
     → new ≡ remove_entry (is_at (name_cmp name)) inside.accounts
     → ((other : List ℕ) → lookup (is_at (name_cmp other)) new

@@ -15,6 +15,7 @@ use Rattle.book_format.specs.Book.{AreAccounts}
 use Rattle.account_book.specs.Accounts.{with_act_as}
 use Rattle.account_book.specs.Tokens.{with_token}
 
+-- of two lists of accounts in their ranges, whichever a test chooses is in them:
 either : (b : Bool) (es fs : List (List ℕ × AccountFields)) → AreAccounts es → AreAccounts fs → AreAccounts (cond b es fs)
 either true es fs h k = h
 either false es fs h k = k
@@ -30,12 +31,12 @@ some_either : (b : Bool) (account : AccountFields) (o : Option AccountFields) �
 some_either true account o h k = h
 some_either false account o h k = k
 
--- the account that a look-up finds
+-- the account that a look-up finds among accounts in their ranges is in its ranges
 pub found : (test : List ℕ → Bool) (es : List (List ℕ × AccountFields)) → AreAccounts es → IfSome (lookup test es) IsAccount
 found test [] h = tt
 found test (e ∷ es) h = some_either (test e.0) e.1 (lookup test es) h.0 (found test es h.1)
 
--- the account that a reference found by a look-up shows
+-- where an option holds only an account in its ranges, so does a reference that shows the same
 pub shown : (r : Option (Bor AccountFields)) (o : Option AccountFields) → option_copied r ≡ o → IfSome o IsAccount
     → IfSome r (λ account. IsAccount account.now)
 shown None o e h = tt
@@ -46,14 +47,14 @@ pub all_removed : (test : List ℕ → Bool) (es : List (List ℕ × AccountFiel
 all_removed test [] h = tt
 all_removed test (e ∷ es) h = either (test e.0) es (e ∷ remove_entry test es) h.1 (h.0, all_removed test es h.1)
 
--- the accounts, one of them changed
+-- accounts remain in their ranges where one of them is replaced by one in its ranges
 pub all_set : (test : List ℕ → Bool) (es : List (List ℕ × AccountFields)) (account : AccountFields)
     → AreAccounts es → IsAccount account → AreAccounts (set_value test es account)
 all_set test [] account h k = tt
 all_set test (e ∷ es) account h k =
     either (test e.0) ((e.0, account) ∷ es) (e ∷ set_value test es account) (k, h.1) (h.0, all_set test es account h.1 k)
 
--- the accounts and one more
+-- accounts remain in their ranges with one more that is in its ranges
 pub all_put : (cmp : List ℕ → List ℕ → Ordering) (es : List (List ℕ × AccountFields)) (name : List ℕ) (account : AccountFields)
     → AreAccounts es → IsAccount account → AreAccounts (insert_entry cmp es name account)
 all_put cmp [] name account h k = (k, tt)
@@ -61,17 +62,18 @@ all_put cmp (e ∷ es) name account h k =
     one_of (cmp name e.0) ((name, account) ∷ e ∷ es) ((e.0, account) ∷ es) (e ∷ insert_entry cmp es name account)
     (k, h) (k, h.1) (h.0, all_put cmp es name account h.1 k)
 
--- the accounts after an insertion, whether there was memory for it or not
+-- accounts remain in their ranges after an insertion, whether there was memory for it or not
 pub all_inserted : {X Y : Type 0} (r : Result X Y) (cmp : List ℕ → List ℕ → Ordering) (es new : List (List ℕ × AccountFields))
     (name : List ℕ) (account : AccountFields) → OnOk r (new ≡ insert_entry cmp es name account) → OnErr r (new ≡ es)
     → AreAccounts es → IsAccount account → AreAccounts new
 all_inserted (Ok old) cmp es new name account e f h k = subst AreAccounts (sym e) (all_put cmp es name account h k)
 all_inserted (Err fault) cmp es new name account e f h k = subst AreAccounts (sym f) h
 
--- an account with another token
+-- an account remains in its ranges with another token
 pub token_put : (token : TokenFields) (account : AccountFields) → IsAccount account → IsAccount (with_token token account)
 token_put token account h = record { sha1 = h.sha1; sha256 = h.sha256; names = h.names }
 
+-- an account remains in its ranges with other names to act as, where there are not too many
 pub act_as_set : (names : List (List ℕ)) (account : AccountFields) → length names ≤ most_names → IsAccount account
     → IsAccount (with_act_as names account)
 act_as_set names account few h = record { sha1 = h.sha1; sha256 = h.sha256; names = few }

@@ -24,7 +24,7 @@ use Rattle.account_book.specs.View.{mech_keys, keys_entry, decoy_entry, entry_in
 use Rattle.account_book.specs.Tokens.{token_at, with_token}
 use Rattle.account_book.specs.Laws.{TokensAreApart, EntriesStay, TokensStay, TokensGoBack}
 
--- the accounts of a book in which one is changed
+-- where one account is changed, its name has the changed account, and each other name what it had
 changed_at : (old : BookFields) (name : List ℕ) (change : AccountFields → AccountFields) (account : AccountFields)
     → account_at old name ≡ Some account
     → (other : List ℕ) → account_at (with_changed old name change) other
@@ -41,23 +41,24 @@ changed_at old name change account found other =
     ≡ cond (is_at (name_cmp name) other) (Some (change account)) (account_at old other)) (sym found) stepped in
     whole ∙ ap (λ (b : Bool). cond b (Some (change account)) (account_at old other)) (is_eq-slice_cmp name other)
 
--- an account's keys are as before where its token is another
+-- what a server keeps of an account is the same with another token
 same_entry : (m : Mechanism) (token : TokenFields) (account : AccountFields) (decoy : Entry)
     → unwrap_or (option_map (keys_entry (with_token token account).act_as) (mech_keys m (with_token token account))) decoy
     ≡ unwrap_or (option_map (keys_entry account.act_as) (mech_keys m account)) decoy
 same_entry ScramSha1 token account decoy = refl
 same_entry ScramSha256 token account decoy = refl
 
--- the entry that a book has for a name, by its account of that name
+-- the entry that a book has for a name, by its account of that name, or else the decoy
 abbrev entry_by : Mechanism → Entry → Option AccountFields → Entry
 entry_by m decoy o = unwrap_or (option_and_then (λ account. option_map (keys_entry account.act_as) (mech_keys m account)) o) decoy
 
--- a token is that of an account
+-- where the token of an optional account is there, so is the account
 pub owner : (o : Option AccountFields) (token : TokenFields) → option_and_then (λ account. account.token) o ≡ Some token
     → (account : AccountFields) × (o ≡ Some account)
 owner None token has = absurd (cc has)
 owner (Some account) token has = (account, refl)
 
+-- where one account has another token, what a server keeps of each name is as before
 pub entry_kept : (old : BookFields) (name : List ℕ) (token : TokenFields) (account : AccountFields) → account_at old name ≡ Some account
     → (m : Mechanism) (other : List ℕ) → entry_in (with_changed old name (with_token token)) m other ≡ entry_in old m other
 entry_kept old name token account found m other =
@@ -72,6 +73,7 @@ entry_kept old name token account found m other =
           ≡ account_at old other = rw apart at changed in ap (entry_by m decoy) same
     ]
 
+-- where the token of an account is replaced, its name has the new one
 pub token_there : (old : BookFields) (name : List ℕ) (token : TokenFields) (account : AccountFields) → account_at old name ≡ Some account
     → (other : List ℕ) → bytes_eq name other ≡ true → token_at (with_changed old name (with_token token)) other ≡ Some token
 token_there old name token account found other is =
@@ -79,6 +81,7 @@ token_there old name token account found other is =
     let there : account_at (with_changed old name (with_token token)) other ≡ Some (with_token token account) = rw is at changed in
     ap (option_and_then (λ account. account.token)) there
 
+-- where the token of an account is replaced, each other name has the token that it had
 pub token_elsewhere : (old : BookFields) (name : List ℕ) (token : TokenFields) (account : AccountFields)
     → account_at old name ≡ Some account
     → (other : List ℕ) → bytes_eq name other ≡ false → token_at (with_changed old name (with_token token)) other ≡ token_at old other
@@ -87,7 +90,7 @@ token_elsewhere old name token account found other apart =
     let same : account_at (with_changed old name (with_token token)) other ≡ account_at old other = rw apart at changed in
     ap (option_and_then (λ account. account.token)) same
 
--- after another token at one name, each name has the token that it had, and this name the other
+-- the law: where the token of one name is replaced, this name has the new one, and each other name the token that it had
 pub tokens_are_apart : TokensAreApart
 tokens_are_apart old name token next has other =
     let account = owner (account_at old name) token has in
@@ -96,7 +99,7 @@ tokens_are_apart old name token next has other =
       | inr apart ↦ rw apart (token_elsewhere old name next account.0 account.1 other apart)
     ]
 
--- what a server keeps of a name has no token in it
+-- the law: what a server keeps of each name is as it was after a token is replaced
 pub entries_stay : EntriesStay
 entries_stay old name token next has m other =
     let account = owner (account_at old name) token has in entry_kept old name next account.0 account.1 m other
@@ -111,11 +114,11 @@ set_twice test (e ∷ es) first second =
       | inr apart ↦ rw apart (rw apart (ap (λ rest. e ∷ rest) (set_twice test es first second)))
     ]
 
--- an account with the token that it has
+-- an account that is given the token that it has is the same account
 same_account : (account : AccountFields) (token : TokenFields) → account.token ≡ Some token → with_token token account ≡ account
 same_account account token has = ap (λ (o : Option TokenFields). record account { token = o }) (sym has)
 
--- the accounts with this one's token set are those that there were
+-- accounts of which one is given the token that it has are the same accounts
 set_back : (es : List (List ℕ × AccountFields)) (name : List ℕ) (account : AccountFields) (token : TokenFields)
     → lookup (is_at (name_cmp name)) es ≡ Some account → account.token ≡ Some token
     → set_value (is_at (name_cmp name)) es (with_token token account) ≡ es
@@ -123,7 +126,7 @@ set_back es name account token found has =
     set_value_same (is_at (name_cmp name)) es (with_token token account)
     (found ∙ ap (λ (a : AccountFields). Some a) (sym (same_account account token has)))
 
--- a book in which an account that is there is changed
+-- a book in which an account that is there is changed has the changed one at its name
 changed_is : (book : BookFields) (name : List ℕ) (change : AccountFields → AccountFields) (account : AccountFields)
     → account_at book name ≡ Some account
     → with_changed book name change ≡ record book { accounts = set_value (is_at (name_cmp name)) book.accounts (change account) }
@@ -134,14 +137,14 @@ changed_is book name change account found =
     })
     found
 
--- the token of an account that is there
+-- an optional account that is there has the token that was found in it
 own_token : (o : Option AccountFields) (token : TokenFields) (account : AccountFields)
     → option_and_then (λ account. account.token) o ≡ Some token
     → o ≡ Some account → account.token ≡ Some token
 own_token None token account has found = absurd (cc has)
 own_token (Some other) token account has found = cc
 
--- a token that is put where it stands changes nothing
+-- the law: a token that is put where it stands changes nothing
 pub tokens_stay : TokensStay
 tokens_stay old name token has =
     let owned = owner (account_at old name) token has in
@@ -149,6 +152,7 @@ tokens_stay old name token has =
     ∙ ap (λ (es : List (List ℕ × AccountFields)). record old { accounts = es })
     (set_back old.accounts name owned.0 token owned.1 (own_token (account_at old name) token owned.0 has owned.1))
 
+-- the law: where a token is replaced and then put back, the book is as it was
 pub tokens_go_back : TokensGoBack
 tokens_go_back old name token next has =
     let owned = owner (account_at old name) token has in

@@ -38,8 +38,8 @@ impl EnrolFault {
 impl Book {
     /// Adds an account of this name, with the keys of `password` for both mechanisms: those of SCRAM-SHA-1
     /// under `salt1`, those of SCRAM-SHA-256 under `salt256`, and both under `count`, at least 1. It acts as
-    /// no other name and has no token. Answers 50 NameTaken where the name has an account, else 99 NoMemory
-    /// only where memory runs out, which no clause says; then nothing changes.
+    /// no other name and has no token. Answers 50 NameTaken where the name has an account, else 99 NoMemory,
+    /// only where memory runs out, which no clause says. After both nothing is changed.
     pub fn enrol(
         &mut self,
         alloc: Global,

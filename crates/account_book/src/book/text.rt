@@ -12,11 +12,8 @@ use book_format::{BookFault, Contents};
 use std::alloc::{AllocError, Global};
 
 impl Book {
-    /// Reads the book that `bytes` are the text of, or answers the first fault (60 to 67): of the
-    /// document, of `format`, of the document's keys, then of account after account in byte order of
-    /// names. In each table unknown keys come first, and then its keys in the order of the format; of a
-    /// token, `kind` comes before both. 99 NoMemory may come at any place;
-    /// no clause says that it comes only where memory runs out.
+    /// Reads the book that `bytes` are the text of, or answers the first fault, as `Contents::read` does: 60 to 67, or 99
+    /// NoMemory, which may come at any place; no clause says that it comes only where memory runs out.
     pub fn read(alloc: Global, bytes: &[u8]) -> Result<Book, BookFault>
         ensures found { IfOk result (λ book. IsBookText bytes.now book) }
         ensures only { (book : BookFields) → IsBookText bytes.now book
@@ -34,6 +31,7 @@ impl Book {
     /// hexadecimal. `AllocError` comes only where memory runs out, which no clause says.
     pub fn write(&self, alloc: Global) -> Result<String, AllocError>
         ensures stands { IfOk result (λ text. IsBookText (string_bytes text) self.now) }
+        // The text is the compact one of the crate toml: in IsDocumentText, `false` says that it is not pretty.
         ensures text { IfOk result (λ text. IsDocumentText false (book_tree self.now) (string_bytes text)) }
     {
         self.contents.write(alloc)

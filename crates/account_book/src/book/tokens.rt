@@ -3,7 +3,7 @@ ghost use Rattle.std.specs.Prelude.{◌≡◌, is_some};
 ghost use Rattle.otp_core.specs.Attempt.CodeTexts.{OneText, TwoTexts};
 ghost use Rattle.otp_core.specs.Sent.{texts_of};
 ghost use Rattle.account_book.specs.Accounts.{account_at, IsChanged};
-ghost use Rattle.account_book.specs.Tokens.{IsAnswered, IsUnlocked, token_at, with_token};
+ghost use Rattle.account_book.specs.Tokens.{IsBookAttempt, IsUnlocked, token_at, with_token};
 
 use crate::book::Book;
 use otp_core::{Moment, Reply, Sent, Token};
@@ -39,7 +39,7 @@ impl Book {
     /// does, and keeps the token as it is afterwards. None where there is no account of the name or it has
     /// no token; then nothing changes.
     pub fn attempt(&mut self, name: &PlainName, moment: Moment, text: &[u8]) -> Option<Reply>
-        ensures { IsAnswered self.old name.now moment (OneText text.now) result self.new }
+        ensures { IsBookAttempt self.old name.now moment (OneText text.now) result self.new }
     {
         self.judge(name, moment, Sent::One(text))
     }
@@ -54,7 +54,7 @@ impl Book {
         first: &[u8],
         second: &[u8],
     ) -> Option<Reply>
-        ensures { IsAnswered self.old name.now moment (TwoTexts first.now second.now) result self.new }
+        ensures { IsBookAttempt self.old name.now moment (TwoTexts first.now second.now) result self.new }
     {
         self.judge(name, moment, Sent::Two(first, second))
     }
@@ -62,7 +62,7 @@ impl Book {
     /// Judges what was sent at `moment` by the token of the account of this name: one text as `attempt` does, and two as
     /// `sync` does.
     pub fn judge(&mut self, name: &PlainName, moment: Moment, sent: Sent<'_>) -> Option<Reply>
-        ensures { IsAnswered self.old name.now moment (texts_of sent.entry) result self.new }
+        ensures { IsBookAttempt self.old name.now moment (texts_of sent.entry) result self.new }
     {
         let mut token = self.token(name)?;
         let reply = token.judge(moment, sent);

@@ -27,8 +27,8 @@ fn has_keys(
     )
 }
 
-// Whether the account has the keys of RFC 5802, section 5, and those of RFC 7677, section 3; the
-// latter are from Python's hashlib, and the RFC's messages are made with them.
+// Whether the account has the keys of the users of RFC 5802, section 5, and RFC 7677, section 3: by Python's hashlib, since
+// the RFCs print only the proofs and signatures that are made with them.
 fn is_published(rt: &impl AllocGlobal, account: Option<&Account>) -> Result<bool, Fail> {
     let Some(account) = account else {
         return Ok(false);

@@ -10,12 +10,12 @@ use Rattle.command_line.specs.declared.fault.Fault.{Fault}
 use Rattle.command_line.specs.declared.fault.Fault.TheVariants.{NameTaken, NoMemory}
 use Rattle.command_line.specs.declared.option_name.OptionName.TheVariants as option
 use Rattle.command_words.specs.Values.{given_value}
-use Rattle.account_commands.specs.Enrol.{CannotBeChanged, CannotEnrol, IsReadOrNew, IsNameTakenIn, IsThisOrRead}
+use Rattle.account_commands.specs.Enrol.{CannotBeChanged, CannotEnrol, IsReadOrNew, IsNameTakenIn, IsThisBookOrARead}
 use Rattle.command_io.specs.HeldBook.{IsReadBook}
 
--- an account that was not added and saved: its name is taken, or what else holds of the fault is that the book is not saved
+-- a fault of an account that was not added and saved: its name is taken, or the book can't be changed
 by_account : {File Other : Type 0} (bytes_of : File → Option (List ℕ)) (path name : List ℕ) (this book : BookFields)
-    (found : Option AccountFields) (fault : Fault) → account_at book name ≡ found → IsThisOrRead bytes_of this book
+    (found : Option AccountFields) (fault : Fault) → account_at book name ≡ found → IsThisBookOrARead bytes_of this book
     → (Other → IsUnwritten path fault) → MatchOption found Other (λ account. fault ≡ NameTaken) → IsNameTakenIn bytes_of this name fault
     ⊎ CannotBeChanged bytes_of path fault
 by_account bytes_of path name this book None fault is there unwritten other = inr (inr (unwritten other))
@@ -38,7 +38,7 @@ not_saved bytes_of path name text this book fault read other =
 
 -- a name that is taken in a book which is new or was read is taken in one that was read: a new book has no accounts
 taken_in_read : {File : Type 0} (bytes_of : File → Option (List ℕ)) (old new : Option (List ℕ)) (name : List ℕ) (this book : BookFields)
-    → IsReadOrNew bytes_of old new this → IsThisOrRead bytes_of this book → is_some (account_at book name) ≡ true
+    → IsReadOrNew bytes_of old new this → IsThisBookOrARead bytes_of this book → is_some (account_at book name) ≡ true
     → (text : List ℕ) × IsReadBook bytes_of text book
 taken_in_read bytes_of old new name this book known (inr read) taken = read
 taken_in_read bytes_of old new name this book (inl (text, read, same)) (inl is) taken =
@@ -46,7 +46,7 @@ taken_in_read bytes_of old new name this book (inl (text, read, same)) (inl is) 
 taken_in_read bytes_of old new name this book (inr (key, long, lost, made)) (inl is) taken =
     let none : false ≡ true = sym (ap (λ (b : BookFields). is_some (account_at b name)) (is ∙ made)) ∙ taken in absurd (cc none)
 
--- an account that was not added and saved, as `enrol` says it
+-- where an account was not added and saved, the fault is one of those that `enrol` says
 pub not_enrolled : {File : Type 0} (bytes_of : File → Option (List ℕ)) (old new input : Option (List ℕ)) (words : ArgMatches)
     (path name : List ℕ) (book : BookFields) (fault : Fault) → path ≡ given_value words option.Book → name ≡ given_value words option.Name
     → IsReadOrNew bytes_of old new book → IsNameTakenIn bytes_of book name fault ⊎ CannotBeChanged bytes_of path fault

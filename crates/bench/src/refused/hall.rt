@@ -1,4 +1,4 @@
-//! As the calls of a desk: those of a hall with two clients.
+//! A hall with two clients, whose calls are made while one request for memory is refused, as `refused` has those of a desk.
 use crate::memory::Memory;
 use crate::refused::print_end;
 use crate::service::{OWN, book_at, login_and_codes};

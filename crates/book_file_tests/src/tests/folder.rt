@@ -1,5 +1,6 @@
 //! A folder for one test.
 use std::fs::Permissions;
+use std::io::ErrorKind;
 use std::os::unix::fs::PermissionsExt;
 use std::test::Fail;
 use std::{env, fs, process};
@@ -8,10 +9,17 @@ use std::{env, fs, process};
 pub fn make(rt: &HostRuntime, test: &str) -> Result<String, Fail> {
     let temp = fs::canonicalize(rt, env::temp_dir(rt)?.as_str())?;
     let id = process::id(rt.process());
-    let folder = format!(in rt.alloc(); "{}/book-file-{test}-{id}", temp.as_str())?;
-    fs::create_dir(rt, folder.as_str())?;
-    fs::set_permissions(rt, folder.as_str(), Permissions::from_mode(0o700))?;
-    Ok(folder)
+    // A run that failed leaves its folder, and the number of a process may come again.
+    for number in 0..1000u32 {
+        let folder = format!(in rt.alloc(); "{}/book-file-{test}-{id}-{number}", temp.as_str())?;
+        match fs::create_dir(rt, folder.as_str()) {
+            Err(error) if error.kind() == ErrorKind::AlreadyExists => continue,
+            made => made?,
+        }
+        fs::set_permissions(rt, folder.as_str(), Permissions::from_mode(0o700))?;
+        return Ok(folder);
+    }
+    Err(Fail::from("no name of a folder is free"))
 }
 
 /// Whether the file has this text.

@@ -16,26 +16,31 @@ use Rattle.book_format.specs.declared.fault.BookWhy.TheVariants.{Toml}
 use Rattle.book_format.proofs.lemmas.Tables.{book_held, book_found, in_range, at_top_ok}
 use Rattle.book_format.proofs.lemmas.Steps.{bind_ok, ok_or_ok}
 
+-- a text that has no tree is read as no book, for the tree's reason and with no account named
 pub no_tree : (bytes : List ℕ) (why : BookWhy) → tree_in bytes ≡ Err why → book_in bytes ≡ Err (record { why = why; account = None })
 unfolding book_in
 no_tree bytes why h = rw h refl
 
+-- a text whose top table is refused is read as no book, for that reason and with no account named
 pub no_top : (bytes : List ℕ) (ms : Members) (why : BookWhy) → tree_in bytes ≡ Ok ms → Err why ≡ top_of ms
     → book_in bytes ≡ Err (record { why = why; account = None })
 unfolding book_in book_of
 no_top bytes ms why read h = rw (read, ← h) refl
 
+-- a text whose accounts are refused is read as no book, with their fault
 pub no_accounts : (bytes : List ℕ) (ms : Members) (top : TopFields) (fault : BookFault) → tree_in bytes ≡ Ok ms → Ok top ≡ top_of ms
     → accounts_of_table top.accounts ≡ Err fault → book_in bytes ≡ Err fault
 unfolding book_in book_of
 no_accounts bytes ms top fault read h accounts = rw (read, ← h, accounts) refl
 
+-- a text whose top table and accounts are read is read as the book of both
 pub whole : (bytes : List ℕ) (ms : Members) (top : TopFields) (entries : List (List ℕ × AccountFields)) → tree_in bytes ≡ Ok ms
     → Ok top ≡ top_of ms → accounts_of_table top.accounts ≡ Ok entries
     → book_in bytes ≡ Ok (record { decoy_key = top.decoy_key; decoy_count = top.decoy_count; accounts = entries })
 unfolding book_in book_of
 whole bytes ms top entries read h accounts = rw (read, ← h, accounts) refl
 
+-- a text that has a tree is UTF-8, and the parser gives this tree
 tree_found : (bytes : List ℕ) (ms : Members) → tree_in bytes ≡ Ok ms → IsUtf8 bytes × (parse_document bytes ≡ Some ms)
 unfolding tree_in
 tree_found bytes ms h = elim (cases_Bool (is_utf8 bytes)) [
@@ -57,6 +62,7 @@ pub text_held : (bytes : List ℕ) (book : BookFields) → IsBookText bytes book
 unfolding book_in tree_in
 text_held bytes book h = rw (is_utf8-from_IsUtf8 bytes h.utf8, h.parsed) (book_held h.tree book h.of_book)
 
+-- a book that is read from a text is in its ranges
 pub text_in_range : (bytes : List ℕ) (book : BookFields) → book_in bytes ≡ Ok book → IsBook book
 text_in_range bytes book h =
     let text = text_found bytes book h in

@@ -25,25 +25,31 @@ use Rattle.book_format.proofs.lemmas.Put.{Entries}
 abbrev pub IsFlat : ℕ → Data → Type 0
 IsFlat most d = (depth d ≤ most) × (has_valid_dates d ≡ true)
 
+-- a table whose values have at most so many levels, without dates
 abbrev pub AreFlat : ℕ → Members → Type 0
 AreFlat most ms = (members_depth ms ≤ most) × (members_have_valid_dates ms ≡ true)
 
+-- an optional value of at most so many levels, without dates, if there is one
 abbrev pub IsFlatSome : ℕ → Option Data → Type 0
 IsFlatSome most None = Unit {0}
 IsFlatSome most (Some d) = IsFlat most d
 
+-- entries each of whose values, if there is one, has at most so many levels, without dates
 abbrev pub AllFlat : ℕ → Entries → Type 0
 AllFlat most [] = Unit {0}
 AllFlat most (e ∷ es) = IsFlatSome most e.1 × AllFlat most es
 
+-- a flat value before flat members makes flat members
 flat_member : (most : ℕ) (key : List ℕ) (d : Data) (rest : Members) → IsFlat most d → AreFlat most rest → AreFlat most (member key d rest)
 flat_member most key d rest here others = (omega (arith, here.0, others.0), rw (here.1, others.1) refl)
 
+-- of flat members the first value is flat, and so are the others
 flat_first : (most : ℕ) (key : List ℕ) (d : Data) (rest : Members) → AreFlat most (member key d rest) → IsFlat most d × AreFlat most rest
 flat_first most key d rest h =
     let (here, others) = and_parts (has_valid_dates d) (members_have_valid_dates rest) h.1 in
     ((omega (arith, h.0), here), (omega (arith, h.0), others))
 
+-- flat members stay flat with a flat value put at a key:
 flat_put : (most : ℕ) (key : List ℕ) (d : Data) (ms : Members) → IsFlat most d → AreFlat most ms → AreFlat most (put_member key d ms)
 flat_put most key d no_members is h = flat_member most key d no_members is h
 flat_put most key d (member k e rest) is h =
@@ -64,15 +70,18 @@ flat_all : (most : ℕ) (es : Entries) (ms : Members) → AllFlat most es → Ar
 flat_all most [] ms all h = h
 flat_all most (e ∷ es) ms all h = flat_all most es (put_some e.0 e.1 ms) all.1 (flat_some most e.0 e.1 ms all.0 h)
 
+-- where whatever is written of a value is flat, so is what is written of an optional one
 flat_option : {T : Type 0} (most : ℕ) (write : T → Data) (o : Option T) → ((v : T) → IsFlat most (write v))
     → IsFlatSome most (option_map write o)
 flat_option most write None each = tt
 flat_option most write (Some v) each = each v
 
+-- the table of a mechanism's keys has one level
 mech_flat : (len : ℕ) (m : MechKeys) → IsFlat 1 (table (written (mech len) m))
 unfolding written
 mech_flat len m = (omega arith, refl)
 
+-- the list of some names has no level below it, and no date:
 names_depth : (names : List (List ℕ)) → items_depth (items_of (map string names)) ≡ 0
 names_depth [] = refl
 names_depth (name ∷ names) = rw (names_depth names) refl
@@ -81,6 +90,7 @@ names_dates : (names : List (List ℕ)) → items_have_valid_dates (items_of (ma
 names_dates [] = refl
 names_dates (name ∷ names) = names_dates names
 
+-- the tree of each part of a book is flat, from a TOTP token up to the accounts:
 totp_flat : (t : TotpFields) → AreFlat 0 (written totp t)
 unfolding written
 totp_flat t =
@@ -116,6 +126,7 @@ unfolding accounts_tree
 accounts_flat [] = (omega arith, refl)
 accounts_flat (e ∷ entries) = flat_member 2 e.0 (table (written account e.1)) _ (account_flat e.1) (accounts_flat entries)
 
+-- the tree of a book is at most three levels deep below its top, and has no dates
 pub book_flat : (b : BookFields) → AreFlat 3 (book_tree b)
 unfolding book_tree written
 book_flat b =

@@ -1,4 +1,4 @@
--- Bytes of hexadecimal texts.
+-- Hexadecimal texts of too few digits or of too many.
 use Rattle.std.proofs.Common.{◌≡◌, ◌<◌, ◌*◌, ◌/◌, ◌&&◌, nat_le, ℕ, List, length, false, Ok, Err, refl, arith}
 use Rattle.std.proofs.lemmas.Bool.Decides.{nat_tests}
 use Rattle.hex.specs.Hex.{decode_of}
@@ -6,7 +6,7 @@ use Rattle.hex.proofs.HexLemmas.{decode_of-ok}
 use Rattle.book_format.specs.ValueTypes.{decoded}
 use Rattle.book_format.specs.declared.fault.BookWhy.{BookWhy}
 
--- a text of another number of digits
+-- a text whose number of bytes is outside the bounds is refused
 outside : (why : BookWhy) (least most : ℕ) (text : List ℕ)
     → ((n : ℕ) → length text ≡ 2 * n → (nat_le least n && nat_le n most) ≡ false) → decoded why least most (decode_of text) ≡ Err why
 outside why least most text fails =
@@ -15,7 +15,7 @@ outside why least most text fails =
       | Err e ↦ λ is. refl
     ] refl
 
--- a text of too few digits
+-- a text of fewer digits than the least number of bytes has is refused
 pub decoded-fewer : (why : BookWhy) (least most : ℕ) (text : List ℕ) → length text / 2 < least
     → decoded why least most (decode_of text) ≡ Err why
 decoded-fewer why least most text h = outside why least most text (λ n twice. few least most n (omega (arith, twice)))
@@ -23,7 +23,7 @@ decoded-fewer why least most text h = outside why least most text (λ n twice. f
     few : (least most n : ℕ) → n < least → (nat_le least n && nat_le n most) ≡ false
     few least most n h = grind (arith, nat_tests)
 
--- a text of too many digits
+-- a text of more digits than the largest number of bytes has is refused
 pub decoded-more : (why : BookWhy) (least most : ℕ) (text : List ℕ) → most < length text / 2
     → decoded why least most (decode_of text) ≡ Err why
 decoded-more why least most text h = outside why least most text (λ n twice. many least most n (omega (arith, twice)))

@@ -11,6 +11,7 @@ use Rattle.std.specs.BTreeMap.{insert_entry}
 use Rattle.toml.proofs.Views.{Entry}
 use Rattle.book_format.specs.Account.{AccountFields}
 
+-- an account with its name
 abbrev pub Named : Type 0
 Named = List ℕ × AccountFields
 
@@ -21,6 +22,7 @@ HaveKeys [] (e ∷ done) = ⊥
 HaveKeys (a ∷ accounts) [] = ⊥
 HaveKeys (a ∷ accounts) (e ∷ done) = (a.0 ≡ string_bytes e.0) × HaveKeys accounts done
 
+-- accounts with the keys of some entries, and one more account with the key of one more entry, have the keys of all
 pub HaveKeys-last : (accounts : List Named) (done : List Entry) (a : Named) (e : Entry) → HaveKeys accounts done → a.0 ≡ string_bytes e.0
     → HaveKeys (accounts ++ a ∷ []) (done ++ e ∷ [])
 HaveKeys-last [] [] a e h same = (same, tt)
@@ -28,12 +30,13 @@ HaveKeys-last [] (d ∷ done) a e h same = absurd h
 HaveKeys-last (x ∷ accounts) [] a e h same = absurd h
 HaveKeys-last (x ∷ accounts) (d ∷ done) a e h same = (h.0, HaveKeys-last accounts done a e h.1 same)
 
+-- a key that is below all keys of a list is below the one in its middle
 below_middle : (first : Entry) (es : List Entry) (e : Entry) (more : List Entry)
     → AllByRecursion (λ y. string_cmp first.0 y ≡ Less) (keys_of (es ++ e ∷ more)) → string_cmp first.0 e.0 ≡ Less
 below_middle first [] e more h = h.0
 below_middle first (x ∷ es) e more h = below_middle first es e more h.1
 
--- an account whose key is above those before it goes last
+-- an account whose key is above those before it is inserted last
 pub inserted_last : (accounts : List Named) (done : List Entry) (e : Entry) (more : List Entry) (account : AccountFields)
     → IsStrictlySortedBy string_cmp (keys_of (done ++ e ∷ more)) → HaveKeys accounts done
     → insert_entry (slice_cmp nat_cmp) accounts (string_bytes e.0) account ≡ accounts ++ (string_bytes e.0, account) ∷ []

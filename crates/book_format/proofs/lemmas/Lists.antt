@@ -1,4 +1,4 @@
--- Lists of texts and of names.
+-- How a list of names is read: by whether all are texts, and by how many there are.
 use Rattle.std.proofs.Common.{◌≡◌, ◌<◌, ◌≤◌, nat_le, le-leb, ℕ, List, [], ◌∷◌, ◌++◌, length, true, false, Result, Ok, Err, refl}
 use Rattle.std.proofs.Common.{append_assoc, arith}
 use Rattle.std.proofs.lemmas.Bool.Decides.{nat_tests}
@@ -10,22 +10,25 @@ use Rattle.book_format.specs.ValueTypes.{are_texts, item_count, names_in, names_
 use Rattle.book_format.specs.Rows.{◌>>=◌}
 use Rattle.book_format.specs.declared.fault.BookWhy.TheVariants.{Key, Name}
 
+-- as many items are counted in the view of a list of values as it has
 pub item_count-view : (vs : List Value) → item_count (items_view vs) ≡ length vs
 item_count-view [] = refl
 item_count-view (v ∷ vs) =
     let rest = item_count-view vs in
     omega (arith, rest)
 
--- one more value moves from what is left to those that were read
+-- to put a value before what is left to read, and others before both, is to put it at the end of those others
 pub moved : {A E : Type 0} (front : List A) (x : A) (rest : Result (List A) E)
     → ((rest >>= λ xs. Ok (x ∷ xs)) >>= λ xs. Ok (front ++ xs)) ≡ (rest >>= λ xs. Ok ((front ++ x ∷ []) ++ xs))
 moved front x (Ok xs) = rw append_assoc refl
 moved front x (Err e) = refl
 
+-- a list in which not all are texts is refused for its key
 pub names_of-untyped : (list : Items) → are_texts list ≡ false → names_of list ≡ Err Key
 unfolding names_of
 names_of-untyped list untyped = rw untyped refl
 
+-- a list of more texts than an account may have names is refused for its names
 pub names_of-many : (list : Items) → are_texts list ≡ true → most_names < item_count list → names_of list ≡ Err Name
 unfolding names_of
 names_of-many list typed many = rw (typed, too_many (item_count list) many) refl
@@ -33,6 +36,7 @@ names_of-many list typed many = rw (typed, too_many (item_count list) many) refl
     too_many : (n : ℕ) → most_names < n → nat_le n most_names ≡ false
     too_many n h = grind (arith, nat_tests)
 
+-- a list of no more texts than an account may have names is read name by name
 pub names_of-few : (list : Items) → are_texts list ≡ true → item_count list ≤ most_names → names_of list ≡ names_in list
 unfolding names_of
 names_of-few list typed few = rw (typed, le-leb (item_count list) most_names few) refl

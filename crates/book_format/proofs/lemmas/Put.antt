@@ -1,7 +1,7 @@
 -- What an insert into a table does, and what keys that are put into it are there then.
 use Rattle.std.proofs.Common.{◌≡◌, ℕ, Bool, true, false, not, ◌&&◌, List, [], ◌∷◌, ◌++◌, String, Global, Ordering, Less, Equal, Greater}
 use Rattle.std.proofs.Common.{is_eq, nat_cmp, string_bytes, string_cmp, Option, Some, None, refl, sym, ap, ◌∙◌, subst}
-use Rattle.std.proofs.lemmas.Bool.{and_parts, false≢true}
+use Rattle.std.proofs.lemmas.Bool.{and_parts, false≢true, not-true}
 use Rattle.std.proofs.lemmas.Cmp.{nat_list_cmp_total}
 use Rattle.std.proofs.lemmas.Map.Lookups.{exact_bytes}
 use Rattle.std.specs.Cmp.Lexicographic.{slice_cmp}
@@ -21,18 +21,20 @@ use Rattle.book_format.specs.Rows.{written}
 use Rattle.book_format.specs.Tables.{account}
 use Rattle.book_format.specs.Written.{accounts_tree}
 
+-- the view of a list that an ordering chooses is the view that it chooses
 members_view-match_ordering : (o : Ordering) (a b c : List Entry)
     → members_view (match_ordering o a b c) ≡ match_ordering o (members_view a) (members_view b) (members_view c)
 members_view-match_ordering Less a b c = refl
 members_view-match_ordering Equal a b c = refl
 members_view-match_ordering Greater a b c = refl
 
--- what `insert` does to the members
+-- to insert a value into a table's entries is to put it among their members
 pub members_view-insert_entry : (es : List Entry) (k : String Global) (v : Value)
     → members_view (insert_entry string_cmp es k v) ≡ put_member (string_bytes k) (view v) (members_view es)
 members_view-insert_entry [] k v = refl
 members_view-insert_entry (e ∷ es) k v = members_view-match_ordering (string_cmp k e.0) _ _ _ ∙ rw (members_view-insert_entry es k v)
 
+-- a name that is below all names of a list is below the one in its middle
 below_middle : (first : List ℕ × AccountFields) (done : List (List ℕ × AccountFields)) (e : List ℕ × AccountFields)
     (more : List (List ℕ × AccountFields))
     → AllByRecursion (λ y. slice_cmp nat_cmp first.0 y ≡ Less) (keys_of (done ++ e ∷ more)) → slice_cmp nat_cmp first.0 e.0 ≡ Less
@@ -50,27 +52,30 @@ put_above (first ∷ done) e more h =
     ≡ Greater = nat_list_cmp_total.antisymm e.0 first.0 ∙ ap ordering_reverse (below_middle first done e more h.0) in
     rw above (ap (member first.0 (table (written account first.1))) (put_above done e more h.1))
 
--- look-ups
+-- Look-ups.
 
+-- an ordering that is not Equal chooses the same, whatever stands in its middle
 pub same_sides : {X : Type 0} (o : Ordering) (side middle : X) → is_eq o ≡ false → match_ordering o side middle side ≡ side
 same_sides Less side middle h = refl
 same_sides Equal side middle h = absurd (false≢true (sym h))
 same_sides Greater side middle h = refl
 
+-- an ordering that is its own reverse is Equal
 itself : (o : Ordering) → o ≡ ordering_reverse o → o ≡ Equal
 itself Less h = absurd (cc h)
 itself Equal h = refl
 itself Greater h = absurd (cc h)
 
+-- a key compared to itself is Equal
 same_as_itself : (key : List ℕ) → slice_cmp nat_cmp key key ≡ Equal
 same_as_itself key = itself (slice_cmp nat_cmp key key) (nat_list_cmp_total.antisymm key key)
 
--- another key is passed
+-- a look-up passes a first member of another key
 passed : (key other : List ℕ) (d : Data) (rest : Members) → same_key key other ≡ false
     → get_member key (member other d rest) ≡ get_member key rest
 passed key other d rest differ = same_sides (slice_cmp nat_cmp key other) (get_member key rest) (Some d) differ
 
--- the key that was put is there
+-- a look-up of the key that was put finds the value
 get_put : (key : List ℕ) (d : Data) (ms : Members) → get_member key (put_member key d ms) ≡ Some d
 get_put key d no_members = rw (same_as_itself key) refl
 get_put key d (member k e rest) =
@@ -81,7 +86,7 @@ get_put key d (member k e rest) =
       | Greater ↦ λ is. rw is (get_put key d rest)
     ] refl
 
--- each other key is as before
+-- a look-up of another key than the one that was put finds what it found before
 get_other : (key other : List ℕ) (d : Data) (ms : Members) → same_key key other ≡ false
     → get_member key (put_member other d ms) ≡ get_member key ms
 get_other key other d no_members differ = passed key other d no_members differ
@@ -97,11 +102,13 @@ get_other key other d (member k e rest) differ =
       | Greater ↦ λ is. ap (λ o. match_ordering (slice_cmp nat_cmp key k) o (Some e) o) (get_other key other d rest differ)
     ] refl
 
+-- a look-up of another key than the one at which an optional value was put finds what it found before
 some_other : (key other : List ℕ) (o : Option Data) (ms : Members) → same_key key other ≡ false
     → get_member key (put_some other o ms) ≡ get_member key ms
 some_other key other None ms differ = refl
 some_other key other (Some d) ms differ = get_other key other d ms differ
 
+-- a list of keys, each with the value that is to be put there, if any
 abbrev pub Entries : Type 0
 Entries = List (List ℕ × Option Data)
 
@@ -125,25 +132,24 @@ abbrev pub are_new : Entries → Bool
 are_new [] = true
 are_new (e ∷ es) = is_new e.0 es && are_new es
 
-differs : (b : Bool) → not b ≡ true → b ≡ false
-differs true h = absurd (false≢true h)
-differs false h = refl
-
+-- a look-up of a key that none of the entries has finds the same after they are put
 all_other : (key : List ℕ) (es : Entries) (ms : Members) → is_new key es ≡ true → get_member key (put_all es ms) ≡ get_member key ms
 all_other key [] ms new = refl
 all_other key (e ∷ es) ms new =
     let (here, others) = and_parts (not (same_key key e.0) && not (same_key e.0 key)) (is_new key es) new in
     let (one, two) = and_parts (not (same_key key e.0)) (not (same_key e.0 key)) here in
-    all_other key es (put_some e.0 e.1 ms) others ∙ some_other key e.0 e.1 ms (differs (same_key key e.0) one)
+    all_other key es (put_some e.0 e.1 ms) others ∙ some_other key e.0 e.1 ms (not-true (same_key key e.0) one)
 
+-- a table that has none of some keys has none of them after a value is put at another key
 still_none : (key : List ℕ) (o : Option Data) (es : Entries) (ms : Members) → is_new key es ≡ true → HasNone es ms
     → HasNone es (put_some key o ms)
 still_none key o [] ms new h = tt
 still_none key o (e ∷ es) ms new h =
     let (here, others) = and_parts (not (same_key key e.0) && not (same_key e.0 key)) (is_new key es) new in
     let (one, two) = and_parts (not (same_key key e.0)) (not (same_key e.0 key)) here in
-    (some_other e.0 key o ms (differs (same_key e.0 key) two) ∙ h.0, still_none key o es ms others h.1)
+    (some_other e.0 key o ms (not-true (same_key e.0 key) two) ∙ h.0, still_none key o es ms others h.1)
 
+-- a key that had nothing has, after an optional value is put there, this value, or nothing still
 put_here : (key : List ℕ) (o : Option Data) (ms : Members) → get_member key ms ≡ None → get_member key (put_some key o ms) ≡ o
 put_here key None ms h = h
 put_here key (Some d) ms h = get_put key d ms
@@ -157,17 +163,19 @@ has_all (e ∷ es) ms new none =
       has_all es (put_some e.0 e.1 ms) others (still_none e.0 e.1 es ms here none.1),
     )
 
+-- an empty table has none of the keys
 pub none_yet : (es : Entries) → HasNone es no_members
 none_yet [] = tt
 none_yet (e ∷ es) = (refl, none_yet es)
 
--- known keys
+-- Known keys.
 
 -- each key passes the test
 abbrev pub all_known : (List ℕ → Bool) → Entries → Bool
 all_known test [] = true
 all_known test (e ∷ es) = test e.0 && all_known test es
 
+-- a table of known keys has only known keys after a value is put at a known one:
 known_put : (test : List ℕ → Bool) (key : List ℕ) (d : Data) (ms : Members) → test key ≡ true → has_only test ms ≡ true
     → has_only test (put_member key d ms) ≡ true
 unfolding has_only

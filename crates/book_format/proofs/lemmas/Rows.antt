@@ -35,6 +35,7 @@ pub record IsSoundRow {T : Type 0} (r : Row T) : Type 0 where
   pub found : (ms : Members) (v : r.V) → r.read ms ≡ Ok v → r.Has ms v
   pub held : (ms : Members) (v : r.V) → r.Has ms v → r.read ms ≡ Ok v
 
+-- each row of the list reads exactly the values that it has
 abbrev pub AreSound : {T : Type 0} → List (Row T) → Type 0
 AreSound [] = Unit {0}
 AreSound (r ∷ rows) = IsSoundRow r × AreSound rows
@@ -45,6 +46,7 @@ pub record IsSound {T : Type 0} (t : Table T) : Type 0 where
   pub keeps : (x : T) → made t.rows t.make (fields_of t.rows x) ≡ x
   pub rows : AreSound t.rows
 
+-- values that were read by sound rows are those that the table has there, and what was read is made of them
 read_found : {T X : Type 0} (rows : List (Row T)) (make : Maker rows X) (ms : Members) (x : X) → AreSound rows
     → read_rows rows make ms ≡ Ok x
     → (vs : Values rows) × HasValues rows ms vs × (made rows make vs ≡ x)
@@ -54,12 +56,14 @@ read_found (r ∷ rows) make ms x sound h =
     let (vs, has, same) = read_found rows (make v) ms x sound.1 rest in
     ((v, vs), (sound.0.found ms v read, has), same)
 
+-- where the table has the values of sound rows, what is made of them is read
 read_held : {T X : Type 0} (rows : List (Row T)) (make : Maker rows X) (ms : Members) (vs : Values rows) → AreSound rows
     → HasValues rows ms vs
     → read_rows rows make ms ≡ Ok (made rows make vs)
 read_held [] make ms vs sound h = refl
 read_held (r ∷ rows) make ms vs sound h = rw (sound.0.held ms vs.0 h.0) (read_held rows (make vs.0) ms vs.1 sound.1 h.1)
 
+-- to have the fields of a value row by row is to have the rows of the value, and back:
 has_rows : {T : Type 0} (rows : List (Row T)) (ms : Members) (x : T) → HasValues rows ms (fields_of rows x) → HasRows rows ms x
 has_rows [] ms x h = tt
 has_rows (r ∷ rows) ms x h = (h.0, has_rows rows ms x h.1)
@@ -84,18 +88,19 @@ unfolding read_table
 table_held t sound ms x h =
     rw h.known (read_held t.rows t.make ms (fields_of t.rows x) sound.rows (has_fields t.rows ms x h.rows) ∙ ap Ok (sound.keeps x))
 
--- types of values
+-- Types of values.
 
 -- a type reads exactly the values that it is of
 pub record IsSoundType {V : Type 0} (k : ValueType V) : Type 0 where
   pub found : (d : Data) (v : V) → k.read d ≡ Ok v → k.Is d v
   pub held : (d : Data) (v : V) → k.Is d v → k.read d ≡ Ok v
 
+-- a value that is read as a table is that table
 pub table_said : (d : Data) (ms : Members) → table_of d ≡ Ok ms → d ≡ table ms
 table_said (table ns) ms h = ap table (ok_same ns ms h)
 table_said d ms h = absurd (cc h)
 
--- tables without marks
+-- a table without marks that is sound makes a sound type of values
 pub in_table_sound : {T : Type 0} (t : Table T) → IsSound t → ((ms : Members) → HasMarks t.marks ms) → IsSoundType (in_table t)
 unfolding table_in
 in_table_sound t sound marks = record {
@@ -105,23 +110,27 @@ in_table_sound t sound marks = record {
   held = λ d x h. rw h.1 (table_held t sound h.0 x h.2);
 }
 
--- rows of each sort
+-- Rows of each sort.
 
+-- a value that was read at a key that must be there stands there
 pub at_found : {V : Type 0} (k : ValueType V) → IsSoundType k → (v : V) (o : Option Data) → read_or (Err Key) k.read o ≡ Ok v → (d : Data)
     × (o ≡ Some d) × k.Is d v
 at_found k sound v None h = absurd (cc h)
 at_found k sound v (Some d) h = (d, refl, sound.found d v h)
 
+-- where a key has a value of the type, it is read, whatever a missing key would give
 pub at_held : {V : Type 0} (k : ValueType V) (missing : Result V BookWhy) → IsSoundType k → (key : List ℕ) (ms : Members) (v : V)
     → HasAt key k ms v
     → read_or missing k.read (get_member key ms) ≡ Ok v
 at_held k missing sound key ms v h = rw h.1 (sound.held h.0 v h.2)
 
+-- where a key was read that may be missing, it is missing and the default was read, or its value was
 pub or_found : {V : Type 0} (k : ValueType V) → IsSoundType k → (other v : V) (o : Option Data) → read_or (Ok other) k.read o ≡ Ok v
     → ((o ≡ None) × (v ≡ other)) ⊎ ((d : Data) × (o ≡ Some d) × k.Is d v)
 or_found k sound other v None h = inl (refl, sym (ok_same other v h))
 or_found k sound other v (Some d) h = inr (d, refl, sound.found d v h)
 
+-- an optional value that was read is what the key has
 some_found : {V : Type 0} (k : ValueType V) → IsSoundType k → (key : List ℕ) (ms : Members) (v : Option V) (o : Option Data)
     → get_member key ms ≡ o
     → read_or (Ok None) (λ d. k.read d >>= λ v. Ok (Some v)) o ≡ Ok v → HasSome key k ms v
@@ -131,17 +140,20 @@ some_found k sound key ms v (Some d) at h =
     let (x, said, same) = bind_ok (k.read d) (λ v. Ok (Some v)) v h in
     subst (λ o. HasSome key k ms o) (ok_same (Some x) v same) (d, at, sound.found d x said)
 
+-- where a key has an optional value, it is read
 some_held : {V : Type 0} (k : ValueType V) → IsSoundType k → (key : List ℕ) (ms : Members) (v : Option V) → HasSome key k ms v
     → read_some key k ms ≡ Ok v
 some_held k sound key ms None h = rw h refl
 some_held k sound key ms (Some v) h = rw (h.1, sound.held h.0 v h.2) refl
 
+-- a row of a sound type reads exactly the value that the table has at its key
 pub row_sound : {T V : Type 0} (name : String) (k : ValueType V) (field : T → V) → IsSoundType k → IsSoundRow (row name k field)
 row_sound name k field sound = record {
   found = λ ms v h. at_found k sound v (get_member (codes name) ms) h;
   held = λ ms v h. at_held k (Err Key) sound (codes name) ms v h;
 }
 
+-- a row whose type depends on the number at another key reads exactly its value, where the type is sound for each number
 pub row_to_sound : {T V : Type 0} (name : String) (k : ℕ → ValueType V) (bound : String) (field : T → V) → ((n : ℕ) → IsSoundType (k n))
     → IsSoundRow (row_to name k bound field)
 row_to_sound name k bound field sound = record {
@@ -149,6 +161,7 @@ row_to_sound name k bound field sound = record {
   held = λ ms v h. at_held (k (number_at (codes bound) ms)) (Err Key) (sound (number_at (codes bound) ms)) (codes name) ms v h;
 }
 
+-- a row with a default reads exactly its value, where its type is sound
 pub row_or_sound : {T V : Type 0} (other : V) (name : String) (k : ValueType V) (field : T → V) → IsSoundType k
     → IsSoundRow (row_or other name k field)
 row_or_sound other name k field sound = record {
@@ -159,6 +172,7 @@ row_or_sound other name k field sound = record {
   ];
 }
 
+-- a row that may be missing reads exactly its optional value, where its type is sound
 pub optional_sound : {T V : Type 0} (name : String) (k : ValueType V) (field : T → Option V) → IsSoundType k
     → IsSoundRow (optional name k field)
 optional_sound name k field sound = record {

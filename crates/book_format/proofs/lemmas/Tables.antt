@@ -29,6 +29,7 @@ use Rattle.book_format.proofs.lemmas.ValueTypes.{value_type_sound, number_range,
 use Rattle.book_format.proofs.lemmas.Rows.{IsSound, IsSoundType, table_found, table_held, table_said, in_table_sound, row_sound}
 use Rattle.book_format.proofs.lemmas.Rows.{row_to_sound, row_or_sound, optional_sound}
 
+-- the tables of a mechanism's keys, of a HOTP and of a TOTP token are read exactly where they are those of what is read:
 pub mech_sound : (len : ℕ) → IsSound (mech len)
 mech_sound len = record { gives = λ vs. refl; keeps = λ m. refl; rows = search (row_sound, value_type_sound) parts 8 }
 
@@ -46,14 +47,16 @@ totp_sound = record {
   rows = search (row_sound, optional_sound, row_to_sound, value_type_sound) parts 24;
 }
 
--- a token
+-- A token.
 
+-- a text that was read at a key stands there
 kind_said : (o : Option Data) (name : List ℕ) → read_or (Err Key) text_in o ≡ Ok name → o ≡ Some (string name)
 unfolding text_in
 kind_said None name h = absurd (cc h)
 kind_said (Some (string s)) name h = ap (λ s. Some (string s)) (ok_same s name h)
 kind_said (Some d) name h = absurd (cc h)
 
+-- a table that was read as a token of a kind is that of the token
 kind_found : (d : Data) (ms : Members) (name : List ℕ) (fields : TokenFields) → d ≡ table ms
     → get_member (codes "kind") ms ≡ Some (string name)
     → token_of_kind name ms ≡ Ok fields → IsToken d fields
@@ -73,6 +76,7 @@ kind_found d ms name fields is_table there h = elim (cases_Bool (bytes_eq name (
   ]
 ]
 
+-- a value is read as a token exactly where it is that token's table:
 token_found : (d : Data) (fields : TokenFields) → token_in d ≡ Ok fields → IsToken d fields
 unfolding token_in
 token_found d fields h =
@@ -85,11 +89,13 @@ unfolding token_in token_of_kind text_in
 token_held d (Hotp t) h = rw (h.1, h.2.marks.0, table_held hotp hotp_sound h.0 t h.2) refl
 token_held d (Totp t) h = rw (h.1, h.2.marks.0, table_held totp totp_sound h.0 t h.2) refl
 
+-- the type of tokens reads exactly the tables of tokens
 pub token_sound : IsSoundType token
 token_sound = record { found = token_found; held = token_held }
 
--- an account
+-- An account.
 
+-- the table of an account is read exactly where it is that of what is read:
 account_sound : IsSound account
 account_sound = record {
   gives = λ vs. refl;
@@ -103,6 +109,7 @@ account_sound = record {
 accounts : IsSoundType (in_table account)
 accounts = in_table_sound account account_sound (λ ms. tt)
 
+-- an account that was read with its name has its key as name, which is plain, and the table is that of the account
 entry_parts : (key : List ℕ) (d : Data) (entry : List ℕ × AccountFields) → named_account_of key d ≡ Ok entry
     → (key ≡ entry.0) × IsPlainName entry.0 × IsTableIn account d entry.1
 unfolding named_account_of
@@ -113,15 +120,18 @@ entry_parts key d entry h =
     subst (λ e. (key ≡ e.0) × IsPlainName e.0 × IsTableIn account d e.1) (ok_same (name, fields) entry h1)
     (same, plain, accounts.found d fields read)
 
+-- an account that was read with its name has its key as name
 pub entry_name : (key : List ℕ) (d : Data) (entry : List ℕ × AccountFields) → named_account_of key d ≡ Ok entry → entry.0 ≡ key
 entry_name key d entry h = sym (entry_parts key d entry h).0
 
--- the accounts
+-- The accounts.
 
+-- a reading that gives a value with an account named gives it without
 in_account_ok : {A : Type 0} (index : ℕ) (r : Result A BookWhy) (x : A) → in_account index r ≡ Ok x → r ≡ Ok x
 in_account_ok index (Ok y) x h = cc h
 in_account_ok index (Err why) x h = absurd (cc h)
 
+-- a table is read as accounts exactly where its members are their tables, one by one:
 accounts_found : (index : ℕ) (ms : Members) (entries : List (List ℕ × AccountFields)) → accounts_from index ms ≡ Ok entries
     → AreAccountTrees ms entries
 unfolding accounts_from
@@ -142,6 +152,7 @@ accounts_held index (member name d ms) [] h = absurd h
 accounts_held index (member name d ms) (entry ∷ entries) h =
     rw (h.0, name_held entry.0 h.1, accounts.held d entry.1 h.2, accounts_held (index + 1) ms entries h.3) refl
 
+-- an optional table is read as accounts exactly where it is theirs, or where it is missing and there are none:
 of_table_found : (named : Option Members) (entries : List (List ℕ × AccountFields)) → accounts_of_table named ≡ Ok entries
     → AreAccountsOf named entries
 of_table_found None entries h = sym (ok_same [] entries h)
@@ -152,15 +163,18 @@ of_table_held : (named : Option Members) (entries : List (List ℕ × AccountFie
 of_table_held None entries h = rw h refl
 of_table_held (Some ms) entries h = accounts_held 0 ms entries h
 
--- the document
+-- The document.
 
+-- the top table is read exactly where it is that of what is read
 document_sound : IsSound document
 document_sound = record { gives = λ vs. refl; keeps = λ t. refl; rows = search (row_sound, optional_sound, value_type_sound) parts 8 }
 
+-- a reading that gives a value with no account named gives it without
 pub at_top_ok : {A : Type 0} (r : Result A BookWhy) (x : A) → at_top r ≡ Ok x → r ≡ Ok x
 at_top_ok (Ok y) x h = cc h
 at_top_ok (Err why) x h = absurd (cc h)
 
+-- a value that is read as the number 1 is that number
 one_said : (o : Option Data) → is_one (option_and_then as_integer o) ≡ true → o ≡ Some (integer (pos 1))
 one_said None h = absurd (cc h)
 one_said (Some (integer (pos n))) h = ap (λ n. Some (integer (pos n))) (is_one_number n h)
@@ -191,8 +205,9 @@ unfolding book_of top_of
 book_held ms book h =
     rw (h.top.marks.0, table_held document document_sound ms _ h.top, of_table_held h.named book.accounts h.accounts) refl
 
--- ranges
+-- Ranges.
 
+-- the keys that are read of a mechanism's table are in their ranges:
 keys_in_range : (len : ℕ) (d : Data) (keys : MechKeys) → IsTableIn (mech len) d keys → AreKeys len keys
 keys_in_range len d keys h =
     let salt = h.2.rows.0 in
@@ -219,11 +234,13 @@ option_in_range len key (Some held) ms h keys is = subst (λ k. AreKeys len k) (
     some_same : (a b : MechKeys) → Some a ≡ Some b → a ≡ b
     some_same a b h = cc h
 
+-- the names that an account's table has are not more than an account may have
 names_in_range : (names : List (List ℕ)) (key : List ℕ) (ms : Members) → ((get_member key ms ≡ None) × (names ≡ []))
     ⊎ HasAt key name_list ms names → length names ≤ most_names
 names_in_range names key ms (inl h) = rw h.1 (omega arith)
 names_in_range names key ms (inr h) = h.2.few
 
+-- each account that a table is of is in its ranges:
 account_in_range : (d : Data) (a : AccountFields) → IsTableIn account d a → IsAccount a
 account_in_range d a h = record {
   sha1 = option_in_range (length_by ScramSha1) (codes "sha1") a.sha1 h.0 h.2.rows.0;

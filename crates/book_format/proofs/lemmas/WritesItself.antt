@@ -7,7 +7,7 @@ use Rattle.mac_core.specs.Mechanism.{length_by}
 use Rattle.mac_core.specs.declared.mechanism.Mechanism.TheVariants.{ScramSha256}
 use Rattle.scram_text.specs.Class.{IsPlainName}
 use Rattle.scram_text.specs.Limits.{most_count}
-use Rattle.otp_core.specs.Secret.{IsSecretLength}
+use Rattle.otp_core.specs.Ranges.{IsSecretLength}
 use Rattle.otp_core.specs.Ranges.{IsDigitCount, IsMoment, least_secret, most_secret, least_digits, most_digits, last_moment, most_counter}
 use Rattle.otp_core.specs.Ranges.{most_look_ahead, most_sync_ahead, longest_step, most_steps, most_drift, most_limit}
 use Rattle.otp_core.specs.Settings.{IsHotpInRange, IsTotpInRange}
@@ -16,7 +16,7 @@ use Rattle.otp_core.specs.declared.token.kinds.TotpFields.{TotpFields}
 use Rattle.book_format.specs.Account.{AccountFields, AreKeys, IsAccount}
 use Rattle.book_format.specs.Book.{BookFields, AreAccounts, IsBook}
 use Rattle.book_format.specs.Keys.{is_among, has_only}
-use Rattle.book_format.specs.ValueTypes.{number, number_in, signed_in, AreNames}
+use Rattle.book_format.specs.ValueTypes.{number, number_of, signed_in, AreNames}
 use Rattle.book_format.specs.Put.{put_some}
 use Rattle.book_format.specs.Rows.{ValueType, WritesItself, Table, HasMarks, HasRows, HasSome, IsTable, entries, table_keys, in_table}
 use Rattle.book_format.specs.Rows.{number_at, written}
@@ -44,13 +44,15 @@ some_writes_itself k key ms (Some v) at h = (k.write v, at, h v refl)
 
 -- the number at another key is the bound
 bound_again : (key : List ℕ) (ms : Members) (most n : ℕ) → get_member key ms ≡ Some (integer (pos most)) → n ≤ most
-    → number_in Token 0 (number_at key ms) (integer (pos n)) ≡ Ok n
+    → number_of Token 0 (number_at key ms) (integer (pos n)) ≡ Ok n
 bound_again key ms most n there few = rw there (number_again Token 0 most n (omega arith) few)
 
+-- where the bound stands at another key, a signed number within it is read as it was written
 sides_again : (key : List ℕ) (ms : Members) (most : ℕ) (z : ℤ) → get_member key ms ≡ Some (integer (pos most)) → nat_abs z ≤ most
     → signed_in Token (number_at key ms) (integer z) ≡ Ok z
 sides_again key ms most z there few = rw there (signed_again Token most z few)
 
+-- keys in their ranges whose bytes come back from their texts are written as their table
 pub mech_writes_itself : (len : ℕ) (m : MechKeys) → AreKeys len m → ComesBack m.salt → ComesBack m.keys.stored.items
     → ComesBack m.keys.server.items
     → WritesItself (in_table (mech len)) m
@@ -73,6 +75,7 @@ mech_writes_itself len m fits salt stored server =
       )),
     )
 
+-- a HOTP token in its ranges whose secret comes back from its text is written as its table
 pub hotp_writes_itself : (t : HotpFields) → IsHotpInRange t → IsSecretLength (length t.secret) → IsDigitCount t.digits → ComesBack t.secret
     → WritesItself (in_table hotp) t
 hotp_writes_itself t (next, (look_ahead, (sync_ahead, (limit, (failures, end))))) secret digits back = (
@@ -103,12 +106,14 @@ hotp_writes_itself t (next, (look_ahead, (sync_ahead, (limit, (failures, end))))
       )),
 )
 
+-- the last step is written as the key that may be missing, where it is in its range
 last_writes_itself : (ms : Members) (last : Option ℕ) → get_member (codes "last") ms ≡ option_map (λ n. integer (pos n)) last
     → ForSome last (λ l. l ≤ most_counter)
     → HasSome (codes "last") (number Token 0 most_counter) ms last
 last_writes_itself ms last there few = some_writes_itself (number Token 0 most_counter) (codes "last") ms last there
     (λ l is. number_again Token 0 _ l (omega arith) (few l is))
 
+-- a TOTP token in its ranges whose secret comes back from its text is written as its table
 pub totp_writes_itself : (t : TotpFields) → IsTotpInRange t → IsSecretLength (length t.secret) → IsDigitCount t.digits → IsMoment t.t0
     → ComesBack t.secret
     → WritesItself (in_table totp) t
@@ -156,6 +161,7 @@ totp_writes_itself t (step, (back, (ahead, (max_drift, (last, (drift, (limit, (f
       )),
 )
 
+-- to put the last step after all other keys is to write the token with it
 with_last : (t : TotpFields) (last : Option ℕ)
     → put_some (codes "last") (option_map (λ n. integer (pos n)) last) (written totp (record t { last = None }))
     ≡ written totp (record t { last = last })
@@ -163,12 +169,13 @@ unfolding written
 with_last t None = refl
 with_last t (Some last) = refl
 
--- the key that may be missing can be put last
+-- a TOTP token's table is the same where the key that may be missing is put last
 pub last_put_last : (t : TotpFields) → put_some (codes "last") (option_map (λ n. integer (pos n)) t.last)
     (written totp (record t { last = None }))
     ≡ written totp t
 last_put_last t = with_last t t.last
 
+-- an account in its ranges each of whose parts writes itself is written as its table
 pub account_writes_itself : (a : AccountFields) → IsAccount a → AreNames a.act_as
     → ForSome a.sha1 (WritesItself (in_table sha1_keys))
     → ForSome a.sha256 (WritesItself (in_table sha256_keys)) → ForSome a.token (WritesItself token)
@@ -197,13 +204,14 @@ pub account_among : (done : List (List ℕ × AccountFields)) (e : List ℕ × A
 account_among [] e more h = h.0
 account_among (first ∷ done) e more h = account_among done e more h.1
 
--- one more account after the others
+-- accounts and one more, whose name is plain and which writes itself, are the trees of all of them
 pub one_more_account : (done : List (List ℕ × AccountFields)) (e : List ℕ × AccountFields) → AreAccountTrees (accounts_tree done) done
     → IsPlainName e.0 → WritesItself (in_table account) e.1 → AreAccountTrees (accounts_tree (done ++ e ∷ [])) (done ++ e ∷ [])
 unfolding accounts_tree
 one_more_account [] e h plain tree = (refl, plain, tree, tt)
 one_more_account (first ∷ done) e h plain tree = (h.0, h.1, h.2, one_more_account done e h.3 plain tree)
 
+-- a book in its ranges whose accounts are their trees is written as its tree
 pub book_writes_itself : (b : BookFields) → IsBook b → length b.decoy_key ≡ length_by ScramSha256 → ComesBack b.decoy_key
     → AreAccountTrees (accounts_tree b.accounts) b.accounts → IsBookTree (book_tree b) b
 unfolding book_tree
@@ -226,7 +234,7 @@ book_writes_itself b fits key back accounts = record {
   accounts = accounts;
 }
 
--- one more name after the others
+-- plain names and one more plain name are plain names
 pub names_more : (done : List (List ℕ)) (name : List ℕ) → AreNames done → IsPlainName name → AreNames (done ++ name ∷ [])
 names_more [] name h plain = (plain, tt)
 names_more (first ∷ done) name h plain = (h.0, names_more done name h.1 plain)

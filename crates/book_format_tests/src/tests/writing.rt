@@ -43,7 +43,7 @@ fn names_in_quotes(rt: HostRuntime) -> Result<(), Fail> {
     Ok(())
 }
 
-// The keys stand in the order of the documents, and bytes in upper case.
+// An account with every key: in each table they stand in the order of docs/FORMATS.md, and bytes are in upper case.
 const EVERYTHING: &str = "
 [accounts.user]
 act_as = [ \"root\", 'adm in' ]
@@ -150,7 +150,7 @@ decoy_key = \"000102030405060708090a0b0c0d0e0f101112131415161718191a1b1c1d1e1f\"
 format = 1
 ";
 
-// The keys of RFC 5802's example, some in upper case.
+// The keys of RFC 5802's user by Python's hashlib, some in upper case.
 const USER: &str = "
 [accounts.user]
 act_as = []

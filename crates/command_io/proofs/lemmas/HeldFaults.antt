@@ -11,17 +11,18 @@ use Rattle.book_format.specs.Faults.{book_why_number}
 use Rattle.book_format.specs.Reading.{tree_in, book_in, IsFirstFault}
 use Rattle.book_format.specs.declared.fault.BookFault.{BookFault}
 use Rattle.book_format.specs.declared.fault.BookWhy.TheVariants as why
-use Rattle.command_line.specs.Fault.{of_why, of_book}
+use Rattle.command_line.specs.Fault.{fault_of_book_why, fault_of_book}
 use Rattle.command_line.specs.declared.fault.Fault.{Fault}
 use Rattle.command_line.specs.declared.fault.Fault.TheVariants.{BadBook, CannotRead, CannotWrite, NoMemory}
 use Rattle.command_io.specs.File.{IsFileUnread}
 use Rattle.command_io.specs.HeldBook.{CannotHold, IsUnheld}
 
+-- a kind of error is that memory ran out, or it is another
 is_memory : (kind : ErrorKind) → (kind ≡ OutOfMemory) ⊎ (kind ≢ OutOfMemory)
 is_memory OutOfMemory = inl refl
 is_memory other = inr (λ same. cc same)
 
--- a read that failed, by what its fault is
+-- a fact of both faults that a failed read may give holds of the fault that it gave
 read_fault : (Fact : Fault → Type 0) (kind : ErrorKind) (file : _) (fault : Fault) → Fact NoMemory → Fact (CannotRead file)
     → (kind ≡ OutOfMemory → fault ≡ NoMemory) → (kind ≢ OutOfMemory → fault ≡ CannotRead file) → Fact fault
 read_fault Fact kind file fault full named memory plain = elim (is_memory kind) [
@@ -50,13 +51,14 @@ pub out_of_memory : {File : Type 0} (bytes_of : File → Option (List ℕ)) (pat
     → IsUnheld bytes_of path fault
 out_of_memory bytes_of path fault is = inl (subst (CannotHold path) (sym is) refl)
 
--- a text that was read and is no book
+-- where a text was read that is no book, the fault is one of a book that can't be held
 pub no_book : {File : Type 0} (bytes_of : File → Option (List ℕ)) (path text : List ℕ) (found : BookFault) (fault : Fault)
     → IsRead bytes_of text
-    → fault ≡ of_book found → (found.why ≡ why.NoMemory) ⊎ IsFirstFault text found → IsUnheld bytes_of path fault
-no_book bytes_of path text found fault read is (inl memory) = out_of_memory bytes_of path fault (is ∙ ap of_why memory)
+    → fault ≡ fault_of_book found → (found.why ≡ why.NoMemory) ⊎ IsFirstFault text found → IsUnheld bytes_of path fault
+no_book bytes_of path text found fault read is (inl memory) = out_of_memory bytes_of path fault (is ∙ ap fault_of_book_why memory)
 no_book bytes_of path text found fault read is (inr first) = inr (text, found, read, first, is)
 
+-- bytes that are not UTF-8 are read as no book, since they are not TOML
 not_utf8 : (bytes : List ℕ) → (IsUtf8 bytes → ⊥) → book_in bytes ≡ Err (record { why = why.Toml; account = None })
 unfolding book_in tree_in
 not_utf8 bytes none = elim (cases_Bool (is_utf8 bytes)) [
@@ -64,7 +66,7 @@ not_utf8 bytes none = elim (cases_Bool (is_utf8 bytes)) [
   | inr not ↦ rw not refl
 ]
 
--- bytes that were read and are no UTF-8
+-- where bytes were read that are not UTF-8, the fault is one of a book that can't be held
 pub no_utf8 : {File T E : Type 0} (bytes_of : File → Option (List ℕ)) (path bytes : List ℕ) (number : ℕ) (result : Result T E) (error : E)
     → IsRead bytes_of bytes
     → (IsUtf8 bytes → IsOk result) → result ≡ Err error → number ≡ book_why_number why.Toml → IsUnheld bytes_of path (BadBook number)

@@ -13,6 +13,7 @@ HasCome {State} Step first start passed left now =
     (last : List (List ℕ)) (others : Bool) (new : State) → LinesInTurn Step left last now others new
     → LinesInTurn Step first last start (passed && others) new
 
+-- `&&` is associative, and true changes nothing at its right:
 and_assoc : (a b c : Bool) → (a && (b && c)) ≡ ((a && b) && c)
 and_assoc true b c = refl
 and_assoc false b c = refl
@@ -44,13 +45,13 @@ stops Step first start so_far left now come last are =
     subst (λ (b : Bool). LinesInTurn Step first last start b now) (and_true so_far)
     (come last true now (record { lines = []; are = are; in_turn = (refl, refl) }))
 
--- the end of the input
+-- a run that comes to the end of its input has worked on all its lines
 pub at_end : {State : Type 0} (Step : List ℕ → State → Bool → State → Type 0) (first : Option (List ℕ)) (start : State) (so_far : Bool)
     (left : Option (List ℕ)) (now : State)
     → HasCome Step first start so_far left now → IsAtEnd left → LinesInTurn Step first [] start so_far now
 at_end Step first start so_far left now come end = stops Step first start so_far left now come [] (none_left left end)
 
--- a stop before the next line was read
+-- a run that stops before a line has worked on the lines before it, and all others are left
 pub before_line : {State : Type 0} (Step : List ℕ → State → Bool → State → Type 0) (first : Option (List ℕ)) (start : State) (so_far : Bool)
     (left : Option (List ℕ)) (now : State)
     → HasCome Step first start so_far left now → (last : List (List ℕ)) × LinesInTurn Step first last start so_far now
@@ -58,7 +59,7 @@ pub before_line : {State : Type 0} (Step : List ℕ → State → Bool → State
 before_line Step first start so_far left now come =
     let more = some_lines left in (more.0, stops Step first start so_far left now come more.0 more.1, more.1)
 
--- a stop at a line
+-- a run that stops at a line has worked on the lines before it
 pub at_line : {State : Type 0} (Step : List ℕ → State → Bool → State → Type 0) (first : Option (List ℕ)) (start : State) (so_far : Bool)
     (left : Option (List ℕ)) (now : State)
     (line : List ℕ) (has_lf : Bool) (rest : Option (List ℕ)) → HasCome Step first start so_far left now

@@ -14,11 +14,13 @@ second : (one two : Kinds) → or_else one two ≡ [] → two ≡ []
 second [] two none = none
 second (kind ∷ kinds) two none = absurd (cc none)
 
+-- where the checks of wants find no error, no subcommand is wanted
 not_wanted : (help command argument : Bool) → check_kinds help command argument ≡ [] → command ≡ false
 not_wanted true command argument none = absurd (cc none)
 not_wanted false true argument none = absurd (cc none)
 not_wanted false false argument none = refl
 
+-- what was wanted, and is not missing, is there
 wanted_is_there : (there wanted : Bool) → not there && wanted ≡ false → wanted ≡ true → there ≡ true
 wanted_is_there true wanted none is = refl
 wanted_is_there false true none is = absurd (cc none)
@@ -41,9 +43,11 @@ abbrev Each : (Text → Type 0) → (names : List Text) → Type 0
 Each P [] = ⊤
 Each P (name ∷ names) = P name × Each P names
 
+-- the names of an app's commands
 abbrev names_in : App → List Text
 names_in app = map (λ shape. shape.name) app.subs
 
+-- where each name has a property, the name of the shape that is found has it
 found_is : (P : Text → Type 0) (test : Shape → Bool) (shapes : List Shape) → Each P (map (λ shape. shape.name) shapes)
     → IfSome (find test shapes) (λ shape. P shape.name)
 found_is P test [] each = tt
@@ -54,7 +58,7 @@ found_is P test (shape ∷ shapes) (first, rest) = by (test shape) (found_is P t
     by true later = first
     by false later = later
 
--- what was entered has one of these names
+-- where each name has a property, what was entered has the property and values
 entered_is : (P : Text → Type 0) (app : App) (stop : Option (Text × List Text)) → Each P (names_in app) → is_some (entered app stop) ≡ true
     → (name : Text) × (rows : List Row) × P name × (entered app stop ≡ Some (name, rows))
 entered_is P app None each there = absurd (cc there)
@@ -74,17 +78,20 @@ names_one P app line needed each none =
     entered_is P (built app) stop each (level_enters _ _ nothing_held (argument_words app line) _
     (entered_fault (built app) stop) none needed)
 
--- the name is that of a command
+-- the name is the word of a command
 abbrev IsWord : Text → Type 0
 IsWord name = (command : CommandName) × (name ≡ word_of command)
 
+-- all commands of the program
 abbrev all_commands : List CommandName
 all_commands = Keys ∷ Enrol ∷ Code ∷ Verify ∷ Unlock ∷ Login ∷ Hall ∷ Audit ∷ Upgrade ∷ []
 
+-- each word of these commands is the word of a command
 each_is_word : (commands : List CommandName) → Each IsWord (map word_of commands)
 each_is_word [] = tt
 each_is_word (command ∷ commands) = ((command, refl), each_is_word commands)
 
+-- a command line with which nothing is wrong names one of the program's commands
 pub names_command : (line : List Text) → fault_of program line ≡ [] → NamesCommand (subcommand_of program line)
 names_command line none =
     let one = names_one IsWord program line refl (each_is_word all_commands) none in

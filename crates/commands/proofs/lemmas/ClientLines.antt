@@ -16,14 +16,14 @@ use Rattle.scram_ends.specs.Login.{IsAuthentic}
 use Rattle.scram_ends.specs.Client.{IsStarted, IsAnswerable, IsExpecting}
 use Rattle.scram_ends.specs.declared.client.ClientOne.{ClientOne}
 use Rattle.scram_ends.specs.declared.client.ClientTwo.{ClientTwo}
-use Rattle.commands.specs.ClientEnd.{IfSays, IsChosen, BeginsLogin, AnswersChallenge, MaySay, ShowsKeys, IsInLogin, HasToLeave}
+use Rattle.commands.specs.ClientEnd.{IfSays, IsChosen, BeginsLogin, AnswersChallenge, MaySay, ShowsKeys, HasItsLogin, HasToLeave}
 use Rattle.commands.specs.declared.login.client_end.ClientEnd.{ClientEnd}
 use Rattle.commands.specs.declared.login.client_end.Next.{Next}
-use Rattle.commands.specs.declared.login.client_end.Next.TheVariants.{Says, IsIn, Leaves}
+use Rattle.commands.specs.declared.login.client_end.Next.TheVariants.{Says, LoggedIn, Leaves}
 use Rattle.commands.specs.declared.login.client_end.Stage.{Stage}
 use Rattle.commands.specs.declared.login.client_end.Stage.TheVariants.{Silent, Begun, Proved, Over}
 
--- the mechanism that is taken
+-- the mechanism that is asked for, or else the best one that is offered, is the one that is to be taken
 pub chosen : (asked best : Option Mechanism) (names : List ℕ) (mechanism : Mechanism) → option_or asked best ≡ Some mechanism
     → IfSome best (λ one. IsOffered one names) → (IsOffered ScramSha256 names → best ≡ Some ScramSha256) → IsChosen asked names mechanism
 chosen (Some asked) best names mechanism is offered preferred = cc is
@@ -32,12 +32,14 @@ chosen None best names mechanism is offered preferred = (
   λ has. cc (is, preferred has),
 )
 
+-- where what is said has one property, it has a weaker one
 says_weaker : (next : Next) (fact other : List ℕ → Type 0) → ((said : List ℕ) → fact said → other said) → IfSays next fact
     → IfSays next other
 says_weaker (Says line) fact other follows says = follows line.items says
-says_weaker IsIn fact other follows says = tt
+says_weaker LoggedIn fact other follows says = tt
 says_weaker Leaves fact other follows says = tt
 
+-- what a client may say from the stage where it stands, it may say from an equal stage
 may_say : (client : ClientEnd) (old stage new : Stage) (told : List ℕ) (result : Result Next Fault) (fact : List ℕ → Type 0) → old ≡ stage
     → ((said : List ℕ) → fact said → MaySay client stage told said new) → IfOk result (λ next. IfSays next fact)
     → IfOk result (λ next. IfSays next (λ said. MaySay client old told said new))
@@ -86,14 +88,15 @@ IsDueTo stage line = ⊥
 
 -- a client at a stage where it may say nothing has to leave
 abbrev pub LeavesAt : ClientEnd → Stage → (told : List ℕ) → Type 0
-LeavesAt client stage told = IsInLogin stage → ((said : List ℕ) (new : Stage) → MaySay client stage told said new → ⊥)
+LeavesAt client stage told = HasItsLogin stage → ((said : List ℕ) (new : Stage) → MaySay client stage told said new → ⊥)
     × (ShowsKeys stage told → ⊥)
 
+-- where a client has to leave by the stage at which it stands, it has to leave
 leaves_at : (client : ClientEnd) (stage : Stage) (told : List ℕ) → client.stage ≡ stage → LeavesAt client stage told
     → HasToLeave client told
 leaves_at client stage told is leaves = subst (λ (s : Stage). LeavesAt client s told) (sym is) leaves
 
--- a line that is not due
+-- a client at a stage where no line that it was told is due has to leave
 not_due : (client : ClientEnd) (stage : Stage) (told : List ℕ)
     → ((line : ServerLine) → IsLine told (from_server line) → IsDueTo stage line → ⊥)
     → LeavesAt client stage told
@@ -107,10 +110,11 @@ pub leaves_at_no_line : (client : ClientEnd) (told : List ℕ) → ((line : Serv
     → HasToLeave client told
 leaves_at_no_line client told none = not_due client client.stage told (λ line is due. none line is)
 
+-- a text is one line of the server at most
 same_told : (told : List ℕ) (one other : ServerLine) → IsLine told (from_server one) → IsLine told (from_server other) → one ≡ other
 same_told told one other is also = let same = one_line told (from_server one) (from_server other) is also in cc same
 
--- an offer without a mechanism that the client takes
+-- a client that leaves after an offer leaves where it has to: the offer has no mechanism that it takes
 pub leaves_unoffered : (client : ClientEnd) (told names : List ℕ) (result : Result Next Fault) → client.stage ≡ Silent
     → IsLine told (from_server (mechs names))
     → IfOk result (λ next. next ≡ Leaves → (mechanism : Mechanism) → IsChosen client.user.mechanism names mechanism → ⊥)
@@ -127,7 +131,7 @@ leaves_unoffered client told names result is line leaves =
       λ shows. shows,
     ))) leaves
 
--- a challenge that the client does not answer
+-- a client that leaves after a challenge leaves where it has to: the challenge is none that it answers
 pub leaves_unanswered : (client : ClientEnd) (one : ClientOne) (told server_first : List ℕ) (result : Result Next Fault)
     → client.stage ≡ Begun one
     → IsLine told (from_server (cont server_first))
@@ -148,7 +152,7 @@ leaves_unanswered client one told server_first result is line leaves =
       λ shows. shows,
     ))) leaves
 
--- an acceptance without the signature
+-- a client that leaves after an acceptance leaves where it has to: the message bears no signature that it expects
 pub leaves_unproved : (client : ClientEnd) (two : ClientTwo) (told message : List ℕ) (result : Result Next Fault)
     → client.stage ≡ Proved two
     → IsLine told (from_server (accepts message))

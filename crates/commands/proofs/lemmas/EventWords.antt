@@ -11,11 +11,11 @@ use Rattle.sasl_log.specs.Words.{LacksSpace}
 use Rattle.sasl_log.proofs.lemmas.texts.NumberedLines.{one_rest}
 use Rattle.sasl_log.proofs.lemmas.texts.Spaces.{spaceless, no_space, cut_once}
 
--- a text without a space begins with no moment and a space
+-- a text without a space does not begin with a number and a space
 pub moment_alone : (text : List ℕ) → LacksSpace text → (n : ℕ) (rest : List ℕ) → text ≢ decimal n ++ byte " " ∷ rest
 moment_alone text lacks n rest whole = no_space text (decimal n) rest (spaceless text lacks) whole
 
--- the moment comes before the first space
+-- where a text begins with a moment and a space, the text before its first space is that moment
 pub moment_first : (text front back : List ℕ) → LacksSpace front × (text ≡ front ++ byte " " ∷ back) → (n : ℕ) → IsMoment n
     → (rest : List ℕ)
     → text ≡ decimal n ++ byte " " ∷ rest → front ≡ decimal n

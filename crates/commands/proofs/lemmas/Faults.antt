@@ -1,4 +1,4 @@
--- What holds after a fault.
+-- What holds of a fault that is handed on, and which fault is none of a bad event.
 use Rattle.std.proofs.Common.{◌≡◌, ◌≢◌, ◌⊎◌, inl, inr, ℕ, List, Option, ap, ◌∙◌, refl, sym, subst}
 use Rattle.std.specs.Prelude.{IfErr, IsErrAnd}
 use Rattle.std.specs.declared.result.Result.{Result}
@@ -10,7 +10,7 @@ use Rattle.book_format.specs.Reading.{IsFirstFault}
 use Rattle.book_format.specs.declared.fault.BookFault.{BookFault}
 use Rattle.book_format.specs.declared.fault.BookWhy.{BookWhy}
 use Rattle.book_format.specs.declared.fault.BookWhy.TheVariants as why
-use Rattle.command_line.specs.Fault.{IsUnwritten, of_book, of_why}
+use Rattle.command_line.specs.Fault.{IsUnwritten, fault_of_book, fault_of_book_why}
 use Rattle.command_line.specs.declared.fault.Fault.{Fault}
 use Rattle.command_line.specs.declared.fault.Fault.TheVariants.{BadEvent}
 use Rattle.sasl_log.specs.Sink.{SinkFacts}
@@ -39,7 +39,7 @@ pub printed_weaker : {P H L : Type 0} → (H → L) → P ⊎ H → P ⊎ L
 printed_weaker follows (inl nothing) = inl nothing
 printed_weaker follows (inr printed) = inr (follows printed)
 
--- a desk or a hall that can't begin has printed nothing, by the output before and after
+-- where a desk or a hall can't begin, nothing was printed, or the output can't be written, by the output before and after
 pub fails_to_begin : (path : List ℕ) (old new : SinkFacts) (fault : Fault) (before after : Option (List ℕ)) (Printed : Type 0)
     → old.given ≡ before
     → after ≡ new.given → FailsToBegin path old new fault → StopsAfter fault before after Printed
@@ -47,7 +47,7 @@ fails_to_begin path old new fault before after Printed was is (inl (output, fail
 fails_to_begin path old new fault before after Printed was is (inr (same, unwritten)) =
     inl (inr (is ∙ (ap (λ (f : SinkFacts). f.given) same ∙ was)))
 
--- a fact of any fault, one of this fault, and one of any more
+-- a fact of every fault, one of this fault alone, and one more of every fault hold together
 pub all_of_fault : {T Q : Type 0} (r : Result T Fault) (one : Fault) (P S : Fault → Type 0) → IfErr r P → (r ≡ Err one → Q) → IfErr r S
     → IfErr r (λ fault. P fault × (fault ≡ one → Q) × S fault)
 all_of_fault (Ok value) one P S all this more = tt
@@ -58,8 +58,8 @@ pub begins_with_no_event : (path : List ℕ) (old new : SinkFacts) (fault : Faul
 begins_with_no_event path old new fault (inl (output, failed)) is = cc (output, is)
 begins_with_no_event path old new fault (inr (same, unwritten)) is = let wrong = subst (IsUnwritten path) is unwritten in cc wrong
 
--- the fault for a text that is no book is not a bad event
-no_why : (reason : BookWhy) → of_why reason ≡ BadEvent → ⊥
+-- no fault that says why a text is no book is that of a bad event
+no_why : (reason : BookWhy) → fault_of_book_why reason ≡ BadEvent → ⊥
 no_why why.NoMemory is = cc is
 no_why reason is = cc is
 
@@ -69,20 +69,20 @@ pub holds_no_event : {File : Type 0} (bytes_of : File → Option (List ℕ)) (pa
 holds_no_event bytes_of path fault (inl held) is = let wrong = subst (CannotHold path) is held in cc wrong
 holds_no_event bytes_of path fault (inr (text, found, read, first, by)) is = no_why found.why (sym by ∙ is)
 
--- a text that was read and is no book
+-- where a text was read that is no book, the fault is one of a book that is not read
 pub bad_book : {File : Type 0} (bytes_of : File → Option (List ℕ)) (path text : List ℕ) (found : BookFault) (fault : Fault)
     → IsRead bytes_of text
-    → fault ≡ of_book found → (found.why ≡ why.NoMemory) ⊎ IsFirstFault text found → IsBookUnread bytes_of path fault
-bad_book bytes_of path text found fault read is (inl memory) = inl (subst (IsFileUnread path) (sym (is ∙ ap of_why memory)) refl)
+    → fault ≡ fault_of_book found → (found.why ≡ why.NoMemory) ⊎ IsFirstFault text found → IsBookUnread bytes_of path fault
+bad_book bytes_of path text found fault read is (inl memory) = inl (subst (IsFileUnread path) (sym (is ∙ ap fault_of_book_why memory)) refl)
 bad_book bytes_of path text found fault read is (inr first) = inr (text, found, read, first, is)
 
--- a desk or a hall that can't begin is not refused since what is due can't be written
+-- where a desk or a hall can't begin, the reason is never that what is due can't be written
 pub begins_writable : (was : StoreFacts) (book : BookFields) (reason : DeskFault) (now : StoreFacts) → IsNotBegun was book reason now
     → reason ≢ desk.Unwritable
 begins_writable was book desk.Unwritable now never same = never
 begins_writable was book reason now begun same = cc same
 
--- a fault at a line of the input of a hall
+-- the fault of a bad event, of an unsaved book or of a failed log is one at which a hall stops hearing
 pub stops_hearing : (path : List ℕ) (log : SinkFacts) (fault : Fault) → (fault ≡ BadEvent) ⊎ IsUnsavedOrUnlogged path log fault
     → StopsHearing path fault
 stops_hearing path log fault (inl bad) = inr (inl bad)
@@ -90,6 +90,7 @@ stops_hearing path log fault (inr (inl unwritten)) = inr (inr (inl unwritten))
 stops_hearing path log fault (inr (inr (output, failed))) = inr (inr (inr output))
 
 -- a fault by which a hall can't begin is one at which it stops hearing
-pub hears_nothing : (path : List ℕ) (old new : SinkFacts) (fault : Fault) → FailsToBegin path old new fault → StopsHearing path fault
-hears_nothing path old new fault (inl (output, failed)) = inr (inr (inr output))
-hears_nothing path old new fault (inr (same, unwritten)) = inr (inr (inl unwritten))
+pub cannot_begin_stops_hearing : (path : List ℕ) (old new : SinkFacts) (fault : Fault) → FailsToBegin path old new fault
+    → StopsHearing path fault
+cannot_begin_stops_hearing path old new fault (inl (output, failed)) = inr (inr (inr output))
+cannot_begin_stops_hearing path old new fault (inr (same, unwritten)) = inr (inr (inl unwritten))

@@ -48,7 +48,7 @@ pub call_for : (n : ℕ) (event : ClientEvent) (moment : ℕ) (lines : List LogL
 call_for n (sends text) moment lines = (refl, refl)
 call_for n goes_away moment lines = (refl, refl)
 
--- nothing was heard: the hall is the same, with its guests in whichever order, and the log took nothing
+-- a hall that is the same has the keeper, the count and the halt that it had, and guests
 same_hall : {S : Type 0} (old new : HallFields S) → IsSameHall old new → new ≡ hall_of old.keeper new.guests old.begun old.is_halted
 same_hall {S} old new same =
     let book = ap (λ (b : BookFields). hall_of
@@ -70,7 +70,7 @@ same_in_log {S} facts IsStored old new log log' same unlogged start before earli
   logged = subst (λ (k : SinkFacts). Appends before k.given (hall_bytes l.calls)) (sym unlogged) l.logged;
 }
 
--- events one after another
+-- a hall that stays as it is, and whose log does, has heard no event
 pub hears_nothing : {S : Type 0} (facts : S → StoreFacts) (IsStored : List ℕ → Type 0) (hall : Hall S) (log : SinkFacts)
     → Hears facts IsStored [] hall log hall log
 hears_nothing facts IsStored hall log start before earlier l = l
@@ -89,20 +89,20 @@ pub not_bad : (path : List ℕ) (log : SinkFacts) (fault : Fault) → IsUnsavedO
 not_bad path log fault (inl unwritten) is = let wrong = subst (IsUnwritten path) is unwritten in cc wrong
 not_bad path log fault (inr (output, failed)) is = cc (output, is)
 
--- a client does something in a session that is not open
+-- where a session is not open, an event of its client is one of nobody
 pub of_nobody : {S : Type 0} (hall : HallFields S) (n : ℕ) (event : ClientEvent) (moment : ℕ) → phase_in hall n ≡ None
     → IsOfNobody hall (does_at n event moment)
 of_nobody hall n (sends text) moment none = none
 of_nobody hall n goes_away moment none = none
 
 -- a line says nothing where no client comes and none does anything
-pub says_nothing : (line : List ℕ) → ((own : List ℕ) → SaysEvent line (opens own) → ⊥)
+pub says_nothing : (line : List ℕ) → ((server_nonce : List ℕ) → SaysEvent line (opens server_nonce) → ⊥)
     → ((session moment : ℕ) (event : ClientEvent) → SaysEvent line (does_at session event moment) → ⊥) → SaysNothing line
-says_nothing line opened done (opens own) is = opened own is
+says_nothing line opened done (opens server_nonce) is = opened server_nonce is
 says_nothing line opened done (says n m text) is = done n m (sends text) is
 says_nothing line opened done (goes n m) is = done n m goes_away is
 
--- what was put, or the log has failed
+-- of two facts the first is kept, and the second is replaced by what follows from it, with any third fact as one more case
 pub put_or_failed : {P Q N H : Type 0} → P ⊎ Q → (Q → H) → P ⊎ (N ⊎ H)
 put_or_failed (inl failed) heard = inl failed
 put_or_failed (inr put) heard = inr (inr (heard put))

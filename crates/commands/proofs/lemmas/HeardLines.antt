@@ -67,7 +67,7 @@ at_end facts IsStored first start a left now b come end =
       heard = hears_nothing facts IsStored now b;
     })
 
--- a fault before the next line was read
+-- after a fault before the next line was read the first lines of the input were heard
 pub before_line : {S : Type 0} (facts : S → StoreFacts) (IsStored : List ℕ → Type 0) (first : Option (List ℕ)) (start : Hall S)
     (a : SinkFacts) (left : Option (List ℕ)) (now : Hall S) (b : SinkFacts)
     (fault : Fault) → HasCome facts IsStored first start a left now b → HearsFirstLines facts IsStored first start a now b fault
@@ -81,7 +81,7 @@ before_line facts IsStored first start a left now b fault come =
       }),
     )
 
--- a line that is not heard
+-- a line whose event is not heard is the first of the lines that are left
 unheard : {S : Type 0} (facts : S → StoreFacts) (IsStored : List ℕ → Type 0) (first : Option (List ℕ)) (start : Hall S) (a : SinkFacts)
     (left : Option (List ℕ)) (now : Hall S) (b : SinkFacts)
     (line : List ℕ) (has_lf : Bool) (rest : Option (List ℕ)) (new : Hall S) (c : SinkFacts)
@@ -98,7 +98,7 @@ unheard facts IsStored first start a left now b line has_lf rest new c come take
       }),
     )
 
--- a fault at a line
+-- after a fault at a line the lines before it were heard, and this line or not; or the log has failed
 pub at_line : {S : Type 0} (facts : S → StoreFacts) (IsStored : List ℕ → Type 0) (first : Option (List ℕ)) (start : Hall S) (a : SinkFacts)
     (left : Option (List ℕ)) (now : Hall S) (b : SinkFacts)
     (line : List ℕ) (has_lf : Bool) (rest : Option (List ℕ)) (new : Hall S) (c : SinkFacts) (fault : Fault)
@@ -113,7 +113,7 @@ at_line facts IsStored first start a left now b line has_lf rest new c fault com
     before_line facts IsStored first start a rest new c fault
     (after_line facts IsStored first start a left now b line has_lf rest new c come takes some heard)
 
--- a bad event
+-- a hall that comes to a line that is bad to it meets a bad event there
 pub bad_line : {S : Type 0} (facts : S → StoreFacts) (IsStored : List ℕ → Type 0) (first : Option (List ℕ)) (start : Hall S) (a : SinkFacts)
     (left : Option (List ℕ)) (now : Hall S) (b : SinkFacts)
     (line : List ℕ) (has_lf : Bool) (rest : Option (List ℕ)) → HasCome facts IsStored first start a left now b
@@ -146,7 +146,7 @@ prints_log facts IsStored book input given before after last old new log log' fr
     }
 
 -- after a fault a hall has printed nothing, or the log of what it heard of its input's first lines, or the output can't be written
-pub stops_after : {S : Type 0} (facts : S → StoreFacts) (IsStored : List ℕ → Type 0) (book : BookFields)
+pub hall_stops_after : {S : Type 0} (facts : S → StoreFacts) (IsStored : List ℕ → Type 0) (book : BookFields)
     (input given before after : Option (List ℕ)) (old new : Hall S) (log log' : SinkFacts)
     (fault : Fault) → ((start : BookFields) (calls : List (Numbered Call)) (hall : HallFields S)
     → IsHallAfter facts IsStored start calls hall → IsFront (accounts_in start) (hall_bytes calls))
@@ -155,9 +155,9 @@ pub stops_after : {S : Type 0} (facts : S → StoreFacts) (IsStored : List ℕ �
     → given ≡ before → after ≡ log'.given → IsHallLogOf facts IsStored book given [] old log
     → HearsFirstLines facts IsStored input old log new log' fault
     → StopsAfter fault before after ((last : List (List ℕ)) × PrintsHallLog IsStored book input last before after)
-stops_after facts IsStored book input given before after old new log log' fault front kept was is begun (inl (output, failed)) = inl
+hall_stops_after facts IsStored book input given before after old new log log' fault front kept was is begun (inl (output, failed)) = inl
     (inl output)
-stops_after facts IsStored book input given before after old new log log' fault front kept was is begun (inr (last, heard)) =
+hall_stops_after facts IsStored book input given before after old new log log' fault front kept was is begun (inr (last, heard)) =
     inr (last, prints_log facts IsStored book input given before after last old new log log' front kept was is begun heard)
 
 -- where a hall has no session of a number, its calls have left none open
@@ -175,7 +175,7 @@ bad_after : {S : Type 0} (facts : S → StoreFacts) (IsStored : List ℕ → Typ
     (s : IsHallAfter facts IsStored start calls hall) → ((n : ℕ) → IsPhaseIn (s.places n) (phase_in hall n)) → IsBadEvent line hall
     → IsBadAfter (accounts_in start) calls line
 bad_after facts IsStored start calls hall line s phases (inl nothing) = inl nothing
-bad_after facts IsStored start calls hall line s phases (inr (opens own, said, never)) = absurd never
+bad_after facts IsStored start calls hall line s phases (inr (opens server_nonce, said, never)) = absurd never
 bad_after facts IsStored start calls hall line s phases (inr (says n moment text, said, none)) =
     inr (says n moment text, said, not_open facts IsStored start calls hall s n (phases n) none)
 bad_after facts IsStored start calls hall line s phases (inr (goes n moment, said, none)) =

@@ -24,18 +24,19 @@ use Rattle.command_line.specs.Fault.{IsUnwritten}
 use Rattle.command_line.specs.declared.fault.Fault.{Fault}
 use Rattle.command_line.specs.declared.fault.Fault.TheVariants.{NoMemory as OutOfMemory}
 use Rattle.commands.specs.Login.{HasSavedLog, IsAskedWith, IsDeskLog, StaysItsLog, StaysItsLogWith, IsLogAfterFault, IsLogAfterFaultWith}
-use Rattle.commands.specs.Login.{IsFaultOf, IsFaultInTurn, StopsTalking, TalkPasses, PrintsPasses}
+use Rattle.commands.specs.Login.{IsFaultOfServing, IsFaultInTurn, StopsTalking, TalkPasses, PrintsPasses}
 use Rattle.commands.specs.PrintedLog.{FailsToBegin, StopsAfter}
 use Rattle.commands.specs.Talked.{Talked}
 use Rattle.commands.specs.declared.login.client_end.User.{User}
 
--- the log took the lines of one more call
-one_more : {S : Type 0} (facts : S → StoreFacts) (IsStored : List ℕ → Type 0) (IsNow : ℕ → Type 0) (own : List ℕ) (old new : Desk S)
+-- where a log took the lines of one more call of its desk, it stays the desk's log
+one_more : {S : Type 0} (facts : S → StoreFacts) (IsStored : List ℕ → Type 0) (IsNow : ℕ → Type 0) (server_nonce : List ℕ)
+    (old new : Desk S)
     (asked : Asked) (lines : List LogLine) (log log' : SinkFacts)
-    → IsAskedWith own IsNow asked → ((start : BookFields) (calls : List Call) → IsDeskAfter facts IsStored start calls old
+    → IsAskedWith server_nonce IsNow asked → ((start : BookFields) (calls : List Call) → IsDeskAfter facts IsStored start calls old
     → IsDeskAfter facts IsStored start (call_of asked lines ∷ calls) new)
-    → Appends log.given log'.given (log_bytes lines) → StaysItsLogWith facts IsStored IsNow own old log new log'
-one_more facts IsStored IsNow own old new asked lines log log' is stands more start before l = record {
+    → Appends log.given log'.given (log_bytes lines) → StaysItsLogWith facts IsStored IsNow server_nonce old log new log'
+one_more facts IsStored IsNow server_nonce old new asked lines log log' is stands more start before l = record {
   calls = call_of asked lines ∷ l.calls;
   stands = stands start l.calls l.stands;
   asked = (is, l.asked);
@@ -43,42 +44,45 @@ one_more facts IsStored IsNow own old new asked lines log log' is stands more st
       (Appends-trans before log.given log'.given (log_bytes (run_lines l.calls)) (log_bytes lines) l.logged more);
 }
 
--- what a desk wrote into an empty buffer was put into the log
-pub answered_log : {S : Type 0} (facts : S → StoreFacts) (IsStored : List ℕ → Type 0) (IsNow : ℕ → Type 0) (own : List ℕ) (old new : Desk S)
+-- where a log took what its desk wrote into an empty buffer, it stays the desk's log
+pub answered_log : {S : Type 0} (facts : S → StoreFacts) (IsStored : List ℕ → Type 0) (IsNow : ℕ → Type 0) (server_nonce : List ℕ)
+    (old new : Desk S)
     (wire wire' none written : List ℕ) (log log' : SinkFacts)
-    → Answers facts IsStored old (greets own) wire wire' none written new → none ≡ [] → Appends log.given log'.given written
-    → StaysItsLogWith facts IsStored IsNow own old log new log'
-answered_log facts IsStored IsNow own old new wire wire' none written log log' a empty put =
+    → Answers facts IsStored old (greets server_nonce) wire wire' none written new → none ≡ [] → Appends log.given log'.given written
+    → StaysItsLogWith facts IsStored IsNow server_nonce old log new log'
+answered_log facts IsStored IsNow server_nonce old new wire wire' none written log log' a empty put =
     let are : written ≡ log_bytes a.lines = a.logged ∙ ap (λ (l : List ℕ). l ++ log_bytes a.lines) empty in
-    one_more facts IsStored IsNow own old new (greets own) a.lines log log' refl a.stands
+    one_more facts IsStored IsNow server_nonce old new (greets server_nonce) a.lines log log' refl a.stands
     (subst (λ (bytes : List ℕ). Appends log.given log'.given bytes) are put)
 
--- nothing was asked, and nothing logged
+-- a desk with this book, store and state
 abbrev desk_with : {S : Type 0} → (book : BookFields) → (store : S) → State → Desk S
 desk_with book store state = record { keeper = record { book = book; store = store }; state = state }
 
+-- where a desk stays the same and its log took nothing, it stays the desk's log
 same_log : {S : Type 0} (facts : S → StoreFacts) (IsStored : List ℕ → Type 0) (IsNow : ℕ → Type 0) (old new : Desk S) (log log' : SinkFacts)
     → IsSameDesk old new → log' ≡ log → StaysItsLog facts IsStored IsNow old log new log'
-same_log {S} facts IsStored IsNow old new log log' same unlogged own start before l =
+same_log {S} facts IsStored IsNow old new log log' same unlogged server_nonce start before l =
     let book = ap (λ (b : BookFields). desk_with b new.keeper.store new.state) same.book in
     let store = ap (λ (s : S). desk_with old.keeper.book s new.state) same.store in
     let state = ap (λ (s : State). desk_with old.keeper.book old.keeper.store s) same.state in
     let desk : new ≡ old = book ∙ (store ∙ state) in
-    let kept = subst (λ (d : Desk S). IsDeskLog facts IsStored IsNow start before own d log) (sym desk) l in
-    subst (λ (k : SinkFacts). IsDeskLog facts IsStored IsNow start before own new k) (sym unlogged) kept
+    let kept = subst (λ (d : Desk S). IsDeskLog facts IsStored IsNow start before server_nonce d log) (sym desk) l in
+    subst (λ (k : SinkFacts). IsDeskLog facts IsStored IsNow start before server_nonce new k) (sym unlogged) kept
 
--- a turn was served
+-- a log stays the desk's after a turn that was served
 pub served_log : {S : Type 0} (facts : S → StoreFacts) (IsStored : List ℕ → Type 0) (IsNow : ℕ → Type 0) (moment : ℕ) (old new : Desk S)
     (input input' : SourceFacts) (wire wire' log log' : SinkFacts)
     → IsTurnServed facts IsStored moment (service_of old input wire log) (service_of new input' wire' log') → IsNow moment
     → StaysItsLog facts IsStored IsNow old log new log'
-served_log facts IsStored IsNow moment old new input input' wire wire' log log' served now own =
-    one_more facts IsStored IsNow own old new _ served.done.lines log log' now served.done.answers.stands served.done.written.by_log
+served_log facts IsStored IsNow moment old new input input' wire wire' log log' served now server_nonce =
+    one_more facts IsStored IsNow server_nonce old new _ served.done.lines log log' now served.done.answers.stands
+    served.done.written.by_log
 
--- a turn was not served
+-- a log stays the desk's after a turn that was not served, or the fault is that the log has failed:
 undone_log : {S : Type 0} (facts : S → StoreFacts) (IsStored : List ℕ → Type 0) (IsNow : ℕ → Type 0) (event : ClientEvent) (moment : ℕ)
     (old new : Desk S) (wire wire' log log' : SinkFacts) (path : List ℕ) (why : ServeFault)
-    (fault : Fault) → (why ≢ Halted → IsNow moment) → IsFaultOf path why fault
+    (fault : Fault) → (why ≢ Halted → IsNow moment) → IsFaultOfServing path why fault
     → IsUndone facts IsStored (hears event moment) old new wire wire' log log' why
     → IsLogAfterFault facts IsStored IsNow old log new log' fault
 undone_log facts IsStored IsNow event moment old new wire wire' log log' path Halted fault now is (same, unsent, unlogged) = inr
@@ -87,7 +91,7 @@ undone_log facts IsStored IsNow event moment old new wire wire' log log' path No
     (same_log facts IsStored IsNow old new log log' same unlogged)
 undone_log facts IsStored IsNow event moment old new wire wire' log log' path Unwritable fault now never undone = absurd never
 undone_log facts IsStored IsNow event moment old new wire wire' log log' path WriteFault fault now is undone =
-    inr (λ own. one_more facts IsStored IsNow own old new (hears event moment) undone.lines log log'
+    inr (λ server_nonce. one_more facts IsStored IsNow server_nonce old new (hears event moment) undone.lines log log'
     (now (λ same. cc same)) undone.answers.stands undone.logged)
 undone_log facts IsStored IsNow event moment old new wire wire' log log' path LogFault fault now is undone = inl (is, undone.failed)
 
@@ -96,37 +100,41 @@ unchanged_log : {S : Type 0} (facts : S → StoreFacts) (IsStored : List ℕ →
     → IsLogAfterFault facts IsStored IsNow old.desk old.log new.desk new.log fault
 unchanged_log {S} facts IsStored IsNow old new fault same =
     subst (λ (s : Service S). IsLogAfterFault facts IsStored IsNow old.desk old.log s.desk s.log fault) (sym same)
-    (inr (λ own start before l. l))
+    (inr (λ server_nonce start before l. l))
 
 -- after a turn that was not served the log is still the desk's, or the fault is that it has failed
 pub unserved_log : {S : Type 0} (facts : S → StoreFacts) (IsStored : List ℕ → Type 0) (IsNow : ℕ → Type 0) (moment : ℕ)
     (old new : Service S) (path : List ℕ) (why : ServeFault) (fault : Fault)
-    → (why ≢ Halted → IsNow moment) → IsTurnFault facts IsStored moment old new why → IsFaultOf path why fault
+    → (why ≢ Halted → IsNow moment) → IsTurnFault facts IsStored moment old new why → IsFaultOfServing path why fault
     → IsLogAfterFault facts IsStored IsNow old.desk old.log new.desk new.log fault
 unserved_log facts IsStored IsNow moment old new path Halted fault now same is = unchanged_log facts IsStored IsNow old new fault same
 unserved_log facts IsStored IsNow moment old new path NoMemory fault now (read, reads, undone) is =
-    undone_log facts IsStored IsNow (event_read read) moment old.desk new.desk old.wire new.wire old.log new.log path NoMemory fault now is undone
+    undone_log facts IsStored IsNow (event_read read) moment old.desk new.desk old.wire new.wire old.log new.log path NoMemory fault now
+    is undone
 unserved_log facts IsStored IsNow moment old new path Unwritable fault now served never = absurd never
 unserved_log facts IsStored IsNow moment old new path WriteFault fault now (read, reads, undone) is =
-    undone_log facts IsStored IsNow (event_read read) moment old.desk new.desk old.wire new.wire old.log new.log path WriteFault fault now is undone
+    undone_log facts IsStored IsNow (event_read read) moment old.desk new.desk old.wire new.wire old.log new.log path WriteFault fault now
+    is undone
 unserved_log facts IsStored IsNow moment old new path LogFault fault now (read, reads, undone) is =
-    undone_log facts IsStored IsNow (event_read read) moment old.desk new.desk old.wire new.wire old.log new.log path LogFault fault now is undone
+    undone_log facts IsStored IsNow (event_read read) moment old.desk new.desk old.wire new.wire old.log new.log path LogFault fault now
+    is undone
 
--- what stays its log twice, stays its log
-pub stays_twice : {S : Type 0} (facts : S → StoreFacts) (IsStored : List ℕ → Type 0) (IsNow : ℕ → Type 0) (own : List ℕ)
+-- what stays a desk's log in two steps, one after the other, stays its log
+pub stays_twice : {S : Type 0} (facts : S → StoreFacts) (IsStored : List ℕ → Type 0) (IsNow : ℕ → Type 0) (server_nonce : List ℕ)
     (old middle new : Desk S) (a b c : SinkFacts)
-    → StaysItsLogWith facts IsStored IsNow own old a middle b → StaysItsLog facts IsStored IsNow middle b new c
-    → StaysItsLogWith facts IsStored IsNow own old a new c
-stays_twice facts IsStored IsNow own old middle new a b c first second start before l = second own start before (first start before l)
+    → StaysItsLogWith facts IsStored IsNow server_nonce old a middle b → StaysItsLog facts IsStored IsNow middle b new c
+    → StaysItsLogWith facts IsStored IsNow server_nonce old a new c
+stays_twice facts IsStored IsNow server_nonce old middle new a b c first second start before l = second server_nonce start before
+    (first start before l)
 
 -- a fault after a step that keeps the log the desk's, with this part of the nonce, leaves it so, or is that the log has failed
-pub fails_with : {S : Type 0} (facts : S → StoreFacts) (IsStored : List ℕ → Type 0) (IsNow : ℕ → Type 0) (own : List ℕ)
+pub fails_with : {S : Type 0} (facts : S → StoreFacts) (IsStored : List ℕ → Type 0) (IsNow : ℕ → Type 0) (server_nonce : List ℕ)
     (old middle new : Desk S) (a b c : SinkFacts) (fault : Fault)
-    → StaysItsLogWith facts IsStored IsNow own old a middle b → IsLogAfterFault facts IsStored IsNow middle b new c fault
-    → IsLogAfterFaultWith facts IsStored IsNow own old a new c fault
-fails_with facts IsStored IsNow own old middle new a b c fault first (inl failed) = inl failed
-fails_with facts IsStored IsNow own old middle new a b c fault first (inr second) = inr
-    (stays_twice facts IsStored IsNow own old middle new a b c first second)
+    → StaysItsLogWith facts IsStored IsNow server_nonce old a middle b → IsLogAfterFault facts IsStored IsNow middle b new c fault
+    → IsLogAfterFaultWith facts IsStored IsNow server_nonce old a new c fault
+fails_with facts IsStored IsNow server_nonce old middle new a b c fault first (inl failed) = inl failed
+fails_with facts IsStored IsNow server_nonce old middle new a b c fault first (inr second) = inr
+    (stays_twice facts IsStored IsNow server_nonce old middle new a b c first second)
 
 -- whatever the part of the nonce, a fault after a step that keeps the log the desk's leaves it so, or is that the log has failed
 pub fails_then : {S : Type 0} (facts : S → StoreFacts) (IsStored : List ℕ → Type 0) (IsNow : ℕ → Type 0) (old middle new : Desk S)
@@ -134,21 +142,23 @@ pub fails_then : {S : Type 0} (facts : S → StoreFacts) (IsStored : List ℕ �
     → IsLogAfterFault facts IsStored IsNow middle b new c fault → IsLogAfterFault facts IsStored IsNow old a new c fault
 fails_then facts IsStored IsNow old middle new a b c fault first (inl failed) = inl failed
 fails_then facts IsStored IsNow old middle new a b c fault first (inr second) = inr
-    (λ own. stays_twice facts IsStored IsNow own old middle new a b c (first own) second)
+    (λ server_nonce. stays_twice facts IsStored IsNow server_nonce old middle new a b c (first server_nonce) second)
 
--- what was logged is printed, where the log is, and that is a front
-pub stops_after : {S : Type 0} (facts : S → StoreFacts) (IsStored : List ℕ → Type 0) (IsNow : ℕ → Type 0) (book : BookFields) (own : List ℕ)
+-- after a fault a login has printed nothing, or its saved log, which is a front, or the output can't be written
+pub login_stops_after : {S : Type 0} (facts : S → StoreFacts) (IsStored : List ℕ → Type 0) (IsNow : ℕ → Type 0) (book : BookFields)
+    (server_nonce : List ℕ)
     (given before after : Option (List ℕ)) (old new : Desk S) (log log' : SinkFacts) (fault : Fault)
     → ((start : BookFields) (calls : List Call) (desk : Desk S) → IsDeskAfter facts IsStored start calls desk
     → IsFront (accounts_in start) (log_bytes (run_lines calls)))
     → ((start : BookFields) (calls : List Call) (desk : Desk S) → IsDeskAfter facts IsStored start calls desk
     → IsLogSaved IsStored start (log_bytes (run_lines calls)))
-    → given ≡ before → after ≡ log'.given → IsDeskLog facts IsStored IsNow book given own old log
-    → IsLogAfterFaultWith facts IsStored IsNow own old log new log' fault
-    → StopsAfter fault before after (HasSavedLog IsStored IsNow IsFront book own before after)
-stops_after facts IsStored IsNow book own given before after old new log log' fault front kept was is begun (inl (output, failed)) = inl
+    → given ≡ before → after ≡ log'.given → IsDeskLog facts IsStored IsNow book given server_nonce old log
+    → IsLogAfterFaultWith facts IsStored IsNow server_nonce old log new log' fault
+    → StopsAfter fault before after (HasSavedLog IsStored IsNow IsFront book server_nonce before after)
+login_stops_after facts IsStored IsNow book server_nonce given before after old new log log' fault front kept was is begun
+    (inl (output, failed)) = inl
     (inl output)
-stops_after facts IsStored IsNow book own given before after old new log log' fault front kept was is begun (inr stays) =
+login_stops_after facts IsStored IsNow book server_nonce given before after old new log log' fault front kept was is begun (inr stays) =
     let desk = stays book given begun in
     let bytes = log_bytes (run_lines desk.calls) in
     inr (
@@ -160,18 +170,18 @@ stops_after facts IsStored IsNow book own given before after old new log log' fa
       kept book desk.calls new desk.stands,
     )
 
--- a clean log is printed, where the log is
+-- where the log is the desk's and clean, it is printed as the saved log
 pub printed_clean : {S : Type 0} (facts : S → StoreFacts) (IsStored : List ℕ → Type 0) (IsNow : ℕ → Type 0) (book : BookFields)
-    (own : List ℕ) (given before after : Option (List ℕ)) (old : Desk S) (log : SinkFacts)
-    (logged : Option (List ℕ)) → given ≡ before → after ≡ logged → IsDeskLog facts IsStored IsNow book given own old log
-    → ((start : BookFields) (earlier : Option (List ℕ)) → IsDeskLog facts IsStored IsNow start earlier own old log
-    → HasSavedLog IsStored IsNow IsClean start own earlier logged)
-    → HasSavedLog IsStored IsNow IsClean book own before after
-printed_clean facts IsStored IsNow book own given before after old log logged was is begun clean =
-    subst (λ (o : Option (List ℕ)). HasSavedLog IsStored IsNow IsClean book own before o) (sym is)
-    (subst (λ (o : Option (List ℕ)). HasSavedLog IsStored IsNow IsClean book own o logged) was (clean book given begun))
+    (server_nonce : List ℕ) (given before after : Option (List ℕ)) (old : Desk S) (log : SinkFacts)
+    (logged : Option (List ℕ)) → given ≡ before → after ≡ logged → IsDeskLog facts IsStored IsNow book given server_nonce old log
+    → ((start : BookFields) (earlier : Option (List ℕ)) → IsDeskLog facts IsStored IsNow start earlier server_nonce old log
+    → HasSavedLog IsStored IsNow IsClean start server_nonce earlier logged)
+    → HasSavedLog IsStored IsNow IsClean book server_nonce before after
+printed_clean facts IsStored IsNow book server_nonce given before after old log logged was is begun clean =
+    subst (λ (o : Option (List ℕ)). HasSavedLog IsStored IsNow IsClean book server_nonce before o) (sym is)
+    (subst (λ (o : Option (List ℕ)). HasSavedLog IsStored IsNow IsClean book server_nonce o logged) was (clean book given begun))
 
--- what a talk logged is printed, after the lines with which the log began
+-- a talk whose codes passed has printed them, after the lines with which the log began
 pub passes_printed : (user : User) (nonce password : List ℕ) (input : Option (List ℕ)) (first last : Talked) (begun : List LogLine)
     (before given after : Option (List ℕ)) → TalkPasses user nonce password input first last → given ≡ before
     → Appends given first.logged (log_bytes begun) → after ≡ last.logged → PrintsPasses user nonce password input before after
@@ -184,21 +194,21 @@ passes_printed user nonce password input first last begun before given after pas
   printed = sym is;
 }
 
--- being out of memory is a fault of any file
+-- running out of memory is a fault of any file that was not written
 unwritten : (path : List ℕ) (fault : Fault) → fault ≡ OutOfMemory → IsUnwritten path fault
 unwritten path fault is = subst (λ (f : Fault). IsUnwritten path f) (sym is) refl
 
--- a fault of serving is one of a turn
+-- a fault of serving a turn is one of the turn
 pub turn_fault : {S : Type 0} (facts : S → StoreFacts) (IsStored : List ℕ → Type 0) (moment : ℕ) (old new : Service S) (path : List ℕ)
     (fault : ServeFault) (result : Fault)
-    → IsTurnFault facts IsStored moment old new fault → IsFaultOf path fault result → IsFaultInTurn path new.log result
+    → IsTurnFault facts IsStored moment old new fault → IsFaultOfServing path fault result → IsFaultInTurn path new.log result
 turn_fault facts IsStored moment old new path Halted result served is = inr (inl is)
 turn_fault facts IsStored moment old new path Unwritable result served never = absurd never
 turn_fault facts IsStored moment old new path NoMemory result served is = inr (inl (unwritten path result is))
 turn_fault facts IsStored moment old new path WriteFault result served is = inr (inl (unwritten path result is))
 turn_fault facts IsStored moment old new path LogFault result (read, reads, undone) is = inr (inr (is, undone.failed))
 
--- a turn is never refused since what is due can't be written
+-- no turn fails for the reason that what is due can't be written
 pub always_writable : {S : Type 0} (facts : S → StoreFacts) (IsStored : List ℕ → Type 0) (moment : ℕ) (old new : Service S)
     (fault : ServeFault)
     → IsTurnFault facts IsStored moment old new fault → fault ≢ Unwritable

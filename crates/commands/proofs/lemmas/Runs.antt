@@ -48,33 +48,33 @@ pub named : (matches words : ArgMatches) (name word : Text) → Some name ≡ su
     → name ≡ word → subcommand_rows_of matches ≡ Some (word, rows_of (found_of words))
 named matches words name word is are known = entered (out-ArgMatches matches).subcommand name word (rows_of (found_of words)) is are known
 
--- a command that was named and has run, before its output is flushed
+-- a command that was named and has done what it does is a run of a named command
 pub runs : {File : Type 0} {bytes_of written_to : File
     → Option (List ℕ)} {found : Option (Text × List Row)} {status : ℕ} {input old new : Option (List ℕ)}
     (name : CommandName) (words : ArgMatches) → Names found name words → HasDone bytes_of written_to name words status input old new
     → RunsCommand bytes_of written_to found status input old new
 runs name words is done = record { name = name; words = words; is_named = is; printed = _; has_done = done; kept = Keeps-refl _ }
 
--- a command that was named, and has a fault
+-- a command that was named and has a fault is a run until the fault, or the output can't be written
 pub stops : {File : Type 0} {bytes_of written_to : File
     → Option (List ℕ)} {found : Option (Text × List Row)} {fault : Fault} {input old new : Option (List ℕ)}
     (name : CommandName) (words : ArgMatches) → Names found name words → StopsAt bytes_of written_to name words fault input old new
     → (fault ≡ CannotWriteOutput) ⊎ RunsUntil bytes_of written_to found fault input old new
 stops name words is stopped = inr (record { name = name; words = words; is_named = is; stops = stopped })
 
--- two facts of a fault, together
+-- two facts that each fault has hold together of the fault
 pub both : {T : Type 0} (P S : Fault → Type 0) (ended : Result T Fault) → IfErr ended P → IfErr ended S
     → IfErr ended (λ fault. P fault × S fault)
 both P S (Ok x) one two = tt
 both P S (Err fault) one two = (one, two)
 
--- the two facts of the answer of `login`, together
+-- what holds of each Ok, and what holds of `Ok true` alone, hold together
 pub logs_in : {R : Type 0} (P : Type 0) (ended : Result Bool Fault) → OnOk ended P → (ended ≡ Ok true → R)
     → IfOk ended (λ passed. P × (passed ≡ true → R))
 logs_in P (Ok passed) printed passes = (printed, λ yes. passes (ap (λ (p : Bool). Ok p) yes))
 logs_in P (Err fault) printed passes = tt
 
--- where a command is named, a subcommand was entered
+-- where no subcommand was entered, no command is found
 none_entered : {Z : Type 0} (o : Option (Box SubCommand Z)) (word : Text) (rows : List Row)
     → None ≡ option_map (λ b. (out-SubCommand (box_value b)).name.now) o → subcommand_rows o ≡ Some (word, rows) → ⊥
 none_entered None word rows is are = cc
@@ -96,6 +96,7 @@ abbrev pub IsOther : Text → Type 0
 IsOther name = (name ≢ codes "keys") × (name ≢ codes "enrol") × (name ≢ codes "code") × (name ≢ codes "verify") × (name ≢ codes "unlock")
     × (name ≢ codes "login") × (name ≢ codes "hall") × (name ≢ codes "audit") × (name ≢ codes "upgrade")
 
+-- a name that is that of no command is no command's word
 other : (name : Text) (command : CommandName) → IsOther name → name ≡ word_of command → ⊥
 other name Keys (keys, enrol, code, verify, unlock, login, hall, audit, upgrade) is = keys is
 other name Enrol (keys, enrol, code, verify, unlock, login, hall, audit, upgrade) is = enrol is
@@ -113,7 +114,7 @@ pub not_other : (matches : ArgMatches) (name : Text) → NamesCommand (subcomman
 not_other matches name (command, values, are) is others =
     other name command others (same_name (out-ArgMatches matches).subcommand name (word_of command) values is are)
 
--- the program's command line is one that clap's functions say all of
+-- the program's app is simple, and free of conflicts; of such an app the functions of `clap` tell all:
 is_simple_program : is_simple program ≡ true
 unfolding clap_on_literals
 is_simple_program = refl
@@ -145,7 +146,7 @@ pub error_of : (app : App) (line : List Text) (error : Error) → app ≡ progra
 error_of app line error is fails =
     subst (λ (a : App). HasKind (fault_of a line) error) is (fails (ap is_simple_and_free is ∙ is_free_program))
 
--- a run that is over, by the end of its command
+-- a run whose command has ended has ended with the status of that end
 pub has_ended : {File : Type 0} (bytes_of written_to : File → Option (List ℕ)) (found : Option (Text × List Row)) (line : List Text)
     (ended : Result ℕ Fault)
     (status : ℕ) (input old new : Option (List ℕ)) → found ≡ found_in line → fault_of program line ≡ [] → status ≡ exit_status ended

@@ -37,7 +37,7 @@ pub enum Next {
     Says(Vec<u8>),
 
     /// It is logged in: the server has shown that it has the account's keys.
-    IsIn,
+    LoggedIn,
 
     /// It ends the login.
     Leaves,
@@ -88,7 +88,7 @@ impl ClientEnd {
     /// where its own end of the login finds a fault (RFC 5802, section 5). The only fault is NoMemory.
     pub fn hear(&mut self, alloc: Global, line: &[u8]) -> Result<Next, Fault>
         ensures kept { (self.new.user ≡ self.old.user) × (self.new.nonce ≡ self.old.nonce) × (self.new.password ≡ self.old.password) }
-        ensures is_in { IfOk result (λ next. next ≡ Next.IsIn → ShowsKeys self.old.stage line.now) }
+        ensures is_in { IfOk result (λ next. next ≡ Next.LoggedIn → ShowsKeys self.old.stage line.now) }
         ensures says { IfOk result (λ next. IfSays next (λ said. MaySay self.old self.old.stage line.now said self.new.stage)) }
         ensures leaves { IfOk result (λ next. next ≡ Next.Leaves → HasToLeave self.old line.now) }
         ensures err { IfErr result (λ fault. fault ≡ Fault.NoMemory) }
@@ -97,10 +97,10 @@ impl ClientEnd {
             return Ok(Next::Leaves);
         };
         match (mem::replace(&mut self.stage, Stage::Over), told) {
-            (Stage::Silent, ServerLine::Mechs(names)) => self.ask(alloc, names),
+            (Stage::Silent, ServerLine::Mechs(names)) => self.send_first(alloc, names),
             (Stage::Begun(client), ServerLine::Cont(message)) => {
                 let challenge = message.bytes(alloc).map_err(|_| Fault::NoMemory)?;
-                self.prove(alloc, client, challenge.as_slice())
+                self.send_final(alloc, client, challenge.as_slice())
             }
             (Stage::Proved(client), ServerLine::Accepts(message)) => check_signature(
                 alloc, client, message,
@@ -110,9 +110,9 @@ impl ClientEnd {
     }
 
     // Says which of the mechanisms of these names the client takes, with its first message.
-    fn ask(&mut self, alloc: Global, names: &[u8]) -> Result<Next, Fault>
+    fn send_first(&mut self, alloc: Global, names: &[u8]) -> Result<Next, Fault>
         ensures kept { (self.new.user ≡ self.old.user) × (self.new.nonce ≡ self.old.nonce) × (self.new.password ≡ self.old.password) }
-        ensures not_in { IfOk result (λ next. next ≢ Next.IsIn) }
+        ensures not_in { IfOk result (λ next. next ≢ Next.LoggedIn) }
         ensures says { IfOk result (λ next. IfSays next (λ said. BeginsLogin self.old.user self.old.nonce names.now said self.new.stage)) }
         ensures leaves { IfOk result (λ next. next ≡ Next.Leaves
             → (mechanism : Mechanism) → IsChosen self.old.user.mechanism names.now mechanism → ⊥) }
@@ -134,9 +134,14 @@ impl ClientEnd {
     }
 
     // Answers a challenge with the proof.
-    fn prove(&mut self, alloc: Global, client: ClientOne, challenge: &[u8]) -> Result<Next, Fault>
+    fn send_final(
+        &mut self,
+        alloc: Global,
+        client: ClientOne,
+        challenge: &[u8],
+    ) -> Result<Next, Fault>
         ensures kept { (self.new.user ≡ self.old.user) × (self.new.nonce ≡ self.old.nonce) × (self.new.password ≡ self.old.password) }
-        ensures not_in { IfOk result (λ next. next ≢ Next.IsIn) }
+        ensures not_in { IfOk result (λ next. next ≢ Next.LoggedIn) }
         ensures says { IfOk result (λ next. IfSays next (λ said. (login : Started) → IsStarted client login
             → AnswersChallenge login self.old.password challenge.now said self.new.stage)) }
         ensures leaves { IfOk result (λ next. next ≡ Next.Leaves → (login : Started) → IsStarted client login
@@ -157,7 +162,7 @@ impl ClientEnd {
 
 // Whether the client is in, by the message with which the server accepts it.
 fn check_signature(alloc: Global, client: ClientTwo, message: Payload<'_>) -> Result<Next, Fault>
-    ensures is_in { IfOk result (λ next. next ≡ Next.IsIn
+    ensures is_in { IfOk result (λ next. next ≡ Next.LoggedIn
         → (l : Answered) (x : IsExpecting client l) → IsAuthentic message.entry x.signature) }
     ensures silent { IfOk result (λ next. IfSays next (λ said. ⊥)) }
     ensures leaves { IfOk result (λ next. next ≡ Next.Leaves
@@ -168,7 +173,7 @@ fn check_signature(alloc: Global, client: ClientTwo, message: Payload<'_>) -> Re
         return Err(Fault::NoMemory);
     };
     match client.last(last.as_slice()) {
-        Ok(_) => Ok(Next::IsIn),
+        Ok(_) => Ok(Next::LoggedIn),
         Err(_) => Ok(Next::Leaves),
     }
 }

@@ -11,7 +11,8 @@ pub trait GivenMoment {
     ghost moment: { Option ℕ };
 }
 
-// `Brand` is the marker type at which a caller picks the moment, in its proof. This None only makes `Brand` such a type: it is not used.
+// `Brand` is written for the type where a caller picks the moment in its proof. This None only lets it be written there: no clock
+// has it.
 impl GivenMoment for Brand {
     ghost moment = { None };
 }

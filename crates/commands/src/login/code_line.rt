@@ -3,11 +3,11 @@ ghost use Rattle.std.specs.Prelude.{◌≡◌, [], ◌∷◌, ◌++◌, IfOk, If
 ghost use Rattle.std.specs.Str.{byte};
 ghost use Rattle.otp_core.specs.Attempt.{CodeTexts};
 ghost use Rattle.commands.specs.Login.{sent_for};
-ghost use Rattle.commands.specs.Sent.{Says};
+ghost use Rattle.commands.specs.Sent.{SaysCodes};
 ghost use Rattle.commands.specs.declared.login.TheConstants.{MOST_WITH_LF};
 
 use crate::login::MOST_WITH_LF;
-use crate::sent::sent_by;
+use crate::sent_codes::sent_by;
 use command_line::Fault;
 use otp_core::Sent;
 use std::alloc::Global;
@@ -15,7 +15,7 @@ use std::alloc::Global;
 /// The line for this input line, with its LF: itself where it is a SYNC line of the protocol, else as the text of a CODE
 /// line, whether it can be one or not. The only fault is NoMemory.
 pub fn code_line(alloc: Global, line: &[u8]) -> Result<Vec<u8>, Fault>
-    ensures ok { IfOk result (λ said. (texts : CodeTexts) × Says line.now texts × (said.items ≡ sent_for line.now texts)) }
+    ensures ok { IfOk result (λ said. (texts : CodeTexts) × SaysCodes line.now texts × (said.items ≡ sent_for line.now texts)) }
     ensures err { IfErr result (λ fault. fault ≡ Fault.NoMemory) }
 {
     match sent_by(line) {

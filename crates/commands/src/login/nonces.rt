@@ -5,7 +5,7 @@ ghost use Rattle.command_io.specs.File.{IsFileUnread};
 ghost use Rattle.commands.specs.Nonces.{TakesNonce, TakesNonces};
 
 use base64::engine::general_purpose::STANDARD;
-use command_io::random::Random;
+use command_io::random::RandomFile;
 use command_line::Fault;
 use scram_text::NoncePart;
 use std::alloc::Global;
@@ -39,7 +39,7 @@ pub fn both<R: Files + AllocGlobal>(
     match (client, server) {
         (Some(client), Some(server)) => Ok(Nonces { client, server }),
         (client, server) => {
-            let mut random = Random::open(rt, path)?;
+            let mut random = RandomFile::open(rt, path)?;
             both_from(rt.alloc(), client, server, &mut random)
         }
     }
@@ -50,7 +50,7 @@ fn both_from<F: Read + Drop>(
     alloc: Global,
     client: Option<NoncePart>,
     server: Option<NoncePart>,
-    random: &mut Random<'_, F>,
+    random: &mut RandomFile<'_, F>,
 ) -> Result<Nonces, Fault>
     ensures ok { IfOk result (λ nonces.
         TakesNonces (F.remaining random.old.file) client server nonces.client nonces.server (F.remaining random.new.file)) }
@@ -65,7 +65,7 @@ fn both_from<F: Read + Drop>(
 fn given_or_random<F: Read + Drop>(
     alloc: Global,
     given: Option<NoncePart>,
-    random: &mut Random<'_, F>,
+    random: &mut RandomFile<'_, F>,
 ) -> Result<NoncePart, Fault>
     ensures ok { IfOk result (λ nonce. TakesNonce (F.remaining random.old.file) given nonce (F.remaining random.new.file)) }
     ensures err { IfErr result (IsFileUnread random.old.path.now) }

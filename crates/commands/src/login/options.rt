@@ -28,25 +28,25 @@ pub struct LoginOptions {
 }
 
 /// Judges the options that are not taken as they are, in their order. The only fault is BadValue.
-pub fn read_options(words: &ArgMatches<'_>) -> Result<LoginOptions, Fault>
-    ensures user { IfOk result (λ options. IsUserAsked words.now options.user) }
-    ensures client_nonce { IfOk result (λ options. options.client_nonce ≡ value_of words.now OptionName.ClientNonce) }
-    ensures server_nonce { IfOk result (λ options. options.server_nonce ≡ value_of words.now OptionName.ServerNonce) }
-    ensures moment { IfOk result (λ options. option_map decimal options.moment ≡ value_of words.now OptionName.Moment) }
-    ensures err { IfErr result (HasBadLoginValue words.now) }
+pub fn read_options(matches: &ArgMatches<'_>) -> Result<LoginOptions, Fault>
+    ensures user { IfOk result (λ options. IsUserAsked matches.now options.user) }
+    ensures client_nonce { IfOk result (λ options. options.client_nonce ≡ value_of matches.now OptionName.ClientNonce) }
+    ensures server_nonce { IfOk result (λ options. options.server_nonce ≡ value_of matches.now OptionName.ServerNonce) }
+    ensures moment { IfOk result (λ options. option_map decimal options.moment ≡ value_of matches.now OptionName.Moment) }
+    ensures err { IfErr result (HasBadLoginValue matches.now) }
 {
-    let name = value::name(given(words, OptionName::Name))?;
-    let mechanism = match optional(words, OptionName::Mechanism) {
+    let name = value::name(given(matches, OptionName::Name))?;
+    let mechanism = match optional(matches, OptionName::Mechanism) {
         Some(text) => Some(value::mechanism(text)?),
         None => None,
     };
-    let authzid = match optional(words, OptionName::As) {
+    let authzid = match optional(matches, OptionName::As) {
         Some(text) => Some(value::authzid(text)?),
         None => None,
     };
-    let client_nonce = optional_nonce(words, OptionName::ClientNonce)?;
-    let server_nonce = optional_nonce(words, OptionName::ServerNonce)?;
-    let moment = match optional(words, OptionName::Moment) {
+    let client_nonce = optional_nonce(matches, OptionName::ClientNonce)?;
+    let server_nonce = optional_nonce(matches, OptionName::ServerNonce)?;
+    let moment = match optional(matches, OptionName::Moment) {
         Some(text) => Some(value::moment(OptionName::Moment, text)?),
         None => None,
     };
@@ -63,12 +63,12 @@ pub fn read_options(words: &ArgMatches<'_>) -> Result<LoginOptions, Fault>
 }
 
 // The nonce that an option gives, or None where it is not given. Answers BadValue where it is none.
-fn optional_nonce(words: &ArgMatches<'_>, option: OptionName) -> Result<Option<NoncePart>, Fault>
-    ensures ok { IfOk result (λ nonce. nonce ≡ value_of words.now option) }
+fn optional_nonce(matches: &ArgMatches<'_>, option: OptionName) -> Result<Option<NoncePart>, Fault>
+    ensures ok { IfOk result (λ nonce. nonce ≡ value_of matches.now option) }
     ensures err { IfErr result (λ fault. (fault ≡ Fault.BadValue option)
-        × ((text : List ℕ) × (value_of words.now option ≡ Some text) × (IsNoncePart text → ⊥))) }
+        × ((text : List ℕ) × (value_of matches.now option ≡ Some text) × (IsNoncePart text → ⊥))) }
 {
-    match optional(words, option) {
+    match optional(matches, option) {
         Some(text) => Ok(Some(value::nonce(option, text)?)),
         None => Ok(None),
     }

@@ -4,16 +4,17 @@
 //! to wait means that the other end is a stranger, who came to the socket in between.
 ghost use Rattle.std.specs.Prelude.{◌≡◌, IfErr};
 
+use book_file::is_same_file;
 use command_line::Fault;
 use sasl_log::{OverRead, OverWrite};
 use std::fs::{Files, Metadata};
 use std::io::ErrorKind;
 use std::net::{Net, Shutdown};
-use std::os::unix::fs::MetadataExt;
 use std::os::unix::net::{UnixListener, UnixStream};
 use std::{fs, io};
 
-/// The file of a socket that this run has made. It is removed with this value, unless another file has its name by then.
+/// The file of a socket that this run has made. It is removed when this value is dropped, unless another file has its name by
+/// then.
 pub struct SocketFile<'a, R: Files> {
     rt: &'a R,
     path: &'a str,
@@ -45,25 +46,25 @@ impl<'a, R: Files> SocketFile<'a, R> {
     // Whether another file has the name, as far as the system can be asked.
     fn is_replaced(&self) -> bool {
         match (&self.made, fs::symlink_metadata(self.rt, self.path)) {
-            (Some(made), Ok(found)) => made.dev() != found.dev() || made.ino() != found.ino(),
+            (Some(made), Ok(found)) => !is_same_file(made, &found),
             _ => false,
         }
     }
 }
 
-/// Both ends of a connection.
+/// A connection that has both its ends in this run.
 #[derive(Drop)]
-pub struct Ends {
+pub struct Connection {
     // The client's end.
-    of_client: UnixStream,
+    client: UnixStream,
 
     // The server's.
-    of_server: UnixStream,
+    server: UnixStream,
 }
 
 /// One end of a connection: where it reads, and where it writes.
 #[derive(Drop)]
-pub struct Wire<R, W> {
+pub struct End<R, W> {
     /// Where what the other end says comes from.
     pub reader: R,
 
@@ -73,20 +74,20 @@ pub struct Wire<R, W> {
 
 /// Both ends of a connection, to read and to write.
 #[derive(Drop)]
-pub struct Wires<R, W> {
+pub struct Ends<R, W> {
     /// The client's end.
-    pub of_client: Wire<R, W>,
+    pub client: End<R, W>,
 
     /// The server's.
-    pub of_server: Wire<R, W>,
+    pub server: End<R, W>,
 }
 
-impl Ends {
+impl Connection {
     /// Both ends, to read and to write.
-    pub fn wires(&self) -> Wires<OverRead<&UnixStream>, OverWrite<&UnixStream>> {
-        Wires {
-            of_client: wire_of(&self.of_client),
-            of_server: wire_of(&self.of_server),
+    pub fn ends(&self) -> Ends<OverRead<&UnixStream>, OverWrite<&UnixStream>> {
+        Ends {
+            client: end_of(&self.client),
+            server: end_of(&self.server),
         }
     }
 
@@ -94,15 +95,14 @@ impl Ends {
     pub fn hang_up(&self) -> Result<(), Fault>
         ensures { IfErr result (λ fault. fault ≡ Fault.Socket) }
     {
-        match self.of_client.shutdown(Shutdown::Write) {
-            Ok(()) => Ok(()),
-            Err(_) => Err(Fault::Socket),
-        }
+        self.client
+            .shutdown(Shutdown::Write)
+            .map_err(|_| Fault::Socket)
     }
 }
 
-fn wire_of(stream: &UnixStream) -> Wire<OverRead<&UnixStream>, OverWrite<&UnixStream>> {
-    Wire {
+fn end_of(stream: &UnixStream) -> End<OverRead<&UnixStream>, OverWrite<&UnixStream>> {
+    End {
         reader: OverRead::new(stream),
         writer: OverWrite::new(stream),
     }
@@ -113,12 +113,12 @@ fn wire_of(stream: &UnixStream) -> Wire<OverRead<&UnixStream>, OverWrite<&UnixSt
 pub fn open<'a, R: Files + Net>(
     rt: &'a R,
     path: &'a str,
-) -> Result<(Ends, SocketFile<'a, R>), Fault>
+) -> Result<(Connection, SocketFile<'a, R>), Fault>
     ensures { IfErr result (λ fault. fault ≡ Fault.Socket) }
 {
     let (listener, file) = bind(rt, path)?;
     match connect(rt, path, &listener) {
-        Ok(ends) => Ok((ends, file)),
+        Ok(connection) => Ok((connection, file)),
         Err(_) => Err(Fault::Socket),
     }
 }
@@ -149,14 +149,11 @@ fn is_free<R: Files>(rt: &R, path: &str) -> bool {
 }
 
 // Connects to the socket at `path`, and accepts the connection.
-fn connect<R: Net>(rt: &R, path: &str, listener: &UnixListener) -> io::Result<Ends> {
+fn connect<R: Net>(rt: &R, path: &str, listener: &UnixListener) -> io::Result<Connection> {
     listener.set_nonblocking(true)?;
-    let of_client = UnixStream::connect(rt, path)?;
-    let (of_server, _) = listener.accept()?;
-    of_client.set_nonblocking(true)?;
-    of_server.set_nonblocking(true)?;
-    Ok(Ends {
-        of_client,
-        of_server,
-    })
+    let client = UnixStream::connect(rt, path)?;
+    let (server, _) = listener.accept()?;
+    client.set_nonblocking(true)?;
+    server.set_nonblocking(true)?;
+    Ok(Connection { client, server })
 }

@@ -2,11 +2,12 @@
 use super::streams::{Faults, Input};
 use commands::run;
 use faulty_files::{Calls, Faulty};
+use std::io::ErrorKind;
 use std::test::Fail;
 use std::{env, fs, process};
 
-// A book with the account `user`, whose keys are those of RFC 5802's example, and whose token has the secret of
-// RFC 4226's appendix D.
+// A book with the account `user`, whose keys are those of RFC 5802's example by Python's hashlib, and whose token has the
+// secret of RFC 4226's appendix D.
 pub const BOOK: &str = "format = 1
 decoy_key = \"000102030405060708090a0b0c0d0e0f101112131415161718191a1b1c1d1e1f\"
 decoy_count = 4096
@@ -34,9 +35,16 @@ failures = 0
 pub fn path_of_book(rt: &HostRuntime, test: &str) -> Result<String, Fail> {
     let temp = env::temp_dir(rt)?;
     let id = process::id(rt.process());
-    let folder = format!(in rt.alloc(); "{}/scramotp-{test}-{id}", temp.as_str())?;
-    fs::create_dir(rt, folder.as_str())?;
-    Ok(format!(in rt.alloc(); "{folder}/book")?)
+    // A run that failed leaves its folder, and the number of a process may come again.
+    for number in 0..1000u32 {
+        let folder = format!(in rt.alloc(); "{}/scramotp-{test}-{id}-{number}", temp.as_str())?;
+        match fs::create_dir(rt, folder.as_str()) {
+            Err(error) if error.kind() == ErrorKind::AlreadyExists => continue,
+            made => made?,
+        }
+        return Ok(format!(in rt.alloc(); "{folder}/book")?);
+    }
+    Err(Fail::from("no name of a folder is free"))
 }
 
 /// Removes the book and its folder.

@@ -41,7 +41,7 @@ impl<R: BufRead> TerminalInput for Input<R> {
     }
 }
 
-/// Faults, with the bytes that were written.
+/// Standard error in memory, with the bytes that were written to it.
 #[derive(Drop)]
 pub struct Faults {
     pub bytes: Vec<u8>,
@@ -49,7 +49,7 @@ pub struct Faults {
 }
 
 impl Faults {
-    /// Faults that nothing was written to, at a terminal or not.
+    /// Nothing is written yet; `is_watched` says whether it is a terminal.
     pub fn new(alloc: Global, is_watched: bool) -> Faults {
         let bytes = Vec::new(alloc);
         Faults { bytes, is_watched }

@@ -142,7 +142,7 @@ fn two_sessions_stand_in_one_log(rt: HostRuntime) -> Result<(), Fail> {
     Ok(())
 }
 
-// What another client does does not enter, wherever it stands among the login's lines.
+// The login is told the same wherever another client's line comes between its own.
 #[test]
 fn a_login_is_told_as_if_alone(rt: HostRuntime) -> Result<(), Fail> {
     for place in 0..3usize {
@@ -155,9 +155,8 @@ fn a_login_is_told_as_if_alone(rt: HostRuntime) -> Result<(), Fail> {
                     &[(2, "AUTH SCRAM-SHA-256", Phase::WaitFirst)],
                 )?;
             }
-            match LOGIN.get(at) {
-                Some(line) => assert!(rt; hear(rt.alloc(), &mut party, 1, line)?.is_ok()),
-                None => {}
+            if let Some(line) = LOGIN.get(at) {
+                assert!(rt; hear(rt.alloc(), &mut party, 1, line)?.is_ok());
             }
         }
         assert_eq!(rt; party.odd.as_slice(), ANSWERS.as_bytes());

@@ -3,7 +3,7 @@ use Rattle.std.proofs.Common.{◌≡◌, ◌+◌, ◌<◌, ℕ, zero, suc, List,
 use Rattle.std.specs.List.{AllByRecursion, AllZip}
 use Rattle.std.proofs.Math.Seq.{take-append-add}
 
--- two lists with their first elements
+-- lists that are the same have the same first element, and the same elements after it
 pub heads : {A : Type 0} (a b : A) (x y : List A) → a ∷ x ≡ b ∷ y → (a ≡ b) × (x ≡ y)
 heads a b x y e = (cc, cc)
 
@@ -16,7 +16,7 @@ pub some_last : {A : Type 0} (xs : List A) (x : A) → xs ++ x ∷ [] ≡ [] →
 some_last [] x e = cc e
 some_last (y ∷ xs) x e = cc e
 
--- two lists with their last elements
+-- lists with a last element that are the same have the same last element, and the same before it
 pub last_same : {A : Type 0} (xs ys : List A) (x y : A) → xs ++ x ∷ [] ≡ ys ++ y ∷ [] → (xs ≡ ys) × (x ≡ y)
 last_same [] [] x y e = (refl, (heads x y [] [] e).0)
 last_same [] (b ∷ ys) x y e = absurd (some_last ys y (sym (heads x b [] (ys ++ y ∷ []) e).1))
@@ -31,7 +31,7 @@ pub with_last : {A : Type 0} (a : A) (xs : List A) → (front : List A) × (x : 
 with_last a [] = ([], a, refl)
 with_last a (b ∷ xs) = let more = with_last b xs in (a ∷ more.0, more.1, ap (λ l. a ∷ l) more.2)
 
--- of two lists that are related, the first with its last element, the other has one too
+-- where a list with a last element is related to another, the other has a last element too, and they are related part by part
 pub split_last : {A B : Type 0} (R : A → B → Type 0) (xs : List A) (x : A) (ys : List B) → AllZip R (xs ++ x ∷ []) ys
     → (front : List B) × (y : B) × (ys ≡ front ++ y ∷ []) × AllZip R xs front × R x y
 split_last R [] x [] all = absurd all
@@ -46,7 +46,7 @@ split_last R (a ∷ xs) x (y ∷ ys) all =
 pub length-last : {A : Type 0} (xs : List A) (x : A) → length (xs ++ x ∷ []) ≡ length xs + 1
 length-last xs x = length-append xs (x ∷ [])
 
--- some elements and the one after them
+-- no elements taken are none
 take_none : {A : Type 0} (xs : List A) → take 0 xs ≡ []
 take_none [] = refl
 take_none (x ∷ xs) = refl
@@ -55,7 +55,7 @@ take_none (x ∷ xs) = refl
 pub with_next : {A : Type 0} (xs : List A) (x : A) (more : List A) → take (length xs + 1) (xs ++ x ∷ more) ≡ xs ++ x ∷ []
 with_next xs x more = take-append-add xs (x ∷ more) 1 ∙ ap (λ l. xs ++ x ∷ l) (take_none more)
 
--- some elements, one of them, and those after it
+-- a list has an element at each index below its length, with as many elements before it
 pub parted : {A : Type 0} (xs : List A) (n : ℕ) → n < length xs → (before : List A) × (x : A) × (more : List A) × (xs ≡ before ++ x ∷ more)
     × (n ≡ length before)
 parted [] n less = absurd (omega (arith, less))
@@ -69,3 +69,12 @@ pub all_append : {A : Type 0} (P : A → Type 0) (front back : List A) → AllBy
     → AllByRecursion P (front ++ back)
 all_append P [] back h k = k
 all_append P (a ∷ front) back h k = (h.0, all_append P front back h.1 k)
+
+-- what holds of each of some elements holds of the first of them, and of one among them:
+pub each_first : {A : Type 0} (P : A → Type 0) (front back : List A) → AllByRecursion P (front ++ back) → AllByRecursion P front
+each_first P [] back each = tt
+each_first P (a ∷ front) back each = (each.0, each_first P front back each.1)
+
+pub each_at : {A : Type 0} (P : A → Type 0) (front : List A) (a : A) (back : List A) → AllByRecursion P (front ++ a ∷ back) → P a
+each_at P [] a back each = each.0
+each_at P (other ∷ front) a back each = each_at P front a back each.1

@@ -7,4 +7,4 @@ pub mod VersionOne
 pub mod VersionTwo
 pub mod AllVersions
 pub mod ShownByLines
-pub mod NoneOfBoth
+pub mod FirstLinesDiffer

@@ -1,7 +1,7 @@
 -- Version 2: the lines of each number, where they stand, and how the log goes on.
 pub mod LinesOfNumber
 pub mod Visits
-pub mod LoggedReply
+pub mod NumberedReplies
 pub mod LogSteps
 pub mod WithoutLast
 pub mod OneReading

@@ -1,5 +1,5 @@
 -- For src/upgrades.rt: a log of version 1, and the same with numbers.
-pub mod Renumbered
+pub mod WithNumbers
 pub mod GoesOnAlike
 pub mod Texts
 pub mod SameFault

@@ -5,8 +5,8 @@ use Rattle.log_grammar.specs.Bytes.{LacksLf, ended_by_lf}
 use Rattle.log_grammar.specs.Lines.{LogLine, IsLogLine}
 
 -- the first line
-abbrev pub first_text : List ℕ
-first_text = codes "SCRAMLOG 1"
+abbrev pub header_one_text : List ℕ
+header_one_text = codes "SCRAMLOG 1"
 
 -- the first line of a session
 abbrev pub offer_text : List ℕ
@@ -14,11 +14,11 @@ offer_text = codes "S MECHS SCRAM-SHA-256 SCRAM-SHA-1"
 
 -- the first line alone
 abbrev pub first_alone : List ℕ
-first_alone = ended_by_lf (first_text ∷ [])
+first_alone = ended_by_lf (header_one_text ∷ [])
 
 -- a log of one session, by the lines after the first of the session
 abbrev pub one_session : List (List ℕ) → List ℕ
-one_session texts = ended_by_lf (first_text ∷ offer_text ∷ texts)
+one_session texts = ended_by_lf (header_one_text ∷ offer_text ∷ texts)
 
 -- `S NO` with nothing after its colon, and the end of the session
 abbrev pub bare_no : List (List ℕ)

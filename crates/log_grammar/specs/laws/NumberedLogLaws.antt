@@ -1,6 +1,6 @@
 -- The laws of whole logs of version 2, as bytes: their fronts, the line at fault, and why.
 use Rattle.std.specs.Prelude.{ℕ, ◌≡◌, ◌⊎◌, List, [], take}
-use Rattle.log_grammar.specs.Bytes.{ended_by_lf, IsCut}
+use Rattle.log_grammar.specs.Bytes.{ended_by_lf, IsSplit}
 use Rattle.log_grammar.specs.Demands.{Accounts, AllCanBeChallenged}
 use Rattle.log_grammar.specs.Why.{Why}
 use Rattle.log_grammar.specs.LogKinds.{IsFrontOf, IsCleanOf, IsWhyOf, BeginsCleanOf}
@@ -19,7 +19,7 @@ NumberedLogsHaveOneWhy = (limit : ℕ) (accounts : Accounts) (bytes : List ℕ) 
 -- the first lines of a front are a front
 abbrev pub NumberedFrontsBeginWithFronts : Type 0
 NumberedFrontsBeginWithFronts = (limit : ℕ) (accounts : Accounts) (bytes : List ℕ) (texts : List (List ℕ)) (k : ℕ)
-    → IsFrontOf (version_two limit accounts) bytes → IsCut bytes texts []
+    → IsFrontOf (version_two limit accounts) bytes → IsSplit bytes texts []
     → IsFrontOf (version_two limit accounts) (ended_by_lf (take k texts))
 
 -- each front begins a clean log, where a challenge can be written for each account and decoy

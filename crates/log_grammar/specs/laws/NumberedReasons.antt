@@ -2,7 +2,7 @@
 -- fault, under the same number.
 use Rattle.std.specs.Prelude.{ℕ, ◌≡◌, ◌+◌, List, [], ◌∷◌, ◌++◌, length}
 use Rattle.log_grammar.specs.Lines.{LogLine}
-use Rattle.log_grammar.specs.Bytes.{ended_by_lf, IsCut}
+use Rattle.log_grammar.specs.Bytes.{ended_by_lf, IsSplit}
 use Rattle.log_grammar.specs.Demands.{Accounts, AllCanBeChallenged}
 use Rattle.log_grammar.specs.Why.{Why, other_challenge}
 use Rattle.log_grammar.specs.LogKinds.{IsWhyOf, BeginsCleanOf}
@@ -13,7 +13,7 @@ use Rattle.log_grammar.specs.laws.Reasons.{SaysWhatIsDue, NamesWhatIsDue}
 
 -- line k is one of the texts, and a line of some number; and a line of this number that says what the reason names as due, in
 -- its place, makes the first k lines begin a clean log
-pub record IsNumberedMended (limit : ℕ) (accounts : Accounts) (texts : List (List ℕ)) (k : ℕ) (why : Why) : Type 0 where
+pub record HasNumberedLineThatMayStand (limit : ℕ) (accounts : Accounts) (texts : List (List ℕ)) (k : ℕ) (why : Why) : Type 0 where
   pub before : List (List ℕ)
   pub text : List ℕ
   pub more : List (List ℕ)
@@ -30,8 +30,8 @@ pub record IsNumberedMended (limit : ℕ) (accounts : Accounts) (texts : List (L
 abbrev pub WhatIsDueMayStandUnderItsNumber : Type 0
 WhatIsDueMayStandUnderItsNumber = (limit : ℕ) (accounts : Accounts) → AllCanBeChallenged accounts
     → (bytes : List ℕ) (texts : List (List ℕ)) (rest : List ℕ) (k : ℕ) (why : Why)
-    → IsCut bytes texts rest → IsWhyOf (version_two limit accounts) bytes k why → NamesWhatIsDue why
-    → IsNumberedMended limit accounts texts k why
+    → IsSplit bytes texts rest → IsWhyOf (version_two limit accounts) bytes k why → NamesWhatIsDue why
+    → HasNumberedLineThatMayStand limit accounts texts k why
 
 -- each line that can be written and says what is due may stand there; except a challenge, since the reason names no
 -- text of one
@@ -39,7 +39,7 @@ abbrev pub EachNumberedLineThatIsDueMayStand : Type 0
 EachNumberedLineThatIsDueMayStand = (limit : ℕ) (accounts : Accounts) → AllCanBeChallenged accounts
     → (bytes : List ℕ) (before : List (List ℕ)) (text : List ℕ) (more : List (List ℕ)) (rest : List ℕ) (why : Why)
     (at_fault : Numbered LogLine) (line : LogLine)
-    → IsCut bytes (before ++ text ∷ more) rest → IsWhyOf (version_two limit accounts) bytes (length before + 1) why
+    → IsSplit bytes (before ++ text ∷ more) rest → IsWhyOf (version_two limit accounts) bytes (length before + 1) why
     → (why ≡ other_challenge → ⊥)
     → IsNumberedLine text at_fault → SaysWhatIsDue why line → IsNumberedWritable (numbered at_fault.number line)
     → BeginsCleanOf (version_two limit accounts) (ended_by_lf (before ++ numbered_text (numbered at_fault.number line) ∷ []))

@@ -11,7 +11,7 @@ use Rattle.log_grammar.specs.Lines.{LogLine, said, heard, mechs, cont, refuses, 
 use Rattle.log_grammar.specs.LoggedReply.{LoggedReply, logged_reply_of}
 use Rattle.log_grammar.specs.Places.{Place, between, offered, asks_bare, waits_first, got_first, waits_final, got_final, waits_code}
 use Rattle.log_grammar.specs.Places.{got_code, leaving, over, halted}
-use Rattle.log_grammar.specs.Demands.{Accounts, NamesMechanism, IsChallenged, IsVerdict, IsToldDue, demands, IsUnoffered, IsNotTakenUp}
+use Rattle.log_grammar.specs.Demands.{Accounts, NamesMechanism, IsChallenged, IsVerdictDue, IsLoggedReplyDue, demands, IsUnoffered, IsNotTakenUp}
 use Rattle.log_grammar.specs.Begins.{Begins}
 use Rattle.log_grammar.specs.laws.Logins.{IsLoginTo, exchange_of}
 
@@ -24,20 +24,21 @@ FirstLinesBeginLogs = (accounts : Accounts) (lines more : List LogLine) (place :
     × (told ≡ before ++ rest)
 
 -- the lines by which a client sends its first message: in `C AUTH`, or after an empty challenge
-abbrev pub IsSentBy : (mechanism first : List ℕ) → List LogLine → Type 0
-IsSentBy mechanism first lines =
-    (lines ≡ heard (auth_with mechanism first) ∷ [])
-    ⊎ (lines ≡ heard (auth mechanism) ∷ said (cont []) ∷ heard (resp first) ∷ [])
+abbrev pub IsSentBy : (mechanism client_first : List ℕ) → List LogLine → Type 0
+IsSentBy mechanism client_first lines =
+    (lines ≡ heard (auth_with mechanism client_first) ∷ [])
+    ⊎ (lines ≡ heard (auth mechanism) ∷ said (cont []) ∷ heard (resp client_first) ∷ [])
 
 -- the messages that a place has are those of the last lines, which are of one session
 abbrev pub HasItsMessages : Place → List LogLine → Type 0
 HasItsMessages (asks_bare mechanism) log = EndsWith log (heard (auth mechanism) ∷ [])
 HasItsMessages (waits_first mechanism) log = EndsWith log (heard (auth mechanism) ∷ said (cont []) ∷ [])
-HasItsMessages (got_first mechanism first) log = (lines : List LogLine) × IsSentBy mechanism first lines × EndsWith log lines
-HasItsMessages (waits_final mechanism account first challenge) log =
-    (lines : List LogLine) × IsSentBy mechanism first lines × EndsWith log (lines ++ said (cont challenge) ∷ [])
-HasItsMessages (got_final mechanism account first challenge last) log =
-    (lines : List LogLine) × IsSentBy mechanism first lines × EndsWith log (lines ++ said (cont challenge) ∷ heard (resp last) ∷ [])
+HasItsMessages (got_first mechanism client_first) log = (lines : List LogLine) × IsSentBy mechanism client_first lines × EndsWith log lines
+HasItsMessages (waits_final mechanism account client_first server_first) log =
+    (lines : List LogLine) × IsSentBy mechanism client_first lines × EndsWith log (lines ++ said (cont server_first) ∷ [])
+HasItsMessages (got_final mechanism account client_first server_first client_final) log =
+    (lines : List LogLine) × IsSentBy mechanism client_first lines
+    × EndsWith log (lines ++ said (cont server_first) ∷ heard (resp client_final) ∷ [])
 HasItsMessages (got_code account sent) log = EndsWith log (heard (asking sent) ∷ [])
 HasItsMessages place log = Unit {0}
 
@@ -76,7 +77,7 @@ IsRefusalDue accounts log text told =
     × IsNotTakenUp mechanism first × (text ≡ []))
     ⊎ (((mechanism : List ℕ) × (name : List ℕ) × (client_first : List ℕ) × (server_first : List ℕ) × (client_final : List ℕ)
     × Begins (demands accounts) log (got_final mechanism name client_first server_first client_final) told
-    × ((why : Refusal) × IsVerdict accounts mechanism name client_first server_first client_final (refuse why)
+    × ((why : Refusal) × IsVerdictDue accounts mechanism name client_first server_first client_final (refuse why)
     × (text ≡ due_text (refuse why)))
     × ((server_final : List ℕ) → IsLoginTo accounts mechanism name (exchange_of client_first server_first client_final server_final) → ⊥))
     ⊎ (Begins (demands accounts) log leaving told × (text ≡ []))))
@@ -93,7 +94,7 @@ pub record IsReplied (accounts : Accounts) (log : List LogLine) (moment : ℕ) (
   pub sent : CodeTexts
   pub told : List LoggedReply
   pub after : Begins (demands accounts) log (got_code account sent) told
-  pub due : IsToldDue accounts (reverse told) (logged_reply_of account moment sent reply)
+  pub due : IsLoggedReplyDue accounts (reverse told) (logged_reply_of account moment sent reply)
   pub tells : all ≡ told ++ logged_reply_of account moment sent reply ∷ []
   pub is_next : next ≡ waits_code account
 

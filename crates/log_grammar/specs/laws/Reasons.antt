@@ -10,9 +10,9 @@ use Rattle.otp_core.specs.Settings.{IsInRange}
 use Rattle.otp_core.specs.declared.token.answer.Reply.{Reply}
 use Rattle.otp_core.specs.declared.token.kinds.TokenFields.{TokenFields}
 use Rattle.log_grammar.specs.Words.{offered_names}
-use Rattle.log_grammar.specs.Lines.{LogLine, said, mechs, cont, accepts, refuses, replies, log_text, IsReplyInRange, IsWritable}
-use Rattle.log_grammar.specs.Bytes.{ended_by_lf, IsCut}
-use Rattle.log_grammar.specs.Demands.{Accounts, AllCanBeChallenged, IsReplyOfToken}
+use Rattle.log_grammar.specs.Lines.{LogLine, said, mechs, cont, accepts, refuses, replies, log_line_text, IsReplyInRange, IsWritable}
+use Rattle.log_grammar.specs.Bytes.{ended_by_lf, IsSplit}
+use Rattle.log_grammar.specs.Demands.{Accounts, AllCanBeChallenged, IsReplyDueBy}
 use Rattle.log_grammar.specs.Why.{Why, is_cut, no_line, out_of_order, other_mechs, other_challenge, other_outcome, other_reply, accepted}
 use Rattle.log_grammar.specs.Why.{refused_with}
 use Rattle.log_grammar.specs.LogKinds.{IsWhyOf}
@@ -44,11 +44,11 @@ NamesWhatIsDue (other_reply moment due) = IsReplyInRange due
 -- the reply that is due to a token in its ranges has a counter in its own range
 abbrev pub DueRepliesCanBeWritten : Type 0
 DueRepliesCanBeWritten = (token : TokenFields) (attempts : List Attempt) (moment : ℕ) (sent : CodeTexts) (due : Option Reply)
-    → IsInRange token → IsMoment moment → IsReplyOfToken (Some token) attempts moment sent due → IsReplyInRange due
+    → IsInRange token → IsMoment moment → IsReplyDueBy (Some token) attempts moment sent due → IsReplyInRange due
 
 -- line k is one of the texts; and a line that says what the reason names as due, in its place, makes the first k lines
 -- begin a clean log
-pub record IsMended (accounts : Accounts) (texts : List (List ℕ)) (k : ℕ) (why : Why) : Type 0 where
+pub record HasLineThatMayStand (accounts : Accounts) (texts : List (List ℕ)) (k : ℕ) (why : Why) : Type 0 where
   pub before : List (List ℕ)
   pub text : List ℕ
   pub more : List (List ℕ)
@@ -57,25 +57,26 @@ pub record IsMended (accounts : Accounts) (texts : List (List ℕ)) (k : ℕ) (w
   pub line : LogLine
   pub says : SaysWhatIsDue why line
   pub writable : IsWritable line
-  pub begins : BeginsClean accounts (ended_by_lf (before ++ log_text line ∷ []))
+  pub begins : BeginsClean accounts (ended_by_lf (before ++ log_line_text line ∷ []))
 
 -- what a reason names as due may stand in the place of the line at fault, in a log of version 1
 abbrev pub WhatIsDueMayStand : Type 0
 WhatIsDueMayStand = (accounts : Accounts) → AllCanBeChallenged accounts
     → (bytes : List ℕ) (texts : List (List ℕ)) (rest : List ℕ) (k : ℕ) (why : Why)
-    → IsCut bytes texts rest → IsWhyOf (version_one accounts) bytes k why → NamesWhatIsDue why → IsMended accounts texts k why
+    → IsSplit bytes texts rest → IsWhyOf (version_one accounts) bytes k why → NamesWhatIsDue why → HasLineThatMayStand accounts texts k why
 
 -- each line that can be written and says what is due may stand there; except a challenge, since the reason names no
 -- text of one
 abbrev pub EachLineThatIsDueMayStand : Type 0
 EachLineThatIsDueMayStand = (accounts : Accounts) → AllCanBeChallenged accounts
     → (bytes : List ℕ) (before : List (List ℕ)) (text : List ℕ) (more : List (List ℕ)) (rest : List ℕ) (why : Why) (line : LogLine)
-    → IsCut bytes (before ++ text ∷ more) rest → IsWhyOf (version_one accounts) bytes (length before + 1) why → (why ≡ other_challenge → ⊥)
-    → SaysWhatIsDue why line → IsWritable line → BeginsClean accounts (ended_by_lf (before ++ log_text line ∷ []))
+    → IsSplit bytes (before ++ text ∷ more) rest → IsWhyOf (version_one accounts) bytes (length before + 1) why
+    → (why ≡ other_challenge → ⊥)
+    → SaysWhatIsDue why line → IsWritable line → BeginsClean accounts (ended_by_lf (before ++ log_line_text line ∷ []))
 
 -- where a whole line is at fault, it is at fault for the same reason in any bytes that begin with the same lines
 abbrev pub FaultsHoldWhateverFollows : Type 0
 FaultsHoldWhateverFollows =
     (accounts : Accounts) (bytes other : List ℕ) (texts more others : List (List ℕ)) (rest also : List ℕ) (k : ℕ) (why : Why)
-    → IsCut bytes (texts ++ more) rest → IsCut other (texts ++ others) also → k ≤ length texts
+    → IsSplit bytes (texts ++ more) rest → IsSplit other (texts ++ others) also → k ≤ length texts
     → IsWhy accounts bytes k why → IsWhy accounts other k why

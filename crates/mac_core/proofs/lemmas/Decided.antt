@@ -1,4 +1,4 @@
--- Facts that hold, or do not: which, can be found out.
+-- Facts that are decided: it can be found out whether they hold.
 use Rattle.std.proofs.Common.{◌≡◌, ◌⊎◌, inl, inr, ℕ, ◌≤◌, ◌<◌, Bool, true, List, arith}
 use Rattle.std.specs.Str.{bytes_eq}
 use Rattle.std.proofs.lemmas.Bool.{cases_Bool, cases_lt, both_ways}
@@ -20,6 +20,7 @@ decided_both P Q (inl p) (inl q) = inl (p, q)
 decided_both P Q (inl p) (inr other) = inr (λ both. other both.1)
 decided_both P Q (inr other) q = inr (λ both. other both.0)
 
+-- whether a test passes is decided, and so is whether a number is at most, less than or equal to another:
 pub decided_test : (test : Bool) → Decided (test ≡ true)
 decided_test test = elim (cases_Bool test) [ inl passes ↦ inl passes | inr fails ↦ inr (λ passes. both_ways test fails passes) ]
 

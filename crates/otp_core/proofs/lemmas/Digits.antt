@@ -1,4 +1,4 @@
--- The last digits of a number.
+-- The last digits of a number: they are ASCII digits, as many as were asked for.
 use Rattle.std.proofs.Common.{◌≡◌, ◌+◌, ◌/◌, ◌%◌, ℕ, zero, suc, List, [], ◌∷◌, ◌++◌, length, refl, arith, rules, add-one, append_assoc}
 use Rattle.std.proofs.Common.{length-append}
 use Rattle.std.specs.Prelude.{All}
@@ -9,14 +9,14 @@ use Rattle.std.proofs.lemmas.Grind.{common_steps}
 use Rattle.otp_core.specs.Ranges.{IsDigitCount}
 use Rattle.otp_core.specs.Code.{last_digits, IsCodeText}
 
--- there are as many digits as asked for
+-- as many last digits are taken as were asked for
 length-last_digits : (count number : ℕ) → length (last_digits count number) ≡ count
 unfolding last_digits
 length-last_digits zero number = refl
 length-last_digits (suc count) number =
     omega (arith, length-last_digits count (number / 10), length-append (last_digits count (number / 10)) ((byte "0" + number % 10) ∷ []))
 
--- one more digit at the end
+-- ASCII digits and one more at their end are ASCII digits
 all_more : (xs : List ℕ) (x : ℕ) → All IsAsciiDigit xs → IsAsciiDigit x → All IsAsciiDigit (xs ++ x ∷ [])
 all_more xs x all one = search (rules, common_steps)
 
@@ -33,11 +33,11 @@ pub last_digits-more : (more number : ℕ) (rest : List ℕ)
 unfolding last_digits
 last_digits-more more number rest = rw (add-one, append_assoc) refl
 
--- ASCII digits are text
+-- a text of ASCII digits is UTF-8
 pub IsUtf8-from_digits : (text : List ℕ) → All IsAsciiDigit text → IsUtf8 text
 IsUtf8-from_digits text all = IsUtf8-from_ascii text (grind (arith, common_steps))
 
--- 6 to 8 ASCII digits are a code's text
+-- the last digits of a number, as many as a code has, are a code's text
 pub IsCodeText-last_digits : (count number : ℕ) → IsDigitCount count → IsCodeText (last_digits count number)
 IsCodeText-last_digits count number range = record {
   count = rw (length-last_digits count number) range;

@@ -17,11 +17,12 @@ legal_joined start earlier middle after (a ∷ later) legal =
       alike_more start middle (later ++ earlier) later a.moment a.sent a.reply front.1 legal.0 legal.1,
     )
 
-pub legal_histories-join : LegalHistoriesJoin
-legal_histories-join start earlier middle later after legal = legal_joined start earlier middle after later legal
+-- the laws: a history that goes on from where another led is legal from the start, and leads on as one history:
+pub legal_histories_join : LegalHistoriesJoin
+legal_histories_join start earlier middle later after legal = legal_joined start earlier middle after later legal
 
-pub histories-join : HistoriesJoin
-histories-join start earlier middle later end after on =
+pub histories_join : HistoriesJoin
+histories_join start earlier middle later end after on =
     let front = legal_joined start earlier middle after later on.legal in record {
       legal = front.0;
       alike = alike_onward start middle end (later ++ earlier) later [] front.1 on.alike;

@@ -7,16 +7,17 @@ use Rattle.otp_core.specs.declared.token.answer.Reply.TheVariants.{Pass, Fail, L
 not_both : (limit failures : ℕ) → limit ≤ failures → failures < limit → ⊥
 not_both limit failures reached below = omega arith
 
-pub only-one_reply_is_due : OnlyOneReplyIsDue
-only-one_reply_is_due s h m sent Locked Locked x y = refl
-only-one_reply_is_due s h m sent Locked Fail x y = absurd (not_both _ _ x y.0)
-only-one_reply_is_due s h m sent Locked (Pass q) x y = absurd (not_both _ _ x y.0)
-only-one_reply_is_due s h m sent Fail Locked x y = absurd (not_both _ _ y x.0)
-only-one_reply_is_due s h m sent Fail Fail x y = refl
-only-one_reply_is_due s h m sent Fail (Pass q) x y = absurd (x.1 q y.1)
-only-one_reply_is_due s h m sent (Pass p) Locked x y = absurd (not_both _ _ y x.0)
-only-one_reply_is_due s h m sent (Pass p) Fail x y = absurd (y.1 p x.1)
-only-one_reply_is_due s h m sent (Pass p) (Pass q) x y =
+-- the law: at most one reply is due to an attempt
+pub only_one_reply_is_due : OnlyOneReplyIsDue
+only_one_reply_is_due s h m sent Locked Locked x y = refl
+only_one_reply_is_due s h m sent Locked Fail x y = absurd (not_both _ _ x y.0)
+only_one_reply_is_due s h m sent Locked (Pass q) x y = absurd (not_both _ _ x y.0)
+only_one_reply_is_due s h m sent Fail Locked x y = absurd (not_both _ _ y x.0)
+only_one_reply_is_due s h m sent Fail Fail x y = refl
+only_one_reply_is_due s h m sent Fail (Pass q) x y = absurd (x.1 q y.1)
+only_one_reply_is_due s h m sent (Pass p) Locked x y = absurd (not_both _ _ y x.0)
+only_one_reply_is_due s h m sent (Pass p) Fail x y = absurd (y.1 p x.1)
+only_one_reply_is_due s h m sent (Pass p) (Pass q) x y =
     let up : p ≤ q = x.2 q y.1 in
     let down : q ≤ p = y.2 p x.1 in
     let same : p ≡ q = omega arith in ap (λ c. Pass c) same

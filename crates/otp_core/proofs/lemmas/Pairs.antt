@@ -4,19 +4,20 @@ use Rattle.std.specs.Prelude.{IfSome, IfNone}
 use Rattle.otp_core.specs.Ranges.{most_counter}
 use Rattle.otp_core.specs.Code.{hotp_text_by}
 use Rattle.otp_core.specs.Attempt.CodeTexts.{TwoTexts}
-use Rattle.otp_core.specs.Window.{IsInWindow}
+use Rattle.otp_core.specs.Window.{IsInHotpWindow}
 use Rattle.otp_core.specs.Reply.{IsFitting, IsDueReply, limit_of, failures_of}
-use Rattle.otp_core.specs.State.{CanMoveTo, reply_of}
+use Rattle.otp_core.specs.Passes.{CanMoveTo, reply_of}
 use Rattle.otp_core.specs.declared.hash.OtpHash.TheVariants.{Sha1}
 use Rattle.otp_core.specs.declared.token.answer.Reply.{Reply}
 use Rattle.otp_core.specs.declared.token.kinds.HotpFields.{HotpFields}
 use Rattle.otp_core.specs.declared.token.kinds.TokenFields.{TokenFields}
 use Rattle.otp_core.specs.declared.token.kinds.TokenFields.TheVariants.{Hotp, Totp}
 
--- these are the counters that can be the first of a pair
+-- these are the counters that can be the first of a pair: from the first on, and below the end
 abbrev pub AreFirsts : HotpFields → ℕ → ℕ → Type 0
-AreFirsts t from end = (w : ℕ) → (IsInWindow t.next t.sync_ahead w × (w + 1 ≤ most_counter)) ↔ ((from ≤ w) × (w < end))
+AreFirsts t from end = (w : ℕ) → (IsInHotpWindow t.next t.sync_ahead w × (w + 1 ≤ most_counter)) ↔ ((from ≤ w) × (w < end))
 
+-- where both texts were found at two counters in a row, the second fits them
 pub found_fits : (s : TokenFields) (t : HotpFields) (from end : ℕ) (first second : List ℕ) (o : Option ℕ) → s ≡ Hotp t
     → AreFirsts t from end
     → IfSome o (λ c. (w : ℕ) × (c ≡ w + 1) × (from ≤ w) × (w < end)
@@ -26,6 +27,7 @@ found_fits s t from end first second None is firsts some = tt
 found_fits s t from end first second (Some c) is firsts (w, next, low, below, one, other) = λ moment.
     subst (λ (f : TokenFields). IsFitting f [] moment (TwoTexts first second) c) (sym is) (w, next, (firsts w).1 (low, below), one, other)
 
+-- where both texts were found at the least two counters in a row, the second is the least that fits them
 pub found_least : (s : TokenFields) (t : HotpFields) (from end : ℕ) (first second : List ℕ) (o : Option ℕ) → s ≡ Hotp t
     → AreFirsts t from end
     → IfSome o (λ c. (w : ℕ) → from ≤ w → w < end → hotp_text_by Sha1 t.digits t.secret w ≡ first
@@ -39,6 +41,7 @@ found_least s t from end first second (Some c) is firsts least = λ moment k fit
     by_fit moment k (w, next, pair, one, other) =
         let within = (firsts w).0 pair in omega (arith, next, least w within.0 within.1 one other)
 
+-- where both texts are found at no two counters in a row, no counter fits them
 pub none_fits : (s : TokenFields) (t : HotpFields) (from end : ℕ) (first second : List ℕ) (o : Option ℕ) → s ≡ Hotp t → AreFirsts t from end
     → IfNone o ((w : ℕ) → from ≤ w → w < end → hotp_text_by Sha1 t.digits t.secret w ≡ first
     → hotp_text_by Sha1 t.digits t.secret (w + 1) ≡ second → ⊥)
@@ -50,7 +53,7 @@ none_fits s t from end first second None is firsts none = λ moment k fits. by_f
     by_fit : (moment k : ℕ) → IsFitting (Hotp t) [] moment (TwoTexts first second) k → ⊥
     by_fit moment k (w, next, pair, one, other) = let within = (firsts w).0 pair in none w within.0 within.1 one other
 
--- after a pair a token can go on
+-- a counter that fits a pair is one to which the token can move:
 can_move : (s : TokenFields) (m : ℕ) (first second : List ℕ) (c : ℕ) → IsFitting s [] m (TwoTexts first second) c → CanMoveTo s m c
 can_move (Hotp t) m first second c (w, next, pair, one, other) = omega (arith, next, pair.1)
 can_move (Totp t) m first second c (w, next, pair, one, other) = absurd pair
@@ -60,7 +63,7 @@ pub found_moves : (s : TokenFields) (m : ℕ) (first second : List ℕ) (o : Opt
 found_moves s m first second None fits = tt
 found_moves s m first second (Some c) fits = can_move s m first second c (fits m)
 
--- the reply by what was found is due
+-- the reply by the least counter that was found, or by none, is due
 pub found_due : (s : TokenFields) (m : ℕ) (first second : List ℕ) (o : Option ℕ) (reply : Reply) → reply ≡ reply_of o
     → failures_of s < limit_of s
     → IfSome o (λ c. (moment : ℕ) → IsFitting s [] moment (TwoTexts first second) c)

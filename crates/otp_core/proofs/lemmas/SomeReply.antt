@@ -8,7 +8,8 @@ use Rattle.std.specs.Option.{ForSome}
 use Rattle.mac_core.proofs.lemmas.Decided.{Decided, decided_by, decided_both, decided_le, decided_lt, decided_same}
 use Rattle.otp_core.specs.Ranges.{most_counter}
 use Rattle.otp_core.specs.Attempt.{Attempt, CodeTexts, used_in}
-use Rattle.otp_core.specs.Window.{IsAbove, IsCandidate, IsPairCandidate, IsInWindow, IsStepNear, first_in_window, drift_after, step_at}
+use Rattle.otp_core.specs.Window.{IsAbove, IsCandidate, IsPairCandidate, IsInHotpWindow, IsInTotpWindow, first_in_window}
+use Rattle.otp_core.specs.Window.{drift_after, step_at}
 use Rattle.otp_core.specs.Reply.{IsDueReply, IsFitting, code_text, failures_after, limit_of}
 use Rattle.otp_core.specs.Laws.{SomeReplyIsDue}
 use Rattle.otp_core.specs.declared.token.answer.Reply.{Reply}
@@ -17,12 +18,14 @@ use Rattle.otp_core.specs.declared.token.kinds.TokenFields.{TokenFields}
 use Rattle.otp_core.specs.declared.token.kinds.TokenFields.TheVariants.{Hotp, Totp}
 use lib.Signed.{le_z}
 
+-- whether a whole number is at most another is decided
 decided_leℤ : (a b : ℤ) → Decided (a ≤ℤ b)
 decided_leℤ a b = elim (cases_Bool (le_z a b)) [
   | inl is ↦ inl (record { le = rw is tt })
   | inr other ↦ inr (λ h. rw other at h.le)
 ]
 
+-- whether a number is above each counter of a list, or above an optional one, is decided:
 decided_above : (counters : List ℕ) (w : ℕ) → Decided (IsAbove counters w)
 decided_above [] w = inl tt
 decided_above (p ∷ counters) w = decided_both (p < w) (IsAbove counters w) (decided_lt p w) (decided_above counters w)
@@ -35,19 +38,20 @@ decided_last (Some last) w =
     (λ f. f last refl)
     (decided_lt last w)
 
-decided_counter : (first look_ahead c : ℕ) → Decided (IsInWindow first look_ahead c)
+-- whether a counter is in a window, and whether a step is near a moment, is decided:
+decided_counter : (first look_ahead c : ℕ) → Decided (IsInHotpWindow first look_ahead c)
 decided_counter first look_ahead c =
-    decided_by ((first ≤ c) × ((c ≤ first + look_ahead) × (c ≤ most_counter))) (IsInWindow first look_ahead c)
+    decided_by ((first ≤ c) × ((c ≤ first + look_ahead) × (c ≤ most_counter))) (IsInHotpWindow first look_ahead c)
     (λ h. record { not_before = h.0; within = h.1.0; most = h.1.1 })
     (λ d. (d.not_before, (d.within, d.most)))
     (decided_both _ _ (decided_le first c) (decided_both _ _ (decided_le c (first + look_ahead)) (decided_le c most_counter)))
 
-decided_near : (now : ℕ) (drift : ℤ) (back ahead max_drift w : ℕ) → Decided (IsStepNear now drift back ahead max_drift w)
+decided_near : (now : ℕ) (drift : ℤ) (back ahead max_drift w : ℕ) → Decided (IsInTotpWindow now drift back ahead max_drift w)
 decided_near now drift back ahead max_drift w =
     decided_by
     (((((pos now +ℤ drift) -ℤ pos back) ≤ℤ pos w) × (pos w ≤ℤ ((pos now +ℤ drift) +ℤ pos ahead)))
     × ((now ≤ w + max_drift) × (w ≤ now + max_drift)))
-    (IsStepNear now drift back ahead max_drift w)
+    (IsInTotpWindow now drift back ahead max_drift w)
     (λ h. record { not_before = h.0.0; not_after = h.0.1; not_early = h.1.0; not_late = h.1.1 })
     (λ d. ((d.not_before, d.not_after), (d.not_early, d.not_late)))
     (decided_both _ _
@@ -58,7 +62,7 @@ decided_near now drift back ahead max_drift w =
 decided_candidate : (s : TokenFields) (h : List Attempt) (m c : ℕ) → Decided (IsCandidate s h m c)
 decided_candidate (Hotp t) h m c = decided_counter (first_in_window t.next (used_in h)) t.look_ahead c
 decided_candidate (Totp t) h m w =
-    let near : Type 0 = IsStepNear (step_at t m) (drift_after t h) t.back t.ahead t.max_drift w in
+    let near : Type 0 = IsInTotpWindow (step_at t m) (drift_after t h) t.back t.ahead t.max_drift w in
     decided_by ((t.t0 ≤ m) × (near × (ForSome t.last (λ l. l < w) × IsAbove (used_in h) w))) (IsCandidate (Totp t) h m w)
     (λ d. (d.0, d.1.0, d.1.1.0, d.1.1.1))
     (λ d. (d.0, (d.1, (d.2, d.3))))
@@ -66,6 +70,7 @@ decided_candidate (Totp t) h m w =
     (decided_both _ _ (decided_near (step_at t m) (drift_after t h) t.back t.ahead t.max_drift w)
     (decided_both _ _ (decided_last t.last w) (decided_above (used_in h) w))))
 
+-- whether a counter can be the first of a pair is decided
 decided_pair : (s : TokenFields) (h : List Attempt) (w : ℕ) → Decided (IsPairCandidate s h w)
 decided_pair (Hotp t) h w = decided_both _ _ (decided_counter (first_in_window t.next (used_in h)) t.sync_ahead w)
     (decided_le (w + 1) most_counter)
@@ -103,7 +108,7 @@ least P decided (suc n) = elim (least P decided n) [
   ]
 ]
 
--- the reply, where the counters that fit are below a bound
+-- some reply is due, where the counters that fit are below a bound
 due_below : (s : TokenFields) (h : List Attempt) (m : ℕ) (sent : CodeTexts) (n : ℕ)
     → ((k : ℕ) → IsFitting s h m sent k → k < n) → (reply : Reply) × IsDueReply s h m sent reply
 due_below s h m sent n bound = elim (cases_lt (failures_after s h) (limit_of s)) [
@@ -114,13 +119,13 @@ due_below s h m sent n bound = elim (cases_lt (failures_after s h) (limit_of s))
   | inr reached ↦ (Locked, reached)
 ]
 
--- a counter that fits can pass, and those that can are below a bound
-pub some-reply_is_due : SomeReplyIsDue
-some-reply_is_due (Hotp t) h m (CodeTexts.OneText text) =
+-- the law: some reply is due to each attempt
+pub some_reply_is_due : SomeReplyIsDue
+some_reply_is_due (Hotp t) h m (CodeTexts.OneText text) =
     due_below (Hotp t) h m (CodeTexts.OneText text) (2 ^ 63) (λ k fits. omega (arith, fits.0.most))
-some-reply_is_due (Hotp t) h m (CodeTexts.TwoTexts first second) =
+some_reply_is_due (Hotp t) h m (CodeTexts.TwoTexts first second) =
     due_below (Hotp t) h m (CodeTexts.TwoTexts first second) (2 ^ 63) (λ k fits. omega (arith, fits.1, fits.2.1))
-some-reply_is_due (Totp t) h m (CodeTexts.TwoTexts first second) =
+some_reply_is_due (Totp t) h m (CodeTexts.TwoTexts first second) =
     due_below (Totp t) h m (CodeTexts.TwoTexts first second) 0 (λ k fits. absurd fits.2)
-some-reply_is_due (Totp t) h m (CodeTexts.OneText text) =
+some_reply_is_due (Totp t) h m (CodeTexts.OneText text) =
     due_below (Totp t) h m (CodeTexts.OneText text) (step_at t m + t.max_drift + 1) (λ w fits. omega (arith, fits.0.1.not_late))

@@ -5,7 +5,7 @@ use Rattle.std.specs.Option.{option_map_or}
 use Rattle.otp_core.specs.Ranges.{IsMoment, most_counter}
 use Rattle.otp_core.specs.Attempt.{Attempt, CodeTexts, attempt_of, counters_of, used_in}
 use Rattle.otp_core.specs.Attempt.CodeTexts.{OneText, TwoTexts}
-use Rattle.otp_core.specs.Window.{IsCandidate, IsPairCandidate, IsInWindow, IsStepNear, IsAbove, first_in_window, greatest, step_at}
+use Rattle.otp_core.specs.Window.{IsCandidate, IsPairCandidate, IsInHotpWindow, IsInTotpWindow, IsAbove, first_in_window, greatest, step_at}
 use Rattle.otp_core.specs.Reply.{IsDueReply, IsFitting, code_text, limit_of, failures_of, failures_after, failures_after_reply}
 use Rattle.otp_core.specs.History.{IsAfter, AreAlike, settings_of}
 use Rattle.otp_core.specs.State.{advanced, after_pass}
@@ -16,29 +16,31 @@ use Rattle.otp_core.specs.declared.token.kinds.TotpFields.{TotpFields}
 use Rattle.otp_core.specs.declared.token.kinds.TokenFields.{TokenFields}
 use Rattle.otp_core.specs.declared.token.kinds.TokenFields.TheVariants.{Hotp, Totp}
 
--- the limit is among the settings
+-- a token's limit is one of its settings
 limit_settled : (s : TokenFields) → limit_of (settings_of s) ≡ limit_of s
 limit_settled (Hotp s) = refl
 limit_settled (Totp s) = refl
 
--- the codes depend only on the settings
+-- a token's codes depend on its settings alone
 code_settled : (s : TokenFields) (c : ℕ) → code_text (settings_of s) c ≡ code_text s c
 code_settled (Hotp s) c = refl
 code_settled (Totp s) c = refl
 
+-- tokens with the same settings have the same limit, and the same codes:
 limit_alike : (s t : TokenFields) → settings_of s ≡ settings_of t → limit_of s ≡ limit_of t
 limit_alike s t e = sym (limit_settled s) ∙ (ap limit_of e ∙ limit_settled t)
 
 code_alike : (s t : TokenFields) (c : ℕ) → settings_of s ≡ settings_of t → code_text s c ≡ code_text t c
 code_alike s t c e = sym (code_settled s c) ∙ (ap (λ f. code_text f c) e ∙ code_settled t c)
 
--- equivalences go both ways, and from one to the next
+-- an equivalence goes the other way too, and from one to the next:
 back : {A B : Type 0} → A ↔ B → B ↔ A
 back one = (one.1, one.0)
 
 onward : {A B C : Type 0} → A ↔ B → B ↔ C → A ↔ C
 onward one other = ((λ x. other.0 (one.0 x)), (λ x. one.1 (other.1 x)))
 
+-- two pasts that are alike are so the other way round
 alike_back : (s t : TokenFields) (h k : List Attempt) → AreAlike s h t k → AreAlike t k s h
 alike_back s t h k alike = record {
   settings = sym alike.settings;
@@ -47,6 +49,7 @@ alike_back s t h k alike = record {
   pairs = λ w. back (alike.pairs w);
 }
 
+-- a past that is alike to a second, which is alike to a third, is alike to the third
 pub alike_onward : (s t u : TokenFields) (h k l : List Attempt) → AreAlike s h t k → AreAlike t k u l → AreAlike s h u l
 alike_onward s t u h k l one other = record {
   settings = one.settings ∙ other.settings;
@@ -88,7 +91,7 @@ due_alike s t h k m sent (Pass p) alike is due =
       λ c fits. due.2 c (fits_alike s t h k m sent c alike is fits),
     )
 
--- no reply changes a setting, and the failures change as the replies say
+-- a due reply leaves the settings as they are, and changes the failures as it says
 parts_advanced : (t : TokenFields) (m : ℕ) (reply : Reply)
     → (settings_of t ≡ settings_of (advanced t m reply)) × (failures_after_reply reply (failures_of t) ≡ failures_of (advanced t m reply))
 parts_advanced (Hotp t) m (Pass p) = (refl, refl)
@@ -128,18 +131,18 @@ above_more [] p c h more = h
 above_more (x ∷ counters) p c h more =
     let below : x < p = h.0 in (omega arith, above_more counters p c h.1 more)
 
--- the part of a window that depends on the settings, after a pass of p at m
+-- a counter is in the window that the settings give at a later moment, after a pass of p at m
 window_by : TokenFields → ℕ → ℕ → ℕ → ℕ → Type 0
-window_by (Hotp t) m p later c = IsInWindow (p + 1) t.look_ahead c
+window_by (Hotp t) m p later c = IsInHotpWindow (p + 1) t.look_ahead c
 window_by (Totp t) m p later c =
-    (t.t0 ≤ later) × IsStepNear (step_at t later) (pos p -ℤ pos (step_at t m)) t.back t.ahead t.max_drift c
+    (t.t0 ≤ later) × IsInTotpWindow (step_at t later) (pos p -ℤ pos (step_at t m)) t.back t.ahead t.max_drift c
 
--- the part of a pair's window that depends on the settings, after a pass of p
+-- a counter can be the first of a pair by the window that the settings give after a pass of p
 pairs_by : TokenFields → ℕ → ℕ → Type 0
-pairs_by (Hotp t) p w = IsInWindow (p + 1) t.sync_ahead w × (w + 1 ≤ most_counter)
+pairs_by (Hotp t) p w = IsInHotpWindow (p + 1) t.sync_ahead w × (w + 1 ≤ most_counter)
 pairs_by (Totp t) p w = ⊥
 
--- what can pass, alone and in pairs, is equal after two pasts
+-- the same counters can pass after two pasts, alone and in pairs
 abbrev CanPassAlike : TokenFields → List Attempt → TokenFields → List Attempt → Type 0
 CanPassAlike s h t k =
     ((m c : ℕ) → IsMoment m → IsCandidate s h m c ↔ IsCandidate t k m c)
@@ -152,12 +155,12 @@ unfolding window_by pairs_by
 passed (Hotp s) (Hotp t) h m sent p e fits =
     let first : first_in_window s.next (counters_of sent p ++ used_in h) ≡ p + 1 = first_after s h m sent p fits in (
       (λ later c when. (
-        (λ w. subst (λ f. window_by f m p later c) e (subst (λ n. IsInWindow n s.look_ahead c) first w)),
-        (λ w. subst (λ n. IsInWindow n s.look_ahead c) (sym first) (subst (λ f. window_by f m p later c) (sym e) w)),
+        (λ w. subst (λ f. window_by f m p later c) e (subst (λ n. IsInHotpWindow n s.look_ahead c) first w)),
+        (λ w. subst (λ n. IsInHotpWindow n s.look_ahead c) (sym first) (subst (λ f. window_by f m p later c) (sym e) w)),
       )),
       (λ w. (
-        (λ x. subst (λ f. pairs_by f p w) e (subst (λ n. IsInWindow n s.sync_ahead w × (w + 1 ≤ most_counter)) first x)),
-        (λ x. subst (λ n. IsInWindow n s.sync_ahead w × (w + 1 ≤ most_counter)) (sym first) (subst (λ f. pairs_by f p w) (sym e) x)),
+        (λ x. subst (λ f. pairs_by f p w) e (subst (λ n. IsInHotpWindow n s.sync_ahead w × (w + 1 ≤ most_counter)) first x)),
+        (λ x. subst (λ n. IsInHotpWindow n s.sync_ahead w × (w + 1 ≤ most_counter)) (sym first) (subst (λ f. pairs_by f p w) (sym e) x)),
       )),
     )
 passed (Totp s) (Totp t) h m (OneText text) p e fits = (
@@ -204,7 +207,7 @@ still s t h k m sent reply idle alike =
       (λ w. onward (one.1 w) (onward (alike.pairs w) (back (other.1 w)))),
     )
 
--- what can pass after a due reply, in two alike pasts
+-- what can pass after a due reply is the same in two alike pasts
 can_pass_more : (s t : TokenFields) (h k : List Attempt) (m : ℕ) (sent : CodeTexts) (reply : Reply) → AreAlike s h t k → IsMoment m
     → IsDueReply t k m sent reply → CanPassAlike s (attempt_of m sent reply ∷ h) t (attempt_of m sent reply ∷ k)
 can_pass_more s t h k m sent (Pass p) alike is due =
@@ -225,7 +228,7 @@ alike_more s t h k m sent reply alike is due =
       pairs = passing.1;
     }
 
--- what can pass in a token after a due reply
+-- what can pass in a token after a due reply is what can pass after that attempt
 can_pass_advanced : (t : TokenFields) (m : ℕ) (sent : CodeTexts) (reply : Reply) → IsDueReply t [] m sent reply
     → CanPassAlike t (attempt_of m sent reply ∷ []) (advanced t m reply) []
 can_pass_advanced t m sent (Pass p) due = passed t t [] m sent p refl due.1

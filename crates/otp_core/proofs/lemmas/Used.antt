@@ -13,31 +13,34 @@ use Rattle.otp_core.specs.declared.token.kinds.HotpFields.{HotpFields}
 use Rattle.otp_core.specs.declared.token.kinds.TokenFields.TheVariants.{Hotp, Totp}
 use Rattle.otp_core.proofs.lemmas.Steps.{first_after}
 
--- a counter above the greatest is above each
+-- a number above the greatest of an option and another is above both
 parts_below : (o : Option ℕ) (x c : ℕ) → option_map_or (λ most. max x most) o x < c
     → (x < c) × ((m : ℕ) → o ≡ Some m → m < c)
 parts_below None x c h = (h, λ m is. absurd (cc))
 parts_below (Some g) x c h = ((omega arith), λ m is. let same : g ≡ m = cc in omega arith)
 
+-- a number above the greatest of some counters is above each
 above_greatest : (counters : List ℕ) (c : ℕ) → ((m : ℕ) → greatest counters ≡ Some m → m < c) → IsAbove counters c
 above_greatest [] c h = tt
 above_greatest (x ∷ counters) c h =
     let parts = parts_below (greatest counters) x c (h _ refl) in
     (parts.0, above_greatest counters c parts.1)
 
--- HOTP's first counter is above the greatest that passed
+-- a number from HOTP's first counter on is above the greatest that passed
 below_first : (o : Option ℕ) (next c : ℕ) → option_map_or (λ m. m + 1) o next ≤ c → (m : ℕ) → o ≡ Some m → m < c
 below_first None next c h m is = absurd (cc)
 below_first (Some g) next c h m is = let same : g ≡ m = cc in omega arith
 
+-- a number from HOTP's first counter on is above each counter that passed
 new_counter : (t : HotpFields) (history : List Attempt) (c : ℕ) → first_in_window t.next (used_in history) ≤ c → IsAbove (used_in history) c
 new_counter t history c reached = above_greatest (used_in history) c (below_first (greatest (used_in history)) t.next c reached)
 
-pub candidates-are_new : CandidatesAreNew
-candidates-are_new (Hotp t) history moment c (inl due) = new_counter t history c due.not_before
-candidates-are_new (Hotp t) history moment c (inr pair) = new_counter t history c pair.0.not_before
-candidates-are_new (Totp t) history moment c (inl due) = due.3
-candidates-are_new (Totp t) history moment c (inr pair) = absurd pair
+-- the law: a counter that can pass is above those that passed
+pub candidates_are_new : CandidatesAreNew
+candidates_are_new (Hotp t) history moment c (inl due) = new_counter t history c due.not_before
+candidates_are_new (Hotp t) history moment c (inr pair) = new_counter t history c pair.0.not_before
+candidates_are_new (Totp t) history moment c (inl due) = due.3
+candidates_are_new (Totp t) history moment c (inr pair) = absurd pair
 
 -- a counter that fits is not before HOTP's first
 not_before : (t : HotpFields) (before : List Attempt) (m : ℕ) (sent : CodeTexts) (p : ℕ) → IsFitting (Hotp t) before m sent p
@@ -56,16 +59,18 @@ grows_by t before m sent (Pass p) least due =
 grows_by t before m sent Fail least due = least
 grows_by t before m sent Locked least due = least
 
+-- a legal history never moves HOTP's first counter back
 first_grows : (t : HotpFields) (history : List Attempt) → IsLegal (Hotp t) history → t.next ≤ first_in_window t.next (used_in history)
 first_grows t [] legal = omega arith
 first_grows t (a ∷ before) legal = grows_by t before a.moment a.sent a.reply (first_grows t before legal.2) legal.1
 
-pub used-stays_used : UsedStaysUsed
-used-stays_used (Hotp t) history moment c legal (inl due) =
+-- the law: a counter that a token has used can't pass after any legal history
+pub used_stays_used : UsedStaysUsed
+used_stays_used (Hotp t) history moment c legal (inl due) =
     let least = first_grows t history legal in
     let reached : first_in_window t.next (used_in history) ≤ c = due.not_before in omega arith
-used-stays_used (Hotp t) history moment c legal (inr pair) =
+used_stays_used (Hotp t) history moment c legal (inr pair) =
     let least = first_grows t history legal in
     let reached : first_in_window t.next (used_in history) ≤ c = pair.0.not_before in omega arith
-used-stays_used (Totp t) history moment c legal (inl due) = due.2
-used-stays_used (Totp t) history moment c legal (inr pair) = absurd pair
+used_stays_used (Totp t) history moment c legal (inl due) = due.2
+used_stays_used (Totp t) history moment c legal (inr pair) = absurd pair

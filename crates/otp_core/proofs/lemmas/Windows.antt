@@ -1,12 +1,12 @@
--- A window that the last step that passed cuts.
+-- Where a token's window begins, by the last step that passed.
 use Rattle.std.proofs.Common.{◌≡◌, ◌≤◌, ◌<◌, ◌+◌, ◌↔◌, ℕ, Option, Some, None, max, arith}
 use Rattle.std.specs.Option.{ForSome}
 
--- two values of one option
+-- an option that holds two values holds one
 same_value : (o : Option ℕ) (x y : ℕ) → o ≡ Some x → o ≡ Some y → x ≡ y
 same_value o x y p q = cc
 
--- where a step has passed, the window begins after it
+-- where a step has passed, the window begins after it, or at its own first step if that is later
 pub cut_by_last : {N : Type 0} (o : Option ℕ) (last first cut end w : ℕ) → o ≡ Some last → cut ≡ max first (last + 1)
     → (N ↔ ((first ≤ w) × (w < end))) → ((N × ForSome o (λ l. l < w)) ↔ ((cut ≤ w) × (w < end)))
 cut_by_last o last first cut end w is value near = (

@@ -26,7 +26,7 @@ pub const MOST_SYNC_AHEAD: u64 = 1000;
 pub const LONGEST_STEP: u64 = 3600;
 
 /// The most steps that a TOTP token looks back, and the most that it looks ahead.
-pub const MOST_STEPS: u64 = 10;
+pub const MOST_STEPS_ASIDE: u64 = 10;
 
 /// The greatest `max_drift` of a TOTP token, in steps.
 pub const MOST_DRIFT: u64 = 100;
@@ -142,9 +142,9 @@ impl TotpFields {
     {
         if self.step < 1 || self.step > LONGEST_STEP {
             Some(Setting::Step)
-        } else if self.back > MOST_STEPS {
+        } else if self.back > MOST_STEPS_ASIDE {
             Some(Setting::Back)
-        } else if self.ahead > MOST_STEPS {
+        } else if self.ahead > MOST_STEPS_ASIDE {
             Some(Setting::Ahead)
         } else if self.max_drift > MOST_DRIFT {
             Some(Setting::MaxDrift)

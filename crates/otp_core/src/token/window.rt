@@ -2,14 +2,14 @@
 ghost use Rattle.std.specs.Prelude.{◌≡◌, ◌≤◌, ◌<◌, ◌↔◌, ◌+◌, ◌^◌, ℕ, pos, ◌-ℤ◌, [], nat_abs};
 ghost use Rattle.std.specs.Option.{ForSome};
 ghost use Rattle.otp_core.specs.Settings.{IsHotpInRange, IsTotpInRange, IsInRange};
-ghost use Rattle.otp_core.specs.Window.{IsInWindow, IsStepNear, IsCandidate};
+ghost use Rattle.otp_core.specs.Window.{IsInHotpWindow, IsInTotpWindow, IsCandidate};
 ghost use Rattle.otp_core.specs.Ranges.{IsMoment, last_moment, most_counter, most_steps, most_drift};
 
 use crate::code::step;
 use crate::moment::Moment;
 use crate::token::kinds::{HotpFields, MOST_COUNTER, TokenFields, TotpFields};
 
-// The counters from `first` up to but not including `end`.
+/// The counters from `first` up to but not including `end`.
 #[derive(Clone, Copy)]
 pub(crate) struct Counters {
     pub(crate) first: u64,
@@ -23,17 +23,17 @@ pub(crate) fn window(token: &TokenFields, moment: Moment) -> Counters
     ensures { (c : ℕ) → IsCandidate token.now [] moment c ↔ ((result.first ≤ c) × (c < result.end)) }
 {
     match token {
-        TokenFields::Hotp(token) => counters_due(token),
+        TokenFields::Hotp(token) => hotp_candidates(token),
         TokenFields::Totp(token) => match step(moment, token.t0, token.step) {
-            Some(now) => steps_due(token, now),
+            Some(now) => totp_candidates(token, now),
             None => Counters { first: 0, end: 0 },
         },
     }
 }
 
-fn counters_due(token: &HotpFields) -> Counters
+fn hotp_candidates(token: &HotpFields) -> Counters
     requires { IsHotpInRange token.now }
-    ensures { (c : ℕ) → IsInWindow token.now.next token.now.look_ahead c ↔ ((result.first ≤ c) × (c < result.end)) }
+    ensures { (c : ℕ) → IsInHotpWindow token.now.next token.now.look_ahead c ↔ ((result.first ≤ c) × (c < result.end)) }
 {
     Counters {
         first: token.next,
@@ -42,9 +42,9 @@ fn counters_due(token: &HotpFields) -> Counters
 }
 
 /// The counters that can be the first of a pair that passes.
-pub(crate) fn pairs_due(token: &HotpFields) -> Counters
+pub(crate) fn pair_candidates(token: &HotpFields) -> Counters
     requires { IsHotpInRange token.now }
-    ensures pairs { (w : ℕ) → (IsInWindow token.now.next token.now.sync_ahead w × (w + 1 ≤ most_counter))
+    ensures pairs { (w : ℕ) → (IsInHotpWindow token.now.next token.now.sync_ahead w × (w + 1 ≤ most_counter))
         ↔ ((result.first ≤ w) × (w < result.end)) }
     ensures most { result.end ≤ 2 ^ 63 }
 {
@@ -74,7 +74,7 @@ fn steps_near(now: u64, drift: i64, back: u64, ahead: u64, max_drift: u64) -> Co
     requires back { back ≤ most_steps }
     requires ahead { ahead ≤ most_steps }
     requires max_drift { max_drift ≤ most_drift }
-    ensures { (w : ℕ) → IsStepNear now drift back ahead max_drift w ↔ ((result.first ≤ w) × (w < result.end)) }
+    ensures { (w : ℕ) → IsInTotpWindow now drift back ahead max_drift w ↔ ((result.first ≤ w) × (w < result.end)) }
 {
     let (fast, slow) = fast_and_slow(drift);
     let first = (now + fast).saturating_sub(slow + back);
@@ -86,10 +86,10 @@ fn steps_near(now: u64, drift: i64, back: u64, ahead: u64, max_drift: u64) -> Co
 }
 
 // The steps near the present one that are above the last that passed.
-fn steps_due(token: &TotpFields, now: u64) -> Counters
+fn totp_candidates(token: &TotpFields, now: u64) -> Counters
     requires range { IsTotpInRange token.now }
     requires now { now ≤ last_moment }
-    ensures { (w : ℕ) → (IsStepNear now token.now.drift token.now.back token.now.ahead token.now.max_drift w
+    ensures { (w : ℕ) → (IsInTotpWindow now token.now.drift token.now.back token.now.ahead token.now.max_drift w
         × ForSome token.now.last (λ l. l < w)) ↔ ((result.first ≤ w) × (w < result.end)) }
 {
     let near = steps_near(now, token.drift, token.back, token.ahead, token.max_drift);

@@ -1,5 +1,5 @@
--- What a desk stands for after each call, and over runs.
-pub mod ToldAlone
+-- What a desk stands for after each call, and over runs: its log, its book, what is spent.
+pub mod SameRequests
 pub mod Records
 pub mod Restarts
 pub mod Bytes

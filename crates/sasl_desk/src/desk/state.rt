@@ -20,12 +20,12 @@ impl State {
     ghost use Rattle.std.specs.Prelude.{◌≡◌};
     ghost use Rattle.sasl_desk.specs.Desks.{phase_of, state_after};
 
-    /// The state after a turn, in which the session was left so. `own` is the server's part of its nonce.
-    pub(crate) fn after(left: AfterTurn, own: NoncePart) -> State
-        ensures { result ≡ state_after left own }
+    /// The state after a turn that left its session like this. `server_nonce` is the server's part of its nonce.
+    pub(crate) fn after(after: AfterTurn, server_nonce: NoncePart) -> State
+        ensures { result ≡ state_after after server_nonce }
     {
-        match left {
-            AfterTurn::Going(session) => State::Open(session, own),
+        match after {
+            AfterTurn::Going(session) => State::Open(session, server_nonce),
             AfterTurn::Over => State::Closed,
             AfterTurn::Halted(_) => State::Halted,
         }

@@ -12,5 +12,5 @@ pub(crate) struct Guest {
     pub(crate) session: Session,
 
     /// The server's part of its nonce.
-    pub(crate) own: NoncePart,
+    pub(crate) server_nonce: NoncePart,
 }

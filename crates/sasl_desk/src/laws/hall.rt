@@ -8,7 +8,7 @@ ghost use Rattle.log_grammar.specs.Numbered.{Numbered, numbered, of_number};
 ghost use Rattle.log_grammar.specs.LoggedReply.{LoggedReply};
 ghost use Rattle.log_grammar.specs.Versions.{IsFront, IsClean};
 ghost use Rattle.sasl_desk.specs.Alone.{HaveSameRequests, HaveSameEntries, up_to_acceptance};
-ghost use Rattle.sasl_desk.specs.Desks.{all_spent};
+ghost use Rattle.sasl_desk.specs.Desks.{spent_by_all};
 ghost use Rattle.sasl_desk.specs.Halls.{HallFields, busy_lines, hall_lines, hall_bytes, numbered_bytes, phase_in, IsPhaseIn, IsHallAfter};
 ghost use Rattle.sasl_desk.specs.Keeper.{IsAttemptJudged};
 ghost use Rattle.sasl_desk.specs.Records.{HasSessionRecords};
@@ -20,7 +20,7 @@ ghost use Rattle.sasl_desk.specs.Spent.{AreSpent};
 
 use crate::laws::spent_stays_spent;
 use account_book::BookStore;
-use log_grammar::laws::is_one_line;
+use log_grammar::laws::each_text_is_at_most_one_line;
 use otp_core::laws::begins_with_itself;
 use scram_ends::laws::at_most_one_verdict_is_due;
 use scram_text::laws::{has_one_client_first, has_one_server_final, spells_one_name};
@@ -52,8 +52,8 @@ pub fn phases_are_those_of_places<S: BookStore>()
         (s : IsHallAfter S.facts S.IsStored start calls hall) (n : ℕ) → IsPhaseIn (s.places n) (phase_in hall n) }
 {}
 
-/// Each session's log offers mechanisms for its greeting, and records what its client did, each as is due where it was done, in
-/// its order: nothing is left out, and nothing is invented; or it was turned away.
+/// Each session's log offers mechanisms for its greeting, and records all that its client did, in the order in which it was done and
+/// each act as is due at its place: nothing is left out, and nothing is invented; or the session was turned away.
 pub fn sessions_have_their_records<S: BookStore>()
     ensures { (start : BookFields) (calls : List (Numbered Call)) (hall : HallFields S) → IsHallAfter S.facts S.IsStored start calls hall
         → (n : ℕ) → HasSessionRecords (accounts_in start) (of_number n calls) }
@@ -77,8 +77,8 @@ pub fn store_holds_a_book<S: BookStore>()
         × IsBookText (S.facts hall.keeper.store).saved left }
 {}
 
-/// Whenever a call has ended, the book after what the log tells was saved: no client was told of a reply before what the reply
-/// changed was saved.
+/// Whenever a call has ended, the store has saved the text of the book to which the replies in the log lead: no client was told of a
+/// reply before what the reply changed was saved.
 pub fn log_is_saved<S: BookStore>()
     ensures { (start : BookFields) (calls : List (Numbered Call)) (hall : HallFields S) → IsHallAfter S.facts S.IsStored start calls hall
         → AreLinesSaved S.IsStored start (hall_lines calls) }
@@ -97,10 +97,10 @@ pub fn stops_leave_runs<S: BookStore>()
 pub fn told_counters_are_saved<S: BookStore>()
     ensures ended { (start : BookFields) (calls : List (Numbered Call)) (hall : HallFields S)
         (s : IsHallAfter S.facts S.IsStored start calls hall) (ps : List (List ℕ × ℕ)) → AreSpent ps start
-        → (saved : BookFields) × IsBookText (S.facts hall.keeper.store).saved saved × AreSpent (all_spent (reverse s.told) ++ ps) saved }
+        → (saved : BookFields) × IsBookText (S.facts hall.keeper.store).saved saved × AreSpent (spent_by_all (reverse s.told) ++ ps) saved }
     ensures within { (start : BookFields) (calls : List (Numbered Call)) (hall : HallFields S)
         (s : IsHallAfter S.facts S.IsStored start calls hall) (ps : List (List ℕ × ℕ)) (t : LoggedReply) (next : BookFields)
-        → AreSpent ps start → IsAttemptJudged hall.keeper.book t next → AreSpent (all_spent (reverse s.told) ++ ps) next }
+        → AreSpent ps start → IsAttemptJudged hall.keeper.book t next → AreSpent (spent_by_all (reverse s.told) ++ ps) next }
 {
     begins_with_itself();
     spent_stays_spent();
@@ -121,5 +121,5 @@ pub fn sessions_are_told_alone<S: BookStore>()
     has_one_server_final();
     spells_one_name();
     at_most_one_verdict_is_due();
-    is_one_line();
+    each_text_is_at_most_one_line();
 }

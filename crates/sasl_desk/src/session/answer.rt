@@ -5,14 +5,15 @@ ghost use Rattle.log_grammar.specs.Demands.{Accounts};
 ghost use Rattle.sasl_desk.specs.Sessions.{lines_of_answer, verdict_answer, CanBeWritten, IsBareNoDue, IsAnswer};
 
 use crate::session::Session;
-use crate::session::turn::{Answer, Saying};
+use crate::session::event::{Answer, Saying};
 use mac_core::Mechanism;
 use scram_ends::Verdict;
 use scram_text::PlainName;
 
 /// A bare `S NO`, after which the session is over.
-pub(crate) fn refusal() -> Answer
-    ensures due { (accounts : Accounts) (own : List ℕ) (at : Place) → IsBareNoDue at → IsAnswer accounts own at result [] }
+pub(crate) fn bare_no() -> Answer
+    ensures due { (accounts : Accounts) (server_nonce : List ℕ) (place : Place) → IsBareNoDue place
+        → IsAnswer accounts server_nonce place result [] }
     ensures lines { CanBeWritten (lines_of_answer result []) }
 {
     Answer {
@@ -22,8 +23,8 @@ pub(crate) fn refusal() -> Answer
 }
 
 /// Nothing is said to a client that has gone away, and the session is over.
-pub(crate) fn departure() -> Answer
-    ensures due { (accounts : Accounts) (own : List ℕ) → IsAnswer accounts own over result [] }
+pub(crate) fn silence() -> Answer
+    ensures due { (accounts : Accounts) (server_nonce : List ℕ) → IsAnswer accounts server_nonce over result [] }
     ensures lines { CanBeWritten (lines_of_answer result []) }
 {
     Answer {
@@ -34,8 +35,8 @@ pub(crate) fn departure() -> Answer
 
 /// The answer to a client that asks for the mechanism of this name, without a message: an empty challenge, or a bare
 /// `S NO` where it is not offered.
-pub(crate) fn invitation(mechanism_name: &[u8]) -> Answer
-    ensures due { (accounts : Accounts) (own : List ℕ) → IsAnswer accounts own (asks_bare mechanism_name.now) result [] }
+pub(crate) fn auth_answer(mechanism_name: &[u8]) -> Answer
+    ensures due { (accounts : Accounts) (server_nonce : List ℕ) → IsAnswer accounts server_nonce (asks_bare mechanism_name.now) result [] }
     ensures lines { CanBeWritten (lines_of_answer result []) }
 {
     match Mechanism::of_name(mechanism_name) {
@@ -43,12 +44,12 @@ pub(crate) fn invitation(mechanism_name: &[u8]) -> Answer
             says: Saying::Continues,
             session: Some(Session::WaitFirst(mechanism)),
         },
-        None => refusal(),
+        None => bare_no(),
     }
 }
 
 /// The answer that bears a verdict on the login of this account.
-pub(crate) fn outcome(verdict: Verdict, name: PlainName) -> Answer
+pub(crate) fn verdict_answer(verdict: Verdict, name: PlainName) -> Answer
     ensures { result ≡ verdict_answer verdict name }
 {
     match verdict {

@@ -9,9 +9,9 @@ ghost use Rattle.sasl_log.specs.Logins.{KeepsEntries};
 ghost use Rattle.sasl_desk.specs.Sessions.{lines_of_answer, CanBeWritten, IsAnswer};
 
 use crate::session::Session;
-use crate::session::answer::refusal;
-use crate::session::turn::{Answer, Saying};
-use crate::session::waiting::Waiting;
+use crate::session::answer::bare_no;
+use crate::session::challenged_login::ChallengedLogin;
+use crate::session::event::{Answer, Saying};
 use account_book::Book;
 use mac_core::Mechanism;
 use sasl_log::{NoMemory, Payload};
@@ -24,45 +24,52 @@ use std::alloc::{Allocator, Global};
 /// The answer to the client-first message of a client that asks for the mechanism of this name: a challenge, whose message
 /// is put into `message`; or a bare `S NO`, where the mechanism is not offered, or no server takes the message up. Answers
 /// 99 NoMemory where memory ran out; `message` is then empty.
-pub(crate) fn opening<A: Allocator>(
+pub(crate) fn auth_with_answer<A: Allocator>(
     alloc: Global,
     mechanism_name: &[u8],
     client_first: &Payload<'_>,
     book: &Book,
-    own: &NoncePart,
+    server_nonce: &NoncePart,
     message: &mut Vec<u8, A>,
 ) -> Result<Answer, NoMemory>
     requires { message.old.items ≡ [] }
     ensures due { (accounts : Accounts) → KeepsEntries accounts book.now
-        → IfOk result (λ answer. IsAnswer accounts own.now (got_first mechanism_name.now client_first.now) answer message.new.items) }
+        → IfOk result (λ answer.
+        IsAnswer accounts server_nonce.now (got_first mechanism_name.now client_first.now) answer message.new.items) }
     ensures lines { IfOk result (λ answer. CanBeWritten (lines_of_answer answer message.new.items)) }
     ensures err { OnErr result (message.new.items ≡ []) }
 {
     match Mechanism::of_name(mechanism_name) {
-        Some(mechanism) => first_answer(alloc, mechanism, client_first, book, own, message),
-        None => Ok(refusal()),
+        Some(mechanism) => first_answer(
+            alloc,
+            mechanism,
+            client_first,
+            book,
+            server_nonce,
+            message,
+        ),
+        None => Ok(bare_no()),
     }
 }
 
-/// The answer to a client-first message by this mechanism, which is offered, as `opening` gives it.
+/// The answer to a client-first message by this mechanism, which is offered, as `auth_with_answer` gives it.
 pub(crate) fn first_answer<A: Allocator>(
     alloc: Global,
     mechanism: Mechanism,
     client_first: &Payload<'_>,
     book: &Book,
-    own: &NoncePart,
+    server_nonce: &NoncePart,
     message: &mut Vec<u8, A>,
 ) -> Result<Answer, NoMemory>
     requires { message.old.items ≡ [] }
-    ensures due { (accounts : Accounts) (name : List ℕ) → KeepsEntries accounts book.now → NamesMechanism name mechanism
-        → IfOk result (λ answer. IsAnswer accounts own.now (got_first name client_first.now) answer message.new.items) }
+    ensures due { (accounts : Accounts) (mechanism_name : List ℕ) → KeepsEntries accounts book.now
+        → NamesMechanism mechanism_name mechanism
+        → IfOk result (λ answer. IsAnswer accounts server_nonce.now (got_first mechanism_name client_first.now) answer message.new.items) }
     ensures lines { IfOk result (λ answer. CanBeWritten (lines_of_answer answer message.new.items)) }
     ensures err { OnErr result (message.new.items ≡ []) }
 {
-    match client_first.bytes(alloc) {
-        Ok(text) => taken_up(mechanism, text.as_slice(), book, own, message),
-        Err(fault) => Err(fault),
-    }
+    let text = client_first.bytes(alloc)?;
+    taken_up(mechanism, text.as_slice(), book, server_nonce, message)
 }
 
 // Reads the name that the message gives, and challenges its login; a bare `S NO` where no server takes the message up.
@@ -70,49 +77,51 @@ fn taken_up<A: Allocator>(
     mechanism: Mechanism,
     client_first: &[u8],
     book: &Book,
-    own: &NoncePart,
+    server_nonce: &NoncePart,
     message: &mut Vec<u8, A>,
 ) -> Result<Answer, NoMemory>
     requires { message.old.items ≡ [] }
-    ensures due { (accounts : Accounts) (name : List ℕ) → KeepsEntries accounts book.now → NamesMechanism name mechanism
-        → IfOk result (λ answer. IsAnswer accounts own.now (got_first name client_first.now) answer message.new.items) }
+    ensures due { (accounts : Accounts) (mechanism_name : List ℕ) → KeepsEntries accounts book.now
+        → NamesMechanism mechanism_name mechanism
+        → IfOk result (λ answer. IsAnswer accounts server_nonce.now (got_first mechanism_name client_first.now) answer message.new.items) }
     ensures lines { IfOk result (λ answer. CanBeWritten (lines_of_answer answer message.new.items)) }
     ensures err { OnErr result (message.new.items ≡ []) }
 {
     refused_is_not_taken_up();
     match first_name(client_first) {
-        Ok(user) => challenge(mechanism, user, client_first, book, own, message),
-        Err(_) => Ok(refusal()),
+        Ok(name) => challenge(mechanism, name, client_first, book, server_nonce, message),
+        Err(_) => Ok(bare_no()),
     }
 }
 
-// Challenges the login that the message opens for this user.
+// Challenges the login that the message opens for this account.
 fn challenge<A: Allocator>(
     mechanism: Mechanism,
-    user: PlainName,
+    name: PlainName,
     client_first: &[u8],
     book: &Book,
-    own: &NoncePart,
+    server_nonce: &NoncePart,
     message: &mut Vec<u8, A>,
 ) -> Result<Answer, NoMemory>
     requires empty { message.old.items ≡ [] }
     requires taken { (first : ClientFirstParts) × (authzid : Option (List ℕ)) × IsClientFirst client_first.now first
-        × IsTakenUp first user authzid }
-    ensures due { (accounts : Accounts) (name : List ℕ) → KeepsEntries accounts book.now → NamesMechanism name mechanism
-        → IfOk result (λ answer. IsAnswer accounts own.now (got_first name client_first.now) answer message.new.items) }
+        × IsTakenUp first name authzid }
+    ensures due { (accounts : Accounts) (mechanism_name : List ℕ) → KeepsEntries accounts book.now
+        → NamesMechanism mechanism_name mechanism
+        → IfOk result (λ answer. IsAnswer accounts server_nonce.now (got_first mechanism_name client_first.now) answer message.new.items) }
     ensures lines { IfOk result (λ answer. CanBeWritten (lines_of_answer answer message.new.items)) }
     ensures err { OnErr result (message.new.items ≡ []) }
 {
     has_one_client_first();
     spells_one_name();
     refused_is_not_taken_up();
-    let view = book.view(&user, mechanism);
-    match server_first(mechanism, &view, client_first, own, message) {
+    let view = book.view(&name, mechanism);
+    match server_first(mechanism, &view, client_first, server_nonce, message) {
         Ok(wait) => Ok(Answer {
             says: Saying::Continues,
-            session: Some(Session::WaitFinal(Waiting::new(wait, mechanism, user))),
+            session: Some(Session::WaitFinal(ChallengedLogin::new(wait, mechanism, name))),
         }),
-        Err(FirstRefused::First(_)) => Ok(refusal()),
+        Err(FirstRefused::First(_)) => Ok(bare_no()),
         Err(FirstRefused::Write(WriteFault::NoMemory)) => Err(NoMemory),
         Err(FirstRefused::Write(_)) => unreachable!(),
     }

@@ -14,10 +14,10 @@ ghost use Rattle.sasl_desk.specs.Sessions.{IsWaitingAt, IsRecord, turn_lines, he
 ghost use Rattle.sasl_desk.specs.Sessions.{IsTurnOnEvent, IsTurnOnLine, ComesOfLine, IsOfCode, AsksFor};
 
 use crate::session::Session;
-use crate::session::answer::{departure, invitation, refusal};
-use crate::session::first::{first_answer, opening};
-use crate::session::turn::{Heard, Recorded, Turn};
-use crate::session::waiting::Waiting;
+use crate::session::answer::{auth_answer, bare_no, silence};
+use crate::session::challenged_login::ChallengedLogin;
+use crate::session::event::{HearResult, Recorded, Turn};
+use crate::session::first::{auth_with_answer, first_answer};
 use account_book::Book;
 use mac_core::Mechanism;
 use otp_core::Sent;
@@ -26,67 +26,74 @@ use scram_text::{NoncePart, PlainName};
 use std::alloc::{Allocator, Global};
 
 /// A client that has gone away: it is recorded, and the session is over.
-pub(crate) fn departed<'a>() -> Turn<'a>
-    ensures turn { (accounts : Accounts) (own : List ℕ) (at : Place) (event : ClientEvent) → IsRecord event at gone
-        → IsTurnOnEvent accounts own event at result [] }
+pub(crate) fn gone_turn<'a>() -> Turn<'a>
+    ensures turn { (accounts : Accounts) (server_nonce : List ℕ) (place : Place) (event : ClientEvent) → IsRecord event place gone
+        → IsTurnOnEvent accounts server_nonce event place result [] }
     ensures lines { CanBeWritten (turn_lines result []) }
 {
     Turn {
         recorded: Recorded::Gone,
-        answer: departure(),
+        answer: silence(),
     }
 }
 
 /// A line that is not due, or a text that is no line: it is recorded as `C BAD`, and refused.
-pub(crate) fn spoiled<'a>() -> Turn<'a>
-    ensures turn { (accounts : Accounts) (own : List ℕ) (at : Place) (event : ClientEvent) → IsRecord event at bad
-        → IsTurnOnEvent accounts own event at result [] }
-    ensures line { (accounts : Accounts) (own : List ℕ) (at : Place) (line : grammar.ClientLine) → is_due at line ≡ false
-        → IsTurnOnLine accounts own line at result [] }
+pub(crate) fn bad_turn<'a>() -> Turn<'a>
+    ensures turn { (accounts : Accounts) (server_nonce : List ℕ) (place : Place) (event : ClientEvent) → IsRecord event place bad
+        → IsTurnOnEvent accounts server_nonce event place result [] }
+    ensures line { (accounts : Accounts) (server_nonce : List ℕ) (place : Place) (line : grammar.ClientLine) → is_due place line ≡ false
+        → IsTurnOnLine accounts server_nonce line place result [] }
     ensures lines { CanBeWritten (turn_lines result []) }
 {
     Turn {
         recorded: Recorded::Bad,
-        answer: refusal(),
+        answer: bare_no(),
     }
 }
 
 // A client that gives up: it is refused, and the session is over.
-fn aborted<'a>() -> Turn<'a>
-    ensures line { (accounts : Accounts) (own : List ℕ) (at : Place) → is_client_turn at ≡ true
-        → IsTurnOnLine accounts own abort at result [] }
+fn abort_turn<'a>() -> Turn<'a>
+    ensures line { (accounts : Accounts) (server_nonce : List ℕ) (place : Place) → is_client_turn place ≡ true
+        → IsTurnOnLine accounts server_nonce abort place result [] }
     ensures lines { CanBeWritten (turn_lines result []) }
 {
     Turn {
         recorded: Recorded::Line(ClientLine::Abort),
-        answer: refusal(),
+        answer: bare_no(),
     }
 }
 
 /// After the offer of the mechanisms: AUTH and ABORT are due. On an error memory ran out.
-pub(crate) fn hear_offered<'a, A: Allocator>(
+pub(crate) fn hear_auth<'a, A: Allocator>(
     alloc: Global,
     line: ClientLine<'a>,
     book: &Book,
-    own: &NoncePart,
+    server_nonce: &NoncePart,
     message: &mut Vec<u8, A>,
 ) -> Result<Turn<'a>, Session>
     requires empty { message.old.items ≡ [] }
     requires line { CanBeLine (from_client (client_shown line)) }
     ensures turn { (accounts : Accounts) → KeepsEntries accounts book.now
-        → IfOk result (λ turn. IsTurnOnLine accounts own.now (client_shown line.entry) offered turn message.new.items) }
+        → IfOk result (λ turn. IsTurnOnLine accounts server_nonce.now (client_shown line.entry) offered turn message.new.items) }
     ensures lines { IfOk result (λ turn. CanBeWritten (turn_lines turn message.new.items)) }
     ensures err { IfErr result (λ session. (session ≡ Session.WaitAuth) × (message.new.items ≡ [])) }
     ensures memory { OnErr result (BearsMessage (client_shown line.entry)) }
 {
     match line {
         ClientLine::Auth(mechanism_name) => {
-            let answer = invitation(mechanism_name);
+            let answer = auth_answer(mechanism_name);
             let recorded = Recorded::Line(ClientLine::Auth(mechanism_name));
             Ok(Turn { recorded, answer })
         }
         ClientLine::AuthWith(mechanism_name, client_first) => {
-            match opening(alloc, mechanism_name, &client_first, book, own, message) {
+            match auth_with_answer(
+                alloc,
+                mechanism_name,
+                &client_first,
+                book,
+                server_nonce,
+                message,
+            ) {
                 Ok(answer) => {
                     let recorded = Recorded::Line(ClientLine::AuthWith(
                         mechanism_name,
@@ -97,8 +104,8 @@ pub(crate) fn hear_offered<'a, A: Allocator>(
                 Err(_) => Err(Session::WaitAuth),
             }
         }
-        ClientLine::Abort => Ok(aborted()),
-        _ => Ok(spoiled()),
+        ClientLine::Abort => Ok(abort_turn()),
+        _ => Ok(bad_turn()),
     }
 }
 
@@ -108,13 +115,13 @@ pub(crate) fn hear_first<'a, A: Allocator>(
     mechanism: Mechanism,
     line: ClientLine<'a>,
     book: &Book,
-    own: &NoncePart,
+    server_nonce: &NoncePart,
     message: &mut Vec<u8, A>,
 ) -> Result<Turn<'a>, Session>
     requires empty { message.old.items ≡ [] }
     requires line { CanBeLine (from_client (client_shown line)) }
     ensures turn { (accounts : Accounts) → KeepsEntries accounts book.now
-        → IfOk result (λ turn. IsTurnOnLine accounts own.now (client_shown line.entry) (waits_first (name_of mechanism))
+        → IfOk result (λ turn. IsTurnOnLine accounts server_nonce.now (client_shown line.entry) (waits_first (name_of mechanism))
         turn message.new.items) }
     ensures lines { IfOk result (λ turn. CanBeWritten (turn_lines turn message.new.items)) }
     ensures err { IfErr result (λ session. (session ≡ Session.WaitFirst mechanism) × (message.new.items ≡ [])) }
@@ -122,7 +129,7 @@ pub(crate) fn hear_first<'a, A: Allocator>(
 {
     match line {
         ClientLine::Resp(client_first) => {
-            match first_answer(alloc, mechanism, &client_first, book, own, message) {
+            match first_answer(alloc, mechanism, &client_first, book, server_nonce, message) {
                 Ok(answer) => {
                     let recorded = Recorded::Line(ClientLine::Resp(client_first));
                     Ok(Turn { recorded, answer })
@@ -130,22 +137,22 @@ pub(crate) fn hear_first<'a, A: Allocator>(
                 Err(_) => Err(Session::WaitFirst(mechanism)),
             }
         }
-        ClientLine::Abort => Ok(aborted()),
-        _ => Ok(spoiled()),
+        ClientLine::Abort => Ok(abort_turn()),
+        _ => Ok(bad_turn()),
     }
 }
 
 /// After the challenge: RESP, with the client-final message, and ABORT are due. On an error memory ran out.
 pub(crate) fn hear_final<'a, A: Allocator>(
     alloc: Global,
-    waiting: Waiting,
+    waiting: ChallengedLogin,
     line: ClientLine<'a>,
     message: &mut Vec<u8, A>,
 ) -> Result<Turn<'a>, Session>
     requires empty { message.old.items ≡ [] }
     requires line { CanBeLine (from_client (client_shown line)) }
-    ensures turn { (accounts : Accounts) (own : List ℕ) (at : Place) → IsWaitingAt accounts at waiting
-        → IfOk result (λ turn. IsTurnOnLine accounts own (client_shown line.entry) at turn message.new.items) }
+    ensures turn { (accounts : Accounts) (server_nonce : List ℕ) (place : Place) → IsWaitingAt accounts place waiting
+        → IfOk result (λ turn. IsTurnOnLine accounts server_nonce (client_shown line.entry) place turn message.new.items) }
     ensures lines { IfOk result (λ turn. CanBeWritten (turn_lines turn message.new.items)) }
     ensures err { IfErr result (λ session. (session ≡ Session.WaitFinal waiting) × (message.new.items ≡ [])) }
     ensures memory { OnErr result (BearsMessage (client_shown line.entry)) }
@@ -160,24 +167,24 @@ pub(crate) fn hear_final<'a, A: Allocator>(
                 Err(back) => Err(Session::WaitFinal(back)),
             }
         }
-        ClientLine::Abort => Ok(aborted()),
-        _ => Ok(spoiled()),
+        ClientLine::Abort => Ok(abort_turn()),
+        _ => Ok(bad_turn()),
     }
 }
 
 /// After an acceptance, or the reply to a code: CODE, SYNC and ABORT are due. Nothing is said here.
-pub(crate) fn hear_code<'a>(name: PlainName, line: ClientLine<'a>) -> Heard<'a>
+pub(crate) fn hear_code<'a>(name: PlainName, line: ClientLine<'a>) -> HearResult<'a>
     requires { CanBeLine (from_client (client_shown line)) }
-    ensures heard { (accounts : Accounts) (own : List ℕ)
-        → ComesOfLine accounts own (client_shown line.entry) (waits_code name) result [] }
+    ensures heard { (accounts : Accounts) (server_nonce : List ℕ)
+        → ComesOfLine accounts server_nonce (client_shown line.entry) (waits_code name) result [] }
     ensures asks { IsOfCode result (Session.WaitCode name) }
     ensures asked { AsksFor result (client_shown line.entry) }
     ensures lines { CanBeWritten (heard_lines result []) }
 {
     match line {
-        ClientLine::Code(text) => Heard::Asks(name, Sent::One(text)),
-        ClientLine::Sync(first, second) => Heard::Asks(name, Sent::Two(first, second)),
-        ClientLine::Abort => Heard::Answered(aborted()),
-        _ => Heard::Answered(spoiled()),
+        ClientLine::Code(text) => HearResult::ToJudge(name, Sent::One(text)),
+        ClientLine::Sync(first, second) => HearResult::ToJudge(name, Sent::Two(first, second)),
+        ClientLine::Abort => HearResult::Answered(abort_turn()),
+        _ => HearResult::Answered(bad_turn()),
     }
 }

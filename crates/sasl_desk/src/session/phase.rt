@@ -1,7 +1,7 @@
-//! Where a session stands, as those who serve its client see it.
+//! The phase: a session without what it keeps.
 use crate::session::Session;
 
-/// Where a session stands, and what may come next.
+/// What a desk, or a session of a hall, waits for.
 #[derive(Clone, Copy, Debug, PartialEq, Eq)]
 pub enum Phase {
     /// The session is over; at a desk none is open, and the next client can be greeted.

@@ -14,45 +14,49 @@ use Rattle.scram_ends.specs.declared.client.ClientFault.{ClientFault}
 use Rattle.scram_ends.specs.declared.client.ClientFault.TheVariants.{Text, Mandatory, NonceNotMine, NonceNotLonger, CountOutside}
 use Rattle.scram_ends.specs.declared.client.ClientFault.TheVariants.{ServerRefused, WrongSignature}
 
-pub not_mine : (own nonce sent prefix : List ℕ) → sent ≡ nonce → prefix ≡ own → ((rest : List ℕ) → sent ≢ prefix ++ rest)
-    → (more : List ℕ) → nonce ≡ own ++ more → ⊥
-not_mine own nonce sent prefix same is none more cut =
+-- a challenge's nonce that does not begin with the client's does not go on from it
+pub not_mine : (client_nonce nonce sent prefix : List ℕ) → sent ≡ nonce → prefix ≡ client_nonce → ((rest : List ℕ) → sent ≢ prefix ++ rest)
+    → (more : List ℕ) → nonce ≡ client_nonce ++ more → ⊥
+not_mine client_nonce nonce sent prefix same is none more cut =
     none more (same ∙ (cut ∙ ap (λ (front : List ℕ). front ++ more) (sym is)))
 
-pub not_longer : (own nonce sent prefix rest : List ℕ) → sent ≡ nonce → prefix ≡ own → sent ≡ prefix ++ rest
-    → eqb (length rest) 0 ≡ true → nonce ≡ own
-not_longer own nonce sent prefix rest same is cut empty =
+-- where a challenge's nonce is the client's and no more, it is the same
+pub not_longer : (client_nonce nonce sent prefix rest : List ℕ) → sent ≡ nonce → prefix ≡ client_nonce → sent ≡ prefix ++ rest
+    → eqb (length rest) 0 ≡ true → nonce ≡ client_nonce
+not_longer client_nonce nonce sent prefix rest same is cut empty =
     sym same ∙ (cut ∙ (ap (λ (back : List ℕ). prefix ++ back) (nil_from_length rest (eqb-true (length rest) 0 empty)) ∙
     (append-nil prefix ∙ is)))
 
-pub longer : (own nonce sent prefix rest : List ℕ) → sent ≡ nonce → prefix ≡ own → sent ≡ prefix ++ rest
-    → eqb (length rest) 0 ≡ false → (more : List ℕ) × (nonce ≡ own ++ more) × (1 ≤ length more)
-longer own nonce sent prefix rest same is cut some =
+-- where a challenge's nonce is the client's and more, it goes on from it by at least one character
+pub longer : (client_nonce nonce sent prefix rest : List ℕ) → sent ≡ nonce → prefix ≡ client_nonce → sent ≡ prefix ++ rest
+    → eqb (length rest) 0 ≡ false → (more : List ℕ) × (nonce ≡ client_nonce ++ more) × (1 ≤ length more)
+longer client_nonce nonce sent prefix rest same is cut some =
     (rest, sym same ∙ (cut ∙ ap (λ (front : List ℕ). front ++ rest) is), omega (arith, eqb-false (length rest) 0 some))
 
 -- a challenge that is refused is not one to answer
-pub not_refused : (limits : Limits) (own server_first : List ℕ) (fault : ClientFault) (c : ServerFirstParts)
-    → IsChallengeFault limits own server_first fault → IsAnswerable limits own server_first c → ⊥
-not_refused limits own server_first (Text fault) c h a = h.0 c a.is_challenge
-not_refused limits own server_first Mandatory c h a =
+pub not_refused : (limits : Limits) (client_nonce server_first : List ℕ) (fault : ClientFault) (c : ServerFirstParts)
+    → IsChallengeFault limits client_nonce server_first fault → IsAnswerable limits client_nonce server_first c → ⊥
+not_refused limits client_nonce server_first (Text fault) c h a = h.0 c a.is_challenge
+not_refused limits client_nonce server_first Mandatory c h a =
     let same = server_first_once server_first h.0 c h.1 a.is_challenge in
     both_ways (server_first_mandatory c) a.not_mandatory (ap (λ (q : ServerFirstParts). server_first_mandatory q) (sym same) ∙ h.2)
-not_refused limits own server_first NonceNotMine c h a =
+not_refused limits client_nonce server_first NonceNotMine c h a =
     let same = server_first_once server_first h.0 c h.1 a.is_challenge in
     h.3 a.longer.0 (ap (λ (q : ServerFirstParts). q.nonce) same ∙ a.longer.1)
-not_refused limits own server_first NonceNotLonger c h a =
+not_refused limits client_nonce server_first NonceNotLonger c h a =
     let same = server_first_once server_first h.0 c h.1 a.is_challenge in
-    let long : length own ≡ length (own ++ a.longer.0) = ap length (sym h.3 ∙ (ap (λ (q : ServerFirstParts). q.nonce) same ∙ a.longer.1)) in
-    omega (arith, long, length-append own a.longer.0, a.longer.2)
-not_refused limits own server_first CountOutside c h a =
+    let long : length client_nonce ≡ length (client_nonce ++ a.longer.0) = ap length
+    (sym h.3 ∙ (ap (λ (q : ServerFirstParts). q.nonce) same ∙ a.longer.1)) in
+    omega (arith, long, length-append client_nonce a.longer.0, a.longer.2)
+not_refused limits client_nonce server_first CountOutside c h a =
     let same = server_first_once server_first h.0 c h.1 a.is_challenge in
     let count : h.0.count ≡ c.count = ap (λ (q : ServerFirstParts). q.count) same in
     elim h.4 [
       | inl low ↦ omega (arith, low, count, a.at_least)
       | inr high ↦ omega (arith, high, count, a.at_most)
     ]
-not_refused limits own server_first ServerRefused c h a = h
-not_refused limits own server_first WrongSignature c h a = h
+not_refused limits client_nonce server_first ServerRefused c h a = h
+not_refused limits client_nonce server_first WrongSignature c h a = h
 
 -- a fault by the limits and the nonce that the client keeps is one by those that it stands for
 pub fault_of : (w : ClientOne) (l : Started) (server_first : List ℕ) (fault : ClientFault)

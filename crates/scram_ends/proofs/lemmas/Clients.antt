@@ -1,6 +1,6 @@
 -- The client's messages: that they can be written and are short, and that they are honest.
 use Rattle.std.proofs.Common.{◌≡◌, ℕ, ◌+◌, ◌-◌, ◌*◌, ◌<◌, ◌≤◌, List, [], ◌∷◌, ◌++◌, length, take, drop, length-append, sym, ◌∙◌, ap, subst}
-use Rattle.std.proofs.Common.{refl, arith}
+use Rattle.std.proofs.Common.{refl, arith, inl}
 use Rattle.std.proofs.Math.Seq.{drop-append_seam}
 use Rattle.std.specs.Prelude.{codes, option_map, IfSome}
 use Rattle.std.specs.declared.option.Option.{Option}
@@ -15,8 +15,8 @@ use Rattle.scram_text.specs.Base64Field.{base64, IsField}
 use Rattle.scram_text.specs.Parts.{authzid_text}
 use Rattle.scram_text.specs.Messages.{ClientFirstParts, header_text, bare_text, client_first_text, IsClientFirst, ServerFirstParts}
 use Rattle.scram_text.specs.Messages.{IsServerFirst, client_final_without_proof, ClientFinalParts, client_final_text, IsClientFinal}
-use Rattle.scram_text.specs.Written.{client_first_of, CanBeClientFirst, client_final_of, CanBeClientFinal, CanBeWithoutProof}
-use Rattle.scram_text.specs.Written.{IsWithoutProof}
+use Rattle.scram_text.specs.Written.{client_first_of, CanBeClientFirst, client_final_of, CanBeClientFinal, CanBeClientFinalWithoutProof}
+use Rattle.scram_text.specs.Written.{IsClientFinalWithoutProof}
 use Rattle.scram_text.specs.declared.fault.WriteFault.{WriteFault}
 use Rattle.scram_text.specs.declared.fault.WriteFault.TheVariants.{Unwritable, OverLimit, NoMemory}
 use Rattle.scram_text.specs.declared.client_first.Flag.TheVariants.{NoBinding}
@@ -25,8 +25,8 @@ use Rattle.scram_text.proofs.lemmas.Parts.{rest_taken}
 use Rattle.scram_text.proofs.lemmas.Names.{length-spelling}
 use Rattle.scram_text.proofs.lemmas.Base64.{length-base64, field_of_bytes}
 use Rattle.scram_text.proofs.lemmas.Texts.{text_nil}
-use Rattle.scram_ends.specs.Opening.{IsAuthzidOf}
-use Rattle.scram_ends.specs.Auth.{auth_to_challenge, auth_message, proof_of, signature_of}
+use Rattle.scram_ends.specs.Opening.{IsAuthzidOf, IsTakenUp}
+use Rattle.scram_ends.specs.Auth.{auth_to_challenge, auth_message, proof_of, expected_signature}
 use Rattle.scram_ends.specs.Honest.{IsHonestFirst}
 use Rattle.scram_ends.specs.Stages.{Started, answered}
 use Rattle.scram_ends.specs.Client.{IsStarted, IsExpecting}
@@ -41,11 +41,13 @@ only_memory r Unwritable failed unwritable over = absurd (unwritable failed)
 only_memory r OverLimit failed unwritable over = absurd (over failed)
 only_memory r NoMemory failed unwritable over = refl
 
--- client-first
+-- Client-first.
 
+-- a client without channel binding can write a client-first message without extensions
 pub can_start : CanBeClientFirst NoBinding []
 can_start = record { flag_class = refl; extensions_class = record { is_text = text_nil; each = tt } }
 
+-- the length of a client-first message is that of its parts, and of three commas
 flat_first : (f a n r : List ℕ) → length ((f ++ 44 ∷ (a ++ 44 ∷ [])) ++ (n ++ 44 ∷ r)) ≡ length f + length a + length n + length r + 3
 flat_first f a n r =
     omega (
@@ -57,13 +59,16 @@ flat_first f a n r =
       length-append n (44 ∷ r),
     )
 
+-- the name to act as, spelled, has at most 767 bytes with its letter
 spelled_authzid : (authzid : Option (List ℕ)) → IfSome authzid IsPlainName → length (authzid_text (option_map name_spelling authzid)) ≤ 767
 spelled_authzid None is = omega arith
 spelled_authzid (Some name) is = omega (arith, length-spelling name, is.at_most)
 
+-- the parts of a client-first message within their bounds make no more than a message may have
 first_bound : (f a n r : ℕ) → f ≡ 1 → a ≤ 767 → n ≤ 767 → r ≤ 258 → f + a + n + r + 3 ≤ longest_message
 first_bound f a n r one authzid name nonce = omega arith
 
+-- a client-first message of plain names and a part of a nonce is within the limit
 pub first_short : (authzid : Option (List ℕ)) (name nonce : List ℕ) → IfSome authzid IsPlainName → IsPlainName name → IsNoncePart nonce
     → length (client_first_text (client_first_of NoBinding authzid name nonce [])) ≤ longest_message
 unfolding client_first_text header_text bare_text
@@ -74,6 +79,7 @@ first_short authzid name nonce is_authzid is_name is_nonce =
     (first_bound 1 _ _ _ refl (spelled_authzid authzid is_authzid) (omega (arith, length-spelling name, is_name.at_most))
     (omega (arith, is_nonce.at_most)))
 
+-- a client-first message of plain names and a part of a nonce fails to be written only where memory runs out
 pub first_fails : {T : Type 0} (r : Result T WriteFault) (f : WriteFault) (authzid : Option (List ℕ)) (name nonce : List ℕ) → r ≡ Err f
     → IfSome authzid IsPlainName → IsPlainName name → IsNoncePart nonce
     → (r ≡ Err Unwritable → CanBeClientFirst NoBinding [] → ⊥)
@@ -84,7 +90,8 @@ first_fails r f authzid name nonce failed is_authzid is_name is_nonce unwritable
     only_memory r f failed (λ e. unwritable e can_start)
     (λ e. let long = over e in omega (arith, long.1, first_short authzid name nonce is_authzid is_name is_nonce))
 
-authzid_of : (authzid : Option (List ℕ)) → IfSome authzid IsPlainName → IsAuthzidOf authzid (option_map name_spelling authzid)
+-- the spelling of the name to act as is read as that name
+pub authzid_of : (authzid : Option (List ℕ)) → IfSome authzid IsPlainName → IsAuthzidOf authzid (option_map name_spelling authzid)
 authzid_of None is = tt
 authzid_of (Some name) is = record { plain = is; spelled = refl }
 
@@ -94,15 +101,23 @@ pub honest_first : (authzid : Option (List ℕ)) (name nonce client_first : List
     → IsHonestFirst name authzid nonce client_first (client_first_of NoBinding authzid name nonce [])
 honest_first authzid name nonce client_first is_authzid is_name is_first = record {
   is_first = is_first;
-  flag = refl;
-  not_mandatory = refl;
-  no_extensions = refl;
-  is_name = record { plain = is_name; spelled = refl };
-  is_authzid = authzid_of authzid is_authzid;
-  own = refl;
+  parts = refl;
+  plain = is_name;
+  plain_authzid = is_authzid;
 }
 
--- what was appended is what follows the old end
+-- a server takes up the client-first message of an honest client
+pub honest_taken_up : (name : List ℕ) (authzid : Option (List ℕ)) (nonce client_first : List ℕ) (first : ClientFirstParts)
+    → IsHonestFirst name authzid nonce client_first first → IsTakenUp first name authzid
+honest_taken_up name authzid nonce client_first first honest =
+    subst (λ (p : ClientFirstParts). IsTakenUp p name authzid) (sym honest.parts) (record {
+      not_mandatory = refl;
+      unbound = inl refl;
+      is_name = record { plain = honest.plain; spelled = refl };
+      is_authzid = authzid_of authzid honest.plain_authzid;
+    })
+
+-- where a buffer is what it was and a text after it, what follows its old end is that text
 pub appended : (whole written front text : List ℕ) (start : ℕ) → whole ≡ written → written ≡ front ++ text → start ≡ length front
     → take (length whole - start) (drop start whole) ≡ text
 appended whole written front text start same is at =
@@ -111,8 +126,9 @@ appended whole written front text start same is at =
     ∙ (ap (λ (xs : List ℕ). drop (length front) xs) (same ∙ is)
     ∙ drop-append_seam front text))
 
--- the bare message and the gs2-header of client-first
+-- The bare message and the gs2-header of client-first.
 
+-- a client-first message's bare part is no longer than a message
 pub bare_length : (text bare : List ℕ) (p : ClientFirstParts) → IsClientFirst text p → bare ≡ bare_text p → length bare ≤ longest_message
 unfolding client_first_text
 bare_length text bare p is same =
@@ -121,6 +137,7 @@ bare_length text bare p is same =
     let part : length bare ≡ length (bare_text p) = ap length same in
     omega (arith, whole, part, is.short)
 
+-- the name to act as in a message has at most 767 bytes with its letter
 authzid_length : (authzid part : Option (List ℕ)) → IsAuthzidOf authzid part → length (authzid_text part) ≤ 767
 authzid_length None None is = omega arith
 authzid_length None (Some part) is = absurd is
@@ -129,19 +146,22 @@ authzid_length (Some name) (Some part) is =
     let same : length part ≡ length (name_spelling name) = ap length is.spelled in
     omega (arith, same, length-spelling name, is.plain.at_most)
 
+-- the length of a header is that of its two parts, and of two commas
 flat_header : (f a : List ℕ) → length (f ++ 44 ∷ (a ++ 44 ∷ [])) ≡ length f + length a + 2
 flat_header f a = omega (arith, length-append f (44 ∷ (a ++ 44 ∷ [])), length-append a (44 ∷ []))
 
+-- the header of an honest client-first message has from 1 to 770 bytes
 pub header_length : (name : List ℕ) (authzid : Option (List ℕ)) (nonce client_first : List ℕ) (first : ClientFirstParts)
     → IsHonestFirst name authzid nonce client_first first
     → (1 ≤ length (header_text first)) × (length (header_text first) ≤ 770)
 unfolding header_text
 header_length name authzid nonce client_first first honest =
-    let flag : length first.flag ≡ 1 = ap length honest.flag in
-    let short = authzid_length authzid first.authzid honest.is_authzid in
+    let flag : length first.flag ≡ 1 = ap (λ (p : ClientFirstParts). length p.flag) honest.parts in
+    let short = authzid_length authzid first.authzid (honest_taken_up name authzid nonce client_first first honest).is_authzid in
     let whole = flat_header first.flag (authzid_text first.authzid) in
     (omega (arith, flag, whole), omega (arith, flag, short, whole))
 
+-- the header of an honest client-first message fits a field of client-final
 pub header_fits : (name : List ℕ) (authzid : Option (List ℕ)) (nonce client_first header : List ℕ) (first : ClientFirstParts)
     → IsHonestFirst name authzid nonce client_first first
     → header ≡ header_text first → length header ≤ longest_channel
@@ -149,34 +169,38 @@ header_fits name authzid nonce client_first header first honest same =
     let long : length header ≡ length (header_text first) = ap length same in
     omega (arith, long, (header_length name authzid nonce client_first first honest).1)
 
--- client-final
+-- Client-final.
 
+-- a header and a nonce within their bounds can be written before the proof
 can_sign : (header nonce : List ℕ) → AreBytes header → 1 ≤ length header → length header ≤ 770 → IsNonce longest_nonce nonce
-    → CanBeWithoutProof header nonce []
+    → CanBeClientFinalWithoutProof header nonce []
 can_sign header nonce bytes some short is_nonce = record {
   channel_class = field_of_bytes longest_channel header bytes some (omega (arith, short));
   nonce_class = is_nonce;
   extensions_class = record { is_text = text_nil; each = tt };
 }
 
+-- a header, a nonce and a proof within their bounds can be written as client-final
 pub can_answer : (header nonce proof : List ℕ) → AreBytes header → AreBytes proof → 1 ≤ length header → length header ≤ 770
     → IsNonce longest_nonce nonce → 1 ≤ length proof → length proof ≤ 64 → CanBeClientFinal header nonce [] proof
 can_answer header nonce proof bytes also some short is_nonce some_proof short_proof = record {
-  channel_class = field_of_bytes longest_channel header bytes some (omega (arith, short));
-  nonce_class = is_nonce;
-  extensions_class = record { is_text = text_nil; each = tt };
+  without_proof = can_sign header nonce bytes some short is_nonce;
   proof_class = field_of_bytes 64 proof also some_proof short_proof;
 }
 
+-- the length of a client-final message is that of its three parts, and of two commas
 flat_final : (c n p : List ℕ) → length ((c ++ 44 ∷ n) ++ 44 ∷ p) ≡ length c + length n + length p + 2
 flat_final c n p = omega (arith, length-append (c ++ 44 ∷ n) (44 ∷ p), length-append c (44 ∷ n))
 
+-- the parts of client-final within their bounds make no more than a message may have
 final_bound : (c n p : ℕ) → c ≤ 1030 → n ≤ 514 → p ≤ 90 → c + n + p + 2 ≤ longest_message
 final_bound c n p channel nonce proof = omega arith
 
+-- the base64 of at most three times so many bytes has at most four times so many
 field_bound : (bytes : List ℕ) (most : ℕ) → length bytes ≤ 3 * most → length (base64 bytes) ≤ 4 * most
 field_bound bytes most within = omega (arith, length-base64 bytes)
 
+-- a client-final message of a header, a nonce and a proof within their bounds is within the limit
 pub answer_short : (header nonce proof : List ℕ) → length header ≤ 770 → length nonce ≤ longest_nonce → length proof ≤ 64
     → length (client_final_text (client_final_of header nonce [] proof)) ≤ longest_message
 unfolding client_final_text client_final_without_proof
@@ -186,22 +210,24 @@ answer_short header nonce proof short is_nonce is_proof =
     (final_bound _ _ _ (omega (arith, field_bound header 257 (omega arith))) (omega arith)
     (omega (arith, field_bound proof 22 (omega arith))))
 
+-- client-final before its proof is within the limit
 pub front_short : (header nonce : List ℕ) → length header ≤ 770 → length nonce ≤ longest_nonce
     → length (client_final_without_proof (client_final_of header nonce [] [])) ≤ longest_message
 unfolding client_final_without_proof
 front_short header nonce short is_nonce =
     omega (arith, length-append (codes "c=" ++ base64 header) (44 ∷ (codes "r=" ++ nonce)), field_bound header 257 (omega arith))
 
--- the front is the same for every proof
+-- client-final before its proof is the same for each proof
 pub same_front : (header nonce proof : List ℕ)
     → client_final_without_proof (client_final_of header nonce [] []) ≡ client_final_without_proof (client_final_of header nonce [] proof)
 unfolding client_final_without_proof
 same_front header nonce proof = refl
 
+-- client-final before its proof never fails to be written, where memory does not run out
 pub front_fails : {T : Type 0} (r : Result T WriteFault) (f : WriteFault) (header nonce : List ℕ) → r ≡ Err f
     → AreBytes header → 1 ≤ length header → length header ≤ 770 → IsNonce longest_nonce nonce
-    → (r ≡ Err Unwritable → CanBeWithoutProof header nonce [] → ⊥)
-    → (r ≡ Err OverLimit → CanBeWithoutProof header nonce []
+    → (r ≡ Err Unwritable → CanBeClientFinalWithoutProof header nonce [] → ⊥)
+    → (r ≡ Err OverLimit → CanBeClientFinalWithoutProof header nonce []
     × (longest_message < length (client_final_without_proof (client_final_of header nonce [] []))))
     → (r ≡ Err NoMemory → ⊥) → ⊥
 front_fails r f header nonce failed bytes some short is_nonce unwritable over no_memory =
@@ -209,19 +235,21 @@ front_fails r f header nonce failed bytes some short is_nonce unwritable over no
     (λ e. let long = over e in omega (arith, long.1, front_short header nonce short is_nonce.at_most)) in
     no_memory (failed ∙ ap (λ (x : WriteFault). Err x) full)
 
+-- client-final with its proof fails to be written only where memory runs out
 pub answer_fails : {T : Type 0} (r : Result T WriteFault) (f : WriteFault) (w : ClientFinalWithoutProof) (header nonce proof : List ℕ)
     → r ≡ Err f
-    → length header ≤ 770 → IsNonce longest_nonce nonce → IsField 64 proof → IsWithoutProof w (client_final_of header nonce [] proof)
+    → length header ≤ 770 → IsNonce longest_nonce nonce → IsField 64 proof
+    → IsClientFinalWithoutProof w (client_final_of header nonce [] proof)
     → (r ≡ Err Unwritable → IsField 64 proof → ⊥)
     → (r ≡ Err OverLimit → IsField 64 proof
-    × ((p : ClientFinalParts) → IsWithoutProof w p → p.proof ≡ proof → longest_message < length (client_final_text p)))
+    × ((p : ClientFinalParts) → IsClientFinalWithoutProof w p → p.proof ≡ proof → longest_message < length (client_final_text p)))
     → f ≡ NoMemory
 answer_fails r f w header nonce proof failed short is_nonce field is unwritable over =
     only_memory r f failed (λ e. unwritable e field)
     (λ e. let long = (over e).1 (client_final_of header nonce [] proof) is refl in omega
     (arith, long, answer_short header nonce proof short is_nonce.at_most field.at_most))
 
--- the length of the client's own header
+-- the header that a client keeps has from 1 to 770 bytes
 pub header_range : (w : ClientOne) (l : Started) (header : List ℕ)
     → IsStarted w l → header ≡ w.header.items → (1 ≤ length header) × (length header ≤ 770)
 header_range w l header started same =
@@ -229,14 +257,15 @@ header_range w l header started same =
     let long : length header ≡ length (header_text started.first) = ap length (same ∙ started.header) in
     (omega (arith, long, range.0), omega (arith, long, range.1))
 
+-- equal arguments make equal proofs, and equal signatures:
 same_proof : (m n : Mechanism) (password salt other auth text : List ℕ) (count also : ℕ) → m ≡ n → salt ≡ other → count ≡ also → auth ≡ text
     → proof_of m password salt count auth ≡ proof_of n password other also text
 same_proof m n password salt other auth text count also e f g h = λ i. proof_of (e i) password (f i) (g i) (h i)
 
 same_signature : (m n : Mechanism) (password salt other auth text : List ℕ) (count also : ℕ) → m ≡ n → salt ≡ other → count ≡ also
     → auth ≡ text
-    → signature_of m password salt count auth ≡ signature_of n password other also text
-same_signature m n password salt other auth text count also e f g h = λ i. signature_of (e i) password (f i) (g i) (h i)
+    → expected_signature m password salt count auth ≡ expected_signature n password other also text
+same_signature m n password salt other auth text count also e f g h = λ i. expected_signature (e i) password (f i) (g i) (h i)
 
 -- a client-final message that is written is honest, and its signature is the one to expect
 pub expecting : (w : ClientOne) (two : ClientTwo) (l : Started) (server_first password header nonce salt front proof : List ℕ) (count : ℕ)
@@ -245,10 +274,11 @@ pub expecting : (w : ClientOne) (two : ClientTwo) (l : Started) (server_first pa
     → header ≡ w.header.items → nonce ≡ p.nonce → salt ≡ p.salt → count ≡ p.count
     → front ≡ client_final_without_proof (client_final_of header nonce [] proof)
     → proof ≡ proof_of w.mechanism password salt count (auth_to_challenge started.first server_first ++ front)
-    → two.expected.items ≡ signature_of w.mechanism password salt count (auth_to_challenge started.first server_first ++ front)
+    → two.expected.items ≡ expected_signature w.mechanism password salt count (auth_to_challenge started.first server_first ++ front)
     → IsClientFinal (client_final_text (client_final_of header nonce [] proof)) (client_final_of header nonce [] proof)
     → IsExpecting two (answered l password server_first (client_final_text (client_final_of header nonce [] proof)))
-expecting w two l server_first password header nonce salt front proof count p started is_challenge is_header is_nonce is_salt is_count is_front is_proof is_signature is_final =
+expecting w two l server_first password header nonce salt front proof count p started is_challenge is_header is_nonce is_salt is_count
+    is_front is_proof is_signature is_final =
     let q : ClientFinalParts = client_final_of header nonce [] proof in
     let auth : auth_to_challenge started.first server_first ++ front ≡ auth_message started.first server_first q =
     ap (λ (text : List ℕ). auth_to_challenge started.first server_first ++ text) is_front in
@@ -264,10 +294,12 @@ expecting w two l server_first password header nonce salt front proof count p st
           channel = is_header ∙ started.header;
           sent_nonce = is_nonce;
           no_extensions = refl;
-          proof = is_proof ∙ same_proof w.mechanism l.mechanism password salt p.salt _ _ count p.count started.mechanism is_salt is_count auth;
+          proof = is_proof ∙ same_proof w.mechanism l.mechanism password salt p.salt _ _ count p.count started.mechanism is_salt is_count
+              auth;
         };
       };
       signature = two.expected.items;
-      signed = is_signature ∙ same_signature w.mechanism l.mechanism password salt p.salt _ _ count p.count started.mechanism is_salt is_count auth;
+      signed = is_signature ∙ same_signature w.mechanism l.mechanism password salt p.salt _ _ count p.count started.mechanism is_salt
+          is_count auth;
       expected = refl;
     }

@@ -5,24 +5,24 @@ use Rattle.std.specs.Str.{bytes_eq}
 use Rattle.std.specs.declared.option.Option.{Option}
 use Rattle.std.specs.declared.option.Option.TheVariants.{None, Some}
 use Rattle.std.proofs.lemmas.Bool.{cases_Bool, both_ways}
+use Rattle.std.proofs.lemmas.Option.{same_Some, none-some}
 use Rattle.mac_core.specs.Mechanism.{length_by, stored_key_by}
 use Rattle.mac_core.specs.Keys.{xor_bytes}
 use Rattle.mac_core.specs.declared.mechanism.Mechanism.{Mechanism}
 use Rattle.mac_core.proofs.lemmas.Among.{any_among}
 use Rattle.scram_text.specs.Messages.{header_text, ClientFinalParts, client_final_mandatory}
 use Rattle.mac_core.proofs.lemmas.Decided.{Decided, decided_by, decided_both, decided_test, decided_nat, decided_same}
-use Rattle.scram_text.proofs.lemmas.MessagesDecided.{client_final_law}
+use Rattle.scram_text.proofs.lemmas.MessagesDecided.{client_final_is_decided}
 use Rattle.scram_ends.specs.Entry.{Keys, Entry}
 use Rattle.scram_ends.specs.Stages.{Challenged}
 use Rattle.scram_ends.specs.Auth.{auth_message, client_signature, server_signature, IsProof}
 use Rattle.scram_ends.specs.Opening.{Opening, IsAllowed}
-use Rattle.scram_ends.specs.Verdict.{rows, Asks, Due, accept, refuse, IsWeighed}
+use Rattle.scram_ends.specs.Verdict.{refusals_in_order, Asks, Due, accept, refuse, IsVerdictOn}
 use Rattle.scram_ends.specs.Laws.{SomeIsDue}
 use Rattle.scram_ends.specs.declared.verdict.Refusal.{Refusal}
 use Rattle.scram_ends.specs.declared.verdict.Refusal.TheVariants.{InvalidEncoding, ExtensionsNotSupported, OtherNonce, Channel}
 use Rattle.scram_ends.specs.declared.verdict.Refusal.TheVariants.{InvalidProof, NotAuthorised}
-use Rattle.scram_text.proofs.lemmas.Rows.{first_or_all}
-use Rattle.scram_ends.proofs.lemmas.Verdicts.{some_keys}
+use Rattle.scram_text.proofs.lemmas.FirstUnmet.{first_or_all}
 
 -- whether a name is among others is decided
 decided_among : (names : List (List ℕ)) (name : List ℕ) → Decided (Contains names name)
@@ -30,6 +30,7 @@ decided_among names name =
     decided_by (list_any (λ x. bytes_eq x name) names ≡ true) (Contains names name)
     (any_among names name).0 (any_among names name).1 (decided_test _)
 
+-- whether a name may act as another is decided
 decided_allowed : (e : Entry) (name : List ℕ) (authzid : Option (List ℕ)) → Decided (IsAllowed e name authzid)
 decided_allowed e name None = inl tt
 decided_allowed e name (Some authzid) = elim (decided_same authzid name) [
@@ -40,6 +41,7 @@ decided_allowed e name (Some authzid) = elim (decided_same authzid name) [
   ]
 ]
 
+-- whether a proof is one by these keys is decided
 decided_proof : (m : Mechanism) (keys : Keys) (auth proof : List ℕ) → Decided (IsProof m keys auth proof)
 decided_proof m keys auth proof =
     decided_by ((length proof ≡ length_by m) × (stored_key_by m (xor_bytes proof (client_signature m keys auth)) ≡ keys.stored))
@@ -47,18 +49,16 @@ decided_proof m keys auth proof =
     (λ h. record { len = h.0; opens = h.1 }) (λ p. (p.len, p.opens))
     (decided_both _ _ (decided_nat (length proof) (length_by m)) (decided_same _ _))
 
-no_keys : (keys : Keys) → None ≡ Some keys → ⊥
-no_keys keys same = cc
-
+-- whether a proof is one by keys that may be missing is decided
 decided_keys : (m : Mechanism) (held : Option Keys) (auth proof : List ℕ)
     → Decided ((keys : Keys) × (held ≡ Some keys) × IsProof m keys auth proof)
-decided_keys m None auth proof = inr (λ h. no_keys h.0 h.1)
+decided_keys m None auth proof = inr (λ h. none-some h.0 h.1)
 decided_keys m (Some keys) auth proof =
     decided_by (IsProof m keys auth proof) ((k : Keys) × (Some keys ≡ Some k) × IsProof m k auth proof)
-    (λ h. (keys, refl, h)) (λ h. subst (λ (k : Keys). IsProof m k auth proof) (sym (some_keys keys h.0 h.1)) h.2)
+    (λ h. (keys, refl, h)) (λ h. subst (λ (k : Keys). IsProof m k auth proof) (sym (same_Some keys h.0 h.1)) h.2)
     (decided_proof m keys auth proof)
 
--- what a row asks of the parts is decided
+-- whether a row is met by the parts is decided
 decided_asked : (r : Refusal) (l : Challenged) (o : Opening) (p : ClientFinalParts) → Decided (Asks r l o p)
 decided_asked InvalidEncoding l o p = inl tt
 decided_asked ExtensionsNotSupported l o p = elim (cases_Bool (client_final_mandatory p)) [
@@ -71,8 +71,8 @@ decided_asked InvalidProof l o p = decided_keys l.mechanism l.entry.keys (auth_m
 decided_asked NotAuthorised l o p = decided_allowed l.entry o.name o.authzid
 
 -- the parts have a verdict: they do not meet some first row, or they meet all, and the keys of their proof sign
-some_weighed : (l : Challenged) (o : Opening) (p : ClientFinalParts) → (d : Due) × IsWeighed l o p d
-some_weighed l o p = elim (first_or_all (λ r. Asks r l o p) rows (λ r. decided_asked r l o p)) [
+some_weighed : (l : Challenged) (o : Opening) (p : ClientFinalParts) → (d : Due) × IsVerdictOn l o p d
+some_weighed l o p = elim (first_or_all (λ r. Asks r l o p) refusals_in_order (λ r. decided_asked r l o p)) [
   | inl first ↦ (refuse first.0, first.1)
   | inr all ↦ let (mandatory, (nonce, (channel, (proof, rest)))) = all in (
     accept (server_signature l.mechanism proof.0 (auth_message o.first l.server_first p)),
@@ -80,8 +80,9 @@ some_weighed l o p = elim (first_or_all (λ r. Asks r l o p) rows (λ r. decided
   )
 ]
 
+-- the law: after an opening some verdict is due to each text
 pub some_is_due : SomeIsDue
-some_is_due l client_final o is_opening = elim (client_final_law client_final) [
+some_is_due l client_final o is_opening = elim (client_final_is_decided client_final) [
   | inr none ↦ (refuse InvalidEncoding, inl (none, refl))
   | inl found ↦ let weighed = some_weighed l o found.0 in (
     weighed.0,

@@ -1,4 +1,4 @@
--- The MACs of a mechanism: how long they are, that they are bytes, and that xor twice by one changes nothing.
+-- The digests and MACs of a mechanism are bytes; and to xor twice with the same bytes changes nothing.
 use Rattle.std.proofs.Common.{◌≡◌, ℕ, zero, suc, ◌<◌, ◌/◌, ◌^◌, List, [], ◌∷◌, ◌++◌, length, refl, ◌∙◌, ap, arith}
 use Rattle.std.proofs.Math.Nat.{mod-lt}
 use Rattle.std.specs.Prelude.{bit_xor, slice_index}
@@ -19,6 +19,7 @@ use Rattle.scram_text.proofs.lemmas.Decided.{same_cons}
 abbrev pub AreBytes : List ℕ → Type 0
 AreBytes bytes = (i : ℕ) → slice_index bytes i < 256
 
+-- each byte of a number is below 256, so a number's bytes, the highest first, are bytes:
 byte_below : (k n : ℕ) → byte_at k n < 256
 byte_below zero n = mod-lt n (omega arith)
 byte_below (suc k) n = mod-lt (n / 256 ^ suc k) (omega arith)
@@ -28,11 +29,13 @@ high_bytes zero n i = omega arith
 high_bytes (suc k) n zero = byte_below k n
 high_bytes (suc k) n (suc i) = high_bytes k n i
 
+-- two lists of bytes joined are bytes
 bytes-append : (front back : List ℕ) → AreBytes front → AreBytes back → AreBytes (front ++ back)
 bytes-append [] back is also i = also i
 bytes-append (b ∷ front) back is also zero = is 0
 bytes-append (b ∷ front) back is also (suc i) = bytes-append front back (λ j. is (suc j)) also i
 
+-- the digests of SHA-1 and of SHA-256 are bytes:
 short_bytes : (words : List ℕ) (n : ℕ) → AreBytes (short.digest_bytes words n)
 unfolding short.digest_bytes
 short_bytes words zero i = omega arith
@@ -45,6 +48,7 @@ long_bytes words zero i = omega arith
 long_bytes words (suc n) i =
     bytes-append (long.digest_bytes words n) _ (long_bytes words n) (high_bytes 4 (slice_index words n)) i
 
+-- a mechanism's digest of a text, and its MAC, are bytes:
 hash_bytes : (m : Mechanism) (text : List ℕ) → AreBytes (hash_by m text)
 unfolding sha1 sha256
 hash_bytes ScramSha1 text i = short_bytes _ 5 i
@@ -54,12 +58,14 @@ pub mac_bytes : (m : Mechanism) (key text : List ℕ) → AreBytes (hmac_by m ke
 unfolding hmac
 mac_bytes m key text i = hash_bytes m _ i
 
+-- the xor of two lists of the same length has that length
 pub length-xor : (a b : List ℕ) → length a ≡ length b → length (xor_bytes a b) ≡ length a
 unfolding xor_bytes
 length-xor [] ys same = refl
 length-xor (x ∷ xs) [] same = absurd (omega (arith, same))
 length-xor (x ∷ xs) (y ∷ ys) same = ap suc (length-xor xs ys (omega (arith, same)))
 
+-- to xor a number with another twice gives the number again, and so with lists of the same length:
 xor_twice : (x y : ℕ) → bit_xor (bit_xor x y) y ≡ x
 xor_twice x y = xor_assoc x y y ∙ (ap (bit_xor x) (xor_self y) ∙ xor_zero_r x)
 

@@ -16,27 +16,30 @@ use Rattle.scram_text.proofs.lemmas.ClientFirst.{client_first_once}
 use Rattle.scram_text.proofs.lemmas.ServerFirst.{server_first_once}
 use Rattle.scram_ends.specs.Entry.{Entry, password_keys}
 use Rattle.scram_ends.specs.Stages.{Answered, challenged_login}
-use Rattle.scram_ends.specs.Auth.{auth_message, client_signature, server_signature, IsProof, proof_of, signature_of}
+use Rattle.scram_ends.specs.Auth.{auth_message, client_signature, server_signature, IsProof, proof_of, expected_signature}
 use Rattle.scram_ends.specs.Opening.{IsOpening}
 use Rattle.scram_ends.specs.Verdict.{accept, IsDue, due_text, final_due}
 use Rattle.scram_ends.specs.Login.{IsAuthentic, IsValidLogin}
 use Rattle.scram_ends.specs.First.{IsChallengeTo}
 use Rattle.scram_ends.specs.Honest.{IsHonest, honest_signature}
 use Rattle.scram_ends.specs.Laws.{HonestLogsIn}
+use Rattle.scram_ends.proofs.lemmas.Clients.{honest_taken_up}
 use Rattle.scram_ends.proofs.lemmas.Verdicts.{due_of_valid}
 use Rattle.mac_core.proofs.lemmas.Lengths.{length-hmac_by}
 use Rattle.scram_ends.proofs.lemmas.Digests.{AreBytes, mac_bytes, length-xor, xor_back}
 
+-- a mechanism's digests have from 1 to 32 bytes
 pub length_range : (m : Mechanism) → (1 ≤ length_by m) × (length_by m ≤ 32)
 length_range ScramSha1 = (omega arith, omega arith)
 length_range ScramSha256 = (omega arith, omega arith)
 
+-- the server-final message of a signature of at most 64 bytes is within the limit
 final_short : (signature : List ℕ) → length signature ≤ 64
     → length (server_final_text (server_final_of (verified signature) [])) ≤ longest_message
 unfolding server_final_text
 final_short signature within = omega (arith, within, length-base64 signature)
 
--- the message with a signature bears it
+-- the server-final message of a signature bears it
 shown : (signature : List ℕ) → AreBytes signature → 1 ≤ length signature → length signature ≤ 64
     → IsAuthentic (due_text (accept signature)) signature
 shown signature fits some within = record {
@@ -62,51 +65,55 @@ proved m password salt auth proof count is =
           (xor_back key signature same);
     }
 
--- what an honest client's first message and the account's challenge open
-opened : (e : Entry) (own : List ℕ) (l : Answered) → 1 ≤ length own → IsChallengeTo e l.client_first own l.server_first
+-- an honest client's first message and a challenge of the account to it open its login
+opened : (e : Entry) (server_nonce : List ℕ) (l : Answered) → 1 ≤ length server_nonce
+    → IsChallengeTo e l.client_first server_nonce l.server_first
     → (honest : IsHonest l)
     → IsOpening e l.client_first l.server_first
     (record { first = honest.first; name = l.name; authzid = l.authzid; challenge = honest.challenge })
-opened e own l some challenge honest =
-    let first : challenge.first ≡ honest.first = client_first_once l.client_first challenge.first honest.first challenge.is_first honest.is_first.is_first in
+opened e server_nonce l some challenge honest =
+    let first : challenge.first ≡ honest.first = client_first_once l.client_first challenge.first honest.first challenge.is_first
+    honest.is_first.is_first in
     let same = server_first_once l.server_first honest.challenge _ honest.is_challenge challenge.is_challenge in
     record {
       is_first = honest.is_first.is_first;
-      taken_up = record {
-        not_mandatory = honest.is_first.not_mandatory;
-        unbound = inl honest.is_first.flag;
-        is_name = honest.is_first.is_name;
-        is_authzid = honest.is_first.is_authzid;
-      };
+      taken_up = honest_taken_up l.name l.authzid l.nonce l.client_first honest.first honest.is_first;
       is_challenge = honest.is_challenge;
       not_mandatory = ap (λ (p : ServerFirstParts). server_first_mandatory p) same;
-      longer = (own, ap (λ (p : ServerFirstParts). p.nonce) same ∙ ap (λ (p : ClientFirstParts). p.nonce ++ own) first, some);
+      longer = (
+        server_nonce,
+        ap (λ (p : ServerFirstParts). p.nonce) same ∙ ap (λ (p : ClientFirstParts). p.nonce ++ server_nonce) first,
+        some,
+      );
       salt = ap (λ (p : ServerFirstParts). p.salt) same;
       count = ap (λ (p : ServerFirstParts). p.count) same;
     }
 
+-- equal salts and counts make equal proofs, and equal signatures:
 same_proof : (m : Mechanism) (password salt other auth : List ℕ) (count also : ℕ) → salt ≡ other → count ≡ also
     → proof_of m password salt count auth ≡ proof_of m password other also auth
 same_proof m password salt other auth count also e f = λ i. proof_of m password (e i) (f i) auth
 
 same_signature : (m : Mechanism) (password salt other auth : List ℕ) (count also : ℕ) → salt ≡ other → count ≡ also
-    → signature_of m password salt count auth ≡ signature_of m password other also auth
-same_signature m password salt other auth count also e f = λ i. signature_of m password (e i) (f i) auth
+    → expected_signature m password salt count auth ≡ expected_signature m password other also auth
+same_signature m password salt other auth count also e f = λ i. expected_signature m password (e i) (f i) auth
 
+-- the law: an honest login succeeds
 pub honest_logs_in : HonestLogsIn
-honest_logs_in e own l has_keys allowed some challenge honest =
+honest_logs_in e server_nonce l has_keys allowed some challenge honest =
     let m = l.mechanism in
-    let here = challenged_login e m l.client_first l.server_first in
+    let login = challenged_login e m l.client_first l.server_first in
     let auth = auth_message honest.first l.server_first honest.final in
     let keys = password_keys m l.password e.salt e.count in
     let signature = honest_signature l honest in
-    let is_opening = opened e own l some challenge honest in
-    let same : signature ≡ server_signature m keys auth = same_signature m l.password _ e.salt auth _ e.count is_opening.salt is_opening.count in
+    let is_opening = opened e server_nonce l some challenge honest in
+    let same : signature ≡ server_signature m keys auth = same_signature m l.password _ e.salt auth _ e.count is_opening.salt
+    is_opening.count in
     let long : length signature ≡ length_by m = length-hmac_by m _ auth in
     let range = length_range m in
     let authentic : IsAuthentic (due_text (accept signature)) signature =
     shown signature (mac_bytes m _ auth) (omega (arith, long, range.0)) (omega (arith, long, range.1)) in
-    let valid : IsValidLogin here l.client_final (due_text (accept signature)) = record {
+    let valid : IsValidLogin login l.client_final (due_text (accept signature)) = record {
       opening = record { first = honest.first; name = l.name; authzid = l.authzid; challenge = honest.challenge };
       final = honest.final;
       keys = keys;
@@ -121,7 +128,7 @@ honest_logs_in e own l has_keys allowed some challenge honest =
       allowed = allowed;
       authentic = subst (λ (s : List ℕ). IsAuthentic (due_text (accept signature)) s) same authentic;
     } in (
-      subst (λ (s : List ℕ). IsDue here l.client_final (accept s)) (sym same) (due_of_valid here l.client_final _ valid),
+      subst (λ (s : List ℕ). IsDue login l.client_final (accept s)) (sym same) (due_of_valid login l.client_final _ valid),
       authentic,
       valid,
     )

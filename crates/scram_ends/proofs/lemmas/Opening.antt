@@ -2,6 +2,7 @@
 use Rattle.std.proofs.Common.{◌≡◌, ◌++◌, ℕ, List, true, false, codes, sym, ◌∙◌, ap, refl, subst, inl, inr}
 use Rattle.std.specs.declared.option.Option.{Option}
 use Rattle.std.specs.declared.option.Option.TheVariants.{None, Some}
+use Rattle.std.proofs.lemmas.Option.{same_Some}
 use Rattle.scram_text.specs.Messages.{ClientFirstParts, client_first_mandatory, ServerFirstParts}
 use Rattle.scram_text.proofs.lemmas.Names.{name_once}
 use Rattle.scram_text.proofs.lemmas.ClientFirst.{client_first_once}
@@ -15,14 +16,11 @@ use Rattle.scram_ends.specs.declared.first.FirstFault.TheVariants.{Text, Mandato
 pub same_name : (one other part also : List ℕ) → part ≡ also → IsNameOf one part → IsNameOf other also → one ≡ other
 same_name one other part also same is is_also = name_once one other (sym is.spelled ∙ (same ∙ is_also.spelled))
 
-some_inside : (part also : List ℕ) → Some part ≡ Some also → part ≡ also
-some_inside part also same = cc
-
 -- the saslname of a name to act as spells one plain name, where there is one
 pub same_authzid : (one other part also : Option (List ℕ)) → part ≡ also → IsAuthzidOf one part → IsAuthzidOf other also → one ≡ other
 same_authzid None None part also same is is_also = refl
 same_authzid (Some one) (Some other) (Some part) (Some also) same is is_also =
-    ap (λ (name : List ℕ). Some name) (same_name one other part also (some_inside part also same) is is_also)
+    ap (λ (name : List ℕ). Some name) (same_name one other part also (same_Some part also same) is is_also)
 same_authzid None (Some other) None (Some also) same is is_also = cc
 same_authzid (Some one) None (Some part) None same is is_also = cc
 same_authzid None (Some other) None None same is is_also = absurd is_also
@@ -36,6 +34,7 @@ same_authzid (Some one) None (Some part) (Some also) same is is_also = absurd is
 abbrev opened : ClientFirstParts → List ℕ → Option (List ℕ) → ServerFirstParts → Opening
 opened first name authzid challenge = record { first = first; name = name; authzid = authzid; challenge = challenge }
 
+-- openings of the same parts and names are the same
 opening_of : (a b : ClientFirstParts) (name other : List ℕ) (authzid also : Option (List ℕ)) (x y : ServerFirstParts)
     → a ≡ b → name ≡ other → authzid ≡ also → x ≡ y → opened a name authzid x ≡ opened b other also y
 opening_of a b name other authzid also x y e f g h = cc
@@ -52,16 +51,18 @@ same_opening e client_first server_first o other is also =
     (ap (λ (p : ClientFirstParts). p.authzid) first) is.taken_up.is_authzid also.taken_up.is_authzid)
     (server_first_once server_first o.challenge other.challenge is.is_challenge also.is_challenge)
 
+-- a client-first message with a mandatory extension is not one without
 mandatory_clash : (one other : ClientFirstParts) → one ≡ other → client_first_mandatory one ≡ true → client_first_mandatory other ≡ false
     → ⊥
 mandatory_clash one other same is is_not = let both : true
     ≡ false = sym is ∙ (ap (λ (p : ClientFirstParts). client_first_mandatory p) same ∙ is_not) in cc
 
+-- a client with channel binding is not one without
 flag_clash : (flag binding : List ℕ) → IsUnbound flag → flag ≡ codes "p=" ++ binding → ⊥
 flag_clash flag binding (inl n) p = cc
 flag_clash flag binding (inr y) p = cc
 
--- what is refused is not taken up
+-- the law: what is refused is not taken up
 pub not_taken_up : RefusedIsNotTakenUp
 not_taken_up text (Text fault) p name authzid refused is taken = refused.0 p is
 not_taken_up text Mandatory p name authzid refused is taken =

@@ -18,25 +18,25 @@ use Rattle.scram_ends.specs.declared.first.AcceptedFirst.{AcceptedFirst}
 use Rattle.scram_ends.proofs.lemmas.Verdicts.{signature_due}
 
 -- a client-first message that is taken up and a challenge to it are an opening, of the parts that were taken
-pub challenge_opens : (e : Entry) (client_first own server_first sent : List ℕ) (first : ClientFirstParts) (taken : AcceptedFirst)
-    → IsClientFirst client_first first → ShowsAcceptedFirst taken first → sent ≡ taken.nonce.now ++ own → 1 ≤ length own
+pub challenge_opens : (e : Entry) (client_first server_nonce server_first sent : List ℕ) (first : ClientFirstParts) (taken : AcceptedFirst)
+    → IsClientFirst client_first first → ShowsAcceptedFirst taken first → sent ≡ taken.nonce.now ++ server_nonce → 1 ≤ length server_nonce
     → IsServerFirst server_first (server_first_of sent e.salt e.count [])
     → (o : Opening) × IsOpening e client_first server_first o × ShowsOpening taken sent o
-challenge_opens e client_first own server_first sent first taken is_first shows same some is_challenge =
+challenge_opens e client_first server_nonce server_first sent first taken is_first shows same some is_challenge =
     let o : Opening = record {
       first = first;
       name = taken.name;
       authzid = taken.authzid;
       challenge = server_first_of sent e.salt e.count [];
     } in
-    let longer : sent ≡ first.nonce ++ own = same ∙ ap (λ (n : List ℕ). n ++ own) shows.nonce in (
+    let longer : sent ≡ first.nonce ++ server_nonce = same ∙ ap (λ (n : List ℕ). n ++ server_nonce) shows.nonce in (
       o,
       record {
         is_first = is_first;
         taken_up = shows.taken_up;
         is_challenge = is_challenge;
         not_mandatory = refl;
-        longer = (own, longer, some);
+        longer = (server_nonce, longer, some);
         salt = refl;
         count = refl;
       },
@@ -53,7 +53,7 @@ is_signed : (m : Mechanism) (mac signature : List ℕ) → length mac ≡ length
 is_signed ScramSha1 mac signature len same none = omega (arith, len, ap length same, none)
 is_signed ScramSha256 mac signature len same none = omega (arith, len, ap length same, none)
 
--- a verdict that is due has a signature to write, so the only fault is that memory runs out
+-- a verdict that is due fails to be written only where memory runs out
 pub memory_alone : (l : Challenged) (client_final : List ℕ) (d : Due) (fault : WriteFault) → IsDue l client_final d
     → (fault ≡ Unwritable → (signature : List ℕ) × (d ≡ accept signature) × (length signature ≡ 0)) → (fault ≡ OverLimit → ⊥)
     → fault ≡ NoMemory

@@ -1,45 +1,48 @@
 -- At most one verdict is due, and acceptance exactly to a valid login.
 use Rattle.std.proofs.Common.{◌≡◌, ◌↔◌, ℕ, inl, inr, List, sym, ◌∙◌, ap, subst, refl}
 use Rattle.std.specs.declared.option.Option.TheVariants.{Some}
+use Rattle.std.proofs.lemmas.Option.{same_Some}
 use Rattle.scram_text.specs.Messages.{ClientFinalParts, IsClientFinal, IsServerFinal}
 use Rattle.scram_text.proofs.lemmas.ClientFinal.{client_final_once}
 use Rattle.scram_ends.specs.Entry.{Keys}
 use Rattle.scram_ends.specs.Stages.{Challenged}
 use Rattle.scram_ends.specs.Auth.{auth_message, server_signature}
 use Rattle.scram_ends.specs.Opening.{Opening, IsOpening}
-use Rattle.scram_ends.specs.Verdict.{rows, Asks, Due, accept, refuse, IsWeighed, IsDueToParts, IsDue, final_due, due_text, verdict_of}
+use Rattle.scram_ends.specs.Verdict.{refusals_in_order, Asks, Due, accept, refuse, IsVerdictOn, IsDueToParts, IsDue, final_due}
+use Rattle.scram_ends.specs.Verdict.{due_text, verdict_of}
 use Rattle.scram_ends.specs.Login.{IsAuthentic, IsValidLogin}
 use Rattle.scram_ends.specs.Laws.{AtMostOneIsDue, AcceptsExactlyValid}
 use Rattle.scram_ends.specs.declared.verdict.Refusal.{Refusal}
 use Rattle.scram_ends.specs.declared.verdict.Refusal.TheVariants.{InvalidEncoding}
 use Rattle.scram_ends.specs.declared.verdict.Verdict.TheVariants as verdict
 use Rattle.scram_ends.proofs.lemmas.Opening.{same_opening}
-use Rattle.scram_text.proofs.lemmas.Rows.{none_unmet, one_first}
+use Rattle.scram_text.proofs.lemmas.FirstUnmet.{none_unmet, one_first}
 
-pub some_keys : (one other : Keys) → Some one ≡ Some other → one ≡ other
-some_keys one other same = cc
-
+-- a refusal is no acceptance
 refusal_is_not_acceptance : (r : Refusal) (signature : List ℕ) → refuse r ≡ accept signature → ⊥
 refusal_is_not_acceptance r signature same = cc
 
--- the parts have one verdict
-one_weighed : (l : Challenged) (o : Opening) (p : ClientFinalParts) (d other : Due) → IsWeighed l o p d → IsWeighed l o p other → d ≡ other
+-- one verdict at most is due to the parts
+one_weighed : (l : Challenged) (o : Opening) (p : ClientFinalParts) (d other : Due) → IsVerdictOn l o p d → IsVerdictOn l o p other
+    → d ≡ other
 one_weighed l o p (accept one) (accept other) is also =
     let signed : Keys → List ℕ = λ keys. server_signature l.mechanism keys (auth_message o.first l.server_first p) in
-    let keys : is.1.0 ≡ also.1.0 = some_keys is.1.0 also.1.0 (sym is.1.1 ∙ also.1.1) in
+    let keys : is.1.0 ≡ also.1.0 = same_Some is.1.0 also.1.0 (sym is.1.1 ∙ also.1.1) in
     ap (λ (s : List ℕ). accept s) (is.1.2 ∙ (ap signed keys ∙ sym also.1.2))
-one_weighed l o p (accept one) (refuse q) is also = absurd (none_unmet (λ r. Asks r l o p) rows q is.0 also)
-one_weighed l o p (refuse r) (accept other) is also = absurd (none_unmet (λ r. Asks r l o p) rows r also.0 is)
-one_weighed l o p (refuse r) (refuse q) is also = ap (λ (x : Refusal). refuse x) (one_first (λ r. Asks r l o p) rows r q is also)
+one_weighed l o p (accept one) (refuse q) is also = absurd (none_unmet (λ r. Asks r l o p) refusals_in_order q is.0 also)
+one_weighed l o p (refuse r) (accept other) is also = absurd (none_unmet (λ r. Asks r l o p) refusals_in_order r also.0 is)
+one_weighed l o p (refuse r) (refuse q) is also = ap (λ (x : Refusal). refuse x)
+    (one_first (λ r. Asks r l o p) refusals_in_order r q is also)
 
--- the verdict due to the messages is the one on all parts that they have
+-- the verdict that is due to the messages is the one due to the parts that they have
 weighed_of : (l : Challenged) (client_final : List ℕ) (o : Opening) (p : ClientFinalParts) (d : Due)
-    → IsOpening l.entry l.client_first l.server_first o → IsClientFinal client_final p → IsDueToParts l client_final d → IsWeighed l o p d
+    → IsOpening l.entry l.client_first l.server_first o → IsClientFinal client_final p → IsDueToParts l client_final d → IsVerdictOn l o p d
 weighed_of l client_final o p d is_opening is_final due =
-    subst (λ (q : ClientFinalParts). IsWeighed l o q d) (client_final_once client_final due.final p due.is_final is_final)
-    (subst (λ (q : Opening). IsWeighed l q due.final d)
+    subst (λ (q : ClientFinalParts). IsVerdictOn l o q d) (client_final_once client_final due.final p due.is_final is_final)
+    (subst (λ (q : Opening). IsVerdictOn l q due.final d)
     (same_opening l.entry l.client_first l.server_first due.opening o due.is_opening is_opening) due.weighed)
 
+-- the law: at most one verdict is due
 pub at_most_one : AtMostOneIsDue
 at_most_one l client_final d other (inl none) (inl also) = none.1 ∙ sym also.1
 at_most_one l client_final d other (inl none) (inr also) = absurd (none.0 also.final also.is_final)
@@ -78,7 +81,7 @@ valid_of l client_final server_final signature (inl none) authentic = absurd
 valid_of l client_final server_final signature (inr due) authentic =
     let (mandatory, (nonce, (channel, (proof, (allowed, rest))))) = due.weighed.0 in
     let signed = due.weighed.1 in
-    let keys : signed.0 ≡ proof.0 = some_keys signed.0 proof.0 (sym signed.1 ∙ proof.1) in
+    let keys : signed.0 ≡ proof.0 = same_Some signed.0 proof.0 (sym signed.1 ∙ proof.1) in
     record {
       opening = due.opening;
       final = due.final;
@@ -96,6 +99,7 @@ valid_of l client_final server_final signature (inr due) authentic =
           (auth_message due.opening.first l.server_first due.final)) keys) authentic;
     }
 
+-- the law: acceptance is due exactly to a valid login
 pub accepts_exactly_valid : AcceptsExactlyValid
 accepts_exactly_valid l client_final server_final = (
   (λ (signature, due, authentic). valid_of l client_final server_final signature due authentic),
@@ -106,6 +110,7 @@ accepts_exactly_valid l client_final server_final = (
   ),
 )
 
+-- a verdict that refuses is not the one that accepts
 refused_is_not_accepted : (r : Refusal) → verdict.Refused r ≡ verdict.Accepted → ⊥
 refused_is_not_accepted r same = cc
 

@@ -6,7 +6,7 @@ ghost use Rattle.scram_text.specs.Messages.{ClientFirstParts, bare_text, ServerF
 ghost use Rattle.scram_text.specs.Shown.{ShowsServerFirst};
 ghost use Rattle.scram_text.specs.Appended.{UnchangedOnErr, LacksRoom};
 ghost use Rattle.scram_ends.specs.Stages.{Started, answered};
-ghost use Rattle.scram_ends.specs.Auth.{auth_to_challenge, proof_of, signature_of};
+ghost use Rattle.scram_ends.specs.Auth.{auth_to_challenge, proof_of, expected_signature};
 ghost use Rattle.scram_ends.specs.Honest.{IsHonest};
 ghost use Rattle.scram_ends.specs.Client.{IsStarted, IsAnswerable, IsExpecting, IsChallengeFault, HasAnswered, IfSpent, IfBack};
 
@@ -21,9 +21,9 @@ impl ClientOne {
     /// the proof of `password` to `out`, at most 1592 bytes. Where nothing is wrong with the challenge,
     /// this takes time in proportion to its iteration count.
     ///
-    /// Spent has the first of these: 24 for a text that is no server-first message, 25 for a mandatory one,
-    /// 26 for a nonce that does not begin with the client's, 27 for one that is the client's, and 28 for a
-    /// count outside the limits. Back has 99 NoMemory, only where `out` had no room reserved for the
+    /// Spent has the first of these: 24 for a text that is no server-first message, 25 for one that asks for a mandatory
+    /// extension, 26 for a nonce that does not begin with the client's, 27 for one that is the client's with nothing added,
+    /// and 28 for a count outside the limits. Back has 99 NoMemory, only where `out` had no room reserved for the
     /// message. After both `out` is unchanged.
     pub fn first<A: Allocator>(
         self,
@@ -125,7 +125,7 @@ impl ClientOne {
             → result.proof.items ≡ proof_of self.now.mechanism password.now challenge.now.salt
             challenge.now.count (auth_to_challenge first server_first.now ++ client_final_without_proof.now) }
         ensures expected { (first : ClientFirstParts) → self.now.bare.items ≡ bare_text first
-            → result.expected.items ≡ signature_of self.now.mechanism password.now challenge.now.salt
+            → result.expected.items ≡ expected_signature self.now.mechanism password.now challenge.now.salt
             challenge.now.count (auth_to_challenge first server_first.now ++ client_final_without_proof.now) }
         ensures len { length result.proof.items ≡ length_by self.now.mechanism }
         ensures bytes { (i : ℕ) → slice_index result.proof.items i < 256 }

@@ -11,8 +11,8 @@ impl ClientTwo {
     /// Checks that `server_final` shows that the server has the keys of the client's password (RFC 5802,
     /// section 5): it is a server-final message, which may have extensions, and its verifier is the
     /// server signature of the three messages before it. Else the fault is the first of these: 24 for a
-    /// text that is no server-final message, 25 for a mandatory one, 29 for an error and 30 for another
-    /// verifier.
+    /// text that is no server-final message, 25 for one that asks for a mandatory extension, 29 for an
+    /// error and 30 for another verifier.
     pub fn last(self, server_final: &[u8]) -> Result<Authenticated, ClientFault>
         ensures ok { OnOk result ((l : Answered) (x : IsExpecting self l)
             → IsAuthentic server_final.now x.signature) }
@@ -28,6 +28,7 @@ impl ClientTwo {
         match last.result {
             FinalResult::ErrorValue(_) => Err(ClientFault::ServerRefused),
             FinalResult::Verifier(signature) => {
+                // Not in constant time: the signature is good for this login alone, which ends here.
                 if signature.as_slice() == self.expected.as_slice() {
                     Ok(Authenticated)
                 } else {

@@ -1,4 +1,5 @@
-//! The text of each fault of both ends, which says what is wrong and what to do about it.
+//! The text of each fault of both ends, which says what is wrong and what to do about it; and the numbers of the client's, by
+//! docs/REFUSALS.md.
 use super::*;
 use scram_ends::ClientFault;
 
@@ -45,33 +46,44 @@ fn texts_of_first_faults(rt: HostRuntime) -> Result<(), Fail> {
 #[test]
 fn texts_of_client_faults(rt: HostRuntime) -> Result<(), Fail> {
     let alloc = rt.alloc();
-    for (fault, text) in [
+    for (fault, number, text) in [
         (
             ClientFault::Text(no_name()),
+            24,
             "no message of the server's: part 2: the name is not `n=` and a name: write `,` as `=2C` and `=` as `=3D`",
         ),
         (
             ClientFault::Mandatory,
+            25,
             "the server asks for an extension that is not known here",
         ),
         (
             ClientFault::NonceNotMine,
+            26,
             "the nonce does not begin with the client's own: another login's challenge",
         ),
         (
             ClientFault::NonceNotLonger,
+            27,
             "the nonce has no part of the server's",
         ),
         (
             ClientFault::CountOutside,
+            28,
             "the iteration count is outside the client's limits",
         ),
-        (ClientFault::ServerRefused, "the server refuses the login"),
+        (
+            ClientFault::ServerRefused,
+            29,
+            "the server refuses the login",
+        ),
         (
             ClientFault::WrongSignature,
+            30,
             "the signature is wrong: the other end does not have the account's keys",
         ),
     ] {
+        assert_eq!(rt; fault.number(), number, "{text}");
         check_words(&rt, alloc, &fault, text)?;
     }
     Ok(())

@@ -1,3 +1,4 @@
+//! The name of a client-first message, why a message has none, and the numbers of the server's faults.
 use super::*;
 
 #[test]

@@ -1,3 +1,4 @@
+//! Recorded logins: those that other software made, records that are refused, and challenges that no server here writes.
 use super::exchanges::EXCHANGES;
 use super::*;
 

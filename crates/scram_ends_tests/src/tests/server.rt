@@ -1,3 +1,4 @@
+//! The server's end: published logins, what each refusal is due to, and memory that is refused.
 ghost use Rattle.std.specs.Prelude.{◌≤◌};
 
 use super::*;

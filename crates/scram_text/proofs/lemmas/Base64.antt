@@ -15,7 +15,8 @@ use Rattle.base64.proofs.EngineFacts.{decode_of-encode_of, decode_of_strict}
 use Rattle.base64.proofs.RoundTrip.{length-encode_symbols}
 use Rattle.scram_text.specs.Class.{is_comma}
 use Rattle.scram_text.specs.Name.{LacksComma}
-use Rattle.scram_text.specs.Base64Field.{base64, reading, IsField, HasUsualBase64}
+use Rattle.scram_text.specs.Base64Field.{base64, reading, IsField}
+use Rattle.scram_text.specs.Laws.{HasUsualBase64}
 use Rattle.scram_text.specs.Parts.{SpellsField}
 use Rattle.scram_text.proofs.lemmas.Parts.{both}
 
@@ -30,6 +31,7 @@ symbol_lacks (c ∷ symbols) (suc k) h =
 abbrev table : List ℕ
 table = standard.encode_table
 
+-- no symbol of base64, no text of bytes in it and no padding has a comma:
 standard_symbol : (k : ℕ) → not (is_comma (slice_index table k)) ≡ true
 standard_symbol k = symbol_lacks table k refl
 
@@ -46,7 +48,7 @@ padding_lacks : (n : ℕ) → LacksComma (replicate n 61)
 padding_lacks zero = refl
 padding_lacks (suc n) = padding_lacks n
 
--- no text of the engine has a comma
+-- the base64 of bytes has no comma
 pub base64_lacks : (bytes : List ℕ) → LacksComma (base64 bytes)
 unfolding base64
 base64_lacks bytes =
@@ -56,6 +58,7 @@ base64_lacks bytes =
       padding_lacks (padding_len (length bytes)),
     ) refl
 
+-- a text of base64 with its padding has four characters for each three bytes, or part of three:
 padded_length : (n : ℕ) → unpadded_len n + padding_len n ≡ 4 * ((n + 2) / 3)
 padded_length n = omega arith
 
@@ -75,8 +78,9 @@ pub base64_read : (text bytes : List ℕ) → IsBytes text → reading text ≡ 
 unfolding reading base64
 base64_read text bytes fits read = decode_of_strict standard text bytes (refl, refl) fits read
 
-pub usual_base64_lem : HasUsualBase64
-usual_base64_lem bytes fits least most =
+-- the law: base64 has its usual form
+pub has_usual_base64 : HasUsualBase64
+has_usual_base64 bytes fits least most =
     (record { spelled = refl; back = base64_back bytes fits; no_comma = base64_lacks bytes }, length-base64 bytes)
 
 -- what was decoded to 1 to `most` bytes is a field
@@ -105,6 +109,7 @@ field_read most text bytes read (spelt, spelled, field) =
     let same : spelt ≡ bytes = cc (also, read) in
     subst (IsField most) same field
 
+-- a text that is not decoded is no field
 pub field_error : (most : ℕ) (text : List ℕ) (e : DecodeError) → decode_of standard text ≡ Err e → SpellsField most text → ⊥
 unfolding reading
 field_error most text e read (spelt, spelled, field) =

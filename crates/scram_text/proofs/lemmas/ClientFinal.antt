@@ -9,7 +9,8 @@ use Rattle.scram_text.specs.Class.{IsNonce}
 use Rattle.scram_text.specs.Base64Field.{base64, IsField}
 use Rattle.scram_text.specs.Parts.{parts, joined, AreExtensions}
 use Rattle.scram_text.specs.Messages.{ClientFinalParts, client_final_without_proof, client_final_text, IsClientFinal}
-use Rattle.scram_text.specs.Faults.{Fits, fault, places, IsExtensionMisfit, IsPartFault, IsClientFinalFault}
+use Rattle.scram_text.specs.Faults.{Fits, fault, places, IsPartFault, IsClientFinalFault}
+use Rattle.scram_text.specs.Pieces.{IsExtensionMisfit}
 use Rattle.scram_text.specs.Shown.{ShowsClientFinal}
 use Rattle.scram_text.specs.declared.client_final.ClientFinal.{ClientFinal}
 use Rattle.scram_text.specs.declared.fault.TextFault.{TextFault}
@@ -31,7 +32,7 @@ front_parts p channel nonce extensions =
     parts-joined (codes "c=" ++ base64 p.channel) ((codes "r=" ++ p.nonce) ∷ p.extensions)
     (channel.field.no_comma, (nonce_lacks longest_nonce p.nonce nonce, extensions_lack p.extensions extensions))
 
--- a message is cut into its parts
+-- a client-final message is cut into its parts
 pub parts_final : (text : List ℕ) (p : ClientFinalParts) → IsClientFinal text p → parts text ≡ final_parts p
 unfolding client_final_text
 parts_final text p is =
@@ -41,11 +42,12 @@ parts_final text p is =
       parts_whole (codes "p=" ++ base64 p.proof) is.proof.field.no_comma,
     ) refl)
 
+-- client-final messages with the same parts are the same
 parts_once : (p q : ClientFinalParts) → p.channel ≡ q.channel → p.nonce ≡ q.nonce → p.extensions ≡ q.extensions → p.proof ≡ q.proof → p ≡ q
 parts_once p q channel nonce extensions proof =
     λ i. record { channel = channel i; nonce = nonce i; extensions = extensions i; proof = proof i }
 
--- a text is a message with one list of parts
+-- a text is client-final with one list of parts
 pub client_final_once : (text : List ℕ) (p q : ClientFinalParts) → IsClientFinal text p → IsClientFinal text q → p ≡ q
 client_final_once text p q is also =
     let same : final_parts p ≡ final_parts q = sym (parts_final text p is) ∙ parts_final text q also in
@@ -58,13 +60,14 @@ client_final_once text p q is also =
     let proof = field_once 64 p.proof q.proof is.proof also.proof proofs in
     parts_once p q channel nonces ends.0 proof
 
--- the places of as many parts as these
+-- the places of client-final's parts are Channel, Nonce, one Extension for each of those, and Proof
 pub final_places : (channel nonce proof : List ℕ) (extensions : List (List ℕ))
     → places (Channel ∷ Nonce ∷ []) (Proof ∷ []) (length (channel ∷ nonce ∷ (extensions ++ proof ∷ [])))
     ≡ Channel ∷ Nonce ∷ (replicate (length extensions) Extension ++ Proof ∷ [])
 final_places channel nonce proof extensions =
     places_of (Channel ∷ Nonce ∷ []) (Proof ∷ []) _ (length extensions) (omega (arith, length-append extensions (proof ∷ [])))
 
+-- where the channel field, the nonce and the proof of client-final fit, and the parts between are extensions, all fit their places
 final_fit : (channel nonce proof : List ℕ) (extensions : List (List ℕ))
     → Fits longest_nonce Channel channel → Fits longest_nonce Nonce nonce → AreExtensions extensions → Fits longest_nonce Proof proof
     → AllFit longest_nonce (places (Channel ∷ Nonce ∷ []) (Proof ∷ []) (length (channel ∷ nonce ∷ (extensions ++ proof ∷ []))))
@@ -75,7 +78,7 @@ final_fit channel nonce proof extensions is_channel is_nonce are is_proof =
     (fit_after longest_nonce (Proof ∷ []) extensions (proof ∷ []) are
     (fits_cons longest_nonce Proof [] proof [] is_proof (fits_end longest_nonce [])))))
 
--- the parts of a message fit their places
+-- the parts of a client-final message fit their places
 pub client_final_fit : (p : ClientFinalParts) → IsField longest_channel p.channel → IsNonce longest_nonce p.nonce
     → AreExtensions p.extensions → IsField 64 p.proof
     → AllFit longest_nonce (places (Channel ∷ Nonce ∷ []) (Proof ∷ []) (length (final_parts p))) (final_parts p)
@@ -83,14 +86,14 @@ client_final_fit p channel nonce extensions proof =
     final_fit _ _ _ p.extensions (field_fits 99 longest_channel _ p.channel refl channel) (p.nonce, refl, nonce) extensions
     (field_fits 112 64 _ p.proof refl proof)
 
--- a message has no fault
+-- a client-final message has no fault
 pub client_final_no_fault : (text : List ℕ) (p : ClientFinalParts) (f : TextFault) → IsClientFinal text p → IsClientFinalFault text f → ⊥
 client_final_no_fault text p f is =
     no_fault longest_nonce (Channel ∷ Nonce ∷ []) (Proof ∷ []) text (final_parts p) f is.short is.is_text (parts_final text p is)
     (omega (arith, length-append p.extensions ((codes "p=" ++ base64 p.proof) ∷ [])))
     (client_final_fit p is.channel is.nonce is.extensions is.proof)
 
--- the texts that the pieces make
+-- client-final's pieces make the text before its proof, and the whole text
 pub client_final_spelled : (text front last channel_part nonce_part : List ℕ) (p : ClientFinalParts)
     → text ≡ front ++ 44 ∷ last → parts front ≡ channel_part ∷ nonce_part ∷ p.extensions
     → channel_part ≡ codes "c=" ++ base64 p.channel → nonce_part ≡ codes "r=" ++ p.nonce → last ≡ codes "p=" ++ base64 p.proof
@@ -102,7 +105,7 @@ client_final_spelled text front last channel_part nonce_part p whole cut is_chan
     let front_is : front ≡ client_final_without_proof p = sym (join_with_byte-slice_split 44 front) ∙ ap joined (cut ∙ pieces) in
     (front_is, rw (whole, front_is, is_proof) refl)
 
--- the parts that were found are all that a text can have
+-- the parts that were read of client-final are all that the text can have
 pub client_final_only : (text : List ℕ) (r : Result ClientFinal TextFault)
     → IfOk r (λ m. (p : ClientFinalParts) × IsClientFinal text p × ShowsClientFinal m p) → IfErr r (λ f. IsClientFinalFault text f)
     → (p : ClientFinalParts) → IsClientFinal text p → IsOkAnd r (λ m. ShowsClientFinal m p)
@@ -110,7 +113,7 @@ client_final_only text (Ok m) found fault p is =
     subst (λ (q : ClientFinalParts). ShowsClientFinal m q) (client_final_once text found.0 p found.1 is) found.2
 client_final_only text (Err f) found fault p is = client_final_no_fault text p f is fault
 
--- the faults of the parts, from the left
+-- the first part of client-final that does not fit is a fault of the parts: Channel, Nonce, an extension or Proof:
 pub channel_fault : (channel nonce proof : List ℕ) (extensions : List (List ℕ)) → (Fits longest_nonce Channel channel → ⊥)
     → IsPartFault longest_nonce (Channel ∷ Nonce ∷ []) (Proof ∷ []) (channel ∷ nonce ∷ (extensions ++ proof ∷ [])) (fault 0 Channel)
 channel_fault channel nonce proof extensions no_channel =

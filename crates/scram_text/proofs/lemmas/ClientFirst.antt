@@ -12,9 +12,10 @@ use Rattle.std.proofs.lemmas.List.Splits.{join_with_byte-slice_split}
 use Rattle.scram_text.specs.Limits.{longest_message, longest_nonce_part}
 use Rattle.scram_text.specs.Class.{is_cb_char, IsNonce, IsText}
 use Rattle.scram_text.specs.Name.{LacksComma, IsSaslName}
-use Rattle.scram_text.specs.Parts.{parts, joined, is_flag, is_cb_name, authzid_text, mext_parts, is_headed, IsValue, AreExtensions}
+use Rattle.scram_text.specs.Parts.{parts, joined, is_flag, is_cb_name, authzid_text, mext_parts, is_named, IsValue, AreExtensions}
 use Rattle.scram_text.specs.Messages.{ClientFirstParts, header_text, bare_parts, bare_text, client_first_text, IsClientFirst}
-use Rattle.scram_text.specs.Faults.{Fits, fault, places, IsAuthzid, IsFirstMisfit, IsExtensionMisfit, marked_places, first_of}
+use Rattle.scram_text.specs.Faults.{Fits, fault, places, IsAuthzid, IsFirstMisfit, marked_places, first_of}
+use Rattle.scram_text.specs.Pieces.{IsExtensionMisfit}
 use Rattle.scram_text.specs.Faults.{client_first_places, IsClientFirstFault}
 use Rattle.scram_text.specs.Shown.{ShowsClientFirst}
 use Rattle.scram_text.specs.Pieces.{IsMarked, IsBareMisfit}
@@ -28,10 +29,11 @@ use Rattle.scram_text.proofs.lemmas.Places.{extensions_lack, parts-joined_list, 
 use Rattle.scram_text.proofs.lemmas.Marked.{places-cons, places_front, marked_of, marked_lack, marked_some, marked_once, marked_fit}
 use Rattle.scram_text.proofs.lemmas.Marked.{marked_misfit, marked_length}
 
--- the parts after a mandatory extension
+-- the parts after the mandatory extension, if there is one
 abbrev pub later_parts : ClientFirstParts → List (List ℕ)
 later_parts p = (codes "n=" ++ p.name) ∷ (codes "r=" ++ p.nonce) ∷ p.extensions
 
+-- the name of a channel binding, the flag and the part of the name to act as have no comma:
 cb_name_lacks : (name : List ℕ) → is_cb_name name ≡ true → LacksComma name
 cb_name_lacks name is = class_lacks is_cb_char name refl (both (nat_le 1 (length name)) (list_all is_cb_char name) is).1
 
@@ -57,13 +59,13 @@ parts_bare p mext name nonce extensions =
     (marked_lack p.mext (later_parts p) mext
     (name.no_comma, (nonce_lacks longest_nonce_part p.nonce nonce, extensions_lack p.extensions extensions)))
 
--- a header and what follows it
+-- a header of two parts and what follows it are the parts, with a comma after each, and what follows
 pub regroup : (flag authzid rest : List ℕ) → (flag ++ 44 ∷ (authzid ++ 44 ∷ [])) ++ rest ≡ flag ++ 44 ∷ (authzid ++ 44 ∷ rest)
 regroup flag authzid rest =
     append_assoc flag (44 ∷ (authzid ++ 44 ∷ [])) rest
     ∙ ap (λ (t : List ℕ). flag ++ 44 ∷ t) (append_assoc authzid (44 ∷ []) rest)
 
--- a message is cut into its parts
+-- a client-first message is cut into its parts
 pub parts_client_first : (text : List ℕ) (p : ClientFirstParts) → IsClientFirst text p
     → parts text ≡ p.flag ∷ authzid_text p.authzid ∷ bare_parts p
 unfolding client_first_text header_text
@@ -74,18 +76,20 @@ parts_client_first text p is =
     ∙ ap (λ (ps : List (List ℕ)). p.flag ∷ ps) (parts_front (authzid_text p.authzid) (bare_text p) (authzid_lacks p.authzid is.authzid))
     ∙ ap (λ (ps : List (List ℕ)). p.flag ∷ authzid_text p.authzid ∷ ps) (parts_bare p is.mext is.name is.nonce is.extensions)
 
+-- the name to act as is read from its part in one way
 authzid_once : (one other : Option (List ℕ)) → authzid_text one ≡ authzid_text other → one ≡ other
 authzid_once None None same = refl
 authzid_once None (Some v) same = absurd (cc same)
 authzid_once (Some v) None same = absurd (cc same)
 authzid_once (Some v) (Some w) same = let names : v ≡ w = cc same in ap Some names
 
+-- client-first messages with the same parts are the same
 parts_once : (p q : ClientFirstParts) → p.flag ≡ q.flag → p.authzid ≡ q.authzid → p.mext ≡ q.mext → p.name ≡ q.name → p.nonce ≡ q.nonce
     → p.extensions ≡ q.extensions → p ≡ q
 parts_once p q flag authzid mext name nonce extensions =
     λ i. record { flag = flag i; authzid = authzid i; mext = mext i; name = name i; nonce = nonce i; extensions = extensions i }
 
--- a text is a message with one list of parts
+-- a text is client-first with one list of parts
 pub client_first_once : (text : List ℕ) (p q : ClientFirstParts) → IsClientFirst text p → IsClientFirst text q → p ≡ q
 client_first_once text p q is also =
     let same : p.flag ∷ authzid_text p.authzid ∷ bare_parts p ≡ q.flag ∷ authzid_text q.authzid ∷ bare_parts q =
@@ -100,11 +104,13 @@ client_first_once text p q is also =
     let extensions : p.extensions ≡ q.extensions = cc later in
     parts_once p q flags (authzid_once p.authzid q.authzid authzids) rest.0 names nonces extensions
 
+-- the places of the parts after the header are Name, Nonce and one Extension for each of those
 pub later_places : (name nonce : List ℕ) (extensions : List (List ℕ))
     → places (Name ∷ Nonce ∷ []) [] (length (name ∷ nonce ∷ extensions)) ≡ Name ∷ Nonce ∷ replicate (length extensions) Extension
 later_places name nonce extensions =
     places_front (Name ∷ Nonce ∷ []) (length (name ∷ nonce ∷ extensions)) (length extensions) (omega arith)
 
+-- where the name and the nonce of client-first fit, and the parts after them are extensions, all fit their places
 pub later_fit : (name nonce : List ℕ) (extensions : List (List ℕ)) → Fits longest_nonce_part Name name → Fits longest_nonce_part Nonce nonce
     → AreExtensions extensions
     → AllFit longest_nonce_part (places (Name ∷ Nonce ∷ []) [] (length (name ∷ nonce ∷ extensions))) (name ∷ nonce ∷ extensions)
@@ -122,11 +128,12 @@ header_places later n =
 -- a mandatory extension is one more place
 pub marked_count : (pieces : List (List ℕ)) (later : List TextWhy)
     → length (marked_places pieces later) ≡ length (marked_places pieces []) + length later
-marked_count pieces later = elim (cases_Bool (is_headed 109 (first_of pieces))) [
+marked_count pieces later = elim (cases_Bool (is_named 109 (first_of pieces))) [
   | inl hit ↦ rw hit (omega arith)
   | inr miss ↦ rw miss (omega arith)
 ]
 
+-- where the flag, the name to act as and the parts of the bare message fit their places, all parts of client-first do
 pub header_fit : (flag authzid : List ℕ) (bare : List (List ℕ)) → Fits longest_nonce_part Flag flag
     → Fits longest_nonce_part Authzid authzid
     → AllFit longest_nonce_part (places (marked_places bare (Name ∷ Nonce ∷ [])) [] (length bare)) bare
@@ -137,10 +144,11 @@ header_fit flag authzid bare is_flag is_authzid fit =
     (sym (header_places (marked_places bare (Name ∷ Nonce ∷ [])) (length bare)))
     (fits_cons longest_nonce_part Flag _ flag _ is_flag (fits_cons longest_nonce_part Authzid _ authzid _ is_authzid fit))
 
--- a bare message, and whether it begins with a mandatory extension
+-- the bare message has a mandatory extension at its beginning, where it has one
 pub bare_marked : (p : ClientFirstParts) → IfSome p.mext IsValue → IsMarked (bare_parts p) (later_parts p) p.mext
 bare_marked p mext = marked_of p.mext (codes "n=" ++ p.name) _ refl mext
 
+-- the parts of a bare message fit their places
 pub bare_fit : (p : ClientFirstParts) → IfSome p.mext IsValue → IsSaslName p.name → IsNonce longest_nonce_part p.nonce
     → AreExtensions p.extensions
     → AllFit longest_nonce_part (places (marked_places (bare_parts p) (Name ∷ Nonce ∷ [])) [] (length (bare_parts p))) (bare_parts p)
@@ -148,7 +156,7 @@ bare_fit p mext name nonce extensions =
     marked_fit longest_nonce_part (Name ∷ Nonce ∷ []) (bare_parts p) (later_parts p) p.mext (bare_marked p mext)
     (later_fit (codes "n=" ++ p.name) (codes "r=" ++ p.nonce) p.extensions (p.name, refl, name) (p.nonce, refl, nonce) extensions)
 
--- a message has no fault
+-- a client-first message has no fault
 pub client_first_no_fault : (text : List ℕ) (p : ClientFirstParts) (f : TextFault) → IsClientFirst text p → IsClientFirstFault text f → ⊥
 client_first_no_fault text p f is =
     let lengths = marked_length (Name ∷ Nonce ∷ []) (bare_parts p) (later_parts p) p.mext (bare_marked p is.mext) in
@@ -158,7 +166,7 @@ client_first_no_fault text p f is =
     (header_fit p.flag (authzid_text p.authzid) (bare_parts p) is.flag (p.authzid, refl, is.authzid)
     (bare_fit p is.mext is.name is.nonce is.extensions))
 
--- the parts that were found are all that a text can have
+-- the parts that were read of client-first are all that the text can have
 pub client_first_only : (text : List ℕ) (r : Result ClientFirst TextFault)
     → IfOk r (λ m. (p : ClientFirstParts) × IsClientFirst text p × ShowsClientFirst m p) → IfErr r (λ f. IsClientFirstFault text f)
     → (p : ClientFirstParts) → IsClientFirst text p → IsOkAnd r (λ m. ShowsClientFirst m p)
@@ -181,7 +189,7 @@ header_fault text flag authzid bare f short is_text cut enough misfit =
           (sym (header_places (marked_places bare (Name ∷ Nonce ∷ [])) (length bare))) misfit,
     ))
 
--- the faults of the parts, from the left
+-- the first part of client-first that does not fit is a fault of the text: the flag, the name to act as, or one of the bare message:
 pub flag_fault : (text flag authzid : List ℕ) (bare : List (List ℕ)) → length text ≤ longest_message → IsText text
     → parts text ≡ flag ∷ authzid ∷ bare
     → length (marked_places bare []) + 2 ≤ length bare → is_flag flag ≡ false → IsClientFirstFault text (fault 0 Flag)
@@ -216,6 +224,7 @@ later_misfit pieces name nonce extensions mext k f marked at misfit =
     marked_misfit longest_nonce_part 2 k (Name ∷ Nonce ∷ []) pieces (name ∷ nonce ∷ extensions) mext f marked at
     (rw (later_places name nonce extensions) misfit)
 
+-- the first part of a bare message that does not fit, after its mandatory extension, is the name, the nonce or an extension:
 pub name_misfit : (pieces : List (List ℕ)) (name nonce : List ℕ) (extensions : List (List ℕ)) (mext : Option (List ℕ)) (k : ℕ)
     → IsMarked pieces (name ∷ nonce ∷ extensions) mext → k ≡ 2 + length (mext_parts mext) → (Fits longest_nonce_part Name name → ⊥)
     → IsBareMisfit pieces (fault k Name)
@@ -240,14 +249,14 @@ extension_misfit pieces name nonce extensions mext k f marked at is_name is_nonc
     (misfit_later longest_nonce_part k Name _ name _ f is_name (misfit_later longest_nonce_part (k + 1) Nonce _ nonce _ f is_nonce
     (misfit_at longest_nonce_part (k + 2) (k + 1 + 1) _ _ f (omega arith) (misfit longest_nonce_part))))
 
--- the parts that a bare message's pieces make
+-- the pieces of a bare message, with their letters, are its parts
 pub bare_cut : (pieces : List (List ℕ)) (name nonce : List ℕ) (p : ClientFirstParts) → IsMarked pieces (name ∷ nonce ∷ p.extensions) p.mext
     → name ≡ codes "n=" ++ p.name → nonce ≡ codes "r=" ++ p.nonce → pieces ≡ bare_parts p
 bare_cut pieces name nonce p marked is_name is_nonce =
     let later : name ∷ nonce ∷ p.extensions ≡ later_parts p = cc (is_name, is_nonce) in
     marked.cut ∙ ap (λ (ps : List (List ℕ)). mext_parts p.mext ++ ps) later
 
--- the texts that the pieces make
+-- the pieces of client-first make the header, the bare message and the whole text
 pub client_first_spelled : (text header flag authzid bare : List ℕ) (p : ClientFirstParts) → text ≡ header ++ bare
     → header ≡ flag ++ 44 ∷ (authzid ++ 44 ∷ []) → flag ≡ p.flag → authzid ≡ authzid_text p.authzid → parts bare ≡ bare_parts p
     → (header ≡ header_text p) × (bare ≡ bare_text p) × (text ≡ client_first_text p)

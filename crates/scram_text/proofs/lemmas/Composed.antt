@@ -17,7 +17,8 @@ use Rattle.scram_text.specs.Messages.{verified, failed, verifier_or_error_text, 
 use Rattle.scram_text.specs.Shown.{flag_text}
 use Rattle.scram_text.specs.Draft.{after_comma}
 use Rattle.scram_text.specs.Written.{extension_parts, client_first_of, CanBeClientFirst, server_first_of, CanBeServerFirst, client_final_of}
-use Rattle.scram_text.specs.Written.{CanBeClientFinal, CanBeWithoutProof, IsWithoutProof, server_final_of, CanBeTold, CanBeServerFinal}
+use Rattle.scram_text.specs.Written.{CanBeClientFinal, CanBeClientFinalWithoutProof, IsClientFinalWithoutProof, server_final_of, CanBeVerifierOrError}
+use Rattle.scram_text.specs.Written.{CanBeServerFinal}
 use Rattle.scram_text.specs.declared.client_first.Flag.{Flag}
 use Rattle.scram_text.specs.declared.client_final.ClientFinalWithoutProof.{ClientFinalWithoutProof}
 use Rattle.scram_text.specs.declared.client_first.Flag.TheVariants.{NoBinding, NotOffered, Binding}
@@ -26,6 +27,7 @@ use Rattle.scram_text.proofs.lemmas.Names.{spelling_saslname}
 use Rattle.scram_text.proofs.lemmas.Texts.{text_nil, cb_name_text, text-append, plain_text, nonce_text, spelling_text, count_text}
 use Rattle.scram_text.proofs.lemmas.Texts.{base64_text}
 
+-- texts joined by commas are the first, a comma and the others joined
 pub joined_cons : (piece : List ℕ) (pieces : List (List ℕ)) → 1 ≤ length pieces → joined (piece ∷ pieces) ≡ piece ++ 44 ∷ joined pieces
 joined_cons piece [] some = absurd (omega (arith, some))
 joined_cons piece (next ∷ pieces) some = refl
@@ -37,15 +39,18 @@ joined_after piece (c ∷ text) =
     joined_cons piece (parts (c ∷ text)) (omega (arith, parts_count (c ∷ text)))
     ∙ ap (λ (t : List ℕ). piece ++ 44 ∷ t) (join_with_byte-slice_split 44 (c ∷ text))
 
+-- a comma and extensions that are a text are a text
 after_text : (extensions : List ℕ) → IsText extensions → IsText (after_comma extensions)
 after_text [] is = is
 after_text (c ∷ text) is = text-append (44 ∷ []) (c ∷ text) (plain_text (44 ∷ []) refl) is
 
--- client-final
+-- Client-final.
 
+-- pieces joined one after another are one text, however they are grouped
 flat_without_proof : (a b c n e : List ℕ) → (((a ++ b) ++ c) ++ n) ++ e ≡ (a ++ b) ++ (c ++ (n ++ e))
 flat_without_proof a b c n e = simp append_assoc
 
+-- what is written before the proof is client-final before its proof
 pub without_proof_composed : (channel nonce extensions proof : List ℕ)
     → (((codes "c=" ++ base64 channel) ++ codes ",r=") ++ nonce) ++ after_comma extensions
     ≡ client_final_without_proof (client_final_of channel nonce extensions proof)
@@ -54,7 +59,8 @@ without_proof_composed channel nonce extensions proof =
     flat_without_proof (codes "c=") (base64 channel) (codes ",r=") nonce (after_comma extensions)
     ∙ ap (λ (t : List ℕ). (codes "c=" ++ base64 channel) ++ 44 ∷ t) (sym (joined_after (codes "r=" ++ nonce) extensions))
 
-pub without_proof_text : (channel nonce extensions proof : List ℕ) → IsBytes channel → CanBeWithoutProof channel nonce extensions
+-- client-final before its proof is a text
+pub without_proof_text : (channel nonce extensions proof : List ℕ) → IsBytes channel → CanBeClientFinalWithoutProof channel nonce extensions
     → IsText (client_final_without_proof (client_final_of channel nonce extensions proof))
 without_proof_text channel nonce extensions proof bytes can =
     let lead = text-append (codes "c=") (base64 channel) (plain_text (codes "c=") refl) (base64_text channel bytes) in
@@ -63,21 +69,25 @@ without_proof_text channel nonce extensions proof bytes can =
     subst IsText (without_proof_composed channel nonce extensions proof)
     (text-append _ (after_comma extensions) middle (after_text extensions can.extensions_class.is_text))
 
--- the proof follows the text before it
+-- The proof follows the text before it.
 
+-- client-final before its proof, `,p=` and the proof are client-final
 pub with_proof_composed : (p : ClientFinalParts) (front proof : List ℕ) → front ≡ client_final_without_proof p → p.proof ≡ proof
     → (front ++ codes ",p=") ++ base64 proof ≡ client_final_text p
 unfolding client_final_text
 with_proof_composed p front proof held same =
     append_assoc front (codes ",p=") (base64 proof) ∙ (λ i. held i ++ (codes ",p=" ++ base64 (sym same i)))
 
+-- client-final is a text, where it is one before its proof
 with_proof_text : (p : ClientFinalParts) → IsText (client_final_without_proof p) → IsBytes p.proof → IsText (client_final_text p)
 unfolding client_final_text
 with_proof_text p front bytes =
     text-append (client_final_without_proof p) (codes ",p=" ++ base64 p.proof) front
     (text-append (codes ",p=") (base64 p.proof) (plain_text (codes ",p=") refl) (base64_text p.proof bytes))
 
-pub with_proof_related : (w : ClientFinalWithoutProof) (p : ClientFinalParts) (proof : List ℕ) → IsWithoutProof w p → p.proof ≡ proof
+-- client-final with its proof is one, where it is within the limit
+pub with_proof_related : (w : ClientFinalWithoutProof) (p : ClientFinalParts) (proof : List ℕ) → IsClientFinalWithoutProof w p
+    → p.proof ≡ proof
     → IsBytes proof → IsField 64 proof → length (client_final_text p) ≤ longest_message → IsClientFinal (client_final_text p) p
 with_proof_related w p proof is same bytes field short = record {
   spelled = refl;
@@ -101,30 +111,29 @@ with_proof_longer channel nonce extensions proof =
           (44 ∷ (codes "p=" ++ base64 proof)),
     )
 
+-- a client-final message of what can be written is one, where it is within the limit
 pub client_final_related : (channel nonce extensions proof : List ℕ) → IsBytes channel → IsBytes proof
     → CanBeClientFinal channel nonce extensions proof
     → length (client_final_text (client_final_of channel nonce extensions proof)) ≤ longest_message
     → IsClientFinal (client_final_text (client_final_of channel nonce extensions proof)) (client_final_of channel nonce extensions proof)
 client_final_related channel nonce extensions proof channel_bytes proof_bytes can short = record {
   spelled = refl;
-  channel = can.channel_class;
-  nonce = can.nonce_class;
-  extensions = can.extensions_class.each;
+  channel = can.without_proof.channel_class;
+  nonce = can.without_proof.nonce_class;
+  extensions = can.without_proof.extensions_class.each;
   proof = can.proof_class;
   is_text = with_proof_text (client_final_of channel nonce extensions proof)
-      (without_proof_text channel nonce extensions proof channel_bytes (record {
-        channel_class = can.channel_class;
-        nonce_class = can.nonce_class;
-        extensions_class = can.extensions_class;
-      })) proof_bytes;
+      (without_proof_text channel nonce extensions proof channel_bytes can.without_proof) proof_bytes;
   short = short;
 }
 
--- server-first
+-- Server-first.
 
+-- pieces joined one after another are one text, however they are grouped
 flat_server : (a n s v i k e : List ℕ) → (((((a ++ n) ++ s) ++ v) ++ i) ++ k) ++ e ≡ (a ++ n) ++ (s ++ (v ++ (i ++ (k ++ e))))
 flat_server a n s v i k e = simp append_assoc
 
+-- what is written of server-first is its text
 pub server_first_composed : (nonce salt : List ℕ) (count : ℕ) (extensions : List ℕ)
     → (((((codes "r=" ++ nonce) ++ codes ",s=") ++ base64 salt) ++ codes ",i=") ++ decimal count) ++ after_comma extensions
     ≡ server_first_text (server_first_of nonce salt count extensions)
@@ -134,6 +143,7 @@ server_first_composed nonce salt count extensions =
     ∙ ap (λ (t : List ℕ). (codes "r=" ++ nonce) ++ 44 ∷ ((codes "s=" ++ base64 salt) ++ 44 ∷ t))
     (sym (joined_after (codes "i=" ++ decimal count) extensions))
 
+-- a server-first message of what can be written is one, where it is within the limit
 pub server_first_related : (nonce salt : List ℕ) (count : ℕ) (extensions : List ℕ) → IsBytes salt
     → CanBeServerFirst nonce salt count extensions
     → length (server_first_text (server_first_of nonce salt count extensions)) ≤ longest_message
@@ -154,23 +164,27 @@ server_first_related nonce salt count extensions bytes can short =
       short = short;
     }
 
--- server-final
+-- Server-final.
 
+-- what is written of server-final is its text
 pub server_final_composed : (outcome : VerifierOrError) (extensions : List ℕ)
     → verifier_or_error_text outcome ++ after_comma extensions ≡ server_final_text (server_final_of outcome extensions)
 unfolding server_final_text
 server_final_composed outcome extensions = sym (joined_after (verifier_or_error_text outcome) extensions)
 
+-- a signature with its letter, and an error with its, is a text:
 pub signature_text : (signature : List ℕ) → IsBytes signature → IsText (codes "v=" ++ base64 signature)
 signature_text signature bytes = text-append (codes "v=") (base64 signature) (plain_text (codes "v=") refl) (base64_text signature bytes)
 
 pub error_text : (value : List ℕ) → IsText value → IsText (codes "e=" ++ value)
 error_text value is = text-append (codes "e=") value (plain_text (codes "e=") refl) is
 
-told_class : (outcome : VerifierOrError) → CanBeTold outcome → IsVerifierOrError outcome
+-- what can be told is a verifier or an error
+told_class : (outcome : VerifierOrError) → CanBeVerifierOrError outcome → IsVerifierOrError outcome
 told_class (verified signature) can = can
 told_class (failed value) can = can.0
 
+-- a server-final message of what can be written is one, where it is within the limit
 pub server_final_related : (outcome : VerifierOrError) (extensions : List ℕ) → IsText (verifier_or_error_text outcome)
     → CanBeServerFinal outcome extensions → length (server_final_text (server_final_of outcome extensions)) ≤ longest_message
     → IsServerFinal (server_final_text (server_final_of outcome extensions)) (server_final_of outcome extensions)
@@ -183,12 +197,14 @@ server_final_related outcome extensions told can short =
       short = short;
     }
 
--- client-first
+-- Client-first.
 
+-- pieces joined one after another are one text, however they are grouped
 flat_first : (f c a d l n r o e : List ℕ)
     → ((((((f ++ c) ++ a) ++ (d ++ l)) ++ n) ++ r) ++ o) ++ e ≡ (f ++ (c ++ (a ++ d))) ++ ((l ++ n) ++ (r ++ (o ++ e)))
 flat_first f c a d l n r o e = simp append_assoc
 
+-- what is written of client-first is its text
 pub client_first_composed : (flag : Flag) (authzid : Option (List ℕ)) (name nonce extensions : List ℕ)
     → ((((((flag_text flag ++ codes ",") ++ authzid_text (option_map name_spelling authzid)) ++ codes ",n=") ++ name_spelling name)
     ++ codes ",r=") ++ nonce) ++ after_comma extensions
@@ -201,6 +217,7 @@ client_first_composed flag authzid name nonce extensions =
     ++ ((codes "n=" ++ name_spelling name) ++ 44 ∷ t))
     (sym (joined_after (codes "r=" ++ nonce) extensions))
 
+-- the spelling of a plain name to act as is a saslname, and a text with its letter:
 authzid_class : (authzid : Option (List ℕ)) → IfSome authzid IsPlainName → IfSome (option_map name_spelling authzid) IsSaslName
 authzid_class None is = tt
 authzid_class (Some name) is = spelling_saslname name is.at_least
@@ -210,11 +227,13 @@ authzid_is_text None is = text_nil
 authzid_is_text (Some name) is =
     text-append (codes "a=") (name_spelling name) (plain_text (codes "a=") refl) (spelling_text name is.each)
 
+-- a flag is a text
 flag_is_text : (flag : Flag) → is_flag (flag_text flag) ≡ true → IsText (flag_text flag)
 flag_is_text NoBinding is = plain_text (codes "n") refl
 flag_is_text NotOffered is = plain_text (codes "y") refl
 flag_is_text (Binding name) is = text-append (codes "p=") name.now (plain_text (codes "p=") refl) (cb_name_text name.now is)
 
+-- a client-first message of what can be written is one, where it is within the limit
 pub client_first_related : (flag : Flag) (authzid : Option (List ℕ)) (name nonce extensions : List ℕ)
     → IfSome authzid IsPlainName → IsPlainName name → IsNoncePart nonce → CanBeClientFirst flag extensions
     → length (client_first_text (client_first_of flag authzid name nonce extensions)) ≤ longest_message

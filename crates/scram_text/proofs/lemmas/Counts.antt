@@ -1,4 +1,4 @@
--- Counts in decimal.
+-- The decimal of a count has no comma.
 use Rattle.std.proofs.Common.{inl, inr, ℕ, ◌<◌, ◌^◌, List, [], ◌∷◌, arith, refl}
 use Rattle.std.specs.Prelude.{decimal}
 use Rattle.std.specs.Str.Parse.{AllDigits}
@@ -8,9 +8,11 @@ use Rattle.scram_text.specs.Class.{is_comma}
 use Rattle.scram_text.specs.Name.{LacksComma}
 use Rattle.scram_text.specs.Parts.{IsCount}
 
+-- a count is below 2^64
 pub below_64 : (count : ℕ) → IsCount count → count < 2 ^ 64
 below_64 count is = omega (arith, is.at_most)
 
+-- decimal digits have no comma
 digits_lack : (digits : List ℕ) → AllDigits 10 digits → LacksComma digits
 digits_lack [] all = refl
 digits_lack (c ∷ digits) all = elim (cases_Bool (is_comma c)) [
@@ -18,6 +20,6 @@ digits_lack (c ∷ digits) all = elim (cases_Bool (is_comma c)) [
   | inr miss ↦ rw miss (digits_lack digits all.1)
 ]
 
--- a number has no comma
+-- the decimal of a count has no comma
 pub decimal_lacks : (count : ℕ) → IsCount count → LacksComma (decimal count)
 decimal_lacks count is = digits_lack (decimal count) (decimal_is_IsNumeral count (below_64 count is)).0.1

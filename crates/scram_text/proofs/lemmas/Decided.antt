@@ -15,20 +15,23 @@ use Rattle.scram_text.specs.Limits.{longest_channel}
 use Rattle.scram_text.specs.Class.{is_printable, IsRunOf, IsNonce, IsText}
 use Rattle.scram_text.specs.Name.{LacksComma, is_escaped, IsSaslName}
 use Rattle.scram_text.specs.Base64Field.{base64, reading}
-use Rattle.scram_text.specs.Parts.{is_flag, is_attribute, IsHeaded, IsValue, IsCount, SpellsCount, SpellsField, IsExtension}
+use Rattle.scram_text.specs.Parts.{is_flag, IsAttrVal, IsValue, IsCount, SpellsCount, SpellsField, IsExtension}
+use Rattle.scram_text.specs.Pieces.{is_attribute}
 use Rattle.scram_text.specs.Faults.{Fits, IsAuthzid}
 use Rattle.scram_text.specs.declared.fault.TextWhy.{TextWhy}
 use Rattle.scram_text.specs.declared.fault.TextWhy.TheVariants.{TooLong, NotText, Missing, Flag, Authzid, Mandatory, Name, Nonce, Salt}
 use Rattle.scram_text.specs.declared.fault.TextWhy.TheVariants.{Count, Channel, Extension, Proof, Verifier, ErrorValue}
 use Rattle.scram_text.proofs.lemmas.Base64.{base64_lacks}
+use Rattle.scram_text.proofs.lemmas.AttrVals.{extension_iff, extension_lacks}
 use Rattle.scram_text.proofs.lemmas.Counts.{below_64}
 use Rattle.scram_text.proofs.lemmas.Names.{heads}
 use Rattle.scram_text.proofs.lemmas.Places.{AllFit}
 
--- equal heads and equal tails make equal lists
+-- lists with the same first element and the same elements after it are the same
 pub same_cons : (x y : ℕ) (xs ys : List ℕ) → x ≡ y → xs ≡ ys → x ∷ xs ≡ y ∷ ys
 same_cons x y xs ys head tail = cc
 
+-- whether bytes are a run of a class, and a text, is decided:
 pub run_decided : (test : ℕ → Bool) (most : ℕ) (bytes : List ℕ) → Decided (IsRunOf test most bytes)
 run_decided test most bytes =
     decided_by ((1 ≤ length bytes) × ((length bytes ≤ most) × (list_all test bytes ≡ true))) (IsRunOf test most bytes)
@@ -42,6 +45,7 @@ text_decided bytes =
     (λ h. record { utf8 = IsUtf8-from_is_utf8 bytes h.0; no_nul = h.1 }) (λ r. (is_utf8-from_IsUtf8 bytes r.utf8, r.no_nul))
     (decided_both _ _ (decided_test (is_utf8 bytes)) (decided_test _))
 
+-- whether a value, a saslname, an extension or a count is one is decided:
 value_decided : (value : List ℕ) → Decided (IsValue value)
 value_decided value =
     decided_by ((1 ≤ length value) × LacksComma value) (IsValue value)
@@ -57,7 +61,8 @@ saslname_decided spelled =
 extension_decided : (part : List ℕ) → Decided (IsExtension part)
 extension_decided part =
     decided_by (IsTrue (is_attribute part) × LacksComma part) (IsExtension part)
-    (λ h. record { attribute = h.0; no_comma = h.1 }) (λ r. (r.attribute, r.no_comma))
+    (λ (attribute, lacks). (extension_iff part lacks).0 attribute)
+    (λ is. let lacks = extension_lacks part is in ((extension_iff part lacks).1 is, lacks))
     (decided_both _ _ (decided_test _) (decided_test _))
 
 count_decided : (count : ℕ) → Decided (IsCount count)
@@ -66,7 +71,7 @@ count_decided count =
     (λ h. record { at_least = h.0; at_most = h.1 }) (λ r. (r.at_least, r.at_most))
     (decided_both _ _ (decided_le 1 count) (decided_le count 4294967295))
 
--- a text can only be the decimal of the number that its digits make
+-- whether a value spells a count is decided: it can only be the decimal of its digits' number
 spells_count_decided : (value : List ℕ) → Decided (SpellsCount value)
 spells_count_decided value =
     let worth = digits_value 10 value in
@@ -76,7 +81,7 @@ spells_count_decided value =
     (subst (λ (k : ℕ). value ≡ decimal k) (sym same) spelled, subst IsCount (sym same) is))
     (decided_both _ _ (decided_same value (decimal worth)) (count_decided worth))
 
--- a text can only be the base64 of the bytes that it is decoded to
+-- whether a value spells a field is decided: it can only be the base64 of what it is decoded to:
 field_decided_by : (most : ℕ) (value : List ℕ) (r : Result (List ℕ) DecodeError) → reading value ≡ r → Decided (SpellsField most value)
 field_decided_by most value (Err e) read = inr (λ (bytes, spelled, field).
     let also = subst (λ (t : List ℕ). reading t ≡ Ok bytes) (sym spelled) field.field.back in cc (also, read))
@@ -102,13 +107,13 @@ field_decided_by most value (Ok bytes) read =
 spells_field_decided : (most : ℕ) (value : List ℕ) → Decided (SpellsField most value)
 spells_field_decided most value = field_decided_by most value (reading value) refl
 
--- a part with a letter is decided with its value
+-- whether a part is a letter, `=` and a value of a class is decided, where the class is
 headed_decided : (letter : ℕ) (class : List ℕ → Type 0) (part : List ℕ) → ((value : List ℕ) → Decided (class value))
-    → Decided (IsHeaded letter class part)
+    → Decided (IsAttrVal letter class part)
 headed_decided letter class [] each = inr (λ (value, spelled, is). cc spelled)
 headed_decided letter class (a ∷ []) each = inr (λ (value, spelled, is). let none = (heads a letter [] (61 ∷ value) spelled).1 in cc none)
 headed_decided letter class (a ∷ b ∷ value) each =
-    decided_by ((a ≡ letter) × ((b ≡ 61) × class value)) (IsHeaded letter class (a ∷ b ∷ value))
+    decided_by ((a ≡ letter) × ((b ≡ 61) × class value)) (IsAttrVal letter class (a ∷ b ∷ value))
     (λ h. (value, same_cons a letter (b ∷ value) (61 ∷ value) h.0 (same_cons b 61 value value h.1.0 refl), h.1.1))
     (λ (v, spelled, is).
     let first = heads a letter (b ∷ value) (61 ∷ v) spelled in
@@ -116,14 +121,15 @@ headed_decided letter class (a ∷ b ∷ value) each =
     (first.0, (second.0, subst class (sym second.1) is)))
     (decided_both _ _ (decided_nat a letter) (decided_both _ _ (decided_nat b 61) (each value)))
 
-authzid_headed : (a : ℕ) (part : List ℕ) → IsAuthzid (a ∷ part) → IsHeaded 97 IsSaslName (a ∷ part)
+-- a name to act as that is not empty is `a=` and a saslname, and whether a part is one is decided:
+authzid_headed : (a : ℕ) (part : List ℕ) → IsAuthzid (a ∷ part) → IsAttrVal 97 IsSaslName (a ∷ part)
 authzid_headed a part (None, spelled, is) = absurd (cc spelled)
 authzid_headed a part (Some name, spelled, is) = (name, spelled, is)
 
 authzid_decided : (part : List ℕ) → Decided (IsAuthzid part)
 authzid_decided [] = inl (None, refl, tt)
 authzid_decided (a ∷ part) =
-    decided_by (IsHeaded 97 IsSaslName (a ∷ part)) (IsAuthzid (a ∷ part))
+    decided_by (IsAttrVal 97 IsSaslName (a ∷ part)) (IsAuthzid (a ∷ part))
     (λ (spelled, is, class). (Some spelled, is, class)) (authzid_headed a part)
     (headed_decided 97 IsSaslName (a ∷ part) saslname_decided)
 
@@ -152,6 +158,6 @@ all_fit_decided most [] pieces = inl tt
 all_fit_decided most (place ∷ later) [] = inl tt
 all_fit_decided most (place ∷ later) (part ∷ pieces) = decided_both _ _ (fits_decided most place part) (all_fit_decided most later pieces)
 
--- it is decided whether something exists, said in another way
+-- a decided fact that something exists gives it, or excludes it
 pub decided_some : (A : Type 0) (P : A → Type 0) → Decided ((a : A) × P a) → ((a : A) × P a) ⊎ ((a : A) → P a → ⊥)
 decided_some A P d = elim d [ inl there ↦ inl there | inr none ↦ inr (λ a is. none (a, is)) ]

@@ -1,34 +1,36 @@
--- Extensions, from the left.
+-- What holds of the extensions that are left, read from the left, holds of all.
 use Rattle.std.proofs.Common.{◌≡◌, ℕ, ◌+◌, ◌||◌, Bool, true, false, List, ◌∷◌, length, refl, ◌∙◌, arith}
-use Rattle.scram_text.specs.Parts.{IsExtension, AreExtensions, have_mandatory, is_headed}
-use Rattle.scram_text.specs.Faults.{IsExtensionMisfit, fault}
+use Rattle.scram_text.specs.Parts.{IsExtension, AreExtensions, have_mandatory, is_named}
+use Rattle.scram_text.specs.Faults.{fault}
+use Rattle.scram_text.specs.Pieces.{IsExtensionMisfit}
 use Rattle.scram_text.specs.declared.fault.TextFault.{TextFault}
 use Rattle.scram_text.specs.declared.fault.TextWhy.TheVariants.{Extension}
 use Rattle.scram_text.proofs.lemmas.Parts.{misfit_here, misfit_later}
 
--- what holds for the parts that are left, from this index on, holds for all parts
+-- what holds of the extensions from this index on holds of all of them
 pub record Leads (first : ℕ) (all : List (List ℕ)) (index : ℕ) (mandatory : Bool) (left : List (List ℕ)) : Type 0 where
   pub extensions : AreExtensions left → AreExtensions all
   pub is_mandatory : (mandatory || have_mandatory left) ≡ have_mandatory all
   pub misfit : (f : TextFault) → IsExtensionMisfit index left f → IsExtensionMisfit first all f
   pub room : index + length left ≡ first + length all
 
+-- `||` is associative
 or_assoc : (a b c : Bool) → ((a || b) || c) ≡ (a || (b || c))
 or_assoc true b c = refl
 or_assoc false b c = refl
 
--- one more part
+-- what holds from an extension on holds from the next on
 pub Leads-next : (first : ℕ) (all : List (List ℕ)) (index : ℕ) (mandatory : Bool) (part : List ℕ) (left : List (List ℕ))
     → Leads first all index mandatory (part ∷ left) → IsExtension part
-    → Leads first all (index + 1) (mandatory || is_headed 109 part) left
+    → Leads first all (index + 1) (mandatory || is_named 109 part) left
 Leads-next first all index mandatory part left leads fits = record {
   extensions = λ more. leads.extensions (fits, more);
-  is_mandatory = or_assoc mandatory (is_headed 109 part) (have_mandatory left) ∙ leads.is_mandatory;
+  is_mandatory = or_assoc mandatory (is_named 109 part) (have_mandatory left) ∙ leads.is_mandatory;
   misfit = λ f more. leads.misfit f (λ most. misfit_later most index Extension _ part left f fits (more most));
   room = omega (arith, leads.room);
 }
 
--- this part is no extension
+-- where the part at the index is no extension, it is the first of all that is none
 pub Leads-misfit : (first : ℕ) (all : List (List ℕ)) (index : ℕ) (mandatory : Bool) (part : List ℕ) (left : List (List ℕ))
     → Leads first all index mandatory (part ∷ left) → (IsExtension part → ⊥) → IsExtensionMisfit first all (fault index Extension)
 Leads-misfit first all index mandatory part left leads no_fit =

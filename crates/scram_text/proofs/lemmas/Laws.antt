@@ -8,10 +8,11 @@ use Rattle.std.specs.declared.option.Option.{Option}
 use Rattle.std.specs.declared.option.Option.TheVariants.{None, Some}
 use Rattle.std.proofs.Math.Seq.{take-append_seam, drop-append-add, get_or-append_seam}
 use Rattle.std.proofs.lemmas.Str.{IsUtf8-take, IsUtf8-drop, IsCharBoundary-before_ascii, IsCharBoundary-after_ascii}
+use Rattle.std.proofs.lemmas.Bool.{ne_eqb}
 use Rattle.scram_text.specs.Class.{is_comma, is_plain, IsPlainName}
 use Rattle.scram_text.specs.Name.{SpellsName, escape, name_spelling}
 use Rattle.scram_text.specs.Parts.{parts}
-use Rattle.scram_text.proofs.lemmas.Names.{escape_cases, other_than}
+use Rattle.scram_text.proofs.lemmas.Names.{escape_cases}
 use Rattle.scram_text.proofs.lemmas.Parts.{cut_none, cut_text, cut_at, parts_front}
 use Rattle.mac_core.proofs.lemmas.Decided.{Decided, decided_by, decided_both, decided_same}
 use Rattle.scram_text.proofs.lemmas.Decided.{run_decided}
@@ -23,13 +24,14 @@ decoded zero (c ∷ text) = if c == 61 then decoded 1 text else c ∷ decoded 0 
 decoded (suc zero) (c ∷ text) = (if c == 50 then 44 else 61) ∷ decoded 2 text
 decoded (suc (suc k)) (c ∷ text) = decoded 0 text
 
+-- the spelling of a byte, and of a name, is decoded to it:
 decoded-escape : (c : ℕ) (rest : List ℕ) → decoded 0 (escape c ++ rest) ≡ c ∷ decoded 0 rest
 unfolding decoded
 decoded-escape c rest = elim (escape_cases c) [
   | inl p ↦ rw (p.1, p.0) refl
   | inr s ↦ elim s [
     | inl p ↦ rw (p.1, p.0) refl
-    | inr p ↦ rw (p.2, other_than c 61 p.1) refl
+    | inr p ↦ rw (p.2, ne_eqb c 61 p.1) refl
   ]
 ]
 
@@ -38,7 +40,7 @@ unfolding decoded
 decoded-spelling [] = refl
 decoded-spelling (c ∷ name) = decoded-escape c (name_spelling name) ∙ ap (λ (n : List ℕ). c ∷ n) (decoded-spelling name)
 
--- a text can only spell the name that it is decoded to
+-- whether a text spells a plain name, and which, is decided
 pub plain_name_decided : (spelled : List ℕ) → Decided ((name : List ℕ) × IsPlainName name × SpellsName name spelled)
 plain_name_decided spelled =
     let found = decoded 0 spelled in
@@ -49,6 +51,7 @@ plain_name_decided spelled =
     (subst IsPlainName (sym same) plain, subst (λ (n : List ℕ). SpellsName n spelled) (sym same) spells))
     (decided_both _ _ (run_decided is_plain 255 found) (decided_same spelled (name_spelling found)))
 
+-- whether a text spells a plain name, and which, is decided: it gives the name, or excludes all
 pub name_decided : (spelled : List ℕ) → ((name : List ℕ) × IsPlainName name × SpellsName name spelled)
     ⊎ ((name : List ℕ) → IsPlainName name → SpellsName name spelled → ⊥)
 name_decided spelled = elim (plain_name_decided spelled) [
@@ -70,6 +73,7 @@ utf8_pieces front back utf8 =
           (IsCharBoundary-after_ascii (front ++ 44 ∷ back) (length front) utf8 within ascii)),
     )
 
+-- the parts of a text of UTF-8 are UTF-8, each up to a length
 parts_utf8_at : (n : ℕ) (text : List ℕ) (o : Option ℕ) → position is_comma text ≡ o → length text ≤ n → IsUtf8 text
     → AllByRecursion IsUtf8 (parts text)
 parts_utf8_at n text None none short utf8 =
@@ -87,6 +91,6 @@ parts_utf8_at (suc n) text (Some at) some short utf8 =
     subst (λ (ps : List (List ℕ)). AllByRecursion IsUtf8 ps) (sym whole)
     (pieces.0, parts_utf8_at n (drop (at + 1) text) (position is_comma (drop (at + 1) text)) refl shorter pieces.1)
 
--- the parts of UTF-8 are UTF-8
+-- the parts of a text of UTF-8 are UTF-8
 pub parts_utf8 : (text : List ℕ) → IsUtf8 text → AllByRecursion IsUtf8 (parts text)
 parts_utf8 text utf8 = parts_utf8_at (length text) text (position is_comma text) refl (omega arith) utf8

@@ -6,7 +6,7 @@ use Rattle.std.specs.List.{AllByRecursion}
 use Rattle.std.specs.declared.option.Option.{Option}
 use Rattle.std.specs.declared.option.Option.TheVariants.{None, Some}
 use Rattle.scram_text.specs.Name.{LacksComma}
-use Rattle.scram_text.specs.Parts.{is_headed, mext_parts, IsValue, IsHeaded}
+use Rattle.scram_text.specs.Parts.{is_named, mext_parts, IsValue, IsAttrVal}
 use Rattle.scram_text.specs.Faults.{fault, IsFirstMisfit, IsPartFault, places, first_of, marked_places}
 use Rattle.scram_text.specs.Pieces.{IsMarked, IsMextMisfit}
 use Rattle.scram_text.specs.declared.fault.TextFault.{TextFault}
@@ -15,30 +15,30 @@ use Rattle.scram_text.specs.declared.fault.TextWhy.TheVariants.{Mandatory, Exten
 use Rattle.scram_text.proofs.lemmas.Parts.{misfit_here, misfit_later}
 use Rattle.scram_text.proofs.lemmas.Places.{AllFit, fits_cons, places_of}
 
--- one more fixed place and one more part at the front
+-- the places of one more part, with one more fixed place before them, are this place and the others
 pub places-cons : (place : TextWhy) (front back : List TextWhy) (n : ℕ) → places (place ∷ front) back (suc n) ≡ place ∷ places front back n
 places-cons place front back n =
     let same : suc n - (suc (length front) + length back) ≡ n - (length front + length back) = omega arith in rw same refl
 
--- the places of as many parts, where only extensions follow the fixed ones
+-- the places of parts of which only extensions follow the fixed ones are these, and one Extension for each
 pub places_front : (front : List TextWhy) (n middle : ℕ) → n ≡ length front + middle
     → places front [] n ≡ front ++ replicate middle Extension
 places_front front n middle count =
     places_of front [] n middle (omega (arith, count)) ∙ rw (append-nil (replicate middle Extension)) refl
 
--- a mandatory extension that does not fit
-pub mext_misfit : (k : ℕ) (mext : List ℕ) (rest : List (List ℕ)) → is_headed 109 mext ≡ true → (IsHeaded 109 IsValue mext → ⊥)
+-- a mandatory extension whose value does not fit is a misfit
+pub mext_misfit : (k : ℕ) (mext : List ℕ) (rest : List (List ℕ)) → is_named 109 mext ≡ true → (IsAttrVal 109 IsValue mext → ⊥)
     → IsMextMisfit k (mext ∷ rest) (fault k Mandatory)
 mext_misfit k mext rest headed no_fit = λ most later.
     rw (headed, places-cons Mandatory later [] (length rest)) (misfit_here most k Mandatory _ mext rest no_fit)
 
--- a misfit after a mandatory extension
+-- a misfit after the mandatory extension, if there is one, is one of all parts
 pub marked_misfit : (most k j : ℕ) (later : List TextWhy) (pieces rest : List (List ℕ)) (mext : Option (List ℕ)) (f : TextFault)
     → IsMarked pieces rest mext → j ≡ k + length (mext_parts mext) → IsFirstMisfit most (places later [] (length rest)) j rest f
     → IsFirstMisfit most (places (marked_places pieces later) [] (length pieces)) k pieces f
 marked_misfit most k j later pieces rest None f marked at misfit =
     let same : j ≡ k = omega (arith, at) in
-    let headed : is_headed 109 (first_of rest) ≡ false = rw marked.cut at marked.headed in
+    let headed : is_named 109 (first_of rest) ≡ false = rw marked.cut at marked.headed in
     subst (λ (ps : List (List ℕ)). IsFirstMisfit most (places (marked_places ps later) [] (length ps)) k ps f) (sym marked.cut)
     (rw headed (subst (λ (i : ℕ). IsFirstMisfit most (places later [] (length rest)) i rest f) same misfit))
 marked_misfit most k j later pieces rest (Some value) f marked at misfit =
@@ -48,25 +48,26 @@ marked_misfit most k j later pieces rest (Some value) f marked at misfit =
     (misfit_later most k Mandatory _ (codes "m=" ++ value) rest f (value, refl, marked.value)
     (subst (λ (i : ℕ). IsFirstMisfit most (places later [] (length rest)) i rest f) same misfit)))
 
+-- the parts after the mandatory extension, if there is one, that fit their places make all parts fit theirs
 pub marked_fit : (most : ℕ) (later : List TextWhy) (pieces rest : List (List ℕ)) (mext : Option (List ℕ))
     → IsMarked pieces rest mext → AllFit most (places later [] (length rest)) rest
     → AllFit most (places (marked_places pieces later) [] (length pieces)) pieces
 marked_fit most later pieces rest None marked fit =
-    let headed : is_headed 109 (first_of rest) ≡ false = rw marked.cut at marked.headed in
+    let headed : is_named 109 (first_of rest) ≡ false = rw marked.cut at marked.headed in
     subst (λ (ps : List (List ℕ)). AllFit most (places (marked_places ps later) [] (length ps)) ps) (sym marked.cut) (rw headed fit)
 marked_fit most later pieces rest (Some value) marked fit =
     subst (λ (ps : List (List ℕ)). AllFit most (places (marked_places ps later) [] (length ps)) ps) (sym marked.cut)
     (rw (places-cons Mandatory later [] (length rest))
     (fits_cons most Mandatory _ (codes "m=" ++ value) rest (value, refl, marked.value) fit))
 
--- the number of fixed places
+-- the places and the parts of a message are those after its mandatory extension, and one more where it has one
 pub marked_length : (later : List TextWhy) (pieces rest : List (List ℕ)) (mext : Option (List ℕ)) → IsMarked pieces rest mext
     → (length (marked_places pieces later) ≡ length (mext_parts mext) + length later)
     × (length pieces ≡ length (mext_parts mext) + length rest)
 marked_length later pieces rest None marked = (rw marked.headed (omega arith), rw marked.cut (omega arith))
 marked_length later pieces rest (Some value) marked = (rw marked.headed (omega arith), rw marked.cut (omega arith))
 
--- a misfit after a mandatory extension that a message begins with
+-- a misfit after the mandatory extension, if there is one, is a fault of the parts
 pub marked_fault : (most : ℕ) (later : List TextWhy) (pieces rest : List (List ℕ)) (mext : Option (List ℕ)) (f : TextFault)
     → IsMarked pieces rest mext → length later ≤ length rest
     → IsFirstMisfit most (places later [] (length rest)) (length (mext_parts mext)) rest f
@@ -78,8 +79,8 @@ marked_fault most later pieces rest mext f marked enough misfit =
       marked_misfit most 0 (length (mext_parts mext)) later pieces rest mext f marked (omega arith) misfit,
     )
 
--- parts after a mandatory extension, or without one
-pub marked_of : (mext : Option (List ℕ)) (piece : List ℕ) (rest : List (List ℕ)) → is_headed 109 piece ≡ false → IfSome mext IsValue
+-- parts after a mandatory extension, or without one, are marked so, and have no comma where each has none:
+pub marked_of : (mext : Option (List ℕ)) (piece : List ℕ) (rest : List (List ℕ)) → is_named 109 piece ≡ false → IfSome mext IsValue
     → IsMarked (mext_parts mext ++ piece ∷ rest) (piece ∷ rest) mext
 marked_of None piece rest headed value = record { cut = refl; value = value; headed = headed }
 marked_of (Some v) piece rest headed value = record { cut = refl; value = value; headed = refl }
@@ -89,12 +90,13 @@ pub marked_lack : (mext : Option (List ℕ)) (pieces : List (List ℕ)) → IfSo
 marked_lack None pieces value lack = lack
 marked_lack (Some v) pieces value lack = (value.no_comma, lack)
 
+-- a message that may begin with a mandatory extension has a part
 pub marked_some : (mext : Option (List ℕ)) (piece : List ℕ) (rest : List (List ℕ)) → 1 ≤ length (mext_parts mext ++ piece ∷ rest)
 marked_some None piece rest = omega arith
 marked_some (Some v) piece rest = omega arith
 
--- the parts show whether they begin with a mandatory extension
-pub marked_once : (one other : Option (List ℕ)) (a b : List ℕ) (x y : List (List ℕ)) → is_headed 109 a ≡ false → is_headed 109 b ≡ false
+-- parts of which the first after the mandatory extension is none show whether they have one
+pub marked_once : (one other : Option (List ℕ)) (a b : List ℕ) (x y : List (List ℕ)) → is_named 109 a ≡ false → is_named 109 b ≡ false
     → mext_parts one ++ a ∷ x ≡ mext_parts other ++ b ∷ y → (one ≡ other) × (a ∷ x ≡ b ∷ y)
 marked_once None None a b x y ha hb same = (refl, same)
 marked_once None (Some v) a b x y ha hb same =

@@ -10,7 +10,7 @@ use Rattle.scram_text.specs.Limits.{longest_message, longest_nonce, longest_nonc
 use Rattle.scram_text.specs.Class.{IsNonce, IsText}
 use Rattle.scram_text.specs.Name.{IsSaslName}
 use Rattle.scram_text.specs.Base64Field.{base64}
-use Rattle.scram_text.specs.Parts.{parts, joined, is_headed, authzid_text, mext_parts, AreExtensions}
+use Rattle.scram_text.specs.Parts.{parts, joined, is_named, authzid_text, mext_parts, AreExtensions}
 use Rattle.scram_text.specs.Messages.{ClientFirstParts, header_text, bare_text, bare_parts, client_first_text, IsClientFirst}
 use Rattle.scram_text.specs.Messages.{ServerFirstParts, IsServerFirst, ClientFinalParts, client_final_without_proof, client_final_text}
 use Rattle.scram_text.specs.Messages.{IsClientFinal, VerifierOrError, verified, failed, verifier_or_error_text, IsVerifierOrError}
@@ -33,13 +33,13 @@ use Rattle.scram_text.proofs.lemmas.ServerFirst.{is_marked, server_first_fit, se
 use Rattle.scram_text.proofs.lemmas.ClientFinal.{final_parts, parts_final, client_final_fit, final_places}
 use Rattle.scram_text.proofs.lemmas.ServerFinal.{parts_server_final, server_final_fit, outcome_fits, result_places, server_final_spelled}
 
--- the first part fits the first place, and the others theirs
+-- where parts fit their places, the first fits the first place, and the others fit theirs
 fits_first : (most : ℕ) (place : TextWhy) (later : List TextWhy) (part : List ℕ) (pieces : List (List ℕ))
     → AllFit most (place ∷ later) (part ∷ pieces) → Fits most place part × AllFit most later pieces
 unfolding AllFit
 fits_first most place later part pieces fit = fit
 
--- extensions fit, and so do the parts after them
+-- where extensions and parts after them fit their places, the extensions are ones, and the parts fit theirs
 fits_split : (most : ℕ) (later : List TextWhy) (extensions pieces : List (List ℕ))
     → AllFit most (replicate (length extensions) Extension ++ later) (extensions ++ pieces) → AreExtensions extensions
     × AllFit most later pieces
@@ -48,6 +48,7 @@ fits_split most later [] pieces fit = (tt, fit)
 fits_split most later (part ∷ extensions) pieces fit =
     let after = fits_split most later extensions pieces fit.1 in ((fit.0, after.0), after.1)
 
+-- parts that fit the places of extensions are extensions
 fits_extensions : (most : ℕ) (extensions : List (List ℕ)) → AllFit most (replicate (length extensions) Extension) extensions
     → AreExtensions extensions
 unfolding AllFit
@@ -61,6 +62,7 @@ pub record Fitting (most : ℕ) (least : ℕ) (later : List TextWhy) (text : Lis
   pub enough : least ≤ length (parts text)
   pub fit : AllFit most later (parts text)
 
+-- whether a text is a short one with enough parts, all of which fit, is decided
 fitting_decided : (most least : ℕ) (later : List TextWhy) (text : List ℕ) → Decided (Fitting most least later text)
 fitting_decided most least later text =
     decided_by ((length text ≤ longest_message) × (IsText text × ((least ≤ length (parts text)) × AllFit most later (parts text))))
@@ -69,16 +71,18 @@ fitting_decided most least later text =
     (decided_both _ _ (decided_le (length text) longest_message) (decided_both _ _ (text_decided text)
     (decided_both _ _ (decided_le least (length (parts text))) (all_fit_decided most later (parts text)))))
 
--- server-final
+-- Server-final.
 
+-- a first part that fits the place of an outcome is the text of one
 outcome_of_part : (part : List ℕ) → Fits longest_nonce (result_place part) part → (outcome : VerifierOrError)
     × (part ≡ verifier_or_error_text outcome) × IsVerifierOrError outcome
-outcome_of_part part fits = elim (cases_Bool (is_headed 101 part)) [
+outcome_of_part part fits = elim (cases_Bool (is_named 101 part)) [
   | inl hit ↦ let (value, spelled, is) = rw hit at fits in (failed value, spelled, is)
   | inr miss ↦ let (value, spelled, (bytes, is, field)) = rw miss at fits in
       (verified bytes, spelled ∙ ap (λ (v : List ℕ). codes "v=" ++ v) is, field)
 ]
 
+-- a short text whose parts fit those of server-final is one
 server_final_built : (text : List ℕ) (pieces : List (List ℕ)) → parts text ≡ pieces → length text ≤ longest_message → IsText text
     → AllFit longest_nonce (places (server_final_places pieces) [] (length pieces)) pieces → (p : ServerFinalParts) × IsServerFinal text p
 server_final_built text [] cut short is_text fit = absurd (omega (arith, parts_count text, ap length cut))
@@ -97,6 +101,7 @@ server_final_built text (first ∷ extensions) cut short is_text fit =
       },
     )
 
+-- a server-final message is a short text with enough parts, all of which fit
 server_final_fitting : (text : List ℕ) (p : ServerFinalParts) → IsServerFinal text p
     → Fitting longest_nonce 1 (places (server_final_places (parts text)) [] (length (parts text))) text
 server_final_fitting text p is =
@@ -108,6 +113,7 @@ server_final_fitting text p is =
           (server_final_fit (verifier_or_error_text p.outcome) p.extensions (outcome_fits p.outcome is.outcome) is.extensions);
     }
 
+-- whether a text is server-final, and with which parts, is decided
 pub server_final_decided : (text : List ℕ) → Decided ((p : ServerFinalParts) × IsServerFinal text p)
 server_final_decided text =
     decided_by (Fitting longest_nonce 1 (places (server_final_places (parts text)) [] (length (parts text))) text)
@@ -115,7 +121,7 @@ server_final_decided text =
     (λ r. server_final_built text (parts text) refl r.short r.is_text r.fit) (λ (p, is). server_final_fitting text p is)
     (fitting_decided longest_nonce 1 (places (server_final_places (parts text)) [] (length (parts text))) text)
 
--- client-final
+-- Client-final.
 
 -- a list that is not empty has a last element
 last_of : (piece : List ℕ) (pieces : List (List ℕ)) → (front : List (List ℕ)) × (last : List ℕ) × (piece ∷ pieces ≡ front ++ last ∷ [])
@@ -123,16 +129,19 @@ last_of piece [] = ([], piece, refl)
 last_of piece (next ∷ pieces) =
     let (front, last, same) = last_of next pieces in (piece ∷ front, last, ap (λ (ps : List (List ℕ)). piece ∷ ps) same)
 
+-- parts with a last one, joined by commas, are those before it joined, a comma and the last
 joined_last : (piece : List ℕ) (front : List (List ℕ)) (last : List ℕ)
     → joined (piece ∷ (front ++ last ∷ [])) ≡ joined (piece ∷ front) ++ 44 ∷ last
 joined_last piece [] last = refl
 joined_last piece (next ∷ front) last =
     ap (λ (t : List ℕ). piece ++ 44 ∷ t) (joined_last next front last) ∙ sym (append_assoc piece (44 ∷ joined (next ∷ front)) (44 ∷ last))
 
+-- the parts of client-final, joined by commas, are its text
 client_final_joined : (p : ClientFinalParts) → joined (final_parts p) ≡ client_final_text p
 unfolding client_final_text client_final_without_proof
 client_final_joined p = joined_last (codes "c=" ++ base64 p.channel) ((codes "r=" ++ p.nonce) ∷ p.extensions) (codes "p=" ++ base64 p.proof)
 
+-- a short text whose parts are those of client-final is one
 client_final_of_fit : (text channel nonce proof : List ℕ) (extensions : List (List ℕ))
     → parts text ≡ channel ∷ nonce ∷ (extensions ++ proof ∷ [])
     → length text ≤ longest_message → IsText text
@@ -164,6 +173,7 @@ client_final_of_fit text channel nonce proof extensions cut short is_text fit =
       },
     )
 
+-- a short text with enough parts, which fit those of client-final, is one
 client_final_built : (text : List ℕ) (pieces : List (List ℕ)) → parts text ≡ pieces → 3 ≤ length pieces → length text ≤ longest_message
     → IsText text
     → AllFit longest_nonce (places (Channel ∷ Nonce ∷ []) (Proof ∷ []) (length pieces)) pieces → (p : ClientFinalParts)
@@ -178,6 +188,7 @@ client_final_built text (channel ∷ nonce ∷ next ∷ rest) cut enough short i
     (subst (λ (ps : List (List ℕ)). AllFit longest_nonce (places (Channel ∷ Nonce ∷ []) (Proof ∷ []) (length (channel ∷ nonce ∷ ps)))
     (channel ∷ nonce ∷ ps)) same fit)
 
+-- a client-final message is a short text with enough parts, all of which fit
 client_final_fitting : (text : List ℕ) (p : ClientFinalParts) → IsClientFinal text p
     → Fitting longest_nonce 3 (places (Channel ∷ Nonce ∷ []) (Proof ∷ []) (length (parts text))) text
 client_final_fitting text p is =
@@ -189,6 +200,7 @@ client_final_fitting text p is =
           (client_final_fit p is.channel is.nonce is.extensions is.proof);
     }
 
+-- whether a text is client-final, and with which parts, is decided
 pub client_final_decided : (text : List ℕ) → Decided ((p : ClientFinalParts) × IsClientFinal text p)
 client_final_decided text =
     decided_by (Fitting longest_nonce 3 (places (Channel ∷ Nonce ∷ []) (Proof ∷ []) (length (parts text))) text)
@@ -196,10 +208,11 @@ client_final_decided text =
     (λ r. client_final_built text (parts text) refl r.enough r.short r.is_text r.fit) (λ (p, is). client_final_fitting text p is)
     (fitting_decided longest_nonce 3 (places (Channel ∷ Nonce ∷ []) (Proof ∷ []) (length (parts text))) text)
 
--- messages that may begin with a mandatory extension
+-- Messages that may begin with a mandatory extension.
 
+-- parts that begin with a mandatory extension, with enough after it, are that extension and the others, which fit their places
 marked_split_yes : (most least : ℕ) (later : List TextWhy) (pieces : List (List ℕ)) → length later ≡ least
-    → is_headed 109 (first_of pieces) ≡ true
+    → is_named 109 (first_of pieces) ≡ true
     → length (Mandatory ∷ later) ≤ length pieces → AllFit most (places (Mandatory ∷ later) [] (length pieces)) pieces
     → (mext : Option (List ℕ)) × (rest : List (List ℕ)) × IsMarked pieces rest mext × (least ≤ length rest)
     × AllFit most (places later [] (length rest)) rest
@@ -221,13 +234,14 @@ marked_split : (most least : ℕ) (later : List TextWhy) (pieces : List (List �
     → length (marked_places pieces later) ≤ length pieces → AllFit most (places (marked_places pieces later) [] (length pieces)) pieces
     → (mext : Option (List ℕ)) × (rest : List (List ℕ)) × IsMarked pieces rest mext × (least ≤ length rest)
     × AllFit most (places later [] (length rest)) rest
-marked_split most least later pieces count enough fit = elim (cases_Bool (is_headed 109 (first_of pieces))) [
+marked_split most least later pieces count enough fit = elim (cases_Bool (is_named 109 (first_of pieces))) [
   | inl hit ↦ marked_split_yes most least later pieces count hit (rw hit at enough) (rw hit at fit)
   | inr miss ↦ (None, pieces, record { cut = refl; value = tt; headed = miss }, (rw (miss, count) at enough), (rw miss at fit))
 ]
 
--- server-first
+-- Server-first.
 
+-- a short text whose parts are those of server-first is one, whether with a mandatory extension or without:
 server_first_of_fit : (text nonce salt count : List ℕ) (extensions : List (List ℕ)) (mext : Option (List ℕ))
     → IsMarked (parts text) (nonce ∷ salt ∷ count ∷ extensions) mext → length text ≤ longest_message → IsText text
     → AllFit longest_nonce (places (Nonce ∷ Salt ∷ Count ∷ []) [] (length (nonce ∷ salt ∷ count ∷ extensions)))
@@ -266,18 +280,22 @@ server_first_of_rest text (nonce ∷ salt ∷ []) mext marked enough short is_te
 server_first_of_rest text (nonce ∷ salt ∷ count ∷ extensions) mext marked enough short is_text fit =
     server_first_of_fit text nonce salt count extensions mext marked short is_text fit
 
+-- the places of server-first's parts after a mandatory extension
 abbrev server_later : List TextWhy
 server_later = Nonce ∷ Salt ∷ Count ∷ []
 
+-- a text is short, and has enough parts, all of which fit those of server-first
 abbrev server_fits : List ℕ → Type 0
 server_fits text = Fitting longest_nonce (length (server_first_places (parts text)))
     (places (server_first_places (parts text)) [] (length (parts text))) text
 
+-- a short text with enough parts, which fit those of server-first, is one
 server_first_built : (text : List ℕ) → server_fits text → (p : ServerFirstParts) × IsServerFirst text p
 server_first_built text r =
     let (mext, rest, marked, enough, fit) = marked_split longest_nonce 3 server_later (parts text) refl r.enough r.fit in
     server_first_of_rest text rest mext marked enough r.short r.is_text fit
 
+-- a server-first message is a short text with enough parts, all of which fit
 server_first_fitting : (text : List ℕ) (p : ServerFirstParts) → IsServerFirst text p → server_fits text
 server_first_fitting text p is =
     let marked = is_marked text p is in
@@ -288,13 +306,15 @@ server_first_fitting text p is =
       fit = server_first_fit text p is;
     }
 
+-- whether a text is server-first, and with which parts, is decided
 pub server_first_decided : (text : List ℕ) → Decided ((p : ServerFirstParts) × IsServerFirst text p)
 server_first_decided text =
     decided_by (server_fits text) ((p : ServerFirstParts) × IsServerFirst text p) (server_first_built text)
     (λ (p, is). server_first_fitting text p is) (fitting_decided longest_nonce _ _ text)
 
--- client-first
+-- Client-first.
 
+-- the parts of client-first, joined by commas, are its text
 client_first_joined : (p : ClientFirstParts) → joined (p.flag ∷ authzid_text p.authzid ∷ bare_parts p) ≡ client_first_text p
 unfolding client_first_text header_text bare_text
 client_first_joined p =
@@ -302,6 +322,7 @@ client_first_joined p =
     (joined_cons (authzid_text p.authzid) (bare_parts p) (marked_some p.mext (codes "n=" ++ p.name) _))
     ∙ sym (regroup p.flag (authzid_text p.authzid) (joined (bare_parts p)))
 
+-- parts of a bare message that fit are its name, its nonce and extensions, after a mandatory one if there is one
 bare_of_rest : (pieces rest : List (List ℕ)) (mext : Option (List ℕ)) → IsMarked pieces rest mext → 2 ≤ length rest
     → AllFit longest_nonce_part (places (Name ∷ Nonce ∷ []) [] (length rest)) rest
     → (name : List ℕ) × (nonce : List ℕ) × (extensions : List (List ℕ))
@@ -316,7 +337,8 @@ bare_of_rest pieces (name ∷ nonce ∷ extensions) mext marked enough fit =
     let second = fits_first longest_nonce_part Nonce _ nonce _ first.1 in
     let (name_text, name_is, name_class) = first.0 in
     let (nonce_text, nonce_is, nonce_class) = second.0 in
-    let later : name ∷ nonce ∷ extensions ≡ (codes "n=" ++ name_text) ∷ (codes "r=" ++ nonce_text) ∷ extensions = cc (name_is, nonce_is) in (
+    let later : name ∷ nonce ∷ extensions ≡ (codes "n=" ++ name_text) ∷ (codes "r=" ++ nonce_text) ∷ extensions = cc
+    (name_is, nonce_is) in (
       name_text,
       nonce_text,
       extensions,
@@ -328,6 +350,7 @@ bare_of_rest pieces (name ∷ nonce ∷ extensions) mext marked enough fit =
       fits_extensions longest_nonce_part extensions second.1,
     )
 
+-- a short text with a header and a bare message whose parts fit is client-first
 client_first_of_bare : (text flag authzid : List ℕ) (bare : List (List ℕ)) → parts text ≡ flag ∷ authzid ∷ bare
     → length text ≤ longest_message → IsText text
     → length (marked_places bare (Name ∷ Nonce ∷ [])) ≤ length bare
@@ -365,6 +388,7 @@ client_first_of_bare text flag authzid bare cut short is_text enough fit =
       },
     )
 
+-- a short text with enough parts, which fit those of client-first, is one
 client_first_built : (text : List ℕ) (pieces : List (List ℕ)) → parts text ≡ pieces → length text ≤ longest_message → IsText text
     → length (client_first_places pieces) ≤ length pieces
     → AllFit longest_nonce_part (places (client_first_places pieces) [] (length pieces)) pieces
@@ -374,10 +398,12 @@ client_first_built text (flag ∷ []) cut short is_text enough fit = absurd (ome
 client_first_built text (flag ∷ authzid ∷ bare) cut short is_text enough fit =
     client_first_of_bare text flag authzid bare cut short is_text (omega (arith, enough)) fit
 
+-- a text is short, and has enough parts, all of which fit those of client-first
 abbrev first_fits : List ℕ → Type 0
 first_fits text = Fitting longest_nonce_part (length (client_first_places (parts text)))
     (places (client_first_places (parts text)) [] (length (parts text))) text
 
+-- a client-first message is a short text with enough parts, all of which fit
 client_first_fitting : (text : List ℕ) (p : ClientFirstParts) → IsClientFirst text p → first_fits text
 client_first_fitting text p is =
     let cut = parts_client_first text p is in
@@ -390,24 +416,26 @@ client_first_fitting text p is =
           (bare_fit p is.mext is.name is.nonce is.extensions));
     }
 
+-- whether a text is client-first, and with which parts, is decided
 pub client_first_decided : (text : List ℕ) → Decided ((p : ClientFirstParts) × IsClientFirst text p)
 client_first_decided text =
     decided_by (first_fits text) ((p : ClientFirstParts) × IsClientFirst text p)
     (λ r. client_first_built text (parts text) refl r.short r.is_text r.enough r.fit)
     (λ (p, is). client_first_fitting text p is) (fitting_decided longest_nonce_part _ _ text)
 
-pub client_first_law : (text : List ℕ) → ((p : ClientFirstParts) × IsClientFirst text p)
+-- whether a text is client-first, server-first, client-final or server-final is decided: it gives the parts, or excludes all:
+pub client_first_is_decided : (text : List ℕ) → ((p : ClientFirstParts) × IsClientFirst text p)
     ⊎ ((p : ClientFirstParts) → IsClientFirst text p → ⊥)
-client_first_law text = decided_some ClientFirstParts (IsClientFirst text) (client_first_decided text)
+client_first_is_decided text = decided_some ClientFirstParts (IsClientFirst text) (client_first_decided text)
 
-pub server_first_law : (text : List ℕ) → ((p : ServerFirstParts) × IsServerFirst text p)
+pub server_first_is_decided : (text : List ℕ) → ((p : ServerFirstParts) × IsServerFirst text p)
     ⊎ ((p : ServerFirstParts) → IsServerFirst text p → ⊥)
-server_first_law text = decided_some ServerFirstParts (IsServerFirst text) (server_first_decided text)
+server_first_is_decided text = decided_some ServerFirstParts (IsServerFirst text) (server_first_decided text)
 
-pub client_final_law : (text : List ℕ) → ((p : ClientFinalParts) × IsClientFinal text p)
+pub client_final_is_decided : (text : List ℕ) → ((p : ClientFinalParts) × IsClientFinal text p)
     ⊎ ((p : ClientFinalParts) → IsClientFinal text p → ⊥)
-client_final_law text = decided_some ClientFinalParts (IsClientFinal text) (client_final_decided text)
+client_final_is_decided text = decided_some ClientFinalParts (IsClientFinal text) (client_final_decided text)
 
-pub server_final_law : (text : List ℕ) → ((p : ServerFinalParts) × IsServerFinal text p)
+pub server_final_is_decided : (text : List ℕ) → ((p : ServerFinalParts) × IsServerFinal text p)
     ⊎ ((p : ServerFinalParts) → IsServerFinal text p → ⊥)
-server_final_law text = decided_some ServerFinalParts (IsServerFinal text) (server_final_decided text)
+server_final_is_decided text = decided_some ServerFinalParts (IsServerFinal text) (server_final_decided text)

@@ -1,20 +1,14 @@
--- A spelling is read in one way, from the left, and is a saslname.
+-- A name's spelling is read in one way, from the left, and is a saslname.
 use Rattle.std.proofs.Common.{◌≡◌, ◌≢◌, ◌⊎◌, inl, inr, ℕ, ◌*◌, ◌≤◌, List, [], ◌∷◌, ◌++◌, length, refl, sym, ◌∙◌, arith, append_assoc}
-use Rattle.std.proofs.Common.{append-nil, true, false, not, eqb}
+use Rattle.std.proofs.Common.{append-nil, true, false, not}
 use Rattle.std.specs.Prelude.{codes}
 use Rattle.std.proofs.lemmas.Bool.Decides.{eqb_tells}
 use Rattle.std.proofs.lemmas.List.Folds.{list_all-append}
+use Rattle.std.proofs.lemmas.Bool.{ne_eqb}
 use Rattle.scram_text.specs.Class.{is_comma}
 use Rattle.scram_text.specs.Name.{IsSaslName, LacksComma, escape, name_spelling, is_escaped}
 
--- different numbers are not equal by the test
-pub other_than : (a b : ℕ) → a ≢ b → eqb a b ≡ false
-other_than a b differ = elim (eqb_tells a b) [
-  | inl same ↦ absurd (differ same.1)
-  | inr other ↦ other.0
-]
-
--- the three forms of a byte's spelling
+-- a byte is spelled as `=2C` where it is a comma, as `=3D` where it is an equals sign, and else as itself
 pub escape_cases : (c : ℕ) → ((c ≡ 44) × (escape c ≡ codes "=2C"))
     ⊎ (((c ≡ 61) × (escape c ≡ codes "=3D")) ⊎ ((c ≢ 44) × (c ≢ 61) × (escape c ≡ c ∷ [])))
 escape_cases c = elim (eqb_tells c 44) [
@@ -25,14 +19,15 @@ escape_cases c = elim (eqb_tells c 44) [
   ]
 ]
 
--- equal lists have equal heads and equal tails
+-- lists that are the same have the same first element, and the same elements after it
 pub heads : (a b : ℕ) (x y : List ℕ) → a ∷ x ≡ b ∷ y → (a ≡ b) × (x ≡ y)
 heads a b x y e = (cc, cc)
 
+-- lists of numbers that are the same have the same second element, and the same elements after three
 heads_3 : (a b c a' b' c' : ℕ) (x y : List ℕ) → a ∷ b ∷ c ∷ x ≡ a' ∷ b' ∷ c' ∷ y → (b ≡ b') × (x ≡ y)
 heads_3 a b c a' b' c' x y e = (cc, cc)
 
--- the first byte that a spelling spells
+-- where spellings of two bytes begin the same text, the bytes are the same, and what follows is
 pub escape_first : (b c : ℕ) (x y : List ℕ) → escape b ++ x ≡ escape c ++ y → (b ≡ c) × (x ≡ y)
 escape_first b c x y e = elim (escape_cases b) [
   | inl p ↦ elim (escape_cases c) [
@@ -70,6 +65,7 @@ escape_nonempty b x e = elim (escape_cases b) [
   ]
 ]
 
+-- two numbers and two lists that are the same make the same list, the other way round
 cons_both : (b c : ℕ) (x y : List ℕ) → b ≡ c → x ≡ y → c ∷ y ≡ b ∷ x
 cons_both b c x y first rest = cc
 
@@ -83,7 +79,7 @@ spelling_rest (b ∷ front) rest (c ∷ name) e =
     let more = spelling_rest front rest name first.1 in
     (more.0, cons_both b c (front ++ more.0) name first.0 (sym more.1), more.2)
 
--- a saslname spells one name
+-- two names with the same spelling are the same
 pub name_once : (one other : List ℕ) → name_spelling one ≡ name_spelling other → one ≡ other
 name_once one other e =
     let found = spelling_rest one [] other (append-nil (name_spelling one) ∙ e) in
@@ -92,12 +88,13 @@ name_once one other e =
       | c ∷ more ↦ λ _ none. absurd (escape_nonempty c (name_spelling more) (sym none))
     ] found.1 found.2
 
+-- the spelling of a byte, and that of a name, have no comma:
 escape_lacks : (c : ℕ) → LacksComma (escape c)
 escape_lacks c = elim (escape_cases c) [
   | inl p ↦ rw p.1 refl
   | inr s ↦ elim s [
     | inl p ↦ rw p.1 refl
-    | inr p ↦ rw (p.2, other_than c 44 p.0) refl
+    | inr p ↦ rw (p.2, ne_eqb c 44 p.0) refl
   ]
 ]
 
@@ -106,12 +103,13 @@ spelling_lacks [] = refl
 spelling_lacks (c ∷ name) =
     rw (list_all-append (λ b. not (is_comma b)) (escape c) (name_spelling name), escape_lacks c, spelling_lacks name) refl
 
+-- the escapes of a spelling are whole where those of what follows a byte are, and those of a name's are whole:
 escaped_before : (c : ℕ) (rest : List ℕ) → is_escaped rest ≡ true → is_escaped (escape c ++ rest) ≡ true
 escaped_before c rest is = elim (escape_cases c) [
   | inl p ↦ rw p.1 is
   | inr s ↦ elim s [
     | inl p ↦ rw p.1 is
-    | inr p ↦ rw (p.2, other_than c 61 p.1) is
+    | inr p ↦ rw (p.2, ne_eqb c 61 p.1) is
   ]
 ]
 
@@ -119,6 +117,7 @@ spelling_escaped : (name : List ℕ) → is_escaped (name_spelling name) ≡ tru
 spelling_escaped [] = refl
 spelling_escaped (c ∷ name) = escaped_before c (name_spelling name) (spelling_escaped name)
 
+-- a name that is not empty has a spelling that is not
 spelling_some : (name : List ℕ) → 1 ≤ length name → 1 ≤ length (name_spelling name)
 spelling_some [] some = absurd (omega (arith, some))
 spelling_some (c ∷ name) some = elim (escape_cases c) [

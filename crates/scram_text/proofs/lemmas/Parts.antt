@@ -3,7 +3,7 @@ use Rattle.std.proofs.Common.{◌≡◌, inl, inr, ℕ, suc, ◌+◌, ◌-◌, �
 use Rattle.std.proofs.Common.{get_or, refl, ◌∙◌, ap, arith, length-drop}
 use Rattle.std.specs.Prelude.{position, count_by, MatchOption}
 use Rattle.std.specs.List.{position_or_len, onto_first, list_all, zip}
-use Rattle.std.proofs.lemmas.Bool.{cases_Bool, cases_lt, eqb-true, lt-ltb, le-ltb}
+use Rattle.std.proofs.lemmas.Bool.{cases_Bool, cases_lt, eqb-true, lt-ltb, le-ltb, not-true}
 use Rattle.std.proofs.lemmas.List.Splits.{length-slice_split}
 use Rattle.std.proofs.lemmas.List.Sums.{split_at_first, passes_at_first}
 use Rattle.std.proofs.Math.Seq.{take-length}
@@ -15,27 +15,25 @@ use Rattle.scram_text.specs.Parts.{parts}
 use Rattle.scram_text.specs.Faults.{Fits, fault, IsFirstMisfit}
 use Rattle.scram_text.specs.declared.fault.TextFault.{TextFault}
 use Rattle.scram_text.specs.declared.fault.TextWhy.{TextWhy}
-use Rattle.scram_text.proofs.lemmas.Rows.{below}
+use Rattle.scram_text.proofs.lemmas.FirstUnmet.{below}
 
+-- a text has one part more than it has commas
 pub parts_count : (text : List ℕ) → length (parts text) ≡ count_by is_comma text + 1
 parts_count text = length-slice_split is_comma text
 
--- both tests of a conjunction passed
+-- where two tests both pass, each does
 pub both : (a b : Bool) → (a && b) ≡ true → (a ≡ true) × (b ≡ true)
 both true b h = (refl, h)
 both false b h = absurd (cc h)
-
-pub not_true : (b : Bool) → not b ≡ true → b ≡ false
-not_true true h = absurd (cc h)
-not_true false h = refl
 
 -- a text without commas is its one part
 pub parts_whole : (text : List ℕ) → LacksComma text → parts text ≡ text ∷ []
 parts_whole [] h = refl
 parts_whole (c ∷ text) h =
     let each = both (not (is_comma c)) (list_all (λ c. not (is_comma c)) text) h in
-    rw (not_true (is_comma c) each.0, parts_whole text each.1) refl
+    rw (not-true (is_comma c) each.0, parts_whole text each.1) refl
 
+-- a character goes before the first part, also where more parts follow
 onto_first-append : (c : ℕ) (pieces more : List (List ℕ)) → 1 ≤ length pieces → onto_first c (pieces ++ more) ≡ onto_first c pieces ++ more
 onto_first-append c [] more h = absurd (omega (arith, h))
 onto_first-append c (piece ∷ pieces) more h = refl
@@ -54,10 +52,11 @@ parts-append (c ∷ front) back =
 pub parts_front : (front back : List ℕ) → LacksComma front → parts (front ++ 44 ∷ back) ≡ front ∷ parts back
 parts_front front back h = rw (parts-append front back, parts_whole front h) refl
 
+-- to take one more element, with one before the others, is to take that one and as many of the others
 take_more : (n c : ℕ) (text : List ℕ) → take (1 + n) (c ∷ text) ≡ c ∷ take n text
 take_more n c text = let one : 1 + n ≡ suc n = omega arith in rw one refl
 
--- no comma comes before the first one
+-- the text before the first comma of a text has no comma
 before_lacks : (text : List ℕ) → LacksComma (take (position_or_len is_comma text) text)
 before_lacks [] = refl
 before_lacks (c ∷ text) = elim (cases_Bool (is_comma c)) [
@@ -65,11 +64,11 @@ before_lacks (c ∷ text) = elim (cases_Bool (is_comma c)) [
   | inr miss ↦ rw (miss, take_more (position_or_len is_comma text) c text, miss) (before_lacks text)
 ]
 
--- a slice from some place on
+-- to take what is left after an index from there on takes all of it
 pub rest_taken : (text : List ℕ) (k : ℕ) → take (length text - k) (drop k text) ≡ drop k text
 rest_taken text k = rw (← length-drop k text) (take-length (drop k text))
 
--- what the index of the first comma says
+-- where a text has a comma, it is cut at the first: none comes before it; else it has none
 pub position_cuts : (text : List ℕ) → MatchOption (position is_comma text) (LacksComma text)
     (λ at. (text ≡ take at text ++ 44 ∷ drop (at + 1) text) × LacksComma (take at text))
 position_cuts text = let at = position_or_len is_comma text in elim (cases_lt at (length text)) [
@@ -80,20 +79,22 @@ position_cuts text = let at = position_or_len is_comma text in elim (cases_lt at
   | inr none ↦ rw (le-ltb at (length text) none) (rw (take_all at text none) at (before_lacks text))
 ]
 
--- the two parts of a cut, as `&text[..at]` and `&text[at + 1..]` give them
+-- where a text has a comma at an index, its parts are what is before it, which has none, and the parts of what follows it
 pub cut_at : (text : List ℕ) (at : ℕ) → position is_comma text ≡ Some at
     → (parts text ≡ take at text ∷ parts (take (length text - (at + 1)) (drop (at + 1) text))) × LacksComma (take at text)
 cut_at text at found =
     let cuts = rw found at (position_cuts text) in
     (rw (rest_taken text (at + 1)) (ap parts cuts.0 ∙ parts_front (take at text) (drop (at + 1) text) cuts.1), cuts.1)
 
+-- where a text has a comma at an index, it is what is before it, the comma and what follows it
 pub cut_text : (text : List ℕ) (at : ℕ) → position is_comma text ≡ Some at → text ≡ take at text ++ 44 ∷ drop (at + 1) text
 cut_text text at found = let cuts = rw found at (position_cuts text) in cuts.0
 
+-- where a text has no comma, it is its one part
 pub cut_none : (text : List ℕ) → position is_comma text ≡ None → (parts text ≡ text ∷ []) × LacksComma text
 cut_none text none = let lacks = rw none at (position_cuts text) in (parts_whole text lacks, lacks)
 
--- this part is the first that does not fit
+-- where the first part does not fit its place, it is the first that does not
 pub misfit_here : (most k : ℕ) (place : TextWhy) (places : List TextWhy) (part : List ℕ) (pieces : List (List ℕ))
     → (Fits most place part → ⊥) → IsFirstMisfit most (place ∷ places) k (part ∷ pieces) (fault k place)
 misfit_here most k place places part pieces no_fit = record {

@@ -8,18 +8,20 @@ use Rattle.scram_text.specs.Limits.{longest_message}
 use Rattle.scram_text.specs.Class.{is_comma, is_printable, IsNonce, IsText}
 use Rattle.scram_text.specs.Name.{LacksComma}
 use Rattle.scram_text.specs.Base64Field.{base64, IsField}
-use Rattle.scram_text.specs.Parts.{parts, joined, AreExtensions, IsHeaded, SpellsField}
+use Rattle.scram_text.specs.Parts.{parts, joined, AreExtensions, IsAttrVal, SpellsField}
 use Rattle.scram_text.specs.Faults.{Fits, IsFirstMisfit, IsPartFault, IsFault, places}
 use Rattle.scram_text.specs.declared.fault.TextFault.{TextFault}
 use Rattle.scram_text.specs.declared.fault.TextWhy.{TextWhy}
 use Rattle.scram_text.specs.declared.fault.TextWhy.TheVariants.{Extension}
 use Rattle.scram_text.proofs.lemmas.Parts.{both, parts_whole, parts_front, misfit_later}
-use Rattle.scram_text.proofs.lemmas.Rows.{none_unmet}
+use Rattle.scram_text.proofs.lemmas.AttrVals.{extension_lacks}
+use Rattle.scram_text.proofs.lemmas.FirstUnmet.{none_unmet}
 
 -- each part fits its place, as far as there are both
 unfoldable pub AllFit : ℕ → List TextWhy → List (List ℕ) → Type 0
 AllFit most later pieces = AllByRecursion (λ row. Fits most row.0 row.1) (zip later pieces)
 
+-- parts all fit where the first fits the first place and the others theirs, and where there are no places:
 pub fits_cons : (most : ℕ) (place : TextWhy) (later : List TextWhy) (part : List ℕ) (pieces : List (List ℕ))
     → Fits most place part → AllFit most later pieces → AllFit most (place ∷ later) (part ∷ pieces)
 unfolding AllFit
@@ -36,7 +38,7 @@ unfolding AllFit
 no_misfit most later k pieces f fit misfit =
     none_unmet (λ row. Fits most row.0 row.1) (zip later pieces) (f.why, misfit.part) fit misfit.first
 
--- more places and parts after these
+-- two lists of pairs, joined, begin with the pairs of the first lists
 zip-append : {A B : Type 0} (xs more : List A) (ys others : List B)
     → (rest : List (A × B)) × (zip (xs ++ more) (ys ++ others) ≡ zip xs ys ++ rest)
 zip-append [] more ys others = (zip more (ys ++ others), refl)
@@ -44,6 +46,7 @@ zip-append (x ∷ xs) more [] others = (zip (x ∷ xs ++ more) others, refl)
 zip-append (x ∷ xs) more (y ∷ ys) others =
     let later = zip-append xs more ys others in (later.0, ap (λ rows. (x, y) ∷ rows) later.1)
 
+-- the first part that does not fit is the same with more places and parts after them
 pub misfit-append : (most : ℕ) (later more : List TextWhy) (k : ℕ) (pieces others : List (List ℕ)) (f : TextFault)
     → IsFirstMisfit most later k pieces f → IsFirstMisfit most (later ++ more) k (pieces ++ others) f
 misfit-append most later more k pieces others f misfit =
@@ -59,7 +62,7 @@ misfit-append most later more k pieces others f misfit =
       number = misfit.number;
     }
 
--- extensions before these parts
+-- the first part that does not fit is the same with extensions before it
 pub misfit_after : (most : ℕ) (later : List TextWhy) (k j : ℕ) (extensions pieces : List (List ℕ)) (f : TextFault)
     → j ≡ k + length extensions → AreExtensions extensions → IsFirstMisfit most later j pieces f
     → IsFirstMisfit most (replicate (length extensions) Extension ++ later) k (extensions ++ pieces) f
@@ -68,6 +71,7 @@ misfit_after most later k j [] pieces f at are misfit =
 misfit_after most later k j (part ∷ extensions) pieces f at are misfit =
     misfit_later most k Extension _ part _ f are.0 (misfit_after most later (k + 1) j extensions pieces f (omega (arith, at)) are.1 misfit)
 
+-- parts that fit, with extensions before them, fit
 pub fit_after : (most : ℕ) (later : List TextWhy) (extensions pieces : List (List ℕ))
     → AreExtensions extensions → AllFit most later pieces
     → AllFit most (replicate (length extensions) Extension ++ later) (extensions ++ pieces)
@@ -75,7 +79,7 @@ unfolding AllFit
 fit_after most later [] pieces are fit = fit
 fit_after most later (part ∷ extensions) pieces are fit = (are.0, fit_after most later extensions pieces are.1 fit)
 
--- the places of parts with these extensions between
+-- the places of parts are the fixed ones, and one Extension for each part between them
 pub places_of : (front back : List TextWhy) (n middle : ℕ) → n ≡ length front + length back + middle
     → places front back n ≡ front ++ (replicate middle Extension ++ back)
 places_of front back n middle count =
@@ -119,7 +123,7 @@ no_fault_at most front text pieces f short is_text cut enough fit faulty =
     no_fault most (front pieces) [] text pieces f short is_text cut (omega (arith, enough)) fit
     (subst (λ (ps : List (List ℕ)). IsFault most (front ps) [] text f) cut faulty)
 
--- bytes of a class that has no comma
+-- bytes that all pass a test which a comma fails have no comma
 pub class_lacks : (test : ℕ → Bool) (bytes : List ℕ) → test 44 ≡ false → list_all test bytes ≡ true → LacksComma bytes
 class_lacks test [] no_comma h = refl
 class_lacks test (c ∷ bytes) no_comma h =
@@ -129,14 +133,15 @@ class_lacks test (c ∷ bytes) no_comma h =
       | inr miss ↦ rw miss (class_lacks test bytes no_comma each.1)
     ]
 
+-- a nonce has no comma, and no extension does:
 pub nonce_lacks : (most : ℕ) (nonce : List ℕ) → IsNonce most nonce → LacksComma nonce
 nonce_lacks most nonce class = class_lacks is_printable nonce refl class.each
 
 pub extensions_lack : (extensions : List (List ℕ)) → AreExtensions extensions → AllByRecursion LacksComma extensions
 extensions_lack [] are = tt
-extensions_lack (part ∷ extensions) are = (are.0.no_comma, extensions_lack extensions are.1)
+extensions_lack (part ∷ extensions) are = (extension_lacks part are.0, extensions_lack extensions are.1)
 
--- pieces without commas are cut as they were joined
+-- parts without commas are cut as they were joined, by commas:
 pub parts-joined : (piece : List ℕ) (pieces : List (List ℕ)) → AllByRecursion LacksComma (piece ∷ pieces)
     → parts (joined (piece ∷ pieces)) ≡ piece ∷ pieces
 parts-joined piece [] lack = parts_whole piece lack.0
@@ -147,12 +152,12 @@ pub parts-joined_list : (pieces : List (List ℕ)) → 1 ≤ length pieces → A
 parts-joined_list [] some lack = absurd (omega (arith, some))
 parts-joined_list (piece ∷ pieces) some lack = parts-joined piece pieces lack
 
--- a misfit at an index that is written in another way
+-- the first part that does not fit is the same where its index is written in another way
 pub misfit_at : (most j k : ℕ) (later : List TextWhy) (pieces : List (List ℕ)) (f : TextFault) → j ≡ k
     → IsFirstMisfit most later j pieces f → IsFirstMisfit most later k pieces f
 misfit_at most j k later pieces f same misfit = subst (λ (i : ℕ). IsFirstMisfit most later i pieces f) same misfit
 
--- equal lists have equal last elements, and are equal before them
+-- lists with a last element that are the same have the same last element, and the same before it
 pub last_once : (xs ys : List (List ℕ)) (x y : List ℕ) → xs ++ x ∷ [] ≡ ys ++ y ∷ [] → (xs ≡ ys) × (x ≡ y)
 last_once [] [] x y same = (refl, cc)
 last_once [] (b ∷ []) x y same = absurd (cc same)
@@ -163,16 +168,16 @@ last_once (a ∷ xs) (b ∷ ys) x y same =
     let rest : xs ++ x ∷ [] ≡ ys ++ y ∷ [] = cc same in
     let later = last_once xs ys x y rest in (cc (same, later.0), later.1)
 
--- a part is a field by the text of its bytes
+-- a letter, `=` and the base64 of a field are a part that spells the field
 pub field_fits : (letter most : ℕ) (part bytes : List ℕ) → part ≡ letter ∷ 61 ∷ base64 bytes → IsField most bytes
-    → IsHeaded letter (SpellsField most) part
+    → IsAttrVal letter (SpellsField most) part
 field_fits letter most part bytes spelled field = (base64 bytes, spelled, (bytes, refl, field))
 
--- a text is the base64 of one list of bytes
+-- two fields with the same base64 are the same bytes
 pub field_once : (most : ℕ) (one other : List ℕ) → IsField most one → IsField most other → base64 one ≡ base64 other → one ≡ other
 field_once most one other is also same =
     let read = rw same at is.field.back in let read_also = also.field.back in cc (read, read_also)
 
--- lists with different heads are different
+-- lists with different first elements are different
 pub heads_differ : (a b : ℕ) (x y : List ℕ) → a ∷ x ≡ b ∷ y → (a ≡ b → ⊥) → ⊥
 heads_differ a b x y same differ = differ (cc same)

@@ -11,7 +11,8 @@ use Rattle.scram_text.specs.Base64Field.{base64}
 use Rattle.scram_text.specs.Parts.{parts, joined, AreExtensions}
 use Rattle.scram_text.specs.Messages.{VerifierOrError, verified, failed, ServerFinalParts, verifier_or_error_text, IsVerifierOrError}
 use Rattle.scram_text.specs.Messages.{server_final_text, IsServerFinal}
-use Rattle.scram_text.specs.Faults.{Fits, fault, places, IsExtensionMisfit, result_place, server_final_places, IsServerFinalFault}
+use Rattle.scram_text.specs.Faults.{Fits, fault, places, result_place, server_final_places, IsServerFinalFault}
+use Rattle.scram_text.specs.Pieces.{IsExtensionMisfit}
 use Rattle.scram_text.specs.Shown.{ShowsServerFinal}
 use Rattle.scram_text.specs.declared.server_final.ServerFinal.{ServerFinal}
 use Rattle.scram_text.specs.declared.fault.TextFault.{TextFault}
@@ -21,11 +22,12 @@ use Rattle.scram_text.proofs.lemmas.Places.{AllFit, fits_cons, fits_end, fit_aft
 use Rattle.scram_text.proofs.lemmas.Places.{field_fits, field_once, heads_differ}
 use Rattle.scram_text.proofs.lemmas.Marked.{places_front}
 
+-- a verifier or an error has no comma
 outcome_lacks : (outcome : VerifierOrError) → IsVerifierOrError outcome → LacksComma (verifier_or_error_text outcome)
 outcome_lacks (verified signature) is = is.field.no_comma
 outcome_lacks (failed value) is = is.no_comma
 
--- a message is cut into its parts
+-- a server-final message is cut into its parts
 pub parts_server_final : (text : List ℕ) (p : ServerFinalParts) → IsServerFinal text p
     → parts text ≡ verifier_or_error_text p.outcome ∷ p.extensions
 unfolding server_final_text
@@ -33,6 +35,7 @@ parts_server_final text p is =
     rw (is.spelled) (parts-joined (verifier_or_error_text p.outcome) p.extensions
     (outcome_lacks p.outcome is.outcome, extensions_lack p.extensions is.extensions))
 
+-- outcomes with the same text are the same
 outcome_once : (one other : VerifierOrError) → IsVerifierOrError one → IsVerifierOrError other
     → verifier_or_error_text one ≡ verifier_or_error_text other → one ≡ other
 outcome_once (verified one) (verified other) is also same =
@@ -41,7 +44,7 @@ outcome_once (verified one) (failed other) is also same = absurd (heads_differ 1
 outcome_once (failed one) (verified other) is also same = absurd (heads_differ 101 118 _ _ same (λ e. omega (arith, e)))
 outcome_once (failed one) (failed other) is also same = let values : one ≡ other = cc same in ap failed values
 
--- a text is a message with one list of parts
+-- a text is server-final with one list of parts
 pub server_final_once : (text : List ℕ) (p q : ServerFinalParts) → IsServerFinal text p → IsServerFinal text q → p ≡ q
 server_final_once text p q is also =
     let same : verifier_or_error_text p.outcome ∷ p.extensions ≡ verifier_or_error_text q.outcome
@@ -51,15 +54,18 @@ server_final_once text p q is also =
     let outcome = outcome_once p.outcome q.outcome is.outcome also.outcome outcomes in
     λ i. record { outcome = outcome i; extensions = extensions i }
 
+-- the places of server-final's parts are the outcome's, and one Extension for each of those
 pub result_places : (first : List ℕ) (extensions : List (List ℕ))
     → places (result_place first ∷ []) [] (length (first ∷ extensions)) ≡ result_place first ∷ replicate (length extensions) Extension
 result_places first extensions = places_front (result_place first ∷ []) (length (first ∷ extensions)) (length extensions) (omega arith)
 
+-- an outcome's text fits its place
 pub outcome_fits : (outcome : VerifierOrError) → IsVerifierOrError outcome
     → Fits longest_nonce (result_place (verifier_or_error_text outcome)) (verifier_or_error_text outcome)
 outcome_fits (verified signature) is = field_fits 118 64 _ signature refl is
 outcome_fits (failed value) is = (value, refl, is)
 
+-- where the first part of server-final fits its place, and the others are extensions, all parts fit their places
 pub server_final_fit : (first : List ℕ) (extensions : List (List ℕ)) → Fits longest_nonce (result_place first) first
     → AreExtensions extensions
     → AllFit longest_nonce (places (result_place first ∷ []) [] (length (first ∷ extensions))) (first ∷ extensions)
@@ -69,14 +75,14 @@ server_final_fit first extensions fits are =
     (fits_cons longest_nonce (result_place first) _ first extensions fits
     (rw (append-nil (replicate (length extensions) Extension), append-nil extensions) at after))
 
--- a message has no fault
+-- a server-final message has no fault
 pub server_final_no_fault : (text : List ℕ) (p : ServerFinalParts) (f : TextFault) → IsServerFinal text p → IsServerFinalFault text f → ⊥
 server_final_no_fault text p f is =
     no_fault_at longest_nonce server_final_places text (verifier_or_error_text p.outcome ∷ p.extensions) f is.short is.is_text
     (parts_server_final text p is)
     (omega arith) (server_final_fit (verifier_or_error_text p.outcome) p.extensions (outcome_fits p.outcome is.outcome) is.extensions)
 
--- the parts that were found are all that a text can have
+-- the parts that were read of server-final are all that the text can have
 pub server_final_only : (text : List ℕ) (r : Result ServerFinal TextFault)
     → IfOk r (λ m. (p : ServerFinalParts) × IsServerFinal text p × ShowsServerFinal m p) → IfErr r (λ f. IsServerFinalFault text f)
     → (p : ServerFinalParts) → IsServerFinal text p → IsOkAnd r (λ m. ShowsServerFinal m p)
@@ -84,7 +90,7 @@ server_final_only text (Ok m) found fault p is =
     subst (λ (q : ServerFinalParts). ShowsServerFinal m q) (server_final_once text found.0 p found.1 is) found.2
 server_final_only text (Err f) found fault p is = server_final_no_fault text p f is fault
 
--- the faults of the parts, from the left
+-- the first part of server-final that does not fit is a fault of the text: the outcome's, or an extension:
 pub result_fault : (text first : List ℕ) (extensions : List (List ℕ)) (f : TextFault) → length text ≤ longest_message → IsText text
     → parts text ≡ first ∷ extensions
     → (Fits longest_nonce (result_place first) first → ⊥) × (f ≡ fault 0 (result_place first)) → IsServerFinalFault text f
@@ -104,10 +110,12 @@ extension_fault text first extensions f short is_text cut fits misfit =
           (misfit_later longest_nonce 0 (result_place first) _ first extensions f fits (misfit longest_nonce)),
     ))
 
+-- a part that is the text of an outcome fits the outcome's place
 pub result_fits : (part : List ℕ) (outcome : VerifierOrError) → part ≡ verifier_or_error_text outcome → IsVerifierOrError outcome
     → Fits longest_nonce (result_place part) part
 result_fits part outcome spelled is = subst (λ (t : List ℕ). Fits longest_nonce (result_place t) t) (sym spelled) (outcome_fits outcome is)
 
+-- the pieces of server-final make its text
 pub server_final_spelled : (text first : List ℕ) (p : ServerFinalParts) → parts text ≡ first ∷ p.extensions
     → first ≡ verifier_or_error_text p.outcome
     → text ≡ server_final_text p

@@ -11,7 +11,8 @@ use Rattle.scram_text.specs.Class.{IsText}
 use Rattle.scram_text.specs.Base64Field.{base64}
 use Rattle.scram_text.specs.Parts.{parts, joined, mext_parts, AreExtensions}
 use Rattle.scram_text.specs.Messages.{ServerFirstParts, server_first_text, IsServerFirst}
-use Rattle.scram_text.specs.Faults.{Fits, fault, places, IsFirstMisfit, IsExtensionMisfit, IsServerFirstFault, server_first_places}
+use Rattle.scram_text.specs.Faults.{Fits, fault, places, IsFirstMisfit, IsServerFirstFault, server_first_places}
+use Rattle.scram_text.specs.Pieces.{IsExtensionMisfit}
 use Rattle.scram_text.specs.Shown.{ShowsServerFirst}
 use Rattle.scram_text.specs.Pieces.{IsMarked}
 use Rattle.scram_text.specs.declared.server_first.ServerFirst.{ServerFirst}
@@ -24,11 +25,11 @@ use Rattle.scram_text.proofs.lemmas.Marked.{places_front, marked_of, marked_lack
 use Rattle.scram_text.proofs.lemmas.Marked.{marked_length}
 use Rattle.scram_text.proofs.lemmas.Counts.{decimal_lacks, below_64}
 
--- the parts after a mandatory extension
+-- the parts after the mandatory extension, if there is one
 abbrev pub later_parts : ServerFirstParts → List (List ℕ)
 later_parts p = (codes "r=" ++ p.nonce) ∷ (codes "s=" ++ base64 p.salt) ∷ (codes "i=" ++ decimal p.count) ∷ p.extensions
 
--- a message is cut into its parts
+-- a server-first message is cut into its parts
 pub parts_server_first : (text : List ℕ) (p : ServerFirstParts) → IsServerFirst text p → parts text ≡ mext_parts p.mext ++ later_parts p
 unfolding server_first_text
 parts_server_first text p is =
@@ -47,12 +48,13 @@ is_marked text p is =
     subst (λ (ps : List (List ℕ)). IsMarked ps (later_parts p) p.mext) (sym (parts_server_first text p is))
     (marked_of p.mext (codes "r=" ++ p.nonce) _ refl is.mext)
 
+-- server-first messages with the same parts are the same
 parts_once : (p q : ServerFirstParts) → p.mext ≡ q.mext → p.nonce ≡ q.nonce → p.salt ≡ q.salt → p.count ≡ q.count
     → p.extensions ≡ q.extensions → p ≡ q
 parts_once p q mext nonce salt count extensions =
     λ i. record { mext = mext i; nonce = nonce i; salt = salt i; count = count i; extensions = extensions i }
 
--- a text is a message with one list of parts
+-- a text is server-first with one list of parts
 pub server_first_once : (text : List ℕ) (p q : ServerFirstParts) → IsServerFirst text p → IsServerFirst text q → p ≡ q
 server_first_once text p q is also =
     let same = marked_once p.mext q.mext (codes "r=" ++ p.nonce) (codes "r=" ++ q.nonce) _ _ refl refl
@@ -65,12 +67,14 @@ server_first_once text p q is also =
     parts_once p q same.0 nonces (field_once 64 p.salt q.salt is.salt also.salt salts)
     (decimal_injective p.count q.count (below_64 p.count is.count) (below_64 q.count also.count) counts) extensions
 
+-- the places of server-first's parts are Nonce, Salt, Count and one Extension for each of those
 pub later_places : (nonce salt count : List ℕ) (extensions : List (List ℕ))
     → places (Nonce ∷ Salt ∷ Count ∷ []) [] (length (nonce ∷ salt ∷ count ∷ extensions))
     ≡ Nonce ∷ Salt ∷ Count ∷ replicate (length extensions) Extension
 later_places nonce salt count extensions =
     places_front (Nonce ∷ Salt ∷ Count ∷ []) (length (nonce ∷ salt ∷ count ∷ extensions)) (length extensions) (omega arith)
 
+-- where the nonce, the salt and the count of server-first fit, and the other parts are extensions, all fit their places
 pub later_fit : (nonce salt count : List ℕ) (extensions : List (List ℕ))
     → Fits longest_nonce Nonce nonce → Fits longest_nonce Salt salt → Fits longest_nonce Count count → AreExtensions extensions
     → AllFit longest_nonce (places (Nonce ∷ Salt ∷ Count ∷ []) [] (length (nonce ∷ salt ∷ count ∷ extensions)))
@@ -82,7 +86,7 @@ later_fit nonce salt count extensions is_nonce is_salt is_count are =
     (fits_cons longest_nonce Salt _ salt _ is_salt (fits_cons longest_nonce Count _ count _ is_count
     (rw (append-nil (replicate (length extensions) Extension), append-nil extensions) at after))))
 
--- the parts of a message fit their places
+-- the parts of a server-first message fit their places
 pub server_first_fit : (text : List ℕ) (p : ServerFirstParts) → IsServerFirst text p
     → AllFit longest_nonce (places (server_first_places (parts text)) [] (length (parts text))) (parts text)
 server_first_fit text p is =
@@ -90,14 +94,14 @@ server_first_fit text p is =
     (later_fit _ _ _ p.extensions (p.nonce, refl, is.nonce) (field_fits 115 64 _ p.salt refl is.salt)
     (decimal p.count, refl, (p.count, refl, is.count)) is.extensions)
 
--- a message has no fault
+-- a server-first message has no fault
 pub server_first_no_fault : (text : List ℕ) (p : ServerFirstParts) (f : TextFault) → IsServerFirst text p → IsServerFirstFault text f → ⊥
 server_first_no_fault text p f is =
     let lengths = marked_length (Nonce ∷ Salt ∷ Count ∷ []) (parts text) (later_parts p) p.mext (is_marked text p is) in
     no_fault_at longest_nonce server_first_places text (parts text) f is.short is.is_text refl (omega (arith, lengths.0, lengths.1))
     (server_first_fit text p is)
 
--- the parts that were found are all that a text can have
+-- the parts that were read of server-first are all that the text can have
 pub server_first_only : (text : List ℕ) (r : Result ServerFirst TextFault)
     → IfOk r (λ m. (p : ServerFirstParts) × IsServerFirst text p × ShowsServerFirst m p) → IfErr r (λ f. IsServerFirstFault text f)
     → (p : ServerFirstParts) → IsServerFirst text p → IsOkAnd r (λ m. ShowsServerFirst m p)
@@ -119,7 +123,7 @@ later_fault text nonce salt count extensions mext k f short is_text marked at mi
           (rw (later_places nonce salt count extensions) (misfit_at longest_nonce k (length (mext_parts mext)) _ _ f at misfit)),
     )
 
--- the faults of the parts, from the left
+-- the first part of server-first that does not fit is a fault of the text: the nonce, the salt, the count or an extension:
 pub nonce_fault : (text nonce salt count : List ℕ) (extensions : List (List ℕ)) (mext : Option (List ℕ)) (k : ℕ)
     → length text ≤ longest_message → IsText text → IsMarked (parts text) (nonce ∷ salt ∷ count ∷ extensions) mext
     → k ≡ length (mext_parts mext)
@@ -156,7 +160,7 @@ extension_fault text nonce salt count extensions mext k f short is_text marked a
     (misfit_later longest_nonce (k + 1) Salt _ salt _ f is_salt (misfit_later longest_nonce (k + 1 + 1) Count _ count _ f is_count
     (misfit_at longest_nonce (k + 3) (k + 1 + 1 + 1) _ _ f (omega arith) (misfit longest_nonce)))))
 
--- the text that the pieces make
+-- the pieces of server-first make its text
 pub server_first_spelled : (text nonce salt count : List ℕ) (p : ServerFirstParts)
     → IsMarked (parts text) (nonce ∷ salt ∷ count ∷ p.extensions) p.mext
     → nonce ≡ codes "r=" ++ p.nonce → salt ≡ codes "s=" ++ base64 p.salt → count ≡ codes "i=" ++ decimal p.count

@@ -5,7 +5,7 @@ use Rattle.std.specs.Prelude.{slice_index, decimal, nat_le, ◌==◌}
 use Rattle.std.specs.List.{list_all}
 use Rattle.std.specs.Str.{IsAscii}
 use Rattle.std.specs.Str.Parse.{AllDigits}
-use Rattle.std.proofs.lemmas.Bool.{cases_Bool, cases_lt, eqb-true, leb-true, le-leb, lt-leb, both_ways}
+use Rattle.std.proofs.lemmas.Bool.{cases_Bool, cases_lt, eqb-true, leb-true, le-leb, lt-leb, both_ways, ne_eqb}
 use Rattle.std.proofs.lemmas.Fmt.{IsAscii-decimal, decimal_is_IsNumeral}
 use Rattle.std.proofs.lemmas.List.Folds.{list_all-append}
 use Rattle.std.proofs.lemmas.Str.{IsUtf8-nil, IsUtf8-from_ascii, IsUtf8-append}
@@ -19,12 +19,13 @@ use Rattle.scram_text.specs.Base64Field.{base64}
 use Rattle.scram_text.specs.Parts.{IsCount, is_cb_name}
 use Rattle.scram_text.proofs.lemmas.Parts.{both}
 use Rattle.scram_text.proofs.lemmas.Counts.{below_64}
-use Rattle.scram_text.proofs.lemmas.Names.{escape_cases, other_than}
+use Rattle.scram_text.proofs.lemmas.Names.{escape_cases}
 
--- the test of each byte of a text
+-- a byte is no NUL
 abbrev is_no_nul : ℕ → Bool
 is_no_nul c = not (c == 0)
 
+-- the empty text is a text, and two texts joined are one:
 pub text_nil : IsText []
 text_nil = record { utf8 = IsUtf8-nil; no_nul = refl }
 
@@ -34,6 +35,7 @@ text-append front back is also = record {
   no_nul = rw (list_all-append is_no_nul front back, is.no_nul, also.no_nul) refl;
 }
 
+-- bytes of a class of ASCII characters are ASCII, and those of a class without NUL have none:
 class_ascii : (test : ℕ → Bool) (bytes : List ℕ) → ((c : ℕ) → test c ≡ true → c < 128) → list_all test bytes ≡ true → IsAscii bytes
 class_ascii test [] below all i = omega arith
 class_ascii test (c ∷ bytes) below all zero = below c (both (test c) (list_all test bytes) all).0
@@ -56,6 +58,7 @@ class_text test bytes below no_nul all = record {
   no_nul = class_no_nul test bytes no_nul all;
 }
 
+-- plain bytes and printable bytes are ASCII:
 at_most : (c : ℕ) → nat_le c 0x7E ≡ true → c < 128
 at_most c is = omega (arith, leb-true c 0x7E is)
 
@@ -74,6 +77,7 @@ plain_text bytes all = class_text is_plain bytes plain_below refl all
 pub nonce_text : (most : ℕ) (nonce : List ℕ) → IsNonce most nonce → IsText nonce
 nonce_text most nonce is = class_text is_printable nonce printable_below refl is.each
 
+-- a plain byte, and a plain name, is spelled by plain bytes:
 escape_plain : (c : ℕ) → is_plain c ≡ true → list_all is_plain (escape c) ≡ true
 escape_plain c is = elim (escape_cases c) [
   | inl p ↦ rw p.1 refl
@@ -93,6 +97,7 @@ spelling_plain (c ∷ name) all =
 pub spelling_text : (name : List ℕ) → list_all is_plain name ≡ true → IsText (name_spelling name)
 spelling_text name all = plain_text (name_spelling name) (spelling_plain name all)
 
+-- decimal digits have no NUL
 digits_no_nul : (digits : List ℕ) → AllDigits 10 digits → list_all is_no_nul digits ≡ true
 digits_no_nul [] all = refl
 digits_no_nul (c ∷ digits) all = elim (cases_Bool (eqb c 0)) [
@@ -100,13 +105,14 @@ digits_no_nul (c ∷ digits) all = elim (cases_Bool (eqb c 0)) [
   | inr miss ↦ rw miss (digits_no_nul digits all.1)
 ]
 
--- a count is a text
+-- the decimal of a count is a text
 pub count_text : (count : ℕ) → IsCount count → IsText (decimal count)
 count_text count is = record {
   utf8 = IsUtf8-from_ascii (decimal count) (IsAscii-decimal count (below_64 count is));
   no_nul = digits_no_nul (decimal count) (decimal_is_IsNumeral count (below_64 count is)).0.1;
 }
 
+-- where no symbol is NUL, the one at each index is not
 symbol_no_nul : (symbols : List ℕ) (k : ℕ) → k < length symbols → list_all is_no_nul symbols ≡ true
     → is_no_nul (slice_index symbols k) ≡ true
 symbol_no_nul [] k within all = absurd (omega (arith, within))
@@ -118,6 +124,7 @@ symbol_no_nul (c ∷ symbols) (suc k) within all =
 abbrev table : List ℕ
 table = standard.encode_table
 
+-- no symbol of base64, no text of bytes in it and no padding has a NUL:
 standard_no_nul : (k : ℕ) → k < 64 → is_no_nul (slice_index table k) ≡ true
 standard_no_nul k within = symbol_no_nul table k within refl
 
@@ -158,6 +165,7 @@ base64_text bytes fits = record {
   ) refl;
 }
 
+-- a character of a channel binding's name is ASCII
 letter_below : (c : ℕ) → is_cb_char c ≡ true → c < 128
 letter_below c is = elim (cases_lt c 128) [
   | inl below ↦ below
@@ -168,8 +176,8 @@ letter_below c is = elim (cases_lt c 128) [
     lt-leb c 0x7A (omega (arith, above)),
     le-leb 0x30 c (omega (arith, above)),
     lt-leb c 0x39 (omega (arith, above)),
-    other_than c 46 (λ e. omega (arith, above, e)),
-    other_than c 45 (λ e. omega (arith, above, e)),
+    ne_eqb c 46 (λ e. omega (arith, above, e)),
+    ne_eqb c 45 (λ e. omega (arith, above, e)),
   ) refl) is)
 ]
 

@@ -6,25 +6,25 @@ pub returns-clause-ok : goal.returns-clause-ok
 returns-clause-ok g c =
     on_ok_weaker c.print_done.result
     (λ printed. record {
-      account = c.in_ok-asked.asked;
-      is_name = c.in_ok-asked.ensures.name;
-      is_first = c.in_ok-asked.ensures.password.0;
-      is_password = c.in_ok-asked.ensures.password.1;
-      is_count = c.in_ok-asked.ensures.count;
+      account = c.in_ok-account.account;
+      is_name = c.in_ok-account.ensures.name;
+      is_first = c.in_ok-account.ensures.password.0;
+      is_password = c.in_ok-account.ensures.password.1;
+      is_count = c.in_ok-account.ensures.count;
       file = c.in_ok-random.random.file;
-      there = g.R.File.Read.remaining c.seen_or_new.new.random.file;
+      middle = g.R.File.Read.remaining c.read_or_new.new.random.file;
       after = c.two_salts.new.random.file;
       book = c.in_ok-book.book;
       is_book = c.in_ok-book.ensures.book;
       salts = c.in_ok-salts.salts;
       takes_salts = c.in_ok-salts.ensures.salts;
-      is_saved = c.in_ok-save.ensures.saved;
+      is_saved = c.in_ok-add_and_save.ensures.saved;
       printed = rw c.text.ensures.value at printed;
     })
     c.print_done.ensures.printed
 
-pub returns-in_err-save-clause-why : goal.returns-in_err-save-clause-why
-returns-in_err-save-clause-why g c =
-    let e = err_from_is_err_and c.from_residual-in_err-save.result c.from_residual-in_err-save.ensures.1 in
-    rw (e.1, e.2) (not_enrolled _ _ _ _ _ _ _ _ _ c.given-path.ensures c.in_ok-asked.ensures.name c.in_ok-book.ensures.book
-    c.in_err-save.ensures.err)
+pub returns-in_err-add_and_save-clause-why : goal.returns-in_err-add_and_save-clause-why
+returns-in_err-add_and_save-clause-why g c =
+    let e = err_from_is_err_and c.from_residual-in_err-add_and_save.result c.from_residual-in_err-add_and_save.ensures.1 in
+    rw (e.1, e.2) (not_enrolled _ _ _ _ _ _ _ _ _ c.given-path.ensures c.in_ok-account.ensures.name c.in_ok-book.ensures.book
+    c.in_err-add_and_save.ensures.err)

@@ -22,7 +22,8 @@ invariant_of-result c =
       decoy_count = top.decoy_count;
       accounts = option_map (λ m. table_view m.now) top.accounts;
     } in
-    text_in_range c.args.bytes.now _ (whole c.args.bytes.now _ seen c.in-Ok-accounts_of_table.accounts.entries c.in-Ok.ensures c.in-Ok-top_of.ensures c.in-Ok-accounts_of_table.ensures)
+    text_in_range c.args.bytes.now _ (whole c.args.bytes.now _ seen c.in-Ok-accounts_of_table.accounts.entries c.in-Ok.ensures
+    c.in-Ok-top_of.ensures c.in-Ok-accounts_of_table.ensures)
 
 pub returns-in-Ok-accounts_of_table : goal.returns-in-Ok-accounts_of_table
 returns-in-Ok-accounts_of_table c =
@@ -32,7 +33,8 @@ returns-in-Ok-accounts_of_table c =
       decoy_count = top.decoy_count;
       accounts = option_map (λ m. table_view m.now) top.accounts;
     } in
-    whole c.args.bytes.now _ seen c.in-Ok-accounts_of_table.accounts.entries c.in-Ok.ensures c.in-Ok-top_of.ensures c.in-Ok-accounts_of_table.ensures
+    whole c.args.bytes.now _ seen c.in-Ok-accounts_of_table.accounts.entries c.in-Ok.ensures c.in-Ok-top_of.ensures
+    c.in-Ok-accounts_of_table.ensures
 
 pub returns : goal.returns
 returns c =

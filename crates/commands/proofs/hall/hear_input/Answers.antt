@@ -2,8 +2,8 @@ use Rattle.std.proofs.Common.{ap, ◌∙◌}
 use Rattle.std.proofs.lemmas.Result.{IfErr-weaker, on_ok_weaker}
 use Rattle.sasl_log.specs.Sink.{SinkFacts}
 use Rattle.commands.specs.declared.printed_log.PrintedLog.{PrintedLog}
-use Rattle.commands.proofs.lemmas.Faults.{begins_with_no_event, fails_to_begin, hears_nothing}
-use Rattle.commands.proofs.lemmas.HeardLines.{prints_log, prints_to_bad_event, stops_after}
+use Rattle.commands.proofs.lemmas.Faults.{begins_with_no_event, fails_to_begin, cannot_begin_stops_hearing}
+use Rattle.commands.proofs.lemmas.HeardLines.{prints_log, prints_to_bad_event, hall_stops_after}
 use Rattle.commands.proofs.hall.hear_input.Goals as goal
 
 -- what the hall heard is what the lines say, and its log, from which the output was taken back, is a front
@@ -12,7 +12,8 @@ returns-in-Ok-clause-ok g c =
     let before = ap (λ (f : SinkFacts). f.given) c.new.ensures in
     let after = c.into_output.ensures ∙ ap (λ (l : PrintedLog _). g.O.Write.contents l.output) c.into_log.ensures in
     on_ok_weaker c.hear_lines-heard.result
-    (prints_log g.S.BookStore.facts g.S.BookStore.IsStored _ _ _ _ _ _ _ _ _ _ c.log_is_a_front.ensures c.log_is_saved.ensures before after c.in-Ok.ensures.log)
+    (prints_log g.S.BookStore.facts g.S.BookStore.IsStored _ _ _ _ _ _ _ _ _ _ c.log_is_a_front.ensures c.log_is_saved.ensures before
+    after c.in-Ok.ensures.log)
     (rw c.new-lines.ensures.input at c.hear_lines-heard.ensures.ok)
 
 pub returns-in-Ok-clause-err : goal.returns-in-Ok-clause-err
@@ -20,7 +21,8 @@ returns-in-Ok-clause-err g c =
     let before = ap (λ (f : SinkFacts). f.given) c.new.ensures in
     let after = c.into_output.ensures ∙ ap (λ (l : PrintedLog _). g.O.Write.contents l.output) c.into_log.ensures in
     IfErr-weaker c.hear_lines-heard.result _ _
-    (λ fault. stops_after g.S.BookStore.facts g.S.BookStore.IsStored _ _ _ _ _ _ _ _ _ fault c.log_is_a_front.ensures c.log_is_saved.ensures before after c.in-Ok.ensures.log)
+    (λ fault. hall_stops_after g.S.BookStore.facts g.S.BookStore.IsStored _ _ _ _ _ _ _ _ _ fault c.log_is_a_front.ensures
+    c.log_is_saved.ensures before after c.in-Ok.ensures.log)
     (rw c.new-lines.ensures.input at c.hear_lines-heard.ensures.err)
 
 pub returns-in-Err-clause-err : goal.returns-in-Err-clause-err
@@ -31,7 +33,8 @@ pub returns-in-Ok-clause-bad : goal.returns-in-Ok-clause-bad
 returns-in-Ok-clause-bad g c = λ is.
     let before = ap (λ (f : SinkFacts). f.given) c.new.ensures in
     let after = c.into_output.ensures ∙ ap (λ (l : PrintedLog _). g.O.Write.contents l.output) c.into_log.ensures in
-    prints_to_bad_event g.S.BookStore.facts g.S.BookStore.IsStored _ _ _ _ _ _ _ _ _ c.log_is_a_front.ensures c.log_is_saved.ensures c.phases_are_those_of_places.ensures before after c.in-Ok.ensures.log
+    prints_to_bad_event g.S.BookStore.facts g.S.BookStore.IsStored _ _ _ _ _ _ _ _ _ c.log_is_a_front.ensures c.log_is_saved.ensures
+    c.phases_are_those_of_places.ensures before after c.in-Ok.ensures.log
     (rw c.new-lines.ensures.input at (c.hear_lines-heard.ensures.bad is))
 
 pub returns-in-Err-clause-bad : goal.returns-in-Err-clause-bad
@@ -41,4 +44,4 @@ pub returns-in-Ok-clause-why : goal.returns-in-Ok-clause-why
 returns-in-Ok-clause-why g c = rw c.in-Ok.ensures.path at c.hear_lines-heard.ensures.why
 
 pub returns-in-Err-clause-why : goal.returns-in-Err-clause-why
-returns-in-Err-clause-why g c = hears_nothing _ _ _ _ c.in-Err.ensures.err
+returns-in-Err-clause-why g c = cannot_begin_stops_hearing _ _ _ _ c.in-Err.ensures.err

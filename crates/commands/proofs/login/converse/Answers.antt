@@ -11,7 +11,8 @@ returns-in_err-hang_up-clause-after_fault g c =
     (IsLogAfterFaultWith g.S.BookStore.facts g.S.BookStore.IsStored g.C.Clock.IsNow c.args.server_nonce c.args.talk.now.desk
     (g.L.Sink.facts c.args.talk.now.log) c.hang_up.new.talk.desk (g.L.Sink.facts c.hang_up.new.talk.log))
     c.from_residual-in_err-hang_up.ensures.1
-    (fails_with g.S.BookStore.facts g.S.BookStore.IsStored g.C.Clock.IsNow _ _ _ _ _ _ _ _ c.in_ok-passed.ensures.log c.in_err-hang_up.ensures.after_fault)
+    (fails_with g.S.BookStore.facts g.S.BookStore.IsStored g.C.Clock.IsNow _ _ _ _ _ _ _ _ c.in_ok-passed.ensures.log
+    c.in_err-hang_up.ensures.after_fault)
 
 -- where the client was let in and each code passed, it is told nothing more
 pub returns-clause-passes : goal.returns-clause-passes
@@ -24,7 +25,8 @@ returns-clause-passes g c = λ is. record {
 -- no session is open, so the log is clean
 pub returns-clause-clean : goal.returns-clause-clean
 returns-clause-clean g c = λ start before l.
-    let desk = stays_twice g.S.BookStore.facts g.S.BookStore.IsStored g.C.Clock.IsNow _ _ _ _ _ _ _ c.in_ok-passed.ensures.log c.in_ok-hang_up.ensures.log start before l in (
+    let desk = stays_twice g.S.BookStore.facts g.S.BookStore.IsStored g.C.Clock.IsNow _ _ _ _ _ _ _ c.in_ok-passed.ensures.log
+    c.in_ok-hang_up.ensures.log start before l in (
       _,
       c.log_is_clean.ensures.closed start desk.calls c.hang_up.new.talk.desk desk.stands (inl c.in_ok-hang_up.ensures.closed),
       record { calls = desk.calls; place = desk.stands.place; is_run = desk.stands.is_run; asked = desk.asked; is_log = refl },

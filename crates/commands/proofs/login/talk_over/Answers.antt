@@ -3,7 +3,7 @@ use Rattle.std.proofs.lemmas.Result.{IfErr-weaker, on_ok_weaker}
 use Rattle.sasl_log.specs.Sink.{SinkFacts}
 use Rattle.commands.specs.declared.printed_log.PrintedLog.{PrintedLog}
 use Rattle.commands.proofs.lemmas.Faults.{fails_to_begin}
-use Rattle.commands.proofs.lemmas.Logins.{passes_printed, printed_clean, stops_after}
+use Rattle.commands.proofs.lemmas.Logins.{passes_printed, printed_clean, login_stops_after}
 use Rattle.commands.proofs.login.talk_over.Goals as goal
 
 pub returns-in-Ok-clause-ok : goal.returns-in-Ok-clause-ok
@@ -20,7 +20,8 @@ returns-in-Ok-clause-err g c =
     let before = ap (λ (f : SinkFacts). f.given) c.new.ensures in
     let after = c.into_output.ensures ∙ ap (λ (l : PrintedLog _). g.O.Write.contents l.output) c.into_log.ensures in
     IfErr-weaker c.converse-passed.result _ _
-    (λ fault. stops_after g.S.BookStore.facts g.S.BookStore.IsStored _ _ _ _ _ _ _ _ _ _ fault c.log_is_a_front.ensures c.log_is_saved.ensures before after (c.in-Ok.ensures.log _))
+    (λ fault. login_stops_after g.S.BookStore.facts g.S.BookStore.IsStored _ _ _ _ _ _ _ _ _ _ fault c.log_is_a_front.ensures
+    c.log_is_saved.ensures before after (c.in-Ok.ensures.log _))
     c.converse-passed.ensures.after_fault
 
 pub returns-in-Ok-clause-passes : goal.returns-in-Ok-clause-passes

@@ -23,7 +23,7 @@ returns-in-Some-enrol-default-clause-ends g c =
 pub returns-in-Some-code-default-clause-ends : goal.returns-in-Some-code-default-clause-ends
 returns-in-Some-code-default-clause-ends g c =
     let is = named _ _ _ _ c.in-Some-code-default.ensures.name c.in-Some-code-default.ensures.rows c.in-Some-code-default.is-code in
-    ends_by _ _ (λ _. 0) c.code.result c.done-in-Some-code-default.result c.done-in-Some-code-default.ensures c.code.ensures.printed
+    ends_by _ _ (λ _. 0) c.code.result c.done-in-Some-code-default.result c.done-in-Some-code-default.ensures c.code.ensures.ok
     (both _ _ c.code.result c.code.ensures.err c.code.ensures.why)
     (λ _ did. runs Code _ is (refl, did)) (λ _ stopped. stops Code _ is stopped)
 
@@ -51,7 +51,8 @@ returns-in-Some-login-default-clause-ends g c =
 pub returns-in-Some-hall-default-clause-ends : goal.returns-in-Some-hall-default-clause-ends
 returns-in-Some-hall-default-clause-ends g c =
     let is = named _ _ _ _ c.in-Some-hall-default.ensures.name c.in-Some-hall-default.ensures.rows c.in-Some-hall-default.is-hall in
-    ends_by _ _ (λ _. 0) c.hall-ended.result.0 c.done-in-Some-hall-default.result c.done-in-Some-hall-default.ensures c.hall-ended.ensures.ok
+    ends_by _ _ (λ _. 0) c.hall-ended.result.0 c.done-in-Some-hall-default.result c.done-in-Some-hall-default.ensures
+    c.hall-ended.ensures.ok
     (all_of_fault c.hall-ended.result.0 _ _ _ c.hall-ended.ensures.err c.hall-ended.ensures.bad c.hall-ended.ensures.why)
     (λ _ did. runs Hall _ is (refl, did)) (λ _ stopped. stops Hall _ is stopped)
 
@@ -63,7 +64,8 @@ returns-in-Some-audit-default-clause-ends g c =
 
 pub returns-in-Some-upgrade-default-clause-ends : goal.returns-in-Some-upgrade-default-clause-ends
 returns-in-Some-upgrade-default-clause-ends g c =
-    let is = named _ _ _ _ c.in-Some-upgrade-default.ensures.name c.in-Some-upgrade-default.ensures.rows c.in-Some-upgrade-default.is-upgrade in
+    let is = named _ _ _ _ c.in-Some-upgrade-default.ensures.name c.in-Some-upgrade-default.ensures.rows
+    c.in-Some-upgrade-default.is-upgrade in
     ends_as _ _ c.upgrade.result c.upgrade.ensures.printed (both _ _ c.upgrade.result c.upgrade.ensures.err c.upgrade.ensures.why)
     (λ _ did. runs Upgrade _ is did) (λ _ stopped. stops Upgrade _ is stopped)
 

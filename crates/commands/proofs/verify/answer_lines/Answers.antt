@@ -17,14 +17,14 @@ pub returns-in_err-reply-clause-err : goal.returns-in_err-reply-clause-err
 returns-in_err-reply-clause-err g c =
     let (has_lf, takes, some, counted) = rw c.in-Some.is at c.in_ok-line.ensures.line in
     let fault = rw (c.as_slice.ensures.value, c.loop-line.invariant.1) at c.in_err-reply.ensures.err in
-    let there = run_of g.S.BookStore.facts c.loop-line.held (g.O.Write.contents c.loop-line.output) in
+    let middle = run_of g.S.BookStore.facts c.loop-line.held (g.O.Write.contents c.loop-line.output) in
     let stop =
     at_line (AnswersLine g.S.BookStore.IsStored c.args.name.now c.args.moment) (g.I.Read.remaining c.args.input.now)
     (run_of g.S.BookStore.facts c.args.held.now (g.O.Write.contents c.args.output.now)) c.loop-line.all_passed
     (g.I.Read.remaining c.loop-line.lines.input.now)
-    there c.in-Some.line.items has_lf (g.I.Read.remaining c.next.new.self.input.now) c.loop-line.invariant.0 takes some in
+    middle c.in-Some.line.items has_lf (g.I.Read.remaining c.next.new.self.input.now) c.loop-line.invariant.0 takes some in
     handed_on c.from_residual-in_err-reply.result _ _ c.from_residual-in_err-reply.ensures.1
-    (inr (c.in-Some.line.items, stop.0, c.loop-line.all_passed, there, stop.1, fault))
+    (inr (c.in-Some.line.items, stop.0, c.loop-line.all_passed, middle, stop.1, fault))
 
 pub loop-line-preserved : goal.loop-line-preserved
 loop-line-preserved g c =

@@ -1,13 +1,13 @@
 use Rattle.std.proofs.Common.{inl, inr, ℕ, List, [], length, sym, subst, arith}
 use Rattle.std.proofs.lemmas.Bool.{cases_lt}
-use Rattle.log_grammar.specs.Bytes.{IsCut}
+use Rattle.log_grammar.specs.Bytes.{IsSplit}
 use Rattle.log_grammar.proofs.consequences.clean_logs_have_no_fault.Goals as goal
 
 pub returns : goal.returns
 returns c = λ accounts bytes k clean fault.
     let (texts, all, ends) = clean in
-    let same = c.are_cut_one_way.ensures bytes texts fault.texts [] fault.rest all fault.cut in
-    let cut = subst (λ (rest : List ℕ). IsCut bytes fault.texts rest) (sym same.1) fault.cut in
+    let same = c.bytes_are_split_one_way.ensures bytes texts fault.texts [] fault.rest all fault.cut in
+    let cut = subst (λ (rest : List ℕ). IsSplit bytes fault.texts rest) (sym same.1) fault.cut in
     elim (cases_lt (length fault.texts) k) [
       | inl after ↦ fault.unclean (omega (arith, after, fault.past)) clean
       | inr within ↦ fault.within within (c.first_lines_of_clean_logs_are_fronts.ensures accounts bytes fault.texts k clean cut)

@@ -1,5 +1,5 @@
 use Rattle.std.proofs.Common.{refl}
-use Rattle.log_grammar.proofs.lemmas.headline_laws.SessionCounts.{sessions_counted}
+use Rattle.log_grammar.proofs.lemmas.session_laws.SessionCounts.{sessions_counted}
 use Rattle.log_grammar.proofs.examples.counted_logs.Goals as goal
 
 pub returns-clause-sessions : goal.returns-clause-sessions

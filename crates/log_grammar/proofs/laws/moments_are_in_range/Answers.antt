@@ -1,4 +1,4 @@
-use Rattle.log_grammar.proofs.lemmas.headline_laws.MomentRanges.{timed}
+use Rattle.log_grammar.proofs.lemmas.session_laws.MomentRanges.{timed}
 use Rattle.log_grammar.proofs.laws.moments_are_in_range.Goals as goal
 
 pub returns : goal.returns

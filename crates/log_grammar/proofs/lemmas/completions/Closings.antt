@@ -1,14 +1,14 @@
--- From each place of a session there are lines that close it and tell nothing, but where a code waits for its reply.
+-- From each place of a session there are lines that close it and tell nothing, except where a code waits for its reply.
 use Rattle.std.proofs.Common.{◌≡◌, ◌⊎◌, inl, inr, ℕ, List, [], ◌∷◌, refl, arith}
 use Rattle.otp_core.specs.Attempt.{CodeTexts}
 use Rattle.scram_ends.specs.Verdict.{Due, accept, refuse, due_text}
 use Rattle.log_grammar.specs.Lines.{LogLine, said, gone, ended, cont, accepts, refuses}
 use Rattle.log_grammar.specs.Places.{Place, before_all, between, offered, asks_bare, waits_first, got_first, waits_final, got_final}
 use Rattle.log_grammar.specs.Places.{waits_code, got_code, leaving, over, halted}
-use Rattle.log_grammar.specs.Demands.{Accounts, AllCanBeChallenged, IsVerdict, demands}
+use Rattle.log_grammar.specs.Demands.{Accounts, AllCanBeChallenged, IsVerdictDue, demands}
 use Rattle.log_grammar.specs.state_machine.Steps.{IsTransition, told_at}
 use Rattle.log_grammar.specs.Numbered.{Numbered, MayBeNumbered, MayFollow}
-use Rattle.log_grammar.specs.NumberedLines.{HasNumber}
+use Rattle.log_grammar.specs.NumberedLines.{MayHaveNumber}
 use Rattle.log_grammar.proofs.lemmas.completions.EachPlace.{Ground, Spelt, spelt_end, spelt_gone, spelt_refuses, spelt_cont, refusal_line}
 use Rattle.log_grammar.proofs.lemmas.completions.EachPlace.{acceptance_line, some_verdict}
 use Rattle.log_grammar.proofs.lemmas.demands.StillChallenged.{Opened}
@@ -20,7 +20,7 @@ pub record IsPlain (line : LogLine) : Type 0 where
   pub spelt : Spelt line
   pub room : (limit : ℕ) (before : List (Numbered LogLine)) (n : ℕ) → MayBeNumbered limit before n line
   pub follow : (n m : ℕ) (next : LogLine) → MayFollow n line m next
-  pub has_number : HasNumber line
+  pub has_number : MayHaveNumber line
 
 -- these lines lead from a place to the end of the session, and tell nothing
 abbrev pub Closes : Accounts → Place → List LogLine → Type 0
@@ -32,6 +32,7 @@ Closes accounts place (line ∷ more) =
 pub plain_end : IsPlain ended
 plain_end = record { spelt = spelt_end; room = λ limit before n. tt; follow = λ n m next. tt; has_number = tt }
 
+-- `C GONE`, and `S NO`, `S CONT` and `S OK` with a message that can be written, may be written at any time as well:
 plain_gone : IsPlain gone
 plain_gone = record { spelt = spelt_gone; room = λ limit before n. tt; follow = λ n m next. tt; has_number = tt }
 
@@ -44,17 +45,19 @@ plain_cont message spelt = record { spelt = spelt; room = λ limit before n. tt;
 plain_accepts : (message : List ℕ) → Spelt (said (accepts message)) → IsPlain (said (accepts message))
 plain_accepts message spelt = record { spelt = spelt; room = λ limit before n. tt; follow = λ n m next. tt; has_number = tt }
 
--- lines that close a session at a place
+-- some lines close a session at the place
 abbrev pub IsClosable : Accounts → Place → Type 0
 IsClosable accounts place = (lines : List LogLine) × Closes accounts place lines
 
+-- a session that is over is closed by its `E`
 close_over : (accounts : Accounts) → IsClosable accounts over
 close_over accounts = (ended ∷ [], (plain_end, refl, between, refl, refl))
 
+-- `S NO` with nothing after its colon can be written
 bare_no : Spelt (said (refuses []))
 bare_no = spelt_refuses [] tt (omega arith)
 
--- a refusal, and the end
+-- a session is closed by a refusal and `E`, where the server may refuse
 close_refused : (accounts : Accounts) (place : Place) (text : List ℕ) → Spelt (said (refuses text))
     → told_at place (said (refuses text)) ≡ []
     → IsTransition (demands accounts) place (said (refuses text)) over → IsClosable accounts place
@@ -67,6 +70,7 @@ close_turn : (accounts : Accounts) (place : Place) → told_at place gone ≡ []
     → IsClosable accounts place
 close_turn accounts place quiet goes = let end = close_over accounts in (gone ∷ end.0, (plain_gone, quiet, over, goes, end.1))
 
+-- a session can be closed where a mechanism was asked for without a message
 close_bare : (accounts : Accounts) (m : List ℕ) → IsClosable accounts (asks_bare m)
 close_bare accounts m = elim (offered_decided m) [
   | inr none ↦ close_refused accounts (asks_bare m) [] bare_no refl ((none, refl), refl)
@@ -75,6 +79,7 @@ close_bare accounts m = elim (offered_decided m) [
       (said (cont []) ∷ turn.0, (plain_cont [] (spelt_cont [] tt (omega arith)), refl, waits_first m, ((is, refl), refl), turn.1))
 ]
 
+-- a session can be closed where a client-first message waits for its answer
 close_first : Ground → (accounts : Accounts) → AllCanBeChallenged accounts → (m first : List ℕ) → IsClosable accounts (got_first m first)
 close_first ground accounts fit m first = elim (login_decided ground.once ground.firsts ground.names m first) [
   | inr none ↦ close_refused accounts (got_first m first) [] bare_no refl ((none, refl), refl)
@@ -88,8 +93,9 @@ close_first ground accounts fit m first = elim (login_decided ground.once ground
       (said (cont text) ∷ turn.0, (plain_cont text spelt, refl, next, (is.0, challenge.1, refl), turn.1))
 ]
 
+-- a session can be closed where a client-final message waits for the verdict that is due
 close_verdict : (accounts : Accounts) (m account first challenge last : List ℕ) (due : Due)
-    → IsVerdict accounts m account first challenge last due
+    → IsVerdictDue accounts m account first challenge last due
     → IsClosable accounts (got_final m account first challenge last)
 close_verdict accounts m account first challenge last (refuse why) is =
     close_refused accounts (got_final m account first challenge last) (due_text (refuse why)) (refusal_line why) refl
@@ -105,8 +111,8 @@ Exit accounts place =
     IsClosable accounts place
     ⊎ ((place ≡ before_all) ⊎ (((account : List ℕ) × (sent : CodeTexts) × (place ≡ got_code account sent)) ⊎ (place ≡ halted)))
 
--- each place has an exit: lines that close its session; or it is before all lines, a code waits for its reply, or it is halted;
--- this where a challenge can be written for each name, and the one that the place has meets its demand
+-- where a challenge can be written for each name, and the one that the place has meets its demand, each place has an exit: lines that
+-- close its session; or it is before all lines, a code waits for its reply, or it is halted
 pub exit_of : Ground → (accounts : Accounts) → AllCanBeChallenged accounts → (place : Place) → Opened (demands accounts) place
     → Exit accounts place
 exit_of ground accounts fit before_all opened = inr (inl refl)

@@ -3,7 +3,7 @@ use Rattle.std.proofs.Common.{◌≡◌, ◌⊎◌, inl, inr, ℕ, ◌+◌, fals
 use Rattle.std.specs.Prelude.{codes}
 use Rattle.std.specs.List.{AllZip}
 use Rattle.log_grammar.specs.Lines.{LogLine, said, ended, halt, busy}
-use Rattle.log_grammar.specs.Bytes.{ended_by_lf, IsCut}
+use Rattle.log_grammar.specs.Bytes.{ended_by_lf, IsSplit}
 use Rattle.log_grammar.specs.LoggedReply.{LoggedReply}
 use Rattle.log_grammar.specs.Places.{Place, before_all, between, got_code, over, halted, is_closed}
 use Rattle.log_grammar.specs.Demands.{Accounts, AllCanBeChallenged, Demands, demands, AreReplies}
@@ -25,7 +25,7 @@ use Rattle.log_grammar.proofs.lemmas.many_sessions.OpenCounts.{given_or_not}
 use Rattle.log_grammar.proofs.lemmas.many_sessions.LinesOfNumber.{at_each, put_here, put_other, of_number_stands, no_element}
 use Rattle.log_grammar.proofs.lemmas.ListEnds.{with_last}
 
--- where HALT and BUSY lead
+-- `S HALT` leads from a place of a session only to where the log is halted
 pub halt_leads : (d : Demands) (place next : Place) → IsTransition d place (said halt) next → next ≡ halted
 halt_leads d (got_code account sent) next h = h
 halt_leads d place next h = absurd h
@@ -53,7 +53,7 @@ last_kind (said halt) = inl refl
 last_kind (said busy) = inr (inl refl)
 last_kind line = inr (inr (λ n m next. tt))
 
--- where any line may follow the last, the open numbers are closed
+-- a log whose last line lets any line follow can be completed by closing the open numbers
 complete_free : Ground → (limit : ℕ) (accounts : Accounts) → AllCanBeChallenged accounts
     → (log : List (Numbered LogLine)) (places : ℕ → Place) (told : List LoggedReply)
     → SpellsNumbered limit (demands accounts) log places told → Free log → Ranged places → CompletesTwo limit accounts log
@@ -61,7 +61,7 @@ complete_free ground limit accounts fit log places told s free ranged =
     close_all ground limit accounts fit (begun log + 1) log places told s free ranged
     (λ n most. not_begun limit (demands accounts) log places told s n (omega (arith, most)))
 
--- after BUSY comes its `E`
+-- a log whose last line is BUSY can be completed, as its `E` comes next
 complete_busy : Ground → (limit : ℕ) (accounts : Accounts) → AllCanBeChallenged accounts
     → (front : List (Numbered LogLine)) (last : Numbered LogLine) (places : ℕ → Place) (told : List LoggedReply)
     → SpellsNumbered limit (demands accounts) (front ++ last ∷ []) places told → Ranged places → last.value ≡ said busy
@@ -83,6 +83,7 @@ complete_busy ground limit accounts fit front last places told s ranged is at =
     (complete_free ground limit accounts fit (log ++ numbered n ended ∷ []) (put n between places) (told ++ told_at (places n) ended) s'
     (free_after log n ended (λ m next. tt)) ranged_on)
 
+-- a log with a last line can be completed, whatever that line is:
 complete_last : Ground → (limit : ℕ) (accounts : Accounts) → AllCanBeChallenged accounts
     → (front : List (Numbered LogLine)) (last : Numbered LogLine) (places : ℕ → Place) (told : List LoggedReply)
     → SpellsNumbered limit (demands accounts) (front ++ last ∷ []) places told → Ranged places
@@ -120,7 +121,7 @@ read_at [] (y ∷ before) x rest are = absurd are
 read_at (t ∷ texts) [] x rest are = (t, are.0)
 read_at (t ∷ texts) (y ∷ before) x rest are = read_at texts before x rest are.1
 
--- the numbers that are open were read
+-- the numbers that are open in lines that were read are in their range
 ranged_of : (limit : ℕ) (accounts : Accounts) (texts : List (List ℕ)) (log : List (Numbered LogLine)) (places : ℕ → Place)
     (told : List LoggedReply)
     → AllZip IsNumberedLine texts log → SpellsNumbered limit (demands accounts) log places told → Ranged places
@@ -134,6 +135,7 @@ ranged_of limit accounts texts log places told are s n is = elim (given_or_not (
       text.1.number
 ]
 
+-- texts that are these numbered lines, and more texts that are more such lines, are all these lines in their order
 pairs_on : (texts more : List (List ℕ)) (lines others : List (Numbered LogLine)) → AllZip IsNumberedLine texts lines
     → AllZip IsNumberedLine more others
     → AllZip IsNumberedLine (texts ++ more) (lines ++ others)
@@ -142,8 +144,9 @@ pairs_on [] more (l ∷ lines) others are also = absurd are
 pairs_on (t ∷ texts) more [] others are also = absurd are
 pairs_on (t ∷ texts) more (l ∷ lines) others are also = (are.0, pairs_on texts more lines others are.1 also)
 
--- no line yet: the first line makes a clean log
-first_completes : (limit : ℕ) (accounts : Accounts) (bytes : List ℕ) → IsCut bytes [] [] → BeginsCleanOf (version_two limit accounts) bytes
+-- bytes with no whole line begin a clean log of version 2
+first_completes : (limit : ℕ) (accounts : Accounts) (bytes : List ℕ) → IsSplit bytes [] []
+    → BeginsCleanOf (version_two limit accounts) bytes
 first_completes limit accounts bytes cut =
     let first = codes "SCRAMLOG 2" ∷ [] in (
       ended_by_lf first,

@@ -11,7 +11,7 @@ use Rattle.log_grammar.specs.Places.{Place, before_all, between, halted, is_clos
 use Rattle.log_grammar.specs.Demands.{Accounts, AllCanBeChallenged, Demands, demands, AreReplies}
 use Rattle.log_grammar.specs.state_machine.Steps.{IsTransition, told_at}
 use Rattle.log_grammar.specs.Numbered.{Numbered, numbered, MayFollow, SpellsNumbered, MayEndNumbered}
-use Rattle.log_grammar.specs.NumberedLines.{IsSessionNumber, HasNumber, numbered_text, IsNumberedLine}
+use Rattle.log_grammar.specs.NumberedLines.{IsSessionNumber, MayHaveNumber, numbered_text, IsNumberedLine}
 use Rattle.log_grammar.specs.state_machine.NumberedSteps.{IsVisitTransition, put}
 use Rattle.log_grammar.proofs.lemmas.completions.Closings.{Closes, exit_of}
 use Rattle.log_grammar.proofs.lemmas.completions.EachPlace.{Ground, Spelt, spelt_halt}
@@ -23,7 +23,7 @@ use Rattle.log_grammar.proofs.lemmas.many_sessions.LinesOfNumber.{at_each, put_h
 use Rattle.log_grammar.proofs.lemmas.ListEnds.{last_same, with_last, length-last}
 use Rattle.log_grammar.proofs.lemmas.state_machine.StepKinds.{kind_of_step}
 
--- lines that make a log clean
+-- a log of version 2 can be completed: some lines after it, each with its text, let it end
 pub record CompletesTwo (limit : ℕ) (accounts : Accounts) (log : List (Numbered LogLine)) : Type 0 where
   pub texts : List (List ℕ)
   pub more : List (Numbered LogLine)
@@ -48,8 +48,9 @@ finished limit accounts log places told s ends = record {
   ends = ends;
 }
 
--- a line, and then lines that complete the log
-pub then : (limit : ℕ) (accounts : Accounts) (log : List (Numbered LogLine)) (n : ℕ) (line : LogLine) → IsSessionNumber n → HasNumber line
+-- a log can be completed where one more line can be spelled and the log with it can be completed
+pub then : (limit : ℕ) (accounts : Accounts) (log : List (Numbered LogLine)) (n : ℕ) (line : LogLine) → IsSessionNumber n
+    → MayHaveNumber line
     → Spelt line
     → CompletesTwo limit accounts (log ++ numbered n line ∷ []) → CompletesTwo limit accounts log
 then limit accounts log n line number has s c =
@@ -78,7 +79,7 @@ pub free_after : (log : List (Numbered LogLine)) (n : ℕ) (line : LogLine) → 
 free_after log n line follow before x e m next =
     subst (λ (z : Numbered LogLine). MayFollow z.number z.value m next) (last_same log before (numbered n line) x e).1 (follow m next)
 
--- lines that close a number, one after another, and what completes the log then
+-- a log can be completed where lines close one number and the log after them can be completed
 close_number : (limit : ℕ) (accounts : Accounts) (n : ℕ) → IsSessionNumber n
     → (lines : List LogLine) (log : List (Numbered LogLine)) (places : ℕ → Place) (told : List LoggedReply)
     → SpellsNumbered limit (demands accounts) log places told → Free log → Closes accounts (places n) lines
@@ -101,13 +102,13 @@ close_number limit accounts n number (line ∷ more) log places told s free (pla
     (λ after_log after all r free' at others. on after_log after all r free' at
     (λ m other. others m other ∙ put_other n next places m other)))
 
--- a number at a place where a session is closed is between sessions
+-- a number at a place where no session is open, and that is not before all lines, is between sessions
 closed_is_between : (p : Place) → is_closed p ≡ true → (p ≡ before_all → ⊥) → p ≡ between
 closed_is_between before_all is never = absurd (never refl)
 closed_is_between between is never = refl
 closed_is_between p is never = absurd (cc is)
 
--- no number stands before all lines
+-- no line leads a number to the place before all lines
 never_before : (d : Demands) (place : Place) (line : LogLine) (next : Place) → IsVisitTransition d place line next
     → (place ≡ before_all → ⊥) → next ≡ before_all → ⊥
 never_before d place line next goes never at = elim (kind_of_step d place line next goes) [
@@ -118,6 +119,7 @@ never_before d place line next goes never at = elim (kind_of_step d place line n
       let wrong = sym keeps.0 ∙ between_begins d place line next between_is goes in cc wrong
 ]
 
+-- no number of a log stands before all lines
 not_before_all : (limit : ℕ) (d : Demands) (k : ℕ) (log : List (Numbered LogLine)) (p : ℕ → Place) (told : List LoggedReply)
     → length log ≤ k
     → SpellsNumbered limit d log p told → (n : ℕ) → p n ≡ before_all → ⊥
@@ -137,7 +139,7 @@ not_before_all limit d (suc k) (x ∷ log) p told short s =
 abbrev pub Ranged : (ℕ → Place) → Type 0
 Ranged places = (n : ℕ) → is_closed (places n) ≡ false → IsSessionNumber n
 
--- a halt ends the log
+-- a log can be completed by a halt, where the place of some number allows it
 by_halt : (limit : ℕ) (accounts : Accounts) (log : List (Numbered LogLine)) (places : ℕ → Place) (told : List LoggedReply) (n : ℕ)
     → IsSessionNumber n
     → SpellsNumbered limit (demands accounts) log places told → Free log → IsTransition (demands accounts) (places n) (said halt) halted

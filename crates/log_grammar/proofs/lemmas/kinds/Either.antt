@@ -62,7 +62,7 @@ either_wrong_once one two first second differ once also (t ∷ before) text w v 
 either_wrong_once one two first second differ once also (t ∷ before) text w v (inr a) (inl b) = absurd (differ (sym b.0 ∙ a.0))
 either_wrong_once one two first second differ once also (t ∷ before) text w v (inr a) (inr b) = also (t ∷ before) text w v a.1 b.1
 
--- it is decided whether lines that stand are a clean log
+-- whether lines that stand are a clean log is decided, where it is so in each kind
 ends_decided : (one two : LogKind) (first second : List ℕ) → AreApart one two first second → IsSound one → IsSound two
     → (texts : List (List ℕ)) → (either one two first second).MayBegin texts → Decided ((either one two first second).AreClean texts)
 ends_decided one two first second a s z [] stands =
@@ -86,7 +86,7 @@ ends_decided one two first second a s z (t ∷ texts) (inr stands) =
       ])
     ]
 
--- a first text
+-- a first text goes on as the first line of one kind, or is wrong as no line
 first_judged : (one two : LogKind) (first second : List ℕ) → AreApart one two first second → (text : List ℕ)
     → NextIsJudged (either one two first second) [] text
 first_judged one two first second a text = elim (decided_same text first) [
@@ -101,6 +101,7 @@ first_judged one two first second a text = elim (decided_same text first) [
   ]
 ]
 
+-- each text after lines that stand is judged, where it is so in each kind
 judged : (one two : LogKind) (first second : List ℕ) → AreApart one two first second → IsSound one → IsSound two
     → (before : List (List ℕ)) (text : List ℕ) → (either one two first second).MayBegin before
     → NextIsJudged (either one two first second) before text

@@ -5,10 +5,10 @@ use Rattle.std.specs.List.{AllByRecursion}
 use Rattle.std.proofs.Math.Seq.{take-length, drop-length, take-append_seam, drop-append_seam}
 use Rattle.std.proofs.lemmas.List.{take-append-le}
 use Rattle.std.proofs.lemmas.Bool.{cases_lt}
-use Rattle.log_grammar.specs.Bytes.{LacksLf, ended_by_lf, IsCut}
+use Rattle.log_grammar.specs.Bytes.{LacksLf, ended_by_lf, IsSplit}
 use Rattle.log_grammar.specs.Why.{Why}
 use Rattle.log_grammar.specs.LogKinds.{LogKind, IsFrontOf, IsCleanOf, IsFaultLineOf, IsWrongNextOf, IsWhyOf, BeginsCleanOf}
-use Rattle.log_grammar.specs.LogKinds.{IsFirstToBeginNoCleanOf}
+use Rattle.log_grammar.specs.LogKinds.{IsFirstOutsideCleanLogsOf}
 use Rattle.log_grammar.proofs.lemmas.lines.Cuts.{cut_one_way, cut_on, first_lack, up_to, whole}
 use Rattle.log_grammar.proofs.lemmas.ListEnds.{with_next, parted}
 use Rattle.log_grammar.proofs.lemmas.kinds.Judged.{IsShortened, EndsStand, first_stand, front_stands, front_at, fronts_front, text_at_fault}
@@ -18,7 +18,7 @@ abbrev pub FrontsBeginCleanOf : LogKind → Type 0
 FrontsBeginCleanOf kind = (bytes : List ℕ) → IsFrontOf kind bytes → BeginsCleanOf kind bytes
 
 -- the lines of what begins a clean log stand
-pub begun_stand : (kind : LogKind) → IsShortened kind → EndsStand kind → (bytes : List ℕ) (texts : List (List ℕ)) → IsCut bytes texts []
+pub begun_stand : (kind : LogKind) → IsShortened kind → EndsStand kind → (bytes : List ℕ) (texts : List (List ℕ)) → IsSplit bytes texts []
     → BeginsCleanOf kind bytes
     → kind.MayBegin texts
 begun_stand kind shorter stand bytes texts cut (more, clean) =
@@ -29,12 +29,12 @@ begun_stand kind shorter stand bytes texts cut (more, clean) =
 
 -- whole lines are a front exactly where they begin a clean log, in a kind in which each front begins one
 pub fronts_are_what_begins : (kind : LogKind) → IsShortened kind → EndsStand kind → FrontsBeginCleanOf kind
-    → (bytes : List ℕ) (texts : List (List ℕ)) → IsCut bytes texts []
+    → (bytes : List ℕ) (texts : List (List ℕ)) → IsSplit bytes texts []
     → IsFrontOf kind bytes ↔ BeginsCleanOf kind bytes
 fronts_are_what_begins kind shorter stand completes bytes texts cut =
     (λ front. completes bytes front, λ begins. (texts, cut, begun_stand kind shorter stand bytes texts cut begins))
 
--- the first lines of these bytes stand, so they begin a clean log
+-- first lines that are a front begin a clean log
 those_begin : (kind : LogKind) → FrontsBeginCleanOf kind → (texts : List (List ℕ)) (j : ℕ) (first : List (List ℕ)) → take j texts ≡ first
     → IsFrontOf kind (ended_by_lf (take j texts)) → BeginsCleanOf kind (ended_by_lf first)
 those_begin kind completes texts j first same front =
@@ -47,18 +47,19 @@ record IsFaultAmong (kind : LogKind) (bytes : List ℕ) (texts : List (List ℕ)
   past : k ≤ length texts + 1
   unclean : k ≡ length texts + 1 → IsCleanOf kind bytes → ⊥
 
-among_these : (kind : LogKind) (bytes : List ℕ) (texts : List (List ℕ)) (rest : List ℕ) (k : ℕ) → IsCut bytes texts rest
+-- a fault line of bytes is one among the lines that the bytes are cut into
+among_these : (kind : LogKind) (bytes : List ℕ) (texts : List (List ℕ)) (rest : List ℕ) (k : ℕ) → IsSplit bytes texts rest
     → IsFaultLineOf kind bytes k
     → IsFaultAmong kind bytes texts k
 among_these kind bytes texts rest k cut f =
     subst (λ (ts : List (List ℕ)). IsFaultAmong kind bytes ts k) (cut_one_way bytes f.texts texts f.rest rest f.cut cut).0
     (record { below = f.below; within = f.within; past = f.past; unclean = f.unclean })
 
--- the lines before a fault line begin a clean log, and with it they do not
+-- a fault line that is one of the whole lines is the first that begins no clean log
 at_line : (kind : LogKind) → IsShortened kind → EndsStand kind → FrontsBeginCleanOf kind
     → (bytes : List ℕ) (texts : List (List ℕ)) (rest : List ℕ) (k : ℕ)
-    → IsCut bytes texts rest → IsFaultAmong kind bytes texts k → (before : List (List ℕ)) (text : List ℕ) (more : List (List ℕ))
-    → texts ≡ before ++ text ∷ more → k ≡ length before + 1 → IsFirstToBeginNoCleanOf kind bytes texts k
+    → IsSplit bytes texts rest → IsFaultAmong kind bytes texts k → (before : List (List ℕ)) (text : List ℕ) (more : List (List ℕ))
+    → texts ≡ before ++ text ∷ more → k ≡ length before + 1 → IsFirstOutsideCleanLogsOf kind bytes texts k
 at_line kind shorter stand completes bytes texts rest k cut f before text more same at =
     let with = before ++ text ∷ [] in
     let long : length texts ≡ length before + suc (length more) = ap length same ∙ length-append before (text ∷ more) in
@@ -81,9 +82,10 @@ no_lines_front : (kind : LogKind) → kind.MayBegin [] → (texts : List (List �
 no_lines_front kind nothing [] = front_at kind [] tt nothing
 no_lines_front kind nothing (text ∷ texts) = front_at kind [] tt nothing
 
+-- a fault line is the first that begins no clean log
 of_fault : (kind : LogKind) → kind.MayBegin [] → IsShortened kind → EndsStand kind → FrontsBeginCleanOf kind
     → (bytes : List ℕ) (texts : List (List ℕ)) (rest : List ℕ) (k : ℕ)
-    → IsCut bytes texts rest → IsFaultAmong kind bytes texts k → IsFirstToBeginNoCleanOf kind bytes texts k
+    → IsSplit bytes texts rest → IsFaultAmong kind bytes texts k → IsFirstOutsideCleanLogsOf kind bytes texts k
 of_fault kind nothing shorter stand completes bytes texts rest zero cut f = absurd
     (f.within (omega arith) (no_lines_front kind nothing texts))
 of_fault kind nothing shorter stand completes bytes texts rest (suc n) cut f = elim (cases_lt n (length texts)) [
@@ -96,10 +98,10 @@ of_fault kind nothing shorter stand completes bytes texts rest (suc n) cut f = e
       inr (last, those_begin kind completes texts (length texts) texts (take-length texts) all, f.unclean last)
 ]
 
--- lines that begin no clean log are no front
+-- a whole line with which the lines before it begin no clean log, while these do, is the fault line
 fault_at_line : (kind : LogKind) → IsShortened kind → EndsStand kind → FrontsBeginCleanOf kind
     → (bytes : List ℕ) (before : List (List ℕ)) (text : List ℕ) (more : List (List ℕ)) (rest : List ℕ)
-    → IsCut bytes (before ++ text ∷ more) rest → BeginsCleanOf kind (ended_by_lf before)
+    → IsSplit bytes (before ++ text ∷ more) rest → BeginsCleanOf kind (ended_by_lf before)
     → (BeginsCleanOf kind (ended_by_lf (before ++ text ∷ [])) → ⊥) → IsFaultLineOf kind bytes (length before + 1)
 fault_at_line kind shorter stand completes bytes before text more rest cut begins none =
     let texts = before ++ text ∷ more in
@@ -119,8 +121,9 @@ fault_at_line kind shorter stand completes bytes before text more rest cut begin
       unclean = λ last clean. omega (arith, last, long);
     }
 
+-- where all lines begin a clean log, but the bytes are not a clean log, the line after the last is the fault line
 fault_at_end : (kind : LogKind) → IsShortened kind → EndsStand kind → (bytes : List ℕ) (texts : List (List ℕ)) (rest : List ℕ)
-    → IsCut bytes texts rest
+    → IsSplit bytes texts rest
     → BeginsCleanOf kind (ended_by_lf texts) → (IsCleanOf kind bytes → ⊥) → IsFaultLineOf kind bytes (length texts + 1)
 fault_at_end kind shorter stand bytes texts rest cut begins unclean =
     let all = whole texts cut.lines in
@@ -135,20 +138,21 @@ fault_at_end kind shorter stand bytes texts rest cut begins unclean =
       unclean = λ last. unclean;
     }
 
+-- the first line that begins no clean log is the fault line
 fault_of : (kind : LogKind) → IsShortened kind → EndsStand kind → FrontsBeginCleanOf kind
     → (bytes : List ℕ) (texts : List (List ℕ)) (rest : List ℕ) (k : ℕ)
-    → IsCut bytes texts rest → IsFirstToBeginNoCleanOf kind bytes texts k → IsFaultLineOf kind bytes k
+    → IsSplit bytes texts rest → IsFirstOutsideCleanLogsOf kind bytes texts k → IsFaultLineOf kind bytes k
 fault_of kind shorter stand completes bytes texts rest k cut (inl (before, text, more, same, at, begins, none)) =
     subst (IsFaultLineOf kind bytes) (sym at)
     (fault_at_line kind shorter stand completes bytes before text more rest
-    (subst (λ (ts : List (List ℕ)). IsCut bytes ts rest) same cut) begins none)
+    (subst (λ (ts : List (List ℕ)). IsSplit bytes ts rest) same cut) begins none)
 fault_of kind shorter stand completes bytes texts rest k cut (inr (at, begins, unclean)) =
     subst (IsFaultLineOf kind bytes) (sym at) (fault_at_end kind shorter stand bytes texts rest cut begins unclean)
 
 -- the line at fault is exactly the first that begins no clean log, in a kind in which each front begins one
 pub fault_lines : (kind : LogKind) → kind.MayBegin [] → IsShortened kind → EndsStand kind → FrontsBeginCleanOf kind
     → (bytes : List ℕ) (texts : List (List ℕ)) (rest : List ℕ) (k : ℕ)
-    → IsCut bytes texts rest → IsFaultLineOf kind bytes k ↔ IsFirstToBeginNoCleanOf kind bytes texts k
+    → IsSplit bytes texts rest → IsFaultLineOf kind bytes k ↔ IsFirstOutsideCleanLogsOf kind bytes texts k
 fault_lines kind nothing shorter stand completes bytes texts rest k cut = (
   λ f. of_fault kind nothing shorter stand completes bytes texts rest k cut (among_these kind bytes texts rest k cut f),
   λ b. fault_of kind shorter stand completes bytes texts rest k cut b,
@@ -162,7 +166,7 @@ pub record FaultText (kind : LogKind) (before : List (List ℕ)) (text : List �
 
 -- a whole line that is at fault is wrong after the lines before it, which stand, and with it they do not stand
 pub at_text : (kind : LogKind) (bytes : List ℕ) (before : List (List ℕ)) (text : List ℕ) (more : List (List ℕ)) (rest : List ℕ) (why : Why)
-    → IsCut bytes (before ++ text ∷ more) rest → IsWhyOf kind bytes (length before + 1) why → FaultText kind before text why
+    → IsSplit bytes (before ++ text ∷ more) rest → IsWhyOf kind bytes (length before + 1) why → FaultText kind before text why
 at_text kind bytes before text more rest why cut w =
     let texts = before ++ text ∷ more in
     let with = before ++ text ∷ [] in
@@ -190,23 +194,24 @@ at_text kind bytes before text more rest why cut w =
 -- a line that is at fault is so in any bytes that begin with the lines up to it
 elsewhere : (kind : LogKind) → IsShortened kind
     → (bytes other : List ℕ) (before : List (List ℕ)) (text : List ℕ) (more others : List (List ℕ)) (rest also : List ℕ) (why : Why)
-    → IsCut bytes (before ++ text ∷ more) rest → IsCut other (before ++ text ∷ others) also
+    → IsSplit bytes (before ++ text ∷ more) rest → IsSplit other (before ++ text ∷ others) also
     → IsWhyOf kind bytes (length before + 1) why → IsWhyOf kind other (length before + 1) why
 elsewhere kind shorter bytes other before text more others rest also why cut there w =
     let f = at_text kind bytes before text more rest why cut w in
     text_at_fault kind shorter other before text others also why there f.stands f.stuck f.wrong
 
+-- bytes that begin with some lines are cut after each of these lines, with the rest after it
 longer : (bytes : List ℕ) (texts before : List (List ℕ)) (text : List ℕ) (middle more : List (List ℕ)) (rest : List ℕ)
     → texts ≡ before ++ text ∷ middle
-    → IsCut bytes (texts ++ more) rest → IsCut bytes (before ++ text ∷ (middle ++ more)) rest
+    → IsSplit bytes (texts ++ more) rest → IsSplit bytes (before ++ text ∷ (middle ++ more)) rest
 longer bytes texts before text middle more rest same cut =
-    subst (λ (ts : List (List ℕ)). IsCut bytes ts rest)
+    subst (λ (ts : List (List ℕ)). IsSplit bytes ts rest)
     (ap (λ (ts : List (List ℕ)). ts ++ more) same ∙ append_assoc before (text ∷ middle) more) cut
 
 -- a line at fault among these is at fault, for the same reason, whatever follows them
 pub whatever_follows : (kind : LogKind) → IsShortened kind
     → (bytes other : List ℕ) (texts more others : List (List ℕ)) (rest also : List ℕ) (k : ℕ) (why : Why)
-    → IsCut bytes (texts ++ more) rest → IsCut other (texts ++ others) also → k ≤ length texts → IsWhyOf kind bytes k why
+    → IsSplit bytes (texts ++ more) rest → IsSplit other (texts ++ others) also → k ≤ length texts → IsWhyOf kind bytes k why
     → IsWhyOf kind other k why
 whatever_follows kind shorter bytes other texts more others rest also zero why cut there few w = absurd (omega (arith, w.this))
 whatever_follows kind shorter bytes other texts more others rest also (suc n) why cut there few w =
@@ -224,7 +229,7 @@ pub record FaultEnd (kind : LogKind) (bytes : List ℕ) (texts : List (List ℕ)
   pub wrong : IsWrongNextOf kind texts [] rest why
 
 -- where the line after the last is at fault, all lines stand, the bytes are not clean, and what follows the last LF says why
-pub after_last : (kind : LogKind) (bytes : List ℕ) (texts : List (List ℕ)) (rest : List ℕ) (why : Why) → IsCut bytes texts rest
+pub after_last : (kind : LogKind) (bytes : List ℕ) (texts : List (List ℕ)) (rest : List ℕ) (why : Why) → IsSplit bytes texts rest
     → IsWhyOf kind bytes (length texts + 1) why → FaultEnd kind bytes texts rest why
 after_last kind bytes texts rest why cut w =
     let f = among_these kind bytes texts rest (length texts + 1) cut w.fault in

@@ -7,16 +7,16 @@ use Rattle.log_grammar.specs.Lines.{LogLine, header, said, heard, mechs, cont, a
 use Rattle.log_grammar.specs.LoggedReply.{LoggedReply}
 use Rattle.log_grammar.specs.Places.{got_code}
 use Rattle.log_grammar.specs.Demands.{Accounts, IsFirstOf, demands}
-use Rattle.log_grammar.specs.Sessions.{closing, Farewell, parting, Quit, quitting, Codes, after_ok, Judgement, after_final, Proof}
-use Rattle.log_grammar.specs.Sessions.{after_challenge, Answer, after_first, Session, session_lines, session_place, SessionMeets, silent}
-use Rattle.log_grammar.specs.Sessions.{farewell, departs, aborts, spoils, no_code, quits_codes, asked, replied, halted_at, unjudged, denied}
+use Rattle.log_grammar.specs.Sessions.{closing, Farewell, parting, Quit, quitting, AfterOk, after_ok, AfterFinal, after_final, AfterChallenge}
+use Rattle.log_grammar.specs.Sessions.{after_challenge, AfterFirst, after_first, Session, session_lines, session_place, SessionMeets, silent}
+use Rattle.log_grammar.specs.Sessions.{farewell, goes_away, aborts, sends_bad, no_code, quits_codes, asked, replied, halted_at, unjudged, denied}
 use Rattle.log_grammar.specs.Sessions.{granted, no_proof, quits_proof, proves, no_answer, refused, challenged, no_first, quits_first}
 use Rattle.log_grammar.specs.Sessions.{begins, no_word, unoffered, invited, no_login, quits_login, with_first, without_first, session}
 use Rattle.log_grammar.specs.Begins.{place_after}
-use Rattle.log_grammar.specs.laws.Headline.{HasFirst, IsLoginOf, EachCodeIsOfItsLogin, EndsInLoginOf, EachCodeHasItsLogin}
+use Rattle.log_grammar.specs.laws.BySessions.{HasFirst, IsLoginOf, EachCodeIsOfItsLogin, EndsInLoginOf, EachReplyDueFollowsItsLogin}
 use Rattle.log_grammar.proofs.lemmas.demands.Challenges.{login_of}
 
--- a client that ends the session tells nothing
+-- a client that ends the session tells nothing, so what it tells has any property:
 of_closing : (P : LoggedReply → Type 0) (closed : Bool) → AllByRecursion P (closing closed).told
 of_closing P true = tt
 of_closing P false = tt
@@ -26,27 +26,29 @@ of_farewell P silent = tt
 of_farewell P (farewell text closed) = tt
 
 of_quit : (P : LoggedReply → Type 0) (q : Quit) → AllByRecursion P (quitting q).told
-of_quit P (departs closed) = of_closing P closed
+of_quit P (goes_away closed) = of_closing P closed
 of_quit P (aborts f) = of_farewell P f
-of_quit P (spoils f) = of_farewell P f
+of_quit P (sends_bad f) = of_farewell P f
 
 -- all that is told after a challenge is of its account
 abbrev AllOf : List ℕ → List LoggedReply → Type 0
 AllOf account told = AllByRecursion (λ t. t.account ≡ account) told
 
-by_codes : (account : List ℕ) (c : Codes) → AllOf account (after_ok account c).told
+-- what is told after a challenge, a client-final message or an `S OK` is of the account:
+by_codes : (account : List ℕ) (c : AfterOk) → AllOf account (after_ok account c).told
 by_codes account no_code = tt
 by_codes account (quits_codes q) = of_quit (λ t. t.account ≡ account) q
 by_codes account (asked sent) = tt
 by_codes account (replied sent moment reply more) = (refl, by_codes account more)
 by_codes account (halted_at sent) = tt
 
-by_judgement : (m account first challenge last : List ℕ) (j : Judgement) → AllOf account (after_final m account first challenge last j).told
+by_judgement : (m account first challenge last : List ℕ) (j : AfterFinal)
+    → AllOf account (after_final m account first challenge last j).told
 by_judgement m account first challenge last unjudged = tt
 by_judgement m account first challenge last (denied text closed) = tt
 by_judgement m account first challenge last (granted text c) = by_codes account c
 
-by_proof : (m account first challenge : List ℕ) (p : Proof) → AllOf account (after_challenge m account first challenge p).told
+by_proof : (m account first challenge : List ℕ) (p : AfterChallenge) → AllOf account (after_challenge m account first challenge p).told
 by_proof m account first challenge no_proof = tt
 by_proof m account first challenge (quits_proof q) = of_quit (λ t. t.account ≡ account) q
 by_proof m account first challenge (proves last j) = by_judgement m account first challenge last j
@@ -61,7 +63,8 @@ each_of s mechanism first account (t ∷ told) has is all = (
   each_of s mechanism first account told has is all.1,
 )
 
-by_answer : (accounts : Accounts) (s : Session) (mechanism first : List ℕ) (a : Answer) → HasFirst s mechanism first
+-- where the answer to a client-first message meets its demands, what is told after it is of the login that the message opens
+by_answer : (accounts : Accounts) (s : Session) (mechanism first : List ℕ) (a : AfterFirst) → HasFirst s mechanism first
     → (after_first mechanism first a).Meets (demands accounts)
     → AllByRecursion (λ t. IsLoginOf s t.account) (after_first mechanism first a).told
 by_answer accounts s mechanism first no_answer has meets = tt
@@ -94,20 +97,20 @@ each_code accounts (session names (without_first m (invited text (begins first a
       ap lines meets.1.0.1,
     ) meets.1.1
 
--- after a client that ends the session no code waits for a reply
+-- after a client that ends the session no code waits for its reply:
 farewell_no_code : (f : Farewell) (account : List ℕ) (sent : CodeTexts) → (parting f).place ≡ got_code account sent → ⊥
 farewell_no_code silent account sent e = cc e
 farewell_no_code (farewell message true) account sent e = cc e
 farewell_no_code (farewell message false) account sent e = cc e
 
 quit_no_code : (q : Quit) (account : List ℕ) (sent : CodeTexts) → (quitting q).place ≡ got_code account sent → ⊥
-quit_no_code (departs true) account sent e = cc e
-quit_no_code (departs false) account sent e = cc e
+quit_no_code (goes_away true) account sent e = cc e
+quit_no_code (goes_away false) account sent e = cc e
 quit_no_code (aborts f) account sent e = farewell_no_code f account sent e
-quit_no_code (spoils f) account sent e = farewell_no_code f account sent e
+quit_no_code (sends_bad f) account sent e = farewell_no_code f account sent e
 
--- the account of a code that comes last
-last_code : (own : List ℕ) (c : Codes) (account : List ℕ) (sent : CodeTexts) → (after_ok own c).place ≡ got_code account sent
+-- a code that waits for its reply is of the account that was accepted, or challenged:
+last_code : (own : List ℕ) (c : AfterOk) (account : List ℕ) (sent : CodeTexts) → (after_ok own c).place ≡ got_code account sent
     → own ≡ account
 last_code own no_code account sent e = absurd (cc e)
 last_code own (quits_codes q) account sent e = absurd (quit_no_code q account sent e)
@@ -115,7 +118,7 @@ last_code own (asked word) account sent e = cc e
 last_code own (replied word moment reply more) account sent e = last_code own more account sent e
 last_code own (halted_at word) account sent e = absurd (cc e)
 
-last_judged : (m own first challenge last : List ℕ) (j : Judgement) (account : List ℕ) (sent : CodeTexts)
+last_judged : (m own first challenge last : List ℕ) (j : AfterFinal) (account : List ℕ) (sent : CodeTexts)
     → (after_final m own first challenge last j).place ≡ got_code account sent
     → own ≡ account
 last_judged m own first challenge last unjudged account sent e = absurd (cc e)
@@ -123,13 +126,14 @@ last_judged m own first challenge last (denied message true) account sent e = ab
 last_judged m own first challenge last (denied message false) account sent e = absurd (cc e)
 last_judged m own first challenge last (granted message c) account sent e = last_code own c account sent e
 
-last_proved : (m own first challenge : List ℕ) (p : Proof) (account : List ℕ) (sent : CodeTexts)
+last_proved : (m own first challenge : List ℕ) (p : AfterChallenge) (account : List ℕ) (sent : CodeTexts)
     → (after_challenge m own first challenge p).place ≡ got_code account sent → own ≡ account
 last_proved m own first challenge no_proof account sent e = absurd (cc e)
 last_proved m own first challenge (quits_proof q) account sent e = absurd (quit_no_code q account sent e)
 last_proved m own first challenge (proves last j) account sent e = last_judged m own first challenge last j account sent e
 
-last_answered : (accounts : Accounts) (m first : List ℕ) (a : Answer) (account : List ℕ) (sent : CodeTexts)
+-- a code that waits for its reply is of the account that the client-first message names
+last_answered : (accounts : Accounts) (m first : List ℕ) (a : AfterFirst) (account : List ℕ) (sent : CodeTexts)
     → (after_first m first a).Meets (demands accounts)
     → (after_first m first a).place ≡ got_code account sent → IsFirstOf m first account
 last_answered accounts m first no_answer account sent meets e = absurd (cc e)
@@ -138,7 +142,7 @@ last_answered accounts m first (refused message false) account sent meets e = ab
 last_answered accounts m first (challenged own challenge p) account sent meets e =
     subst (IsFirstOf m first) (last_proved m own first challenge p account sent e) (login_of accounts m first own challenge meets.0)
 
--- the login of a session whose last line is a code
+-- a session whose last line is a code is a login of the account of that code
 login_at : (accounts : Accounts) (s : Session) (account : List ℕ) (sent : CodeTexts) → SessionMeets (demands accounts) s
     → session_place s ≡ got_code account sent
     → IsLoginOf s account
@@ -172,7 +176,7 @@ login_at accounts (session names (without_first m (invited message (begins first
       last_answered accounts m first a account sent meets.1.1 e,
     )
 
--- the last of the sessions, after the others
+-- sessions whose last line is a code end in a login of the account of that code
 login_last : (accounts : Accounts) (sessions : List Session) (account : List ℕ) (sent : CodeTexts)
     → AllByRecursion (SessionMeets (demands accounts)) sessions
     → place_after sessions ≡ got_code account sent → EndsInLoginOf (flat_map session_lines sessions) account
@@ -190,7 +194,7 @@ login_last accounts (s ∷ t ∷ more) account sent good e =
     )
 
 -- where the reply to a code is due, the last lines are those of a session whose client-first message names the account
-pub code_has_login : EachCodeHasItsLogin
+pub code_has_login : EachReplyDueFollowsItsLogin
 code_has_login accounts log account sent told (inl none) = absurd (cc none.1)
 code_has_login accounts log account sent told (inr s) =
     let (last, (before, same), login) = login_last accounts s.sessions account sent s.good (sym s.after) in

@@ -11,7 +11,7 @@ use Rattle.log_grammar.specs.Demands.{Demands, no_demands}
 use Rattle.log_grammar.specs.Numbered.{Numbered, numbered, of_number, Visit, let_in, sent_away, visit_part, SpellsNumbered}
 use Rattle.log_grammar.proofs.lemmas.state_machine.DemandsAside.{bare, bare_place, bare_told, IsBareOf, bare_line, bare_closing, of_session}
 use Rattle.log_grammar.proofs.lemmas.state_machine.DemandsAside.{no_demand}
-use Rattle.log_grammar.proofs.lemmas.many_sessions.LoggedReply.{numbers_of, values_of}
+use Rattle.log_grammar.proofs.lemmas.many_sessions.NumberedReplies.{numbers_of, values_of}
 
 -- what a number stands for, with no account named
 abbrev bare_visit : Option Visit → Option Visit
@@ -19,14 +19,17 @@ bare_visit None = None
 bare_visit (Some (let_in s)) = Some (let_in (bare s))
 bare_visit (Some (sent_away closed)) = Some (sent_away closed)
 
+-- what a number stands for is the same with no account named
 of_visit : (p : Option Visit) → IsBareOf (visit_part (bare_visit p)) (visit_part p)
 of_visit None = record { lines = refl; place = refl; told = refl; meets = tt }
 of_visit (Some (let_in s)) = of_session s
 of_visit (Some (sent_away closed)) = bare_line (said busy) _ _ (bare_closing closed)
 
+-- replies, each with its number, with no account named
 abbrev bare_numbered : List (Numbered LoggedReply) → List (Numbered LoggedReply)
 bare_numbered numbered_told = map (λ (t : Numbered LoggedReply). numbered t.number (bare_told t.value)) numbered_told
 
+-- the replies of a number with no account named are its replies, with no account named
 of_number_bare : (n : ℕ) (numbered_told : List (Numbered LoggedReply))
     → of_number n (bare_numbered numbered_told) ≡ map bare_told (of_number n numbered_told)
 of_number_bare n [] = refl
@@ -35,6 +38,7 @@ of_number_bare n (t ∷ numbered_told) = elim (eqb_tells n t.number) [
   | inr other ↦ rw other.0 (of_number_bare n numbered_told)
 ]
 
+-- replies with no account named have the numbers that they had
 numbers_bare : (numbered_told : List (Numbered LoggedReply)) → numbers_of (bare_numbered numbered_told) ≡ numbers_of numbered_told
 numbers_bare [] = refl
 numbers_bare (t ∷ numbered_told) = ap (λ (l : List ℕ). t.number ∷ l) (numbers_bare numbered_told)

@@ -1,6 +1,6 @@
 -- A log of version 2 is read in one way, and its first lines are again such a log. The place of a number follows from
 -- the lines of this number alone.
-use Rattle.std.proofs.Common.{◌≡◌, inl, inr, ℕ, zero, suc, ◌≤◌, List, [], ◌∷◌, ◌++◌, length, reverse, sym, ◌∙◌, ap, subst, arith}
+use Rattle.std.proofs.Common.{◌≡◌, inl, inr, ℕ, zero, suc, ◌≤◌, List, [], ◌∷◌, ◌++◌, length, reverse, refl, sym, ◌∙◌, ap, subst, arith}
 use Rattle.std.proofs.Common.{append_assoc, append-nil}
 use Rattle.log_grammar.specs.Lines.{LogLine, said, busy}
 use Rattle.log_grammar.specs.LoggedReply.{LoggedReply}
@@ -10,14 +10,14 @@ use Rattle.log_grammar.specs.state_machine.Steps.{IsTransition, told_at}
 use Rattle.log_grammar.specs.Numbered.{Numbered, SpellsNumbered}
 use Rattle.log_grammar.specs.state_machine.NumberedSteps.{IsVisitTransition, IsNumberedTransition}
 use Rattle.log_grammar.proofs.lemmas.many_sessions.WithoutLast.{numbered_before}
-use Rattle.log_grammar.proofs.lemmas.many_sessions.LoggedReply.{values_of, none_numbered}
+use Rattle.log_grammar.proofs.lemmas.many_sessions.NumberedReplies.{values_of, none_numbered}
 use Rattle.log_grammar.proofs.lemmas.demands.StillChallenged.{Opened, opened_by}
 use Rattle.log_grammar.proofs.lemmas.many_sessions.LinesOfNumber.{at_each}
-use Rattle.log_grammar.proofs.lemmas.state_machine.OneReading.{OneAccount, goes_once}
+use Rattle.log_grammar.proofs.lemmas.state_machine.OneReading.{OneAccount, goes_once, told_same}
 use Rattle.log_grammar.proofs.lemmas.ListEnds.{with_last, length-last}
 use Rattle.log_grammar.proofs.lemmas.many_sessions.Visits.{no_lines_at}
 
--- BUSY is no line of a session
+-- no session begins with BUSY
 no_busy : (d : Demands) (at next : Place) (line : LogLine) → at ≡ between → line ≡ said busy → IsTransition d at line next → ⊥
 no_busy d at next line between_is busy_is h =
     subst (λ (l : LogLine). IsTransition d between l next) busy_is (subst (λ (p : Place). IsTransition d p line next) between_is h)
@@ -29,9 +29,6 @@ goes_in_once d one at line p q (inl h) (inl k) = goes_once d one at line p q h k
 goes_in_once d one at line p q (inl h) (inr b) = absurd (no_busy d at p line b.0 b.1 h)
 goes_in_once d one at line p q (inr b) (inl k) = absurd (no_busy d at q line b.0 b.1 k)
 goes_in_once d one at line p q (inr b) (inr c) = b.2 ∙ sym c.2
-
-told_alike : (told other : List LoggedReply) (p q : Place) (x : LogLine) → told ≡ other → p ≡ q → told ++ told_at p x ≡ other ++ told_at q x
-told_alike told other p q x a b = ap (λ (t : List LoggedReply). t ++ told_at p x) a ∙ ap (λ (r : Place). other ++ told_at r x) b
 
 -- where there is no line, no session is open and nothing was told
 pub nothing_begun : (limit : ℕ) (d : Demands) (places : ℕ → Place) (told : List LoggedReply) → SpellsNumbered limit d [] places told
@@ -64,10 +61,10 @@ numbered_once limit d one (suc k) (x ∷ log) p q told other short s r =
     let moved = subst (λ (r : Place). IsVisitTransition d r line (q n)) (sym (earlier.0 n)) b.goes.goes in (
       at_each (λ (m : ℕ). p m ≡ q m) n (goes_in_once d one (a.before n) line (p n) (q n) a.goes.goes moved)
           (λ m differ. a.others m differ ∙ earlier.0 m ∙ sym (b.others m differ)),
-      a.tells ∙ told_alike a.told b.told (a.before n) (b.before n) line earlier.1 (earlier.0 n) ∙ sym b.tells,
+      a.tells ∙ told_same a.told b.told (a.before n) (b.before n) line line earlier.1 (earlier.0 n) refl ∙ sym b.tells,
     )
 
--- the first lines of such a log are such a log
+-- the first lines of a log of version 2 are such a log
 pub numbered_front : (limit : ℕ) (d : Demands) (k : ℕ) (log more : List (Numbered LogLine)) (p : ℕ → Place) (told : List LoggedReply)
     → length more ≤ k
     → SpellsNumbered limit d (log ++ more) p told → (q : ℕ → Place) × (other : List LoggedReply) × SpellsNumbered limit d log q other
@@ -82,7 +79,7 @@ numbered_front limit d (suc k) log (x ∷ more) p told short s =
     (subst (λ (l : List (Numbered LogLine)). SpellsNumbered limit d l p told) moved s) in
     numbered_front limit d k log last.0 b.before b.told shorter b.spells
 
--- after a challenge, what was demanded of that challenge still holds
+-- where the place of a number has a challenge that meets its demand, so has the place to which a line leads from there
 opened_in : (d : Demands) (at : Place) (line : LogLine) (next : Place) → Opened d at → IsVisitTransition d at line next → Opened d next
 opened_in d at line next is (inl h) = opened_by d at line next is h
 opened_in d at line next is (inr b) = subst (Opened d) (sym b.2) tt
@@ -103,7 +100,7 @@ opened_numbered limit d (suc k) (x ∷ log) p told short s =
     at_each (λ (m : ℕ). Opened d (p m)) n (opened_in d (b.before n) last.1.value (p n) (earlier n) b.goes.goes)
     (λ m differ. subst (Opened d) (sym (b.others m differ)) (earlier m))
 
--- what a number may have is said by its own place alone
+-- whether a number may have a line depends on its own place, and on what was told
 pub goes_moved : (limit : ℕ) (d : Demands) (log : List (Numbered LogLine)) (places other : ℕ → Place) (told also : List LoggedReply) (n : ℕ)
     (line : LogLine) (to : Place)
     → IsNumberedTransition limit d log places told n line to → places n ≡ other n → told ≡ also

@@ -12,7 +12,7 @@ use Rattle.log_grammar.proofs.lemmas.state_machine.OneReading.{OneAccount}
 use Rattle.log_grammar.proofs.lemmas.ListEnds.{last_same, length-last}
 use Rattle.log_grammar.proofs.lemmas.many_sessions.Visits.{Lessened, number_cut, no_lines_at}
 
--- lines of two numbers that are the same lead to one place, if those before the last do
+-- two numbers with the same lines are at the same place, where they were so before the last of them
 less_once : (d : Demands) → OneAccount d → (p q : Option Visit) → visit_lines p ≡ visit_lines q → (a : Lessened d p) (b : Lessened d q)
     → (visit_lines a.tree ≡ visit_lines b.tree → visit_place a.tree ≡ visit_place b.tree) → visit_place p ≡ visit_place q
 less_once d one p q same a b earlier =
@@ -21,9 +21,11 @@ less_once d one p q same a b earlier =
     (subst (λ (r : Place). IsVisitTransition d r b.line (visit_place q)) (sym (earlier ends.0)) b.goes) in
     goes_in_once d one (visit_place a.tree) a.line (visit_place p) (visit_place q) a.goes moved
 
+-- without its last line a number has fewer lines
 less_than : (d : Demands) (k : ℕ) (p : Option Visit) → length (visit_lines p) ≤ k → (a : Lessened d p) → length (visit_lines a.tree) + 1 ≤ k
 less_than d k p short a = omega (arith, short, ap length a.lines, length-last (visit_lines a.tree) a.line)
 
+-- two numbers with the same lines are at the same place
 visit_once : (d : Demands) → OneAccount d → (k : ℕ) (p q : Option Visit) → length (visit_lines p) ≤ k → VisitMeets d p → VisitMeets d q
     → visit_lines p ≡ visit_lines q
     → visit_place p ≡ visit_place q

@@ -5,7 +5,7 @@ use Rattle.std.specs.declared.option.Option.TheVariants.{None, Some}
 use Rattle.log_grammar.specs.Lines.{LogLine, said, ended, mechs, busy}
 use Rattle.log_grammar.specs.Places.{Place, between, over}
 use Rattle.log_grammar.specs.Demands.{Demands}
-use Rattle.log_grammar.specs.Sessions.{Login, no_login, session}
+use Rattle.log_grammar.specs.Sessions.{AfterMechs, no_login, session}
 use Rattle.log_grammar.specs.state_machine.Steps.{IsTransition, told_at}
 use Rattle.log_grammar.specs.Numbered.{Visit, let_in, sent_away, visit_part, visit_lines, visit_told, visit_place, VisitMeets}
 use Rattle.log_grammar.specs.state_machine.NumberedSteps.{IsVisitTransition}
@@ -18,14 +18,14 @@ pub record IsClosed (p : Option Visit) : Type 0 where
   pub is : p ≡ Some given
   pub at : visit_place p ≡ between
 
--- a number's first line, MECHS
+-- a number's first line, MECHS, gives it a session of this one line
 offered_on : (d : Demands) (line : LogLine) (next : Place) → IsTransition d between line next
     → Grown d visit_part None line next (told_at between line)
 offered_on d (said (mechs names)) next h =
     record { tree = Some (let_in (session names no_login)); lines = refl; at = sym h.1; tells = refl; good = (h.0, tt) }
 offered_on d line next h = absurd h
 
--- the `E` of a number that was turned away
+-- the lines of a number that was turned away go on by its `E`
 turned_on : (d : Demands) (line : LogLine) (next : Place) → IsTransition d over line next
     → Grown d visit_part (Some (sent_away false)) line next (told_at over line)
 turned_on d ended next h = record { tree = Some (sent_away true); lines = refl; at = sym h; tells = refl; good = tt }
@@ -47,7 +47,7 @@ number_on d (Some (sent_away true)) line next meets h = inl (record { given = se
 number_on d (Some (sent_away false)) line next meets (inl h) = inr (turned_on d line next h)
 number_on d (Some (sent_away false)) line next meets (inr b) = absurd (cc b.0)
 
--- the lines of a number without their last line
+-- the lines of a number are those of what it stood for before, with one line more that may stand at its place
 pub record Lessened (d : Demands) (p : Option Visit) : Type 0 where
   pub tree : Option Visit
   pub line : LogLine
@@ -56,7 +56,8 @@ pub record Lessened (d : Demands) (p : Option Visit) : Type 0 where
   pub tells : visit_told p ≡ visit_told tree ++ told_at (visit_place tree) line
   pub good : VisitMeets d tree
 
-session_less : (d : Demands) (names : List ℕ) (l : Login) → VisitMeets d (Some (let_in (session names l)))
+-- the lines of a session are one line more than those of a session, or than none
+session_less : (d : Demands) (names : List ℕ) (l : AfterMechs) → VisitMeets d (Some (let_in (session names l)))
     → Lessened d (Some (let_in (session names l)))
 session_less d names l meets = elim (session_cut d names l meets.1 meets.0) [
   | inl b ↦ record {
@@ -79,7 +80,7 @@ number_cut d (Some (sent_away true)) meets =
 number_cut d (Some (sent_away false)) meets =
     inr (record { tree = None; line = said busy; lines = refl; goes = inr (refl, refl, refl); tells = refl; good = tt })
 
--- a number without lines is where a closed one is
+-- a number without lines stands between sessions
 pub no_lines_at : (p : Option Visit) → visit_lines p ≡ [] → visit_place p ≡ between
 no_lines_at None none = refl
 no_lines_at (Some (let_in (session names l))) none = absurd (cc none)

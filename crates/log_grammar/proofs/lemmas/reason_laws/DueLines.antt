@@ -2,7 +2,7 @@
 use Rattle.std.proofs.Common.{◌≡◌, inl, inr, ℕ, List, [], ◌∷◌, ◌++◌, reverse, refl, sym, ◌∙◌, subst}
 use Rattle.scram_ends.specs.Verdict.{accept, refuse}
 use Rattle.scram_ends.specs.Login.{IsAuthentic}
-use Rattle.log_grammar.specs.Lines.{LogLine, said, mechs, cont, accepts, refuses, replies, log_text, IsLogInRange, IsWritable}
+use Rattle.log_grammar.specs.Lines.{LogLine, said, mechs, cont, accepts, refuses, replies, log_line_text, IsLogLineInRange, IsWritable}
 use Rattle.log_grammar.specs.Bytes.{ended_by_lf}
 use Rattle.log_grammar.specs.LoggedReply.{LoggedReply}
 use Rattle.log_grammar.specs.Places.{Place, asks_bare, got_first, got_final, waits_code, got_code, leaving}
@@ -10,7 +10,8 @@ use Rattle.log_grammar.specs.Demands.{Accounts, AllCanBeChallenged, demands, Are
 use Rattle.log_grammar.specs.state_machine.Steps.{IsTransition, told_at}
 use Rattle.log_grammar.specs.Begins.{Begins}
 use Rattle.log_grammar.specs.Why.{Why, is_cut, no_line, out_of_order, other_mechs, other_challenge, other_outcome, other_reply, accepted}
-use Rattle.log_grammar.specs.Why.{refused_with, IsWrongAnswer, IsWrongReply, IsWrong, IsWrongText}
+use Rattle.log_grammar.specs.Why.{refused_with, IsWrongAnswer, IsWrongReply, IsWrong}
+use Rattle.log_grammar.specs.VersionOne.{IsWrongText}
 use Rattle.log_grammar.specs.laws.LogLaws.{FrontsBeginClean}
 use Rattle.log_grammar.specs.Versions.{BeginsClean}
 use Rattle.log_grammar.specs.laws.Reasons.{SaysWhatIsDue, NamesWhatIsDue, EachLineThatIsDueMayStand}
@@ -42,9 +43,9 @@ named out_of_order line says writable = says
 named other_mechs line says writable = tt
 named other_challenge line says writable = tt
 named (other_outcome due) line says writable = tt
-named (other_reply moment due) line says writable = (subst IsLogInRange says writable.ranges).1
+named (other_reply moment due) line says writable = (subst IsLogLineInRange says writable.ranges).1
 
--- an acceptance with the signature that is due
+-- an acceptance with the signature that is due may stand where it is due, and tells nothing
 pub goes_ok : (accounts : Accounts) (place : Place) (signature text : List ℕ)
     → IsWrongAnswer accounts place (other_outcome (accepted signature))
     → IsAuthentic text signature → (next : Place) × IsTransition (demands accounts) place (said (accepts text)) next
@@ -60,6 +61,7 @@ goes_ok accounts (got_final m account first challenge last) signature text (acce
 goes_ok accounts leaving signature text same bears = absurd (cc same)
 goes_ok accounts place signature text wrong bears = absurd wrong
 
+-- no reply in place of the one due is wrong for the reason that another outcome is due
 no_reply_why : (accounts : Accounts) (place : Place) (told : List LoggedReply) (moment : ℕ) (signature : List ℕ)
     → IsWrongReply accounts place told moment (other_outcome (accepted signature)) → ⊥
 no_reply_why accounts (got_code account sent) told moment signature (due, is, same) = cc same
@@ -76,13 +78,14 @@ word_of accounts place told (said (refuses message)) signature wrong = wrong
 word_of accounts place told (said (replies moment reply)) signature wrong = absurd (no_reply_why accounts place told moment signature wrong)
 word_of accounts place told line signature wrong = absurd wrong
 
--- a place where an acceptance with this signature is due
+-- an acceptance with this signature is due at the place to which the lines lead
 record OkIsDue (accounts : Accounts) (lines : List LogLine) (signature : List ℕ) : Type 0 where
   at : Place
   tells : List LoggedReply
   begins : Begins (demands accounts) lines at tells
   word : IsWrongAnswer accounts at (other_outcome (accepted signature))
 
+-- where a text after lines is wrong for the reason that an acceptance is due, it is due at their place
 ok_is_due : (accounts : Accounts) (lines : List LogLine) (text signature : List ℕ)
     → IsWrongText accounts lines text (other_outcome (accepted signature))
     → OkIsDue accounts lines signature
@@ -91,32 +94,35 @@ ok_is_due accounts lines text signature (inr (fits, line, is, inl (none, same)))
 ok_is_due accounts lines text signature (inr (fits, line, is, inr (due, at, tells, begins, wrong))) =
     record { at = at; tells = tells; begins = begins; word = word_of accounts at tells line signature wrong }
 
+-- the lines before a text at fault begin a clean log with an acceptance that bears the signature due
 each_ok : FrontsBeginClean → (accounts : Accounts) → AllCanBeChallenged accounts
     → (before : List (List ℕ)) (text : List ℕ) (lines : List LogLine) (place : Place) (told : List LoggedReply)
     (signature message : List ℕ) → Lead accounts before lines place told
     → IsWrongText accounts lines text (other_outcome (accepted signature))
     → IsAuthentic message signature → IsWritable (said (accepts message))
-    → BeginsClean accounts (ended_by_lf (before ++ log_text (said (accepts message)) ∷ []))
+    → BeginsClean accounts (ended_by_lf (before ++ log_line_text (said (accepts message)) ∷ []))
 each_ok completes accounts fit before text lines place told signature message lead wrong bears writable =
     let o = ok_is_due accounts lines text signature wrong in
     let (next, goes, silent) = goes_ok accounts o.at signature message o.word bears in
     let due = subst (λ (t : List LoggedReply). AreReplies (demands accounts) (reverse o.tells) t) (sym silent) tt in
     begins_with completes accounts fit before lines place told o.at o.tells (said (accepts message)) next lead o.begins writable goes due
 
--- a line that is the only one to say what is due
+-- the lines before a text at fault begin a clean log with the only line that says what is due
 the_line : FrontsBeginClean → (accounts : Accounts) → AllCanBeChallenged accounts
     → (before : List (List ℕ)) (text : List ℕ) (lines : List LogLine) (place : Place) (told : List LoggedReply)
     (why : Why) (line : LogLine) → Lead accounts before lines place told → IsWrongText accounts lines text why → NamesOneLine why
-    → SaysWhatIsDue why line → IsWritable line → BeginsClean accounts (ended_by_lf (before ++ log_text line ∷ []))
+    → SaysWhatIsDue why line → IsWritable line → BeginsClean accounts (ended_by_lf (before ++ log_line_text line ∷ []))
 the_line completes accounts fit before text lines place told why line lead wrong single says writable =
     let (at, tells, begins, m) = by_text accounts fit before text lines place told why lead (named why line says writable) wrong in
-    subst (λ (l : LogLine). BeginsClean accounts (ended_by_lf (before ++ log_text l ∷ []))) (says_once why m.line line single m.says says)
+    subst (λ (l : LogLine). BeginsClean accounts (ended_by_lf (before ++ log_line_text l ∷ [])))
+    (says_once why m.line line single m.says says)
     (begins_with completes accounts fit before lines place told at tells m.line m.next lead begins m.writable m.goes m.due)
 
+-- the lines before a text at fault begin a clean log with each line that says what is due, except a challenge
 by_why : FrontsBeginClean → (accounts : Accounts) → AllCanBeChallenged accounts
     → (before : List (List ℕ)) (text : List ℕ) (lines : List LogLine) (place : Place) (told : List LoggedReply)
     (why : Why) (line : LogLine) → Lead accounts before lines place told → IsWrongText accounts lines text why → (why ≡ other_challenge → ⊥)
-    → SaysWhatIsDue why line → IsWritable line → BeginsClean accounts (ended_by_lf (before ++ log_text line ∷ []))
+    → SaysWhatIsDue why line → IsWritable line → BeginsClean accounts (ended_by_lf (before ++ log_line_text line ∷ []))
 by_why completes accounts fit before text lines place told is_cut line lead wrong other says writable = absurd says
 by_why completes accounts fit before text lines place told no_line line lead wrong other says writable = absurd says
 by_why completes accounts fit before text lines place told out_of_order line lead wrong other says writable = absurd says
@@ -125,7 +131,7 @@ by_why completes accounts fit before text lines place told other_mechs line lead
 by_why completes accounts fit before text lines place told other_challenge line lead wrong other says writable = absurd (other refl)
 by_why completes accounts fit before text lines place told (other_outcome (accepted signature)) line lead wrong other
     (message, bears, same) writable =
-    subst (λ (l : LogLine). BeginsClean accounts (ended_by_lf (before ++ log_text l ∷ []))) (sym same)
+    subst (λ (l : LogLine). BeginsClean accounts (ended_by_lf (before ++ log_line_text l ∷ []))) (sym same)
     (each_ok completes accounts fit before text lines place told signature message lead wrong bears (subst IsWritable same writable))
 by_why completes accounts fit before text lines place told (other_outcome (refused_with message)) line lead wrong other says writable =
     the_line completes accounts fit before text lines place told (other_outcome (refused_with message)) line lead wrong tt says writable

@@ -2,8 +2,9 @@
 use Rattle.std.proofs.Common.{◌≡◌, inl, inr, ℕ, ◌+◌, ◌≤◌, List, [], ◌∷◌, ◌++◌, length, reverse, take, refl, sym, ◌∙◌, ap, subst, arith}
 use Rattle.std.specs.List.{AllByRecursion, AllZip}
 use Rattle.std.proofs.lemmas.Bool.{cases_lt}
-use Rattle.log_grammar.specs.Lines.{LogLine, header_two, said, mechs, cont, accepts, refuses, replies, log_text, IsWritable}
-use Rattle.log_grammar.specs.Bytes.{LacksLf, ended_by_lf, IsCut}
+use Rattle.std.proofs.lemmas.Slice.Zip.{all_zipped_more}
+use Rattle.log_grammar.specs.Lines.{LogLine, header_two, said, mechs, cont, accepts, refuses, replies, log_line_text, IsWritable}
+use Rattle.log_grammar.specs.Bytes.{LacksLf, ended_by_lf, IsSplit}
 use Rattle.log_grammar.specs.LoggedReply.{LoggedReply}
 use Rattle.log_grammar.specs.Places.{Place, asks_bare, got_first, got_final, got_code, leaving}
 use Rattle.log_grammar.specs.Demands.{Accounts, AllCanBeChallenged, demands, AreReplies}
@@ -16,16 +17,15 @@ use Rattle.log_grammar.specs.LogKinds.{IsWhyOf, BeginsCleanOf}
 use Rattle.log_grammar.specs.VersionTwo.{MayBeginVersionTwo, IsWrongAfterFirst, version_two}
 use Rattle.log_grammar.specs.Numbered.{Numbered, numbered, SpellsNumbered}
 use Rattle.log_grammar.specs.state_machine.NumberedDueClasses.{ClassMayBeNumbered, ClassMayFollow, IsNumberDueAt}
-use Rattle.log_grammar.specs.NumberedLines.{HasNumber, numbered_text, IsNumberedLine, IsNumberedWritable}
+use Rattle.log_grammar.specs.NumberedLines.{MayHaveNumber, numbered_text, IsNumberedLine, IsNumberedWritable}
 use Rattle.log_grammar.specs.laws.NumberedLogLaws.{NumberedFrontsBeginClean}
 use Rattle.log_grammar.specs.state_machine.NumberedSteps.{put, IsNumberedTransition}
 use Rattle.log_grammar.specs.laws.Reasons.{SaysWhatIsDue, NamesWhatIsDue}
-use Rattle.log_grammar.specs.laws.NumberedReasons.{IsNumberedMended, WhatIsDueMayStandUnderItsNumber, EachNumberedLineThatIsDueMayStand}
+use Rattle.log_grammar.specs.laws.NumberedReasons.{HasNumberedLineThatMayStand, WhatIsDueMayStandUnderItsNumber, EachNumberedLineThatIsDueMayStand}
 use Rattle.log_grammar.proofs.lemmas.lines.Cuts.{cut_one_way, first_lack}
 use Rattle.log_grammar.proofs.lemmas.reason_laws.DueLines.{NamesOneLine, says_once, named, goes_ok, word_of}
 use Rattle.log_grammar.proofs.lemmas.kinds.FaultLines.{FaultText, at_text}
 use Rattle.log_grammar.proofs.lemmas.kinds.Judged.{front_at}
-use Rattle.log_grammar.proofs.lemmas.kinds.VersionTwo.{numbered_pairs}
 use Rattle.log_grammar.proofs.lemmas.reason_laws.Mended.{by_line, none_named}
 use Rattle.log_grammar.proofs.lemmas.many_sessions.DueClasses.{room_line, next_line, number_classes_due}
 use Rattle.log_grammar.proofs.lemmas.lines.NumberedReadBack.{one_numbered_line, numbered_lacks, numbered_written}
@@ -33,12 +33,12 @@ use Rattle.log_grammar.proofs.lemmas.many_sessions.LogSteps.{numbered_on}
 use Rattle.log_grammar.proofs.lemmas.many_sessions.Standings.{busy_line}
 use Rattle.log_grammar.proofs.lemmas.ListEnds.{parted, all_append}
 
--- a line of a number that is at fault, where some line of its class is due
+-- a numbered line is at fault after lines of version 2, for a reason that names what is due at its number
 record FaultOf (limit : ℕ) (accounts : Accounts) (before : List (List ℕ)) (x : Numbered LogLine) (why : Why) : Type 0 where
   first : List ℕ
   texts : List (List ℕ)
   same : before ≡ first ∷ texts
-  head : first ≡ log_text header_two
+  head : first ≡ log_line_text header_two
   log : List (Numbered LogLine)
   are : AllZip IsNumberedLine texts log
   places : ℕ → Place
@@ -50,7 +50,7 @@ record FaultOf (limit : ℕ) (accounts : Accounts) (before : List (List ℕ)) (x
 -- a line after the first, at fault for a reason that names what is due, is one where some line of its class is due
 later_fault : (limit : ℕ) (accounts : Accounts) (first : List ℕ) (texts : List (List ℕ)) (text : List ℕ) (log : List (Numbered LogLine))
     (x : Numbered LogLine) (why : Why)
-    → first ≡ log_text header_two → AllZip IsNumberedLine texts log → IsNumberedLine text x → NamesWhatIsDue why
+    → first ≡ log_line_text header_two → AllZip IsNumberedLine texts log → IsNumberedLine text x → NamesWhatIsDue why
     → IsWrongAfterFirst limit accounts log text why
     → FaultOf limit accounts (first ∷ texts) x why
 later_fault limit accounts first texts text log x why head are is names (inl (again, same)) = absurd (subst NamesWhatIsDue same names)
@@ -75,6 +75,7 @@ later_fault limit accounts first texts text log x why head are is names (inr (in
       wrong = wrong;
     })
 
+-- a numbered line at fault for a reason that names what is due is at fault where some line of its class is due
 fault_of : (limit : ℕ) (accounts : Accounts) (before : List (List ℕ)) (text : List ℕ) (x : Numbered LogLine) (why : Why)
     → IsNumberedLine text x → NamesWhatIsDue why
     → FaultText (version_two limit accounts) before text why → FaultOf limit accounts before x why
@@ -96,7 +97,7 @@ numbered_at limit accounts (first ∷ texts) text why names f = of_wrong f.wrong
     of_wrong log (inr (inl (other, none, same))) = absurd (subst NamesWhatIsDue same names)
     of_wrong log (inr (inr (x, is, wrong))) = (x, is)
 
--- BUSY is never wrong, so the class is one that is due at the place
+-- the class of a numbered line at fault is due at the place of its number: BUSY is never wrong
 due_at : (limit : ℕ) (accounts : Accounts) (before : List (List ℕ)) (x : Numbered LogLine) (why : Why)
     (f : FaultOf limit accounts before x why)
     → IsDueAt (f.places x.number) (class_of x.value)
@@ -105,7 +106,7 @@ due_at limit accounts before x why f = elim f.due.due [
   | inr busy ↦ absurd (subst (λ (l : LogLine). IsWrong accounts (f.places x.number) f.told l why) (busy_line x.value busy.1) f.wrong)
 ]
 
--- the class of a line that says what is due
+-- the class of the line that a reason names as due
 abbrev class_due : Why → LineClass → Type 0
 class_due other_mechs class = class ≡ of_mechs
 class_due other_challenge class = class ≡ of_login_answers
@@ -113,6 +114,7 @@ class_due (other_outcome due) class = class ≡ of_login_answers
 class_due (other_reply moment due) class = class ≡ of_replies
 class_due why class = ⊥
 
+-- the class of a line that says what is due is the one that the reason names:
 says_class : (why : Why) (line : LogLine) → SaysWhatIsDue why line → class_due why (class_of line)
 says_class is_cut line says = says
 says_class no_line line says = says
@@ -147,6 +149,7 @@ wrong_class accounts place told (said (refuses message)) why wrong = word_class 
 wrong_class accounts place told (said (replies moment reply)) why wrong = reply_class accounts place told moment why wrong
 wrong_class accounts place told line why wrong = absurd wrong
 
+-- one class is due for each reason
 one_class : (why : Why) (one other : LineClass) → class_due why one → class_due why other → one ≡ other
 one_class is_cut one other a b = absurd a
 one_class no_line one other a b = absurd a
@@ -156,18 +159,18 @@ one_class other_challenge one other a b = a ∙ sym b
 one_class (other_outcome due) one other a b = a ∙ sym b
 one_class (other_reply moment due) one other a b = a ∙ sym b
 
--- what says what is due may have a number
-says_numbered : (why : Why) (line : LogLine) → SaysWhatIsDue why line → HasNumber line
+-- a line that says what is due may have a number
+says_numbered : (why : Why) (line : LogLine) → SaysWhatIsDue why line → MayHaveNumber line
 says_numbered is_cut line says = absurd says
 says_numbered no_line line says = absurd says
 says_numbered out_of_order line says = absurd says
-says_numbered other_mechs line says = subst HasNumber (sym says) tt
-says_numbered other_challenge line says = subst HasNumber (sym says.1) tt
-says_numbered (other_outcome (accepted signature)) line says = subst HasNumber (sym says.2) tt
-says_numbered (other_outcome (refused_with message)) line says = subst HasNumber (sym says) tt
-says_numbered (other_reply moment due) line says = subst HasNumber (sym says) tt
+says_numbered other_mechs line says = subst MayHaveNumber (sym says) tt
+says_numbered other_challenge line says = subst MayHaveNumber (sym says.1) tt
+says_numbered (other_outcome (accepted signature)) line says = subst MayHaveNumber (sym says.2) tt
+says_numbered (other_outcome (refused_with message)) line says = subst MayHaveNumber (sym says) tt
+says_numbered (other_reply moment due) line says = subst MayHaveNumber (sym says) tt
 
--- the lines up to it begin a clean log with a line that says what is due, and goes on from the place of its number
+-- lines before a numbered line at fault begin a clean log with a line that says what is due and may stand at its place
 begins_with : NumberedFrontsBeginClean → (limit : ℕ) (accounts : Accounts) → AllCanBeChallenged accounts
     → (before : List (List ℕ)) (x : Numbered LogLine) (why : Why)
     (f : FaultOf limit accounts before x why) (line : LogLine) (next : Place) → AllByRecursion LacksLf before → SaysWhatIsDue why line
@@ -192,7 +195,7 @@ begins_with completes limit accounts fit before x why f line next lack says writ
       put n next f.places,
       f.told
           ++ told_at (f.places n) line,
-      numbered_pairs f.texts (numbered_text y) f.log y f.are writable,
+      all_zipped_more IsNumberedLine f.texts f.log (numbered_text y) y f.are writable,
       on,
     ) in
     let all = before ++ numbered_text y ∷ [] in
@@ -201,16 +204,17 @@ begins_with completes limit accounts fit before x why f line next lack says writ
     (front_at (version_two limit accounts) all lacks
     (subst (λ (ts : List (List ℕ)). MayBeginVersionTwo limit accounts (ts ++ numbered_text y ∷ [])) (sym f.same) stands))
 
+-- what a reason names as due may stand in place of a numbered line at fault, under its number
 mended_at : NumberedFrontsBeginClean → (limit : ℕ) (accounts : Accounts) → AllCanBeChallenged accounts
     → (bytes : List ℕ) (before : List (List ℕ)) (text : List ℕ) (more : List (List ℕ))
-    (rest : List ℕ) (why : Why) → IsCut bytes (before ++ text ∷ more) rest
+    (rest : List ℕ) (why : Why) → IsSplit bytes (before ++ text ∷ more) rest
     → IsWhyOf (version_two limit accounts) bytes (length before + 1) why → NamesWhatIsDue why
-    → IsNumberedMended limit accounts (before ++ text ∷ more) (length before + 1) why
+    → HasNumberedLineThatMayStand limit accounts (before ++ text ∷ more) (length before + 1) why
 mended_at completes limit accounts fit bytes before text more rest why cut w names =
     let fault = at_text (version_two limit accounts) bytes before text more rest why cut w in
     let (x, is) = numbered_at limit accounts before text why names fault in
     let f = fault_of limit accounts before text x why is names fault in
-    let m = by_line accounts fit (f.places x.number) f.told (log_text x.value) x.value why is.line
+    let m = by_line accounts fit (f.places x.number) f.told (log_line_text x.value) x.value why is.line
     (due_at limit accounts before x why f) names f.wrong in
     let writable = numbered_written (numbered x.number m.line) is.number (says_numbered why m.line m.says) m.writable in
     record {
@@ -238,28 +242,30 @@ numbered_what_is_due completes limit accounts fit bytes texts rest k why cut w n
   | inl less ↦
       let (before, text, more, same, at) = parted texts w.before less in
       let this : k ≡ length before + 1 = omega (arith, w.this, at) in
-      subst (λ (ts : List (List ℕ)). IsNumberedMended limit accounts ts k why) (sym same)
-      (subst (λ (i : ℕ). IsNumberedMended limit accounts (before ++ text ∷ more) i why) (sym this)
-      (mended_at completes limit accounts fit bytes before text more rest why (subst (λ (ts : List (List ℕ)). IsCut bytes ts rest) same cut)
+      subst (λ (ts : List (List ℕ)). HasNumberedLineThatMayStand limit accounts ts k why) (sym same)
+      (subst (λ (i : ℕ). HasNumberedLineThatMayStand limit accounts (before ++ text ∷ more) i why) (sym this)
+      (mended_at completes limit accounts fit bytes before text more rest why
+      (subst (λ (ts : List (List ℕ)). IsSplit bytes ts rest) same cut)
       (subst (λ (i : ℕ). IsWhyOf (version_two limit accounts) bytes i why) this w) names))
 ]
 
--- a line leads on from a place, and its reply, if it is one, is due
+-- a line may stand at a place, and its reply, if it is one, is due
 record LeadsOn (accounts : Accounts) (place : Place) (told : List LoggedReply) (line : LogLine) : Type 0 where
   next : Place
   goes : IsTransition (demands accounts) place line next
   due : AreReplies (demands accounts) (reverse told) (told_at place line)
 
--- a line that is the only one to say what is due
+-- the only line that says what is due may stand at the place
 the_line : (accounts : Accounts) → AllCanBeChallenged accounts
     → (place : Place) (told : List LoggedReply) (x : LogLine) (why : Why) (line : LogLine) → IsWritable x
     → IsDueAt place (class_of x) → IsWrong accounts place told x why → NamesOneLine why → SaysWhatIsDue why line → IsWritable line
     → LeadsOn accounts place told line
 the_line accounts fit place told x why line is due wrong single says writable =
-    let m = by_line accounts fit place told (log_text x) x why is due (named why line says writable) wrong in
+    let m = by_line accounts fit place told (log_line_text x) x why is due (named why line says writable) wrong in
     subst (LeadsOn accounts place told) (says_once why m.line line single m.says says)
     (record { next = m.next; goes = m.goes; due = m.due })
 
+-- each line that says what is due, except a challenge, may stand at the place
 leads_on : (accounts : Accounts) → AllCanBeChallenged accounts
     → (place : Place) (told : List LoggedReply) (x : LogLine) (why : Why) (line : LogLine) → IsWritable x
     → IsDueAt place (class_of x) → IsWrong accounts place told x why → (why ≡ other_challenge → ⊥) → SaysWhatIsDue why line
@@ -268,7 +274,8 @@ leads_on : (accounts : Accounts) → AllCanBeChallenged accounts
 leads_on accounts fit place told x is_cut line is due wrong other says writable = absurd says
 leads_on accounts fit place told x no_line line is due wrong other says writable = absurd says
 leads_on accounts fit place told x out_of_order line is due wrong other says writable = absurd says
-leads_on accounts fit place told x other_mechs line is due wrong other says writable = the_line accounts fit place told x other_mechs line is due wrong tt says writable
+leads_on accounts fit place told x other_mechs line is due wrong other says writable = the_line accounts fit place told x other_mechs line
+    is due wrong tt says writable
 leads_on accounts fit place told x other_challenge line is due wrong other says writable = absurd (other refl)
 leads_on accounts fit place told x (other_outcome (accepted signature)) line is due wrong other (message, bears, same) writable =
     let (next, goes, silent) = goes_ok accounts place signature message (word_of accounts place told x signature wrong) bears in

@@ -13,7 +13,7 @@ use Rattle.otp_core.specs.declared.token.kinds.TokenFields.{TokenFields}
 use Rattle.log_grammar.specs.Lines.{LogLine}
 use Rattle.log_grammar.specs.LoggedReply.{LoggedReply}
 use Rattle.log_grammar.specs.Places.{Place, waits_code, got_code}
-use Rattle.log_grammar.specs.Demands.{Accounts, Demands, attempts_of, IsReplyOfToken, demands, AreReplies}
+use Rattle.log_grammar.specs.Demands.{Accounts, Demands, attempts_of, IsReplyDueBy, demands, AreReplies}
 use Rattle.log_grammar.specs.state_machine.Steps.{told_at}
 use Rattle.log_grammar.specs.laws.Replies.{passes, AreRising}
 use Rattle.log_grammar.specs.Numbered.{Numbered, numbered, SpellsNumbered}
@@ -34,12 +34,13 @@ passes_at d place next moment counter (inr busy) = absurd (cc busy.1)
 passes_at d (got_code account sent) next moment counter (inl goes) = (account, sent, refl, goes)
 passes_at d place next moment counter (inl goes) = absurd goes
 
+-- a PASS that is due to a code of a number is one of a code that could pass then
 of_reply : (limit : ℕ) (accounts : Accounts) (log : List (Numbered LogLine)) (n moment counter : ℕ) (next : Place) (account : List ℕ)
     (sent : CodeTexts)
     (places : ℕ → Place) (told : List LoggedReply) (o : Option TokenFields) → accounts.token account ≡ o
     → SpellsNumbered limit (demands accounts) log places told
     → places n ≡ got_code account sent → next ≡ waits_code account
-    → IsReplyOfToken o (attempts_of account (reverse told)) moment sent (Some (Pass counter))
+    → IsReplyDueBy o (attempts_of account (reverse told)) moment sent (Some (Pass counter))
     → IsNumberedCodeOf limit accounts log n moment counter next
 of_reply limit accounts log n moment counter next account sent places told None has after waits is_next due = absurd (cc due)
 of_reply limit accounts log n moment counter next account sent places told (Some token) has after waits is_next (reply, is, due) =
@@ -68,7 +69,7 @@ each_numbered_pass limit accounts log n moment counter places told s =
     of_reply limit accounts log n moment counter (places n) account sent b.before b.told
     (accounts.token account) refl b.spells at next due.0
 
--- the first lines of such a log are such a log, and what was told in them comes first
+-- the first lines of a log of version 2 are such a log, and what was told in them comes first
 record Front (limit : ℕ) (d : Demands) (log : List (Numbered LogLine)) (told : List LoggedReply) : Type 0 where
   places : ℕ → Place
   earlier : List LoggedReply
@@ -76,6 +77,7 @@ record Front (limit : ℕ) (d : Demands) (log : List (Numbered LogLine)) (told :
   spells : SpellsNumbered limit d log places earlier
   tells : told ≡ earlier ++ rest
 
+-- a log's first lines are a log, and what was told in them comes first
 told_front : (limit : ℕ) (d : Demands) (k : ℕ) (log more : List (Numbered LogLine)) (p : ℕ → Place) (told : List LoggedReply)
     → length more ≤ k
     → SpellsNumbered limit d (log ++ more) p told → Front limit d log told

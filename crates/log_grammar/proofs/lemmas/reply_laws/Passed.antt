@@ -17,7 +17,7 @@ use Rattle.log_grammar.specs.Words.{is_code_char, IsCodeWord, IsCounter}
 use Rattle.log_grammar.specs.Upgrades.{original_text}
 use Rattle.log_grammar.specs.laws.Logins.{LoginsAreAnswered}
 use Rattle.otp_core.specs.Attempt.{Attempt, CodeTexts, OneText, TwoTexts, counters_of, used_in}
-use Rattle.otp_core.specs.Window.{IsAbove, IsInWindow}
+use Rattle.otp_core.specs.Window.{IsAbove, IsInHotpWindow}
 use Rattle.otp_core.specs.Reply.{IsDueReply, IsFitting, code_text}
 use Rattle.otp_core.specs.Laws.{CandidatesAreNew}
 use Rattle.otp_core.specs.declared.token.answer.Reply.{Reply}
@@ -27,7 +27,7 @@ use Rattle.scram_text.specs.Laws.{SpellsOneName, HasOneClientFirst}
 use Rattle.log_grammar.specs.Lines.{LogLine}
 use Rattle.log_grammar.specs.LoggedReply.{LoggedReply, logged_reply_of}
 use Rattle.log_grammar.specs.Places.{Place, waits_code, got_code}
-use Rattle.log_grammar.specs.Demands.{Accounts, attempts_by, attempts_of, IsReplyOfToken, demands}
+use Rattle.log_grammar.specs.Demands.{Accounts, attempts_by, attempts_of, IsReplyDueBy, demands}
 use Rattle.log_grammar.specs.Begins.{Begins}
 use Rattle.log_grammar.specs.laws.Outcomes.{IsReplied, EachReplyIsDue}
 use Rattle.log_grammar.specs.laws.Replies.{passes, IsCodeOf, EachPassIsACode, CountersRise, NextHotpCodePasses, NextTwoHotpCodesPass}
@@ -36,10 +36,11 @@ use Rattle.log_grammar.proofs.lemmas.reply_laws.ServerLines.{told_first}
 use Rattle.log_grammar.proofs.lemmas.state_machine.PlaceBefore.{one_reading}
 use Rattle.log_grammar.proofs.lemmas.demands.EachAccount.{of_account}
 
+-- a PASS that is due to a code is one of a code that could pass then
 of_reply : (accounts : Accounts) (log : List LogLine) (account : List ℕ) (sent : CodeTexts) (told : List LoggedReply) (moment counter : ℕ)
     (next : Place) (o : Option TokenFields)
     → accounts.token account ≡ o → Begins (demands accounts) log (got_code account sent) told → next ≡ waits_code account
-    → IsReplyOfToken o (attempts_of account (reverse told)) moment sent (Some (Pass counter)) → IsCodeOf accounts log moment counter next
+    → IsReplyDueBy o (attempts_of account (reverse told)) moment sent (Some (Pass counter)) → IsCodeOf accounts log moment counter next
 of_reply accounts log account sent told moment counter next None has after is_next due = absurd (cc due)
 of_reply accounts log account sent told moment counter next (Some token) has after is_next (reply, is, due) =
     let same : reply ≡ Pass counter = cc (sym is) in
@@ -55,6 +56,7 @@ of_reply accounts log account sent told moment counter next (Some token) has aft
       is_next = is_next;
     }
 
+-- a PASS that may stand is one of a code that could pass then
 of_answer : (accounts : Accounts) (log : List LogLine) (moment counter : ℕ) (next : Place) (told : List LoggedReply)
     → IsReplied accounts log moment (Some (Pass counter)) next told → IsCodeOf accounts log moment counter next
 of_answer accounts log moment counter next told r =
@@ -92,6 +94,7 @@ above_by t (Some (Pass c)) attempts d above = (above_used t.sent c (used_in atte
 above_by t (Some Fail) attempts d above = above
 above_by t (Some Locked) attempts d above = above
 
+-- a number above all counters that passed in some replies is above those that passed in the earlier of them:
 above_taken : (account : List ℕ) (t : LoggedReply) (before : List LoggedReply) (d : ℕ)
     → IsAbove (used_in (attempts_of account (t ∷ before))) d
     → IsAbove (used_in (attempts_of account before)) d
@@ -105,6 +108,7 @@ above_late : (account : List ℕ) (late early : List LoggedReply) (d : ℕ) → 
 above_late account [] early d above = above
 above_late account (t ∷ late) early d above = above_late account late early d (above_taken account t (late ++ early) d above)
 
+-- a number above all counters that passed in some replies is above the counter of each pass among them
 above_pass : (account : List ℕ) (t : LoggedReply) (before : List LoggedReply) (c d : ℕ) → t.account ≡ account → t.reply ≡ Some (Pass c)
     → IsAbove (used_in (attempts_of account (t ∷ before))) d → c < d
 above_pass account t before c d is passes above = elim (of_account t account) [
@@ -115,10 +119,11 @@ above_pass account t before c d is passes above = elim (of_account t account) [
   | inr other ↦ absurd (other.1 is)
 ]
 
+-- a list turned round about one of its elements is what is after it, turned, then it, then what is before it, turned
 turned_part : (front middle : List LoggedReply) (t : LoggedReply) → reverse (front ++ t ∷ middle) ≡ reverse middle ++ t ∷ reverse front
 turned_part front middle t = reverse-append front (t ∷ middle) ∙ turned t middle (reverse front)
 
--- the later of two passes, by what was told before it
+-- of two passes of one account the later has the greater counter
 pub later : CandidatesAreNew → (token : TokenFields) (account : List ℕ) (last : CodeTexts) (told : List LoggedReply) (at d : ℕ)
     → IsFitting token (attempts_of account (reverse told)) at last d
     → (mine : List ℕ) (moment counter : ℕ) (sent : CodeTexts) (before rest : List LoggedReply)
@@ -146,7 +151,7 @@ counters_rise one_first names new replied accounts log more account moment count
     let mine : one.account ≡ two.account = cc (sym one.is_next ∙ two.is_next) in
     later new two.token two.account two.sent two.told at greater two.fits one.account moment counter one.sent one.told front.2 mine tells
 
--- a code's text is a code word
+-- a digit, and a text of digits, can be sent as a code:
 visible : (c : ℕ) → IsAsciiDigit c → is_code_char c ≡ true
 visible c is = rw (le-leb 33 c (omega (arith, is)), le-leb c 126 (omega (arith, is))) refl
 
@@ -162,11 +167,11 @@ code_word text is = record {
   each = visible_digits text is.digits;
 }
 
--- the next counter is the least that can pass
+-- the code of a HOTP token's next counter passes, where failures do not lock it and the counter can pass
 next_is_due : (t : HotpFields) (moment : ℕ) → t.failures < t.limit → IsCounter t.next
     → IsDueReply (Hotp t) [] moment (OneText (code_text (Hotp t) t.next)) (Pass t.next)
 next_is_due t moment unlocked counter =
-    let due : IsInWindow t.next t.look_ahead t.next =
+    let due : IsInHotpWindow t.next t.look_ahead t.next =
     record { not_before = omega arith; within = omega arith; most = omega (arith, counter) } in
     (unlocked, (due, refl), λ k fits. fits.0.not_before)
 
@@ -176,20 +181,20 @@ pub next_hotp_code_passes : LoginsAreAnswered original_text → NextHotpCodePass
 next_hotp_code_passes answered accounts mechanism name exchange moment t login at has unlocked digits counter =
     let text = code_text (Hotp t) t.next in
     let due = next_is_due t moment unlocked counter in
-    let by = subst (λ (o : Option TokenFields). IsReplyOfToken o [] moment (OneText text) (Some (Pass t.next))) (sym has)
+    let by = subst (λ (o : Option TokenFields). IsReplyDueBy o [] moment (OneText text) (Some (Pass t.next))) (sym has)
     (Pass t.next, refl, due) in
     answered accounts mechanism name exchange (OneText text) moment (Some (Pass t.next)) login
     (code_word text (IsCodeText-last_digits t.digits _ digits)) at counter by
 
--- the next two counters are the least that can pass in a row
+-- the codes of a HOTP token's next two counters in a row pass, where failures do not lock it and they can pass
 pub next_two_are_due : (t : HotpFields) (moment : ℕ) → t.failures < t.limit → IsCounter (t.next + 1)
     → IsDueReply (Hotp t) [] moment (TwoTexts (code_text (Hotp t) t.next) (code_text (Hotp t) (t.next + 1))) (Pass (t.next + 1))
 next_two_are_due t moment unlocked counter =
-    let due : IsInWindow t.next t.sync_ahead t.next =
+    let due : IsInHotpWindow t.next t.sync_ahead t.next =
     record { not_before = omega arith; within = omega arith; most = omega (arith, counter) } in
     (unlocked, (t.next, refl, (due, omega (arith, counter)), refl, refl), λ k fits. omega (arith, fits.1, fits.2.0.not_before))
 
--- the line with the codes of the next two counters can be sent
+-- the codes of a HOTP token's next two counters can be sent
 pub two_words : (t : HotpFields) → IsDigitCount t.digits → IsCodeWord (code_text (Hotp t) t.next)
     × IsCodeWord (code_text (Hotp t) (t.next + 1))
 two_words t digits = (
@@ -202,6 +207,6 @@ two_words t digits = (
 pub next_two_hotp_codes_pass : LoginsAreAnswered original_text → NextTwoHotpCodesPass
 next_two_hotp_codes_pass answered accounts mechanism name exchange moment t login at has unlocked digits counter =
     let sent = TwoTexts (code_text (Hotp t) t.next) (code_text (Hotp t) (t.next + 1)) in
-    let by = subst (λ (o : Option TokenFields). IsReplyOfToken o [] moment sent (Some (Pass (t.next + 1)))) (sym has)
+    let by = subst (λ (o : Option TokenFields). IsReplyDueBy o [] moment sent (Some (Pass (t.next + 1)))) (sym has)
     (Pass (t.next + 1), refl, next_two_are_due t moment unlocked counter) in
     answered accounts mechanism name exchange sent moment (Some (Pass (t.next + 1))) login (two_words t digits) at counter by

@@ -12,7 +12,7 @@ use Rattle.otp_core.specs.declared.token.answer.Reply.{Reply}
 use Rattle.log_grammar.specs.Lines.{LogLine, said, mechs, cont, refuses, replies, halt}
 use Rattle.log_grammar.specs.LoggedReply.{LoggedReply}
 use Rattle.log_grammar.specs.Places.{Place, between, offered, asks_bare, got_first, got_final, got_code, leaving, over, halted}
-use Rattle.log_grammar.specs.Demands.{Accounts, IsVerdict, demands, AreReplies}
+use Rattle.log_grammar.specs.Demands.{Accounts, IsVerdictDue, demands, AreReplies}
 use Rattle.log_grammar.specs.state_machine.Steps.{IsTransition, told_at}
 use Rattle.log_grammar.specs.Begins.{Begins}
 use Rattle.log_grammar.specs.laws.Logins.{IsLoginTo, exchange_of}
@@ -23,13 +23,14 @@ use Rattle.log_grammar.proofs.lemmas.ListEnds.{with_last, length-last}
 use Rattle.log_grammar.proofs.lemmas.state_machine.PlaceBefore.{stood_before}
 use Rattle.log_grammar.proofs.lemmas.kinds.OneWhy.{mechanism_once}
 
--- a line that tells nothing
+-- a line that tells nothing leaves what was told
 quiet : (accounts : Accounts) (log : List LogLine) (at : Place) (all told : List LoggedReply) → all ≡ told ++ []
     → Begins (demands accounts) log at told
     → Begins (demands accounts) log at all
 quiet accounts log at all told same begins = subst (λ (t : List LoggedReply). Begins (demands accounts) log at t)
     (sym (same ∙ append-nil told)) begins
 
+-- a log goes on by a line that tells nothing, and has told the same
 on_quietly : (accounts : Accounts) (log : List LogLine) (at : Place) (told : List LoggedReply) (line : LogLine) (next : Place)
     → told_at at line ≡ []
     → Begins (demands accounts) log at told → IsTransition (demands accounts) at line next
@@ -40,7 +41,7 @@ on_quietly accounts log at told line next none begins goes =
     subst (λ (t : List LoggedReply). Begins (demands accounts) (log ++ line ∷ []) next t) same
     (goes_on (demands accounts) log at told line next begins goes due)
 
--- what was told in a log's first lines comes first
+-- what was told in a log's first lines comes first in what was told in all
 told_before : (told before rest tells : List LoggedReply) → before ≡ told ++ rest → before ++ tells ≡ told ++ (rest ++ tells)
 told_before told before rest tells same = ap (λ (l : List LoggedReply). l ++ tells) same ∙ append_assoc told rest tells
 
@@ -95,6 +96,7 @@ cont_from accounts log text next (got_first m first) all told same b goes =
     inr (m, first, goes.0, quiet accounts log (got_first m first) all told same b, goes.1, goes.2)
 cont_from accounts log text next at all told same b goes = absurd goes
 
+-- `S CONT` that is a challenge due may stand
 cont_on : (accounts : Accounts) (log : List LogLine) (text : List ℕ) (next : Place) (told : List LoggedReply)
     → IsChallengeDue accounts log text next told
     → Begins (demands accounts) (log ++ said (cont text) ∷ []) next told
@@ -116,7 +118,7 @@ each_challenge accounts log text next told = (
 -- messages whose verdict is a refusal are those of no valid login
 invalid : AtMostOneIsDue → AcceptsExactlyValid
     → (accounts : Accounts) (mechanism name client_first server_first client_final : List ℕ) (why : Refusal)
-    → IsVerdict accounts mechanism name client_first server_first client_final (refuse why) → (server_final : List ℕ)
+    → IsVerdictDue accounts mechanism name client_first server_first client_final (refuse why) → (server_final : List ℕ)
     → IsLoginTo accounts mechanism name (exchange_of client_first server_first client_final server_final) → ⊥
 invalid once valid accounts mechanism name client_first server_first client_final why (m, named, due) server_final l =
     let same = mechanism_once l.m m (sym l.offered ∙ named) in
@@ -126,6 +128,7 @@ invalid once valid accounts mechanism name client_first server_first client_fina
     let wrong = once (challenged_login (accounts.entry m name) m client_first server_first) client_final (refuse why)
     (accept accepted.0) due here in cc wrong
 
+-- `S NO` may stand only where it is the refusal that is due
 no_from : AtMostOneIsDue → AcceptsExactlyValid
     → (accounts : Accounts) (log : List LogLine) (text : List ℕ) (next at : Place) (all told : List LoggedReply)
     → all ≡ told ++ told_at at (said (refuses text)) → Begins (demands accounts) log at told
@@ -154,6 +157,7 @@ no_from once valid accounts log text next leaving all told same b goes =
     (inr (inr (inr (quiet accounts log leaving all told same b, goes.0))), goes.1)
 no_from once valid accounts log text next at all told same b goes = absurd goes
 
+-- `S NO` that is the refusal due may stand
 no_on : (accounts : Accounts) (log : List LogLine) (text : List ℕ) (next : Place) (told : List LoggedReply)
     → IsRefusalDue accounts log text told → next ≡ over
     → Begins (demands accounts) (log ++ said (refuses text) ∷ []) next told
@@ -202,6 +206,7 @@ abbrev EndsCode : Accounts → List LogLine → Place → List LoggedReply → T
 EndsCode accounts log next told =
     (account : List ℕ) × (sent : CodeTexts) × Begins (demands accounts) log (got_code account sent) told × (next ≡ halted)
 
+-- `S HALT` may stand only where a code waits for its reply, and leads to the halt
 halt_from : (accounts : Accounts) (log : List LogLine) (next at : Place) (all told : List LoggedReply)
     → all ≡ told ++ told_at at (said halt)
     → Begins (demands accounts) log at told → IsTransition (demands accounts) at (said halt) next → EndsCode accounts log next all
@@ -213,6 +218,7 @@ halt_from accounts log next at all told same b goes = absurd goes
 pub each_halt : EachHaltEndsACode
 each_halt accounts log next told = (
   λ begins.
-      let s = stood_before accounts log (said halt) next told begins in halt_from accounts log next s.place told s.told s.tells s.begins s.goes,
+      let s = stood_before accounts log (said halt) next told begins in halt_from accounts log next s.place told s.told s.tells s.begins
+      s.goes,
   λ is. on_quietly accounts log (got_code is.0 is.1) told (said halt) next refl is.2 is.3,
 )

@@ -10,13 +10,13 @@ use Rattle.otp_core.specs.declared.token.answer.Reply.{Reply}
 use Rattle.otp_core.specs.declared.token.answer.Reply.TheVariants.{Pass, Fail, Locked}
 use Rattle.otp_core.specs.declared.token.kinds.TokenFields.{TokenFields}
 use Rattle.log_grammar.specs.LoggedReply.{LoggedReply}
-use Rattle.log_grammar.specs.Demands.{Accounts, attempts_by, attempts_of, IsReplyOfToken, demands, AreReplies}
+use Rattle.log_grammar.specs.Demands.{Accounts, attempts_by, attempts_of, IsReplyDueBy, demands, AreReplies}
 use Rattle.log_grammar.specs.laws.Replies.{AreRising, NoCounterIsUsedTwice}
 use Rattle.log_grammar.proofs.lemmas.state_machine.LogSteps.{turned}
 use Rattle.log_grammar.proofs.lemmas.demands.EachAccount.{of_account}
 use Rattle.log_grammar.proofs.lemmas.reply_laws.Passed.{fits_above}
 
--- the counters of a pass, before those that passed earlier
+-- with a pass of a counter that can pass, the counters that an account's codes use go on rising
 pass_rises : CandidatesAreNew → (token : TokenFields) (attempts : List Attempt) (t : LoggedReply) (c : ℕ)
     → IsFitting token attempts t.moment t.sent c
     → AreRising (used_in attempts) → AreRising (used_in (attempts_by t (Some (Pass c)) attempts))
@@ -30,6 +30,7 @@ pass_rises new token attempts t c fits rising = by_sent t.sent fits
         let first_above = subst (IsAbove (used_in attempts)) (sym before) (new token attempts t.moment fits.0 (inr fits.2)) in
         ((omega (arith, fits.1), above), (first_above, rising))
 
+-- with a reply that is due, the counters that an account's codes use go on rising:
 reply_rises : CandidatesAreNew → (token : TokenFields) (attempts : List Attempt) (t : LoggedReply) (reply : Reply)
     → IsDueReply token attempts t.moment t.sent reply
     → AreRising (used_in attempts) → AreRising (used_in (attempts_by t (Some reply) attempts))
@@ -38,7 +39,7 @@ reply_rises new token attempts t Fail due rising = rising
 reply_rises new token attempts t Locked due rising = rising
 
 due_rises : CandidatesAreNew → (o : Option TokenFields) (attempts : List Attempt) (t : LoggedReply)
-    → IsReplyOfToken o attempts t.moment t.sent t.reply
+    → IsReplyDueBy o attempts t.moment t.sent t.reply
     → AreRising (used_in attempts) → AreRising (used_in (attempts_by t t.reply attempts))
 due_rises new None attempts t due rising = subst (λ (r : Option Reply). AreRising (used_in (attempts_by t r attempts))) (sym due) rising
 due_rises new (Some token) attempts t due rising =
@@ -50,7 +51,7 @@ told_rises : CandidatesAreNew → (accounts : Accounts) (account : List ℕ) (be
     → AreRising (used_in (attempts_of account before)) → AreRising (used_in (attempts_of account (t ∷ before)))
 told_rises new accounts account before t due rising = elim (of_account t account) [
   | inl is ↦
-      let here = subst (λ (a : List ℕ). IsReplyOfToken (accounts.token t.account)
+      let here = subst (λ (a : List ℕ). IsReplyDueBy (accounts.token t.account)
       (attempts_of a before) t.moment t.sent t.reply) is.0 due in
       rw is.1 (due_rises new (accounts.token t.account) (attempts_of account before) t here rising)
   | inr other ↦ rw other.0 rising

@@ -3,7 +3,7 @@ use Rattle.std.proofs.Common.{◌≤◌, ◌+◌, inl, inr, ℕ, List, [], ◌�
 use Rattle.std.specs.List.{AllByRecursion, AllZip}
 use Rattle.scram_text.specs.Laws.{SpellsOneName, HasOneClientFirst}
 use Rattle.log_grammar.specs.Lines.{LogLine, IsLogLine, longest_log_line}
-use Rattle.log_grammar.specs.Bytes.{LacksLf, ended_by_lf, IsCut}
+use Rattle.log_grammar.specs.Bytes.{LacksLf, ended_by_lf, IsSplit}
 use Rattle.log_grammar.specs.LoggedReply.{LoggedReply}
 use Rattle.log_grammar.specs.Places.{Place, before_all, halted}
 use Rattle.log_grammar.specs.Demands.{Accounts, demands}
@@ -25,6 +25,7 @@ halted_is_clean accounts texts log told are begins =
     clean_at accounts (ended_by_lf texts) texts log halted told (whole texts are.1)
     (record { are = are.0; lack = are.1; begins = begins }) tt
 
+-- a log without lines is not halted
 no_halt : (accounts : Accounts) (told : List LoggedReply) → Begins (demands accounts) [] halted told → ⊥
 no_halt accounts told (inl none) = cc none.1
 no_halt accounts told (inr s) = cc s.lines
@@ -49,8 +50,8 @@ more_after_halt once names classes accounts texts (first ∷ log) told text line
     (record { are = are; lack = first_lack texts (text ∷ []) whole.1; begins = begins })
     is (among texts text [] whole.1) (λ f. f.goes) (inl (none_after_halt classes accounts (first ∷ log) told (class_of line) begins, refl))
 
--- bytes without an LF have no whole line
-alone : (rest : List ℕ) → LacksLf rest → IsCut rest [] rest
+-- bytes without an LF are cut into no line, and all of them are left
+alone : (rest : List ℕ) → LacksLf rest → IsSplit rest [] rest
 alone rest lacks = record { bytes_are = refl; lines = tt; after = lacks }
 
 -- bytes without an LF, at most as many as a line may have, are a log that is cut: line 1 is at fault
@@ -65,14 +66,16 @@ short_is_cut accounts rest lacks short =
 pub long_is_no_line : (accounts : Accounts) (rest : List ℕ) → LacksLf rest → 6203 ≤ length rest → IsWhy accounts rest 1 no_line
 long_is_no_line accounts rest lacks long = rest_is_long accounts rest [] rest [] before_all [] (alone rest lacks) (start accounts) long
 
--- a part of a line after whole lines
+-- whole lines and bytes without an LF after them are cut into these lines and those bytes
 after_lines : (texts : List (List ℕ)) (rest : List ℕ) → AllByRecursion LacksLf texts → LacksLf rest
-    → IsCut (ended_by_lf texts ++ rest) texts rest
+    → IsSplit (ended_by_lf texts ++ rest) texts rest
 after_lines texts rest lack lacks = record { bytes_are = refl; lines = lack; after = lacks }
 
-read : (accounts : Accounts) (texts : List (List ℕ)) (log : List LogLine) (place : Place) (told : List LoggedReply) → AreWhole texts log
+-- whole lines that lead to a place were read as far as there
+lead_of_whole : (accounts : Accounts) (texts : List (List ℕ)) (log : List LogLine) (place : Place) (told : List LoggedReply)
+    → AreWhole texts log
     → Begins (demands accounts) log place told → Lead accounts texts log place told
-read accounts texts log place told are begins = record { are = are.0; lack = are.1; begins = begins }
+lead_of_whole accounts texts log place told are begins = record { are = are.0; lack = are.1; begins = begins }
 
 -- after lines that a log may begin with, a line without its LF is cut, and at fault, where it has a byte and is not too long
 pub part_is_cut : (accounts : Accounts) (texts : List (List ℕ)) (log : List LogLine) (place : Place) (told : List LoggedReply)
@@ -81,7 +84,7 @@ pub part_is_cut : (accounts : Accounts) (texts : List (List ℕ)) (log : List Lo
     → IsWhy accounts (ended_by_lf texts ++ rest) (length texts + 1) is_cut
 part_is_cut accounts texts log place told rest are begins lacks some short =
     rest_is_cut accounts (ended_by_lf texts ++ rest) texts rest log place told (after_lines texts rest are.1 lacks)
-    (read accounts texts log place told are begins) some short
+    (lead_of_whole accounts texts log place told are begins) some short
 
 -- after lines that a log may begin with, 6203 bytes or more without an LF are no line, and are at fault
 pub long_part_is_no_line : (accounts : Accounts) (texts : List (List ℕ)) (log : List LogLine) (place : Place) (told : List LoggedReply)
@@ -90,9 +93,9 @@ pub long_part_is_no_line : (accounts : Accounts) (texts : List (List ℕ)) (log 
     → IsWhy accounts (ended_by_lf texts ++ rest) (length texts + 1) no_line
 long_part_is_no_line accounts texts log place told rest are begins lacks long =
     rest_is_long accounts (ended_by_lf texts ++ rest) texts rest log place told (after_lines texts rest are.1 lacks)
-    (read accounts texts log place told are begins) long
+    (lead_of_whole accounts texts log place told are begins) long
 
--- a text that is too long is no line
+-- after lines that a log may begin with, a whole line of 6203 bytes or more is no line, and is at fault
 pub long_line_is_no_line : (accounts : Accounts) (texts : List (List ℕ)) (log : List LogLine) (place : Place) (told : List LoggedReply)
     (text : List ℕ)
     → AreWhole texts log → Begins (demands accounts) log place told → LacksLf text → 6203 ≤ length text
@@ -101,4 +104,4 @@ long_line_is_no_line accounts texts log place told text are begins lacks long =
     let all = texts ++ text ∷ [] in
     long_text_why accounts (ended_by_lf all) texts text [] [] log place told
     (whole all (all_append LacksLf texts (text ∷ []) are.1 (lacks, tt)))
-    (read accounts texts log place told are begins) long
+    (lead_of_whole accounts texts log place told are begins) long

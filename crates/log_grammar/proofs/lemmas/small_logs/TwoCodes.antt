@@ -12,7 +12,7 @@ use Rattle.otp_core.specs.declared.token.kinds.HotpFields.{HotpFields}
 use Rattle.otp_core.specs.declared.token.kinds.TotpFields.{TotpFields}
 use Rattle.log_grammar.specs.Words.{IsCodeWord, IsCounter}
 use Rattle.log_grammar.specs.Lines.{heard, sync}
-use Rattle.log_grammar.specs.Demands.{Accounts, IsReplyOfToken}
+use Rattle.log_grammar.specs.Demands.{Accounts, IsReplyDueBy}
 use Rattle.log_grammar.specs.Why.{other_reply}
 use Rattle.log_grammar.specs.Versions.{IsWhy}
 use Rattle.log_grammar.specs.Upgrades.{original_text}
@@ -20,7 +20,7 @@ use Rattle.log_grammar.specs.laws.Logins.{Exchange, IsLoginTo, login_session, Ot
 use Rattle.log_grammar.specs.laws.Replies.{passes, next_two}
 use Rattle.log_grammar.proofs.lemmas.reply_laws.Passed.{next_two_are_due, two_words}
 
--- a pass by the counter of the first
+-- a pass of two codes in a row by the counter of the first is at fault: after a valid login, in line 8, a pass by the second is due
 pub first_counter_why : OtherRepliesAreAtFault original_text
     → (accounts : Accounts) (mechanism name : List ℕ) (exchange : Exchange) (moment : ℕ) (t : HotpFields)
     → IsLoginTo accounts mechanism name exchange → IsMoment moment → accounts.token name ≡ Some (Hotp t)
@@ -29,13 +29,13 @@ pub first_counter_why : OtherRepliesAreAtFault original_text
     (other_reply moment (Some (Pass (t.next + 1))))
 first_counter_why wrong accounts mechanism name exchange moment t login at has unlocked digits counter =
     let sent = TwoTexts (code_text (Hotp t) t.next) (code_text (Hotp t) (t.next + 1)) in
-    let by = subst (λ (o : Option TokenFields). IsReplyOfToken o [] moment sent (Some (Pass (t.next + 1)))) (sym has)
+    let by = subst (λ (o : Option TokenFields). IsReplyDueBy o [] moment sent (Some (Pass (t.next + 1)))) (sym has)
     (Pass (t.next + 1), refl, next_two_are_due t moment unlocked counter) in
     wrong accounts mechanism name exchange sent moment (Some (Pass t.next)) (Some (Pass (t.next + 1))) login (two_words t digits) at
     (omega (arith, counter)) by
     (λ same. let next : t.next ≡ t.next + 1 = cc same in omega (arith, next))
 
--- no two codes of a TOTP token pass
+-- two codes in a row fail with a TOTP token that failures do not lock
 no_two : (t : TotpFields) (moment : ℕ) (first second : List ℕ) → t.failures < t.limit
     → IsDueReply (Totp t) [] moment (TwoTexts first second) Fail
 no_two t moment first second unlocked = (unlocked, λ k fits. fits.2)
@@ -49,6 +49,6 @@ pub totp_why : OtherRepliesAreAtFault original_text
     (other_reply moment (Some Fail))
 totp_why wrong accounts mechanism name exchange first second moment counter t login at has unlocked one other range =
     let sent = TwoTexts first second in
-    let by = subst (λ (o : Option TokenFields). IsReplyOfToken o [] moment sent (Some Fail)) (sym has)
+    let by = subst (λ (o : Option TokenFields). IsReplyDueBy o [] moment sent (Some Fail)) (sym has)
     (Fail, refl, no_two t moment first second unlocked) in
     wrong accounts mechanism name exchange sent moment (Some (Pass counter)) (Some Fail) login (one, other) at range by (λ same. cc same)

@@ -13,12 +13,12 @@ use Rattle.log_grammar.proofs.lemmas.many_sessions.LogSteps.{numbered_on, no_lin
 use Rattle.log_grammar.proofs.lemmas.many_sessions.LinesOfNumber.{put_other, no_element}
 use Rattle.log_grammar.proofs.lemmas.ListEnds.{last_same}
 
--- what may follow the last line
+-- what may come right after a line may follow the log that it ends
 follows : (log : List (Numbered LogLine)) (y : Numbered LogLine) (n : ℕ) (line : LogLine) → MayFollow y.number y.value n line
     → (before : List (Numbered LogLine)) (x : Numbered LogLine) → log ++ y ∷ [] ≡ before ++ x ∷ [] → MayFollow x.number x.value n line
 follows log y n line may before x e = subst (λ (z : Numbered LogLine). MayFollow z.number z.value n line) (last_same log before y x e).1 may
 
--- a line more, which tells nothing
+-- a log goes on by a line that tells nothing, at its number's place
 step : (limit : ℕ) (d : Demands) (log : List (Numbered LogLine)) (y : Numbered LogLine) (places : ℕ → Place) (n : ℕ) (line : LogLine)
     (to : Place)
     → SpellsNumbered limit d (log ++ y ∷ []) places [] → MayBeNumbered limit (log ++ y ∷ []) n line → MayFollow y.number y.value n line
@@ -35,7 +35,7 @@ step limit d log y places n line to s room may goes quiet =
     subst (λ (t : List LoggedReply). SpellsNumbered limit d ((log ++ y ∷ []) ++ numbered n line ∷ []) (put n to places) t) quiet
     (numbered_on limit d (log ++ y ∷ []) places [] n line to s g)
 
--- the first line of all
+-- a log begins with a line that may stand between sessions
 first_step : (d : Demands) (n : ℕ) (line : LogLine) (to : Place) → MayBeNumbered 2 [] n line → IsVisitTransition d between line to
     → SpellsNumbered 2 d (numbered n line ∷ []) (put n to (λ m. between)) []
 first_step d n line to room goes =
@@ -54,11 +54,13 @@ far [] n small = refl
 far (x ∷ before) n small =
     put_other x.number x.value (led before) (suc (suc (suc (suc n)))) (λ e. omega (arith, e, small.0)) ∙ far before n small.1
 
+-- the places to which the lines of two sessions, and of a third that is turned away, lead, the latest first
 abbrev all_led : List (Numbered Place)
 all_led =
     numbered 2 between ∷ numbered 2 over ∷ numbered 1 between ∷ numbered 2 leaving ∷ numbered 3 between ∷ numbered 3 over ∷ numbered 1 over
     ∷ numbered 2 offered ∷ numbered 1 offered ∷ []
 
+-- their numbers are at most three, and after them all are between sessions:
 all_small : AllByRecursion (λ (x : Numbered Place). x.number ≤ 3) all_led
 all_small = (
   omega arith,

@@ -4,7 +4,7 @@ use Rattle.std.specs.Prelude.{codes, decimal, if◌then◌else◌}
 use Rattle.std.proofs.lemmas.Fmt.{decimal_digit}
 use Rattle.std.specs.List.{AllByRecursion}
 use Rattle.scram_text.specs.Laws.{SpellsOneName, HasOneClientFirst}
-use Rattle.log_grammar.specs.Lines.{LogLine, header, header_two, log_text, said, heard, bad, gone, ended, mechs, cont, accepts, refuses}
+use Rattle.log_grammar.specs.Lines.{LogLine, header, header_two, log_line_text, said, heard, bad, gone, ended, mechs, cont, accepts, refuses}
 use Rattle.log_grammar.specs.Lines.{halt, auth, auth_with, abort, IsLogLine, IsWritable, log_bytes}
 use Rattle.log_grammar.specs.Bytes.{LacksLf, ended_by_lf}
 use Rattle.log_grammar.specs.Demands.{Accounts}
@@ -12,10 +12,10 @@ use Rattle.log_grammar.specs.Why.{Why, is_cut, no_line, out_of_order, other_mech
 use Rattle.log_grammar.specs.VersionTwo.{IsFirstText, IsWrongAfterFirst}
 use Rattle.log_grammar.specs.Versions.{most_open, any_version, IsClean, IsWhy}
 use Rattle.log_grammar.specs.Numbered.{is_end as closes}
-use Rattle.log_grammar.specs.NumberedLines.{HasNumber, numbered_text, IsNoNumberedLine}
-use Rattle.log_grammar.specs.Upgrades.{renumbered, upgraded_text, CanBeNumbered}
-use Rattle.log_grammar.specs.laws.Examples.{first_text}
-use Rattle.log_grammar.specs.laws.UpgradedExamples.{second_text, one_numbered, numbered_no}
+use Rattle.log_grammar.specs.NumberedLines.{MayHaveNumber, numbered_text, IsNoNumberedLine}
+use Rattle.log_grammar.specs.Upgrades.{with_numbers, upgraded_text, CanBeNumbered}
+use Rattle.log_grammar.specs.laws.Examples.{header_one_text}
+use Rattle.log_grammar.specs.laws.UpgradedExamples.{header_two_text, one_numbered, numbered_no}
 use Rattle.log_grammar.proofs.lemmas.small_logs.SmallLogs.{abort_is_cut, abort_is_early, aborted_is_clean, accepted_why, auth_is_cut}
 use Rattle.log_grammar.proofs.lemmas.small_logs.SmallLogs.{bad_is_clean, bad_is_cut, bad_no_is_cut, end_is_missing, first_is_clean}
 use Rattle.log_grammar.proofs.lemmas.small_logs.SmallLogs.{gone_is_clean, gone_is_cut, halt_is_early, invited_is_clean, invited_is_cut}
@@ -25,7 +25,7 @@ use Rattle.log_grammar.proofs.lemmas.small_logs.SmallLogs.{left_is_cut, message_
 use Rattle.log_grammar.proofs.lemmas.small_logs.SmallLogs.{offer_is_cut, other_offer_why, plain_is_cut, plain_no_is_cut, refused_is_clean}
 use Rattle.log_grammar.proofs.lemmas.small_logs.SmallLogs.{refused_is_cut, refused_no_is_cut, turned_away_why, two_are_clean}
 use Rattle.log_grammar.proofs.lemmas.lines.Cuts.{whole}
-use Rattle.log_grammar.proofs.lemmas.headline_laws.OfSessions.{is_header}
+use Rattle.log_grammar.proofs.lemmas.session_laws.OfSessions.{is_header}
 use Rattle.log_grammar.proofs.lemmas.kinds.Judged.{text_at_fault}
 use Rattle.log_grammar.proofs.lemmas.kinds.VersionTwo.{headed_two, last_is_numbered}
 use Rattle.log_grammar.proofs.lemmas.lines.ReadBack.{one_log_line}
@@ -36,31 +36,35 @@ use Rattle.log_grammar.proofs.lemmas.upgraded_logs.Texts.{next_within}
 use Rattle.log_grammar.proofs.lemmas.kinds.AllVersions.{shorter_both, second_stands}
 use Rattle.log_grammar.proofs.lemmas.lines.Words.{after_space, after-word, spaceless_number}
 
--- lines with numbers of one digit
+-- the texts of lines under numbers of one digit, from this one on
 abbrev digit_texts : ℕ → List LogLine → List (List ℕ)
 digit_texts n [] = []
-digit_texts n (line ∷ lines) = ((48 + n) ∷ 32 ∷ log_text line) ∷ digit_texts (if closes line then n + 1 else n) lines
+digit_texts n (line ∷ lines) = ((48 + n) ∷ 32 ∷ log_line_text line) ∷ digit_texts (if closes line then n + 1 else n) lines
 
-are_digits : (n : ℕ) (lines : List LogLine) → n + length lines ≤ 9 → map numbered_text (renumbered n lines) ≡ digit_texts n lines
+-- numbered lines are written with one digit each, where there are few enough
+are_digits : (n : ℕ) (lines : List LogLine) → n + length lines ≤ 9 → map numbered_text (with_numbers n lines) ≡ digit_texts n lines
 are_digits n [] few = refl
 are_digits n (line ∷ lines) few =
     let next = if closes line then n + 1 else n in
     let less = next_within n line in
-    same_cons (decimal n ++ (32 ∷ log_text line)) ((48 + n) ∷ 32 ∷ log_text line) (map numbered_text (renumbered next lines))
+    same_cons (decimal n ++ (32 ∷ log_line_text line)) ((48 + n) ∷ 32 ∷ log_line_text line) (map numbered_text (with_numbers next lines))
     (digit_texts next lines)
-    (ap (λ (d : List ℕ). d ++ (32 ∷ log_text line)) (decimal_digit n (omega (arith, few))))
+    (ap (λ (d : List ℕ). d ++ (32 ∷ log_line_text line)) (decimal_digit n (omega (arith, few))))
     (are_digits next lines (omega (arith, few, less.1)))
 
--- a log of a few lines, with numbers
+-- the log of version 2 of a few lines of version 1
 abbrev digit_log : List LogLine → List ℕ
-digit_log lines = ended_by_lf (log_text header_two ∷ digit_texts 1 lines)
+digit_log lines = ended_by_lf (log_line_text header_two ∷ digit_texts 1 lines)
 
+-- the upgraded log of a few lines is that log
 same_log : (lines : List LogLine) → 1 + length lines ≤ 9 → upgraded_text lines ≡ digit_log lines
-same_log lines few = ap (λ (ts : List (List ℕ)). ended_by_lf (log_text header_two ∷ ts)) (are_digits 1 lines few)
+same_log lines few = ap (λ (ts : List (List ℕ)). ended_by_lf (log_line_text header_two ∷ ts)) (are_digits 1 lines few)
 
+-- a few lines that can be written can be numbered
 can_be : (lines : List LogLine) → AllByRecursion IsWritable lines → 1 + length lines ≤ 9 → CanBeNumbered lines
 can_be lines each few = record { each = each; few = (omega arith, omega (arith, few)) }
 
+-- the log of version 2 of a few lines is clean where that of version 1 is, and at fault where it is:
 clean_too : (accounts : Accounts) (lines : List LogLine) → AllByRecursion IsWritable lines → 1 + length lines ≤ 9
     → IsClean accounts (log_bytes (header ∷ lines))
     → IsClean accounts (digit_log lines)
@@ -68,13 +72,13 @@ clean_too accounts lines each few clean =
     subst (IsClean accounts) (same_log lines few) ((upgraded_clean accounts lines (can_be lines each few)).0 clean)
 
 at_fault_too : (accounts : Accounts) (lines : List LogLine) (k : ℕ) (why : Why) → AllByRecursion IsWritable lines
-    → AllByRecursion HasNumber lines → 1 + length lines ≤ 9
+    → AllByRecursion MayHaveNumber lines → 1 + length lines ≤ 9
     → IsWhy accounts (log_bytes (header ∷ lines)) k why → IsWhy accounts (digit_log lines) k why
 at_fault_too accounts lines k why each have few w =
     subst (λ (b : List ℕ). IsWhy accounts b k why) (same_log lines few) (same_fault accounts lines k why (can_be lines each few) have w)
 
 -- each small log that is clean in version 1 is so in version 2, its lines after the first under the numbers of their sessions:
-pub first_upgraded : (accounts : Accounts) → IsClean accounts (ended_by_lf (second_text ∷ []))
+pub first_upgraded : (accounts : Accounts) → IsClean accounts (ended_by_lf (header_two_text ∷ []))
 first_upgraded accounts = clean_too accounts [] tt (omega arith) (first_is_clean accounts)
 
 pub aborted_upgraded : (accounts : Accounts) → IsClean accounts (one_numbered (codes "1 C ABORT" ∷ numbered_no))
@@ -197,7 +201,7 @@ left_is_cut_too one_first once accounts =
 
 -- each of these small logs is at fault in version 2 in the same line as in version 1, and for the same reason:
 pub abort_is_early_upgraded : HasOneClientFirst → SpellsOneName → (accounts : Accounts)
-    → IsWhy accounts (ended_by_lf (second_text ∷ codes "1 C ABORT" ∷ [])) 2 out_of_order
+    → IsWhy accounts (ended_by_lf (header_two_text ∷ codes "1 C ABORT" ∷ [])) 2 out_of_order
 abort_is_early_upgraded one_first once accounts =
     at_fault_too accounts (heard abort ∷ []) 2 out_of_order (is_abort, tt) (tt, tt) (omega arith) (abort_is_early one_first once accounts)
 
@@ -215,7 +219,7 @@ halt_is_early_upgraded one_first once accounts =
     (tt, (tt, tt)) (omega arith) (halt_is_early one_first once accounts)
 
 pub other_offer_why_upgraded : HasOneClientFirst → SpellsOneName → (accounts : Accounts)
-    → IsWhy accounts (ended_by_lf (second_text ∷ codes "1 S MECHS SCRAM-SHA-1" ∷ [])) 2 other_mechs
+    → IsWhy accounts (ended_by_lf (header_two_text ∷ codes "1 S MECHS SCRAM-SHA-1" ∷ [])) 2 other_mechs
 other_offer_why_upgraded one_first once accounts =
     at_fault_too accounts (said (mechs (codes "SCRAM-SHA-1")) ∷ []) 2 other_mechs (is_other_offer, tt) (tt, tt) (omega arith)
     (other_offer_why one_first once accounts)
@@ -255,52 +259,55 @@ not_first_why_upgraded one_first once accounts =
     ∷ []) 4 (other_outcome (refused_with [])) (is_offer, (is_auth_with, (is_cont, tt))) (tt, (tt, (tt, tt))) (omega arith)
     (not_first_why one_first once accounts)
 
--- a text after the first line that is no numbered line
+-- a text after the first line of version 2, which is no numbered line, is at fault in line 2, for the reason for which it is wrong
 after_header : (accounts : Accounts) (text : List ℕ) (why : Why) → LacksLf text → IsNoNumberedLine text
     → IsWrongAfterFirst most_open accounts [] text why
-    → IsWhy accounts (ended_by_lf (second_text ∷ text ∷ [])) 2 why
+    → IsWhy accounts (ended_by_lf (header_two_text ∷ text ∷ [])) 2 why
 after_header accounts text why lacks none wrong =
-    text_at_fault (any_version accounts) (shorter_both accounts) (ended_by_lf (second_text ∷ text ∷ [])) (second_text ∷ []) text [] [] why
-    (whole (second_text ∷ text ∷ []) (refl, (lacks, tt))) (inr (headed_two most_open accounts).begins)
-    (λ stands. let last = last_is_numbered most_open accounts second_text [] text
+    text_at_fault (any_version accounts) (shorter_both accounts) (ended_by_lf (header_two_text ∷ text ∷ [])) (header_two_text ∷ [])
+    text [] [] why
+    (whole (header_two_text ∷ text ∷ []) (refl, (lacks, tt))) (inr (headed_two most_open accounts).begins)
+    (λ stands. let last = last_is_numbered most_open accounts header_two_text [] text
     (second_stands accounts (text ∷ []) stands) in none last.0 last.1)
     (inr (refl, ([], tt, wrong)))
 
 -- the first line of version 2 again, after itself, is out of order: line 2 is at fault
-pub second_again : (accounts : Accounts) → IsWhy accounts (ended_by_lf (second_text ∷ second_text ∷ [])) 2 out_of_order
-second_again accounts = after_header accounts second_text out_of_order refl (unnumbered_is_none header_two) (inl (inr refl, refl))
+pub second_again : (accounts : Accounts) → IsWhy accounts (ended_by_lf (header_two_text ∷ header_two_text ∷ [])) 2 out_of_order
+second_again accounts = after_header accounts header_two_text out_of_order refl (unnumbered_is_none header_two) (inl (inr refl, refl))
 
 -- the first line of version 1 after that of version 2 is out of order: line 2 is at fault
-pub first_after_second : (accounts : Accounts) → IsWhy accounts (ended_by_lf (second_text ∷ first_text ∷ [])) 2 out_of_order
-first_after_second accounts = after_header accounts first_text out_of_order refl (unnumbered_is_none header) (inl (inl refl, refl))
+pub first_after_second : (accounts : Accounts) → IsWhy accounts (ended_by_lf (header_two_text ∷ header_one_text ∷ [])) 2 out_of_order
+first_after_second accounts = after_header accounts header_one_text out_of_order refl (unnumbered_is_none header) (inl (inl refl, refl))
 
--- a line without a number
+-- `C ABORT` is no first line of a log
 no_first : IsFirstText (codes "C ABORT") → ⊥
 no_first (inl is) = let wrong : 67 ≡ 83 = ap (λ (l : List ℕ). get_or l 0 0) is in omega (arith, wrong)
 no_first (inr is) = let wrong : 67 ≡ 83 = ap (λ (l : List ℕ). get_or l 0 0) is in omega (arith, wrong)
 
 -- `C ABORT` without a number is no line in a log of version 2: line 2 is at fault
-pub abort_unnumbered : (accounts : Accounts) → IsWhy accounts (ended_by_lf (second_text ∷ codes "C ABORT" ∷ [])) 2 no_line
+pub abort_unnumbered : (accounts : Accounts) → IsWhy accounts (ended_by_lf (header_two_text ∷ codes "C ABORT" ∷ [])) 2 no_line
 abort_unnumbered accounts = after_header accounts (codes "C ABORT") no_line refl (unnumbered_is_none (heard abort))
     (inr (inl (no_first, unnumbered_is_none (heard abort), refl)))
 
--- a first line with a number
+-- the first line of version 1 under a number is no numbered line, and no first line either:
 no_numbered_first : IsNoNumberedLine (codes "1 SCRAMLOG 1")
 no_numbered_first x is =
-    let spelled : decimal 1 ++ (32 ∷ log_text header)
-    ≡ numbered_text x = ap (λ (d : List ℕ). d ++ (32 ∷ log_text header)) (decimal_digit 1 (omega arith)) ∙ is.spelled in
+    let spelled : decimal 1 ++ (32 ∷ log_line_text header)
+    ≡ numbered_text x = ap (λ (d : List ℕ). d ++ (32 ∷ log_line_text header)) (decimal_digit 1 (omega arith)) ∙ is.spelled in
     let word = spaceless_number 1 (omega arith) in
     let also = spaceless_number x.number (omega (arith, is.number.1)) in
-    let same : log_text header ≡ log_text x.value =
-    sym (after-word (decimal 1) (log_text header) word) ∙ ap after_space spelled ∙ after-word (decimal x.number) (log_text x.value) also in
-    let value = one_log_line (log_text header) x.value header (subst (λ (t : List ℕ). IsLogLine t x.value) (sym same) is.line) is_header in
-    subst HasNumber value is.has_number
+    let same : log_line_text header ≡ log_line_text x.value =
+    sym (after-word (decimal 1) (log_line_text header) word) ∙ ap after_space spelled ∙ after-word (decimal x.number)
+    (log_line_text x.value) also in
+    let value = one_log_line (log_line_text header) x.value header (subst (λ (t : List ℕ). IsLogLine t x.value) (sym same) is.line)
+    is_header in
+    subst MayHaveNumber value is.has_number
 
 no_first_either : IsFirstText (codes "1 SCRAMLOG 1") → ⊥
 no_first_either (inl is) = let wrong : 49 ≡ 83 = ap (λ (l : List ℕ). get_or l 0 0) is in omega (arith, wrong)
 no_first_either (inr is) = let wrong : 49 ≡ 83 = ap (λ (l : List ℕ). get_or l 0 0) is in omega (arith, wrong)
 
 -- the first line of version 1 under a number is no line in a log of version 2: line 2 is at fault
-pub header_numbered : (accounts : Accounts) → IsWhy accounts (ended_by_lf (second_text ∷ codes "1 SCRAMLOG 1" ∷ [])) 2 no_line
+pub header_numbered : (accounts : Accounts) → IsWhy accounts (ended_by_lf (header_two_text ∷ codes "1 SCRAMLOG 1" ∷ [])) 2 no_line
 header_numbered accounts = after_header accounts (codes "1 SCRAMLOG 1") no_line refl no_numbered_first
     (inr (inl (no_first_either, no_numbered_first, refl)))

@@ -8,10 +8,10 @@ use Rattle.log_grammar.specs.LoggedReply.{LoggedReply, logged_reply_of}
 use Rattle.log_grammar.specs.Places.{Place, before_all, between, offered, asks_bare, waits_first, got_first, waits_final, got_final}
 use Rattle.log_grammar.specs.Places.{waits_code, got_code, leaving, over, halted}
 use Rattle.log_grammar.specs.Demands.{Demands, no_demands, AreReplies}
-use Rattle.log_grammar.specs.Sessions.{Part, next_line, due_line, telling_line, closing, refusal, Farewell, parting, Quit, quitting, Codes}
-use Rattle.log_grammar.specs.Sessions.{after_ok, Judgement, after_final, Proof, after_challenge, Answer, after_first, First, after_empty}
-use Rattle.log_grammar.specs.Sessions.{Invitation, after_auth, Login, after_mechs, Session, session_part, session_lines, session_told}
-use Rattle.log_grammar.specs.Sessions.{SessionMeets, silent, farewell, departs, aborts, spoils, no_code, quits_codes, asked, replied}
+use Rattle.log_grammar.specs.Sessions.{Part, next_line, due_line, telling_line, closing, refusal, Farewell, parting, Quit, quitting, AfterOk}
+use Rattle.log_grammar.specs.Sessions.{after_ok, AfterFinal, after_final, AfterChallenge, after_challenge, AfterFirst, after_first, AfterEmpty, after_empty}
+use Rattle.log_grammar.specs.Sessions.{AfterAuth, after_auth, AfterMechs, after_mechs, Session, session_part, session_lines, session_told}
+use Rattle.log_grammar.specs.Sessions.{SessionMeets, silent, farewell, goes_away, aborts, sends_bad, no_code, quits_codes, asked, replied}
 use Rattle.log_grammar.specs.Sessions.{halted_at, unjudged, denied, granted, no_proof, quits_proof, proves, no_answer, refused, challenged}
 use Rattle.log_grammar.specs.Sessions.{no_first, quits_first, begins, no_word, unoffered, invited, no_login, quits_login, with_first}
 use Rattle.log_grammar.specs.Sessions.{without_first, session}
@@ -33,23 +33,23 @@ bare_place leaving = leaving
 bare_place over = over
 bare_place halted = halted
 
--- a session with no account named
-abbrev bare_answer : Answer → Answer
+-- the parts of a session with no account named, and a session:
+abbrev bare_answer : AfterFirst → AfterFirst
 bare_answer no_answer = no_answer
 bare_answer (refused text closed) = refused text closed
 bare_answer (challenged account text p) = challenged [] text p
 
-abbrev bare_first : First → First
+abbrev bare_first : AfterEmpty → AfterEmpty
 bare_first no_first = no_first
 bare_first (quits_first q) = quits_first q
 bare_first (begins first a) = begins first (bare_answer a)
 
-abbrev bare_invitation : Invitation → Invitation
+abbrev bare_invitation : AfterAuth → AfterAuth
 bare_invitation no_word = no_word
 bare_invitation (unoffered text closed) = unoffered text closed
 bare_invitation (invited text f) = invited text (bare_first f)
 
-abbrev bare_login : Login → Login
+abbrev bare_login : AfterMechs → AfterMechs
 bare_login no_login = no_login
 bare_login (quits_login q) = quits_login q
 bare_login (with_first m first a) = with_first m first (bare_answer a)
@@ -73,6 +73,7 @@ pub record IsBareOf (bare own : Part) : Type 0 where
 pub bare_line : (l : LogLine) (b own : Part) → IsBareOf b own → IsBareOf (next_line l b) (next_line l own)
 bare_line l b own is = record { lines = ap (λ (t : List LogLine). l ∷ t) is.lines; place = is.place; told = is.told; meets = is.meets }
 
+-- so are such parts with a line that meets a demand, and with one that tells of a reply:
 bare_due : (B Own : Demands → Type 0) (l : LogLine) (b own : Part) → B no_demands → IsBareOf b own
     → IsBareOf (due_line B l b) (due_line Own l own)
 bare_due B Own l b own due is =
@@ -93,6 +94,7 @@ pub bare_closing : (closed : Bool) → IsBareOf (closing closed) (closing closed
 bare_closing true = record { lines = refl; place = refl; told = refl; meets = tt }
 bare_closing false = record { lines = refl; place = refl; told = refl; meets = tt }
 
+-- a refusal, the end of a session by its client and its codes are the same with no account named:
 bare_refusal : (B Own : Demands → Type 0) (text : List ℕ) (closed : Bool) → B no_demands
     → IsBareOf (refusal B text closed) (refusal Own text closed)
 bare_refusal B Own text closed due = record { lines = refl; place = (bare_closing closed).place; told = refl; meets = due }
@@ -102,11 +104,11 @@ bare_farewell silent = record { lines = refl; place = refl; told = refl; meets =
 bare_farewell (farewell text closed) = bare_refusal (λ d. d.farewell text) (λ d. d.farewell text) text closed tt
 
 bare_quit : (q : Quit) → IsBareOf (quitting q) (quitting q)
-bare_quit (departs closed) = bare_line gone _ _ (bare_closing closed)
+bare_quit (goes_away closed) = bare_line gone _ _ (bare_closing closed)
 bare_quit (aborts f) = bare_line (heard abort) _ _ (bare_farewell f)
-bare_quit (spoils f) = bare_line bad _ _ (bare_farewell f)
+bare_quit (sends_bad f) = bare_line bad _ _ (bare_farewell f)
 
-bare_codes : (account : List ℕ) (c : Codes) → IsBareOf (after_ok [] c) (after_ok account c)
+bare_codes : (account : List ℕ) (c : AfterOk) → IsBareOf (after_ok [] c) (after_ok account c)
 bare_codes account no_code = record { lines = refl; place = refl; told = refl; meets = tt }
 bare_codes account (quits_codes q) = bare_quit q
 bare_codes account (asked sent) = record { lines = refl; place = refl; told = refl; meets = tt }
@@ -115,7 +117,8 @@ bare_codes account (replied sent moment reply more) =
     (bare_codes account more))
 bare_codes account (halted_at sent) = record { lines = refl; place = refl; told = refl; meets = tt }
 
-bare_judgement : (m account first challenge last : List ℕ) (j : Judgement)
+-- each part of a session, from the verdict to the whole of it, is the same with no account named:
+bare_judgement : (m account first challenge last : List ℕ) (j : AfterFinal)
     → IsBareOf (after_final m [] first challenge last j) (after_final m account first challenge last j)
 bare_judgement m account first challenge last unjudged = record { lines = refl; place = refl; told = refl; meets = tt }
 bare_judgement m account first challenge last (denied text closed) =
@@ -125,30 +128,30 @@ bare_judgement m account first challenge last (granted text c) =
     (said (accepts text)) _ _ tt
     (bare_codes account c)
 
-bare_proof : (m account first challenge : List ℕ) (p : Proof)
+bare_proof : (m account first challenge : List ℕ) (p : AfterChallenge)
     → IsBareOf (after_challenge m [] first challenge p) (after_challenge m account first challenge p)
 bare_proof m account first challenge no_proof = record { lines = refl; place = refl; told = refl; meets = tt }
 bare_proof m account first challenge (quits_proof q) = bare_quit q
 bare_proof m account first challenge (proves last j) = bare_line (heard (resp last)) _ _ (bare_judgement m account first challenge last j)
 
-of_answer : (m first : List ℕ) (a : Answer) → IsBareOf (after_first m first (bare_answer a)) (after_first m first a)
+of_answer : (m first : List ℕ) (a : AfterFirst) → IsBareOf (after_first m first (bare_answer a)) (after_first m first a)
 of_answer m first no_answer = record { lines = refl; place = refl; told = refl; meets = tt }
 of_answer m first (refused text closed) = bare_refusal (λ d. d.refused m first text) (λ d. d.refused m first text) text closed tt
 of_answer m first (challenged account text p) =
     bare_due (λ d. d.challenged m [] first text) (λ d. d.challenged m account first text) (said (cont text)) _ _ refl
     (bare_proof m account first text p)
 
-of_first : (m : List ℕ) (f : First) → IsBareOf (after_empty m (bare_first f)) (after_empty m f)
+of_first : (m : List ℕ) (f : AfterEmpty) → IsBareOf (after_empty m (bare_first f)) (after_empty m f)
 of_first m no_first = record { lines = refl; place = refl; told = refl; meets = tt }
 of_first m (quits_first q) = bare_quit q
 of_first m (begins first a) = bare_line (heard (resp first)) _ _ (of_answer m first a)
 
-of_invitation : (m : List ℕ) (i : Invitation) → IsBareOf (after_auth m (bare_invitation i)) (after_auth m i)
+of_invitation : (m : List ℕ) (i : AfterAuth) → IsBareOf (after_auth m (bare_invitation i)) (after_auth m i)
 of_invitation m no_word = record { lines = refl; place = refl; told = refl; meets = tt }
 of_invitation m (unoffered text closed) = bare_refusal (λ d. d.unoffered m text) (λ d. d.unoffered m text) text closed tt
 of_invitation m (invited text f) = bare_due (λ d. d.invited m text) (λ d. d.invited m text) (said (cont text)) _ _ tt (of_first m f)
 
-of_login : (l : Login) → IsBareOf (after_mechs (bare_login l)) (after_mechs l)
+of_login : (l : AfterMechs) → IsBareOf (after_mechs (bare_login l)) (after_mechs l)
 of_login no_login = record { lines = refl; place = refl; told = refl; meets = tt }
 of_login (quits_login q) = bare_quit q
 of_login (with_first m first a) = bare_line (heard (auth_with m first)) _ _ (of_answer m first a)
@@ -158,7 +161,8 @@ of_login (without_first m i) = bare_line (heard (auth m)) _ _ (of_invitation m i
 pub of_session : (s : Session) → IsBareOf (session_part (bare s)) (session_part s)
 of_session (session names l) = bare_due (λ d. d.mechs names) (λ d. d.mechs names) (said (mechs names)) _ _ tt (of_login l)
 
--- sessions with no account named
+-- sessions with no account named have the same lines, meet the demands where these are aside, are open where the others are, and lead to
+-- the same place, with no account named:
 all_lines : (sessions : List Session) → flat_map session_lines (map bare sessions) ≡ flat_map session_lines sessions
 all_lines [] = refl
 all_lines (s ∷ sessions) = ap (λ (l : List LogLine). l ++ flat_map session_lines (map bare sessions)) (of_session s).lines

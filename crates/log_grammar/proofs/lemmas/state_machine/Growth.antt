@@ -7,15 +7,15 @@ use Rattle.log_grammar.specs.Lines.{resp, abort, code, sync, asking}
 use Rattle.log_grammar.specs.LoggedReply.{LoggedReply, logged_reply_of}
 use Rattle.log_grammar.specs.Places.{Place, between}
 use Rattle.log_grammar.specs.Demands.{Demands}
-use Rattle.log_grammar.specs.Sessions.{Part, Farewell, parting, Quit, quitting, Codes, after_ok, Judgement, after_final, Proof}
-use Rattle.log_grammar.specs.Sessions.{after_challenge, Answer, after_first, First, after_empty, Invitation, after_auth, Login, after_mechs}
-use Rattle.log_grammar.specs.Sessions.{Session, session_part, silent, farewell, departs, aborts, spoils, no_code, quits_codes, asked}
+use Rattle.log_grammar.specs.Sessions.{Part, Farewell, parting, Quit, quitting, AfterOk, after_ok, AfterFinal, after_final, AfterChallenge}
+use Rattle.log_grammar.specs.Sessions.{after_challenge, AfterFirst, after_first, AfterEmpty, after_empty, AfterAuth, after_auth, AfterMechs, after_mechs}
+use Rattle.log_grammar.specs.Sessions.{Session, session_part, silent, farewell, goes_away, aborts, sends_bad, no_code, quits_codes, asked}
 use Rattle.log_grammar.specs.Sessions.{replied, halted_at, unjudged, denied, granted, no_proof, quits_proof, proves, no_answer, refused}
 use Rattle.log_grammar.specs.Sessions.{challenged, no_first, quits_first, begins, no_word, unoffered, invited, no_login, quits_login}
 use Rattle.log_grammar.specs.Sessions.{with_first, without_first, session}
 use Rattle.log_grammar.specs.state_machine.Steps.{IsTransition, told_at}
 
--- a part of a session with one more line, which leads to a place and tells this
+-- a part of a session goes on by one line, which leads to this place and tells this
 pub record Grown {X : Type 0} (d : Demands) (part : X → Part) (old : X) (line : LogLine) (next : Place)
     (more : List LoggedReply) : Type 0 where
   pub tree : X
@@ -24,11 +24,11 @@ pub record Grown {X : Type 0} (d : Demands) (part : X → Part) (old : X) (line 
   pub tells : (part tree).told ≡ (part old).told ++ more
   pub good : (part tree).Meets d
 
--- the session has its end, or it goes on
+-- a part of a session has its end, or it goes on by a line that may stand at its place
 abbrev pub GoesOn : {X : Type 0} → Demands → (X → Part) → X → LogLine → Place → Type 0
 GoesOn d part old line next = ((part old).place ≡ between) ⊎ Grown d part old line next (told_at (part old).place line)
 
--- a part that goes on within another, after lines of the other
+-- where a part within another goes on, so does the other, and where it has its end, so has the other:
 lift : {X Y : Type 0} (d : Demands) (inner : X → Part) (outer : Y → Part) (wrap : X → Y) (front : List LogLine) (before : List LoggedReply)
     → ((t : X) → (outer (wrap t)).lines ≡ front ++ (inner t).lines) → ((t : X) → (outer (wrap t)).place ≡ (inner t).place)
     → ((t : X) → (outer (wrap t)).told ≡ before ++ (inner t).told) → ((t : X) → (inner t).Meets d → (outer (wrap t)).Meets d)
@@ -54,6 +54,7 @@ within d inner outer wrap front before ls ps ts ms old line next (inl closed) = 
 within d inner outer wrap front before ls ps ts ms old line next (inr g) =
     inr (lift d inner outer wrap front before ls ps ts ms old line next (told_at (inner old).place line) g)
 
+-- each part of a session, from its end to its beginning, has its end or goes on by a line that may stand at its place:
 farewell_on : (d : Demands) (t : Farewell) (line : LogLine) (next : Place) → (parting t).Meets d
     → IsTransition d (parting t).place line next
     → GoesOn d parting t line next
@@ -67,17 +68,23 @@ farewell_on d (farewell text false) line next meets h = absurd h
 
 quit_on : (d : Demands) (t : Quit) (line : LogLine) (next : Place) → (quitting t).Meets d → IsTransition d (quitting t).place line next
     → GoesOn d quitting t line next
-quit_on d (departs true) line next meets h = inl refl
-quit_on d (departs false) ended next meets h = inr (record { tree = departs true; lines = refl; at = sym h; tells = refl; good = meets })
-quit_on d (departs false) line next meets h = absurd h
+quit_on d (goes_away true) line next meets h = inl refl
+quit_on d (goes_away false) ended next meets h = inr (record {
+  tree = goes_away true;
+  lines = refl;
+  at = sym h;
+  tells = refl;
+  good = meets;
+})
+quit_on d (goes_away false) line next meets h = absurd h
 quit_on d (aborts f) line next meets h =
     within d parting quitting aborts (heard abort ∷ []) [] (λ t. refl) (λ t. refl) (λ t. refl) (λ t m. m) f line next
     (farewell_on d f line next meets h)
-quit_on d (spoils f) line next meets h =
-    within d parting quitting spoils (bad ∷ []) [] (λ t. refl) (λ t. refl) (λ t. refl) (λ t m. m) f line next
+quit_on d (sends_bad f) line next meets h =
+    within d parting quitting sends_bad (bad ∷ []) [] (λ t. refl) (λ t. refl) (λ t. refl) (λ t m. m) f line next
     (farewell_on d f line next meets h)
 
-codes_on : (d : Demands) (account : List ℕ) (t : Codes) (line : LogLine) (next : Place) → (after_ok account t).Meets d
+codes_on : (d : Demands) (account : List ℕ) (t : AfterOk) (line : LogLine) (next : Place) → (after_ok account t).Meets d
     → IsTransition d (after_ok account t).place line next
     → GoesOn d (after_ok account) t line next
 codes_on d account no_code (heard (code text)) next meets h = inr
@@ -87,9 +94,9 @@ codes_on d account no_code (heard (sync first second)) next meets h = inr
 codes_on d account no_code (heard abort) next meets h = inr
     (record { tree = quits_codes (aborts silent); lines = refl; at = sym h; tells = refl; good = tt })
 codes_on d account no_code bad next meets h = inr
-    (record { tree = quits_codes (spoils silent); lines = refl; at = sym h; tells = refl; good = tt })
+    (record { tree = quits_codes (sends_bad silent); lines = refl; at = sym h; tells = refl; good = tt })
 codes_on d account no_code gone next meets h = inr
-    (record { tree = quits_codes (departs false); lines = refl; at = sym h; tells = refl; good = tt })
+    (record { tree = quits_codes (goes_away false); lines = refl; at = sym h; tells = refl; good = tt })
 codes_on d account no_code line next meets h = absurd h
 codes_on d account (quits_codes q) line next meets h =
     within d quitting (after_ok account) quits_codes [] [] (λ t. refl) (λ t. refl) (λ t. refl) (λ t m. m) q line next
@@ -105,7 +112,7 @@ codes_on d account (replied sent moment reply more) line next meets h =
     (codes_on d account more line next meets h)
 codes_on d account (halted_at sent) line next meets h = absurd h
 
-judgement_on : (d : Demands) (m account first challenge last : List ℕ) (t : Judgement) (line : LogLine) (next : Place)
+judgement_on : (d : Demands) (m account first challenge last : List ℕ) (t : AfterFinal) (line : LogLine) (next : Place)
     → (after_final m account first challenge last t).Meets d → IsTransition d (after_final m account first challenge last t).place line next
     → GoesOn d (after_final m account first challenge last) t line next
 judgement_on d m account first challenge last unjudged (said (refuses text)) next meets h = inr
@@ -122,7 +129,7 @@ judgement_on d m account first challenge last (granted text c) line next meets h
     (λ t. refl) (λ t. refl) (λ t more. (meets.0, more)) c line next
     (codes_on d account c line next meets.1 h)
 
-proof_on : (d : Demands) (m account first challenge : List ℕ) (t : Proof) (line : LogLine) (next : Place)
+proof_on : (d : Demands) (m account first challenge : List ℕ) (t : AfterChallenge) (line : LogLine) (next : Place)
     → (after_challenge m account first challenge t).Meets d → IsTransition d (after_challenge m account first challenge t).place line next
     → GoesOn d (after_challenge m account first challenge) t line next
 proof_on d m account first challenge no_proof (heard (resp last)) next meets h = inr
@@ -130,9 +137,9 @@ proof_on d m account first challenge no_proof (heard (resp last)) next meets h =
 proof_on d m account first challenge no_proof (heard abort) next meets h = inr
     (record { tree = quits_proof (aborts silent); lines = refl; at = sym h; tells = refl; good = tt })
 proof_on d m account first challenge no_proof bad next meets h = inr
-    (record { tree = quits_proof (spoils silent); lines = refl; at = sym h; tells = refl; good = tt })
+    (record { tree = quits_proof (sends_bad silent); lines = refl; at = sym h; tells = refl; good = tt })
 proof_on d m account first challenge no_proof gone next meets h = inr
-    (record { tree = quits_proof (departs false); lines = refl; at = sym h; tells = refl; good = tt })
+    (record { tree = quits_proof (goes_away false); lines = refl; at = sym h; tells = refl; good = tt })
 proof_on d m account first challenge no_proof line next meets h = absurd h
 proof_on d m account first challenge (quits_proof q) line next meets h =
     within d quitting (after_challenge m account first challenge) quits_proof [] [] (λ t. refl) (λ t. refl) (λ t. refl)
@@ -143,7 +150,7 @@ proof_on d m account first challenge (proves last j) line next meets h =
     (heard (resp last) ∷ []) [] (λ t. refl) (λ t. refl) (λ t. refl) (λ t m. m) j line next
     (judgement_on d m account first challenge last j line next meets h)
 
-answer_on : (d : Demands) (m first : List ℕ) (t : Answer) (line : LogLine) (next : Place) → (after_first m first t).Meets d
+answer_on : (d : Demands) (m first : List ℕ) (t : AfterFirst) (line : LogLine) (next : Place) → (after_first m first t).Meets d
     → IsTransition d (after_first m first t).place line next
     → GoesOn d (after_first m first) t line next
 answer_on d m first no_answer (said (refuses text)) next meets h = inr
@@ -160,7 +167,7 @@ answer_on d m first (challenged account text p) line next meets h =
     (λ t. refl) (λ t. refl) (λ t more. (meets.0, more)) p line next
     (proof_on d m account first text p line next meets.1 h)
 
-first_on : (d : Demands) (m : List ℕ) (t : First) (line : LogLine) (next : Place) → (after_empty m t).Meets d
+first_on : (d : Demands) (m : List ℕ) (t : AfterEmpty) (line : LogLine) (next : Place) → (after_empty m t).Meets d
     → IsTransition d (after_empty m t).place line next
     → GoesOn d (after_empty m) t line next
 first_on d m no_first (heard (resp first)) next meets h = inr
@@ -168,9 +175,9 @@ first_on d m no_first (heard (resp first)) next meets h = inr
 first_on d m no_first (heard abort) next meets h = inr
     (record { tree = quits_first (aborts silent); lines = refl; at = sym h; tells = refl; good = tt })
 first_on d m no_first bad next meets h = inr
-    (record { tree = quits_first (spoils silent); lines = refl; at = sym h; tells = refl; good = tt })
+    (record { tree = quits_first (sends_bad silent); lines = refl; at = sym h; tells = refl; good = tt })
 first_on d m no_first gone next meets h = inr
-    (record { tree = quits_first (departs false); lines = refl; at = sym h; tells = refl; good = tt })
+    (record { tree = quits_first (goes_away false); lines = refl; at = sym h; tells = refl; good = tt })
 first_on d m no_first line next meets h = absurd h
 first_on d m (quits_first q) line next meets h =
     within d quitting (after_empty m) quits_first [] [] (λ t. refl) (λ t. refl) (λ t. refl) (λ t m. m) q line next
@@ -180,7 +187,7 @@ first_on d m (begins first a) line next meets h =
     (λ t m. m) a line next
     (answer_on d m first a line next meets h)
 
-invitation_on : (d : Demands) (m : List ℕ) (t : Invitation) (line : LogLine) (next : Place) → (after_auth m t).Meets d
+invitation_on : (d : Demands) (m : List ℕ) (t : AfterAuth) (line : LogLine) (next : Place) → (after_auth m t).Meets d
     → IsTransition d (after_auth m t).place line next
     → GoesOn d (after_auth m) t line next
 invitation_on d m no_word (said (refuses text)) next meets h = inr
@@ -197,7 +204,7 @@ invitation_on d m (invited text f) line next meets h =
     (λ t more. (meets.0, more)) f line next
     (first_on d m f line next meets.1 h)
 
-login_on : (d : Demands) (t : Login) (line : LogLine) (next : Place) → (after_mechs t).Meets d
+login_on : (d : Demands) (t : AfterMechs) (line : LogLine) (next : Place) → (after_mechs t).Meets d
     → IsTransition d (after_mechs t).place line next
     → GoesOn d after_mechs t line next
 login_on d no_login (heard (auth m)) next meets h = inr
@@ -207,9 +214,9 @@ login_on d no_login (heard (auth_with m first)) next meets h = inr
 login_on d no_login (heard abort) next meets h = inr
     (record { tree = quits_login (aborts silent); lines = refl; at = sym h; tells = refl; good = tt })
 login_on d no_login bad next meets h = inr
-    (record { tree = quits_login (spoils silent); lines = refl; at = sym h; tells = refl; good = tt })
+    (record { tree = quits_login (sends_bad silent); lines = refl; at = sym h; tells = refl; good = tt })
 login_on d no_login gone next meets h = inr
-    (record { tree = quits_login (departs false); lines = refl; at = sym h; tells = refl; good = tt })
+    (record { tree = quits_login (goes_away false); lines = refl; at = sym h; tells = refl; good = tt })
 login_on d no_login line next meets h = absurd h
 login_on d (quits_login q) line next meets h =
     within d quitting after_mechs quits_login [] [] (λ t. refl) (λ t. refl) (λ t. refl) (λ t m. m) q line next

@@ -7,8 +7,8 @@ use Rattle.log_grammar.specs.LoggedReply.{LoggedReply}
 use Rattle.log_grammar.specs.Places.{Place, before_all, between, offered, asks_bare, waits_first, got_first, waits_final, got_final}
 use Rattle.log_grammar.specs.Places.{waits_code, got_code, leaving, over, halted}
 use Rattle.log_grammar.specs.Demands.{Demands}
-use Rattle.log_grammar.specs.state_machine.Steps.{FromOffered, FromInvitation, FromWaitsFirst, FromFirst, FromWaitsFinal, FromFinal}
-use Rattle.log_grammar.specs.state_machine.Steps.{FromWaitsCode, FromCode, FromLeaving, FromBetween, FromOver, FromStart, IsTransition}
+use Rattle.log_grammar.specs.state_machine.Steps.{FromOffered, FromAsksBare, FromWaitsFirst, FromGotFirst, FromWaitsFinal, FromGotFinal}
+use Rattle.log_grammar.specs.state_machine.Steps.{FromWaitsCode, FromGotCode, FromLeaving, FromBetween, FromOver, FromBeforeAll, IsTransition}
 use Rattle.log_grammar.specs.state_machine.Steps.{told_at}
 use Rattle.log_grammar.specs.Begins.{Begins}
 use Rattle.log_grammar.proofs.lemmas.state_machine.LogSteps.{before_last}
@@ -18,6 +18,7 @@ use Rattle.log_grammar.proofs.lemmas.ListEnds.{some_last, last_same, length-last
 abbrev pub OneAccount : Demands → Type 0
 OneAccount d = (m first account other text : List ℕ) → d.challenged m account first text → d.challenged m other first text → account ≡ other
 
+-- from each place a line leads to one place:
 offered_once : (line : LogLine) (p q : Place) → FromOffered line p → FromOffered line q → p ≡ q
 offered_once (heard (auth m)) p q h k = h ∙ sym k
 offered_once (heard (auth_with m first)) p q h k = h ∙ sym k
@@ -26,7 +27,7 @@ offered_once bad p q h k = h ∙ sym k
 offered_once gone p q h k = h ∙ sym k
 offered_once line p q h k = absurd h
 
-invitation_once : (d : Demands) (m : List ℕ) (line : LogLine) (p q : Place) → FromInvitation d m line p → FromInvitation d m line q → p ≡ q
+invitation_once : (d : Demands) (m : List ℕ) (line : LogLine) (p q : Place) → FromAsksBare d m line p → FromAsksBare d m line q → p ≡ q
 invitation_once d m (said (refuses text)) p q h k = h.1 ∙ sym k.1
 invitation_once d m (said (cont text)) p q h k = h.1 ∙ sym k.1
 invitation_once d m line p q h k = absurd h
@@ -38,8 +39,8 @@ waits_first_once m bad p q h k = h ∙ sym k
 waits_first_once m gone p q h k = h ∙ sym k
 waits_first_once m line p q h k = absurd h
 
-first_once : (d : Demands) → OneAccount d → (m first : List ℕ) (line : LogLine) (p q : Place) → FromFirst d m first line p
-    → FromFirst d m first line q → p ≡ q
+first_once : (d : Demands) → OneAccount d → (m first : List ℕ) (line : LogLine) (p q : Place) → FromGotFirst d m first line p
+    → FromGotFirst d m first line q → p ≡ q
 first_once d one m first (said (refuses text)) p q h k = h.1 ∙ sym k.1
 first_once d one m first (said (cont text)) p q h k =
     h.2 ∙ ap (λ (a : List ℕ). waits_final m a first text) (one m first h.0 k.0 text h.1 k.1) ∙ sym k.2
@@ -54,7 +55,7 @@ waits_final_once m account first challenge gone p q h k = h ∙ sym k
 waits_final_once m account first challenge line p q h k = absurd h
 
 final_once : (d : Demands) (m account first challenge last : List ℕ) (line : LogLine) (p q : Place)
-    → FromFinal d m account first challenge last line p → FromFinal d m account first challenge last line q → p ≡ q
+    → FromGotFinal d m account first challenge last line p → FromGotFinal d m account first challenge last line q → p ≡ q
 final_once d m account first challenge last (said (refuses text)) p q h k = h.1 ∙ sym k.1
 final_once d m account first challenge last (said (accepts text)) p q h k = h.1 ∙ sym k.1
 final_once d m account first challenge last line p q h k = absurd h
@@ -67,7 +68,7 @@ waits_code_once account bad p q h k = h ∙ sym k
 waits_code_once account gone p q h k = h ∙ sym k
 waits_code_once account line p q h k = absurd h
 
-code_once : (account : List ℕ) (line : LogLine) (p q : Place) → FromCode account line p → FromCode account line q → p ≡ q
+code_once : (account : List ℕ) (line : LogLine) (p q : Place) → FromGotCode account line p → FromGotCode account line q → p ≡ q
 code_once account (said (replies moment reply)) p q h k = h ∙ sym k
 code_once account (said halt) p q h k = h ∙ sym k
 code_once account line p q h k = absurd h
@@ -84,7 +85,7 @@ over_once : (line : LogLine) (p q : Place) → FromOver line p → FromOver line
 over_once ended p q h k = h ∙ sym k
 over_once line p q h k = absurd h
 
-start_once : (line : LogLine) (p q : Place) → FromStart line p → FromStart line q → p ≡ q
+start_once : (line : LogLine) (p q : Place) → FromBeforeAll line p → FromBeforeAll line q → p ≡ q
 start_once header p q h k = h ∙ sym k
 start_once line p q h k = absurd h
 
@@ -105,11 +106,13 @@ goes_once d one leaving line p q h k = leaving_once d line p q h k
 goes_once d one over line p q h k = over_once line p q h k
 goes_once d one halted line p q h k = absurd h
 
-told_same : (told other : List LoggedReply) (p q : Place) (x y : LogLine) → told ≡ other → p ≡ q → x ≡ y
+-- what was told in all is the same where it was told the same, at the same place, by the same line
+pub told_same : (told other : List LoggedReply) (p q : Place) (x y : LogLine) → told ≡ other → p ≡ q → x ≡ y
     → told ++ told_at p x ≡ other ++ told_at q y
 told_same told other p q x y a b c = ap (λ (t : List LoggedReply). t ++ told_at p x) a ∙ ap (λ (r : Place). other ++ told_at r x) b ∙ ap
     (λ (l : LogLine). other ++ told_at q l) c
 
+-- an empty list of lines does not end with a line
 no_lines : (lines : List LogLine) (line : LogLine) → [] ≡ lines ++ line ∷ [] → ⊥
 no_lines lines line e = some_last lines line (sym e)
 
@@ -131,8 +134,11 @@ read_once d one (suc n) log p q told other short (inr s) (inr r) =
     let earlier = read_once d one n a.lines a.at b.at a.tells b.tells shorter a.begins
     (subst (λ (l : List LogLine). Begins d l b.at b.tells) (sym same.0) b.begins) in
     let moved = subst (λ (x : LogLine). IsTransition d a.at x q) (sym same.1)
-    (subst (λ (r : Place). IsTransition d r b.line q) (sym earlier.0) b.goes) in
-    (goes_once d one a.at a.line p q a.goes moved, a.all ∙ told_same a.tells b.tells a.at b.at a.line b.line earlier.1 earlier.0 same.1 ∙ sym b.all)
+    (subst (λ (r : Place). IsTransition d r b.line q) (sym earlier.0) b.goes) in (
+      goes_once d one a.at a.line p q a.goes moved,
+      a.all ∙ told_same a.tells b.tells a.at b.at a.line b.line earlier.1 earlier.0 same.1 ∙
+          sym b.all,
+    )
 
 -- without its last line a log still begins as a log may
 pub shorter_front : (d : Demands) (log : List LogLine) (line : LogLine) (p : Place) (told : List LoggedReply)

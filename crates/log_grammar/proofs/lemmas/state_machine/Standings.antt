@@ -9,7 +9,7 @@ use Rattle.log_grammar.specs.Lines.{auth_with, resp, abort, code, sync}
 use Rattle.log_grammar.specs.LoggedReply.{LoggedReply, logged_reply_of}
 use Rattle.log_grammar.specs.Places.{Place, before_all, between, offered, asks_bare, waits_first, got_first, waits_final, got_final}
 use Rattle.log_grammar.specs.Places.{waits_code, got_code, leaving, over, halted}
-use Rattle.log_grammar.specs.Demands.{Accounts, IsVerdict, attempts_of, IsToldDue, demands, AreReplies}
+use Rattle.log_grammar.specs.Demands.{Accounts, IsVerdictDue, attempts_of, IsLoggedReplyDue, demands, AreReplies}
 use Rattle.log_grammar.specs.state_machine.Steps.{IsTransition, told_at}
 use Rattle.log_grammar.specs.Why.{Why, other_mechs, other_challenge, other_outcome, other_reply, refused_with, outcome_of, LineClass}
 use Rattle.log_grammar.specs.Why.{of_abort, of_code, of_sync, of_bad, of_gone, class_of, IsWrongAnswer, IsWrongReply, IsWrong}
@@ -26,7 +26,7 @@ pub record Follows (accounts : Accounts) (place : Place) (told : List LoggedRepl
   pub goes : IsTransition (demands accounts) place line next
   pub due : AreReplies (demands accounts) (reverse told) (told_at place line)
 
--- a line of a class that is due does not go on, and there is a reason
+-- a line fails: its class is due at the place, it does not go on, and it is wrong for this reason
 pub record Fails (accounts : Accounts) (place : Place) (told : List LoggedReply) (line : LogLine) : Type 0 where
   pub of_class : IsDueAt place (class_of line)
   pub stuck : Follows accounts place told line → ⊥
@@ -38,7 +38,7 @@ abbrev pub Standing : Accounts → Place → List LoggedReply → LogLine → Ty
 Standing accounts place told line = Follows accounts place told line
     ⊎ ((IsDueAt place (class_of line) → ⊥) ⊎ Fails accounts place told line)
 
--- a line that goes on exactly where it meets its demand
+-- a line that goes on exactly where a decided demand is met stands at its place in one of the three ways
 by_demand : (accounts : Accounts) (place : Place) (told : List LoggedReply) (line : LogLine) (P : Type 0) → IsDueAt place (class_of line)
     → (why : Why) × IsWrong accounts place told line why → (P → Follows accounts place told line) → (Follows accounts place told line → P)
     → Decided P → Standing accounts place told line
@@ -46,12 +46,12 @@ by_demand accounts place told line P due why there back (inl meets) = inl (there
 by_demand accounts place told line P due why there back (inr none) =
     inr (inr (record { of_class = due; stuck = λ f. none (back f); why = why.0; wrong = why.1 }))
 
--- a line that never goes on there is wrong
+-- a line whose class is due at the place, and which never goes on there, fails
 never : (accounts : Accounts) (place : Place) (told : List LoggedReply) (line : LogLine) → IsDueAt place (class_of line)
     → (why : Why) × IsWrong accounts place told line why → (Follows accounts place told line → ⊥) → Standing accounts place told line
 never accounts place told line due why stuck = by_demand accounts place told line ⊥ due why (λ none. absurd none) stuck (inr (λ none. none))
 
--- a class that is not among those due where it is the client's turn
+-- a class that is not one due at a client's turn is not due there
 no_turn : (class own : LineClass) → (class ≡ own → ⊥) → (class ≡ of_abort → ⊥) → (class ≡ of_bad → ⊥) → (class ≡ of_gone → ⊥)
     → (class ≡ own) ⊎ IsQuitting class → ⊥
 no_turn class own no_own no_abort no_bad no_gone (inl is) = no_own is
@@ -59,13 +59,13 @@ no_turn class own no_own no_abort no_bad no_gone (inr (inl is)) = no_abort is
 no_turn class own no_own no_abort no_bad no_gone (inr (inr (inl is))) = no_bad is
 no_turn class own no_own no_abort no_bad no_gone (inr (inr (inr is))) = no_gone is
 
--- a class that is not among those due where a code is due, or two in a row
+-- a class that is not one due where codes are due is not due there
 no_code_due : (class : LineClass) → (class ≡ of_code → ⊥) → (class ≡ of_sync → ⊥) → (class ≡ of_abort → ⊥) → (class ≡ of_bad → ⊥)
     → (class ≡ of_gone → ⊥) → (class ≡ of_code) ⊎ ((class ≡ of_sync) ⊎ IsQuitting class) → ⊥
 no_code_due class no_code no_sync no_abort no_bad no_gone (inl is) = no_code is
 no_code_due class no_code no_sync no_abort no_bad no_gone (inr other) = no_turn class of_sync no_sync no_abort no_bad no_gone other
 
--- it is decided whether something exists, said in one way and in the other
+-- where it is decided whether something exists, that is a decided fact, and so is its contrary:
 there_decided : {A : Type 0} {P : A → Type 0} → ((a : A) × P a) ⊎ ((a : A) → P a → ⊥) → Decided ((a : A) × P a)
 there_decided (inl is) = inl is
 there_decided (inr none) = inr (λ is. none is.0 is.1)
@@ -74,7 +74,8 @@ none_decided : {A : Type 0} {P : A → Type 0} → ((a : A) × P a) ⊎ ((a : A)
 none_decided (inl is) = inr (λ none. none is.0 is.1)
 none_decided (inr none) = inl none
 
--- The clauses for `S HALT` and `C ABORT` make the clause below them take each line apart.
+-- a line stands at each place in one of the three ways. The clauses for `S HALT` and `C ABORT` say what the last clause says too: with them
+-- the prover goes through the lines of the last clause one by one:
 at_start : (accounts : Accounts) (told : List LoggedReply) (line : LogLine) → Standing accounts before_all told line
 at_start accounts told header = inl (record { next = between; goes = refl; due = tt })
 at_start accounts told (said halt) = inr (inl (λ is. cc is))
@@ -97,13 +98,14 @@ at_offered accounts told gone = inl (record { next = over; goes = refl; due = tt
 at_offered accounts told (said halt) = inr (inl (no_turn _ _ (λ e. cc e) (λ e. cc e) (λ e. cc e) (λ e. cc e)))
 at_offered accounts told line = inr (inl (no_turn _ _ (λ e. cc e) (λ e. cc e) (λ e. cc e) (λ e. cc e)))
 
--- why a word is wrong after `C AUTH` without a message
+-- after `C AUTH` without a message there is a reason for which a word is wrong
 bare_why : (accounts : Accounts) (m : List ℕ) → (why : Why) × IsWrongAnswer accounts (asks_bare m) why
 bare_why accounts m = elim (offered_decided m) [
   | inl is ↦ (other_challenge, inl (is, refl))
   | inr none ↦ (other_outcome (refused_with []), inr (none, refl))
 ]
 
+-- a line stands in one of the three ways after `C AUTH` without a message, and where a client-first message is due:
 at_asks_bare : (accounts : Accounts) (told : List LoggedReply) (m : List ℕ) (line : LogLine) → Standing accounts (asks_bare m) told line
 at_asks_bare accounts told m (said (refuses text)) =
     by_demand accounts (asks_bare m) told (said (refuses text)) _ refl (bare_why accounts m)
@@ -126,13 +128,14 @@ at_waits_first accounts told m gone = inl (record { next = over; goes = refl; du
 at_waits_first accounts told m (said halt) = inr (inl (no_turn _ _ (λ e. cc e) (λ e. cc e) (λ e. cc e) (λ e. cc e)))
 at_waits_first accounts told m line = inr (inl (no_turn _ _ (λ e. cc e) (λ e. cc e) (λ e. cc e) (λ e. cc e)))
 
--- why a word is wrong after a client-first message
+-- after a client-first message there is a reason for which a word is wrong
 first_why : Settled → (accounts : Accounts) (m first : List ℕ) → (why : Why) × IsWrongAnswer accounts (got_first m first) why
 first_why s accounts m first = elim (login_decided s.ground.once s.ground.firsts s.ground.names m first) [
   | inl is ↦ (other_challenge, inl (is, refl))
   | inr none ↦ (other_outcome (refused_with []), inr (none, refl))
 ]
 
+-- a line stands in one of the three ways after a client-first message, a challenge or a client-final one, and where a code is due:
 at_got_first : Settled → (accounts : Accounts) (told : List LoggedReply) (m first : List ℕ) (line : LogLine)
     → Standing accounts (got_first m first) told line
 at_got_first s accounts told m first (said (refuses text)) =
@@ -160,7 +163,7 @@ at_waits_final accounts told m account first challenge (said halt) =
 at_waits_final accounts told m account first challenge line = inr (inl (no_turn _ _ (λ e. cc e) (λ e. cc e) (λ e. cc e) (λ e. cc e)))
 
 at_got_final : Settled → (accounts : Accounts) (told : List LoggedReply) (m account first challenge last : List ℕ)
-    → (due : Due) × IsVerdict accounts m account first challenge last due
+    → (due : Due) × IsVerdictDue accounts m account first challenge last due
     → (line : LogLine) → Standing accounts (got_final m account first challenge last) told line
 at_got_final s accounts told m account first challenge last (due, is) (said (refuses text)) =
     by_demand accounts (got_final m account first challenge last) told (said (refuses text)) _ refl
@@ -189,18 +192,19 @@ at_waits_code accounts told account gone = inl (record { next = over; goes = ref
 at_waits_code accounts told account (said halt) = inr (inl (no_code_due _ (λ e. cc e) (λ e. cc e) (λ e. cc e) (λ e. cc e) (λ e. cc e)))
 at_waits_code accounts told account line = inr (inl (no_code_due _ (λ e. cc e) (λ e. cc e) (λ e. cc e) (λ e. cc e) (λ e. cc e)))
 
--- why a reply is wrong
+-- after a code there is a reason for which a reply is wrong
 reply_why : Settled → (accounts : Accounts) (account : List ℕ) (sent : CodeTexts) (told : List LoggedReply) (moment : ℕ)
     → (why : Why) × IsWrongReply accounts (got_code account sent) told moment why
 reply_why s accounts account sent told moment =
     let due = some_reply s.replies (accounts.token account) (attempts_of account (reverse told)) moment sent in
     (other_reply moment due.0, (due.0, due.1, refl))
 
+-- a line stands in one of the three ways after a code, after a client that leaves, and where `E` is due:
 at_got_code : Settled → (accounts : Accounts) (told : List LoggedReply) (account : List ℕ) (sent : CodeTexts) (line : LogLine)
     → Standing accounts (got_code account sent) told line
 at_got_code s accounts told account sent (said (replies moment reply)) =
     by_demand accounts (got_code account sent) told (said (replies moment reply))
-    (IsToldDue accounts (reverse told) (logged_reply_of account moment sent reply))
+    (IsLoggedReplyDue accounts (reverse told) (logged_reply_of account moment sent reply))
     refl (reply_why s accounts account sent told moment)
     (λ is. record { next = waits_code account; goes = refl; due = (is, tt) }) (λ f. f.due.0)
     (reply_decided s (accounts.token account) (attempts_of account (reverse told)) moment sent reply)
@@ -225,7 +229,7 @@ at_over accounts told (said halt) = inr (inl (λ is. cc is))
 at_over accounts told (heard abort) = inr (inl (λ is. cc is))
 at_over accounts told line = inr (inl (λ is. cc is))
 
--- how a line stands at each place of a log
+-- at each place to which lines of a log lead, a line stands in one of the three ways
 pub standing_at : Settled → (accounts : Accounts) (place : Place) (told : List LoggedReply) (line : LogLine)
     → Opened (demands accounts) place
     → Standing accounts place told line
@@ -235,7 +239,8 @@ standing_at s accounts offered told line opened = at_offered accounts told line
 standing_at s accounts (asks_bare m) told line opened = at_asks_bare accounts told m line
 standing_at s accounts (waits_first m) told line opened = at_waits_first accounts told m line
 standing_at s accounts (got_first m first) told line opened = at_got_first s accounts told m first line
-standing_at s accounts (waits_final m account first challenge) told line opened = at_waits_final accounts told m account first challenge line
+standing_at s accounts (waits_final m account first challenge) told line opened = at_waits_final accounts told m account first challenge
+    line
 standing_at s accounts (got_final m account first challenge last) told line opened =
     at_got_final s accounts told m account first challenge last
     (some_verdict s.ground.verdicts accounts m account first challenge last opened) line

@@ -5,6 +5,7 @@ use Rattle.log_grammar.specs.Numbered.{Numbered, numbered, begun, closed_in}
 use Rattle.log_grammar.proofs.lemmas.many_sessions.OpenCounts.{Few, few_are_open}
 use Rattle.log_grammar.proofs.numbered.few_sessions_are_open.Goals as goal
 
+-- at most `limit` sessions are open, or BUSY is the last line and one more is open, where the open and the closed are those given
 counted : (limit opens : ℕ) (log : List (Numbered LogLine)) → opens + closed_in log ≡ begun log → Few limit log
     → (opens ≤ limit) ⊎ ((before : List (Numbered LogLine)) × (n : ℕ) × (log ≡ before ++ numbered n (said busy) ∷ []) × (opens ≡ limit + 1))
 counted limit opens log all (inl few) = inl (omega (arith, all, few))

@@ -12,12 +12,14 @@ use Rattle.log_grammar.proofs.lemmas.many_sessions.LinesOfNumber.{at_each, put_h
 use Rattle.log_grammar.proofs.numbered.numbered_logs_go_on_exactly_so.Goals as goal
 use Rattle.log_grammar.proofs.lemmas.many_sessions.LogSteps.{with_places}
 
+-- the line may stand at its number after the log, it moves no other number, and this is all that was told with it
 abbrev Stands : ℕ → Demands → List (Numbered LogLine) → (ℕ → Place) → List LoggedReply → ℕ → LogLine → (ℕ → Place) → List LoggedReply
     → Type 0
 Stands limit d log places told n line next all =
     IsNumberedTransition limit d log places told n line (next n) × ((m : ℕ) → (m ≡ n → ⊥) → next m ≡ places m)
     × (all ≡ told ++ told_at (places n) line)
 
+-- the last line of a log stands so after the lines before it
 there : (limit : ℕ) (d : Demands) (log : List (Numbered LogLine)) (places : ℕ → Place) (told : List LoggedReply) (n : ℕ) (line : LogLine)
     (next : ℕ → Place) (all : List LoggedReply)
     → (s : HasLastNumberedTransition limit d log n line next all) → ((m : ℕ) → s.before m ≡ places m) → s.told ≡ told
@@ -28,6 +30,7 @@ there limit d log places told n line next all s same also = (
   s.tells ∙ ap (λ (t : List LoggedReply). t ++ told_at (s.before n) line) also ∙ ap (λ (p : Place). told ++ told_at p line) (same n),
 )
 
+-- a log goes on by a line that stands so
 back : GoesOnByANumberedLine → (limit : ℕ) (accounts : Accounts) (log : List (Numbered LogLine)) (places : ℕ → Place)
     (told : List LoggedReply) (n : ℕ) (line : LogLine)
     (next : ℕ → Place) (all : List LoggedReply) → SpellsNumbered limit (demands accounts) log places told

@@ -1,5 +1,5 @@
-use Rattle.otp_core.proofs.lemmas.SomeReply.{some-reply_is_due}
+use Rattle.otp_core.proofs.lemmas.SomeReply.{some_reply_is_due}
 use Rattle.otp_core.proofs.laws.some_reply_is_due.Goals as goal
 
 pub returns : goal.returns
-returns c = some-reply_is_due
+returns c = some_reply_is_due

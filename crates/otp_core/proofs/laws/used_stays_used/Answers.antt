@@ -1,5 +1,5 @@
-use Rattle.otp_core.proofs.lemmas.Used.{used-stays_used}
+use Rattle.otp_core.proofs.lemmas.Used.{used_stays_used}
 use Rattle.otp_core.proofs.laws.used_stays_used.Goals as goal
 
 pub returns : goal.returns
-returns c = used-stays_used
+returns c = used_stays_used

@@ -5,4 +5,5 @@ pub returns-clause-ended : goal.returns-clause-ended
 returns-clause-ended g c = saved_spent c.begins_with_itself.ensures c.spent_stays_spent.ensures g.S.BookStore.facts g.S.BookStore.IsStored
 
 pub returns-clause-within : goal.returns-clause-within
-returns-clause-within g c = stopped_spent c.begins_with_itself.ensures c.spent_stays_spent.ensures g.S.BookStore.facts g.S.BookStore.IsStored
+returns-clause-within g c = stopped_spent c.begins_with_itself.ensures c.spent_stays_spent.ensures g.S.BookStore.facts
+    g.S.BookStore.IsStored

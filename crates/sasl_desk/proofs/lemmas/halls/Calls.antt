@@ -16,7 +16,7 @@ use Rattle.account_book.specs.SavedBooks.{needs_save}
 use Rattle.account_book.specs.Store.{StoreFacts}
 use Rattle.log_grammar.specs.Books.{accounts_in}
 use Rattle.log_grammar.specs.Bytes.{ended_by_lf}
-use Rattle.log_grammar.specs.Lines.{LogLine, heard, asking, log_text}
+use Rattle.log_grammar.specs.Lines.{LogLine, heard, asking, log_line_text}
 use Rattle.log_grammar.specs.LoggedReply.{LoggedReply, logged_reply_of}
 use Rattle.log_grammar.specs.Places.{Place, between, waits_code, got_code, halted, is_closed}
 use Rattle.log_grammar.specs.Demands.{Accounts, demands}
@@ -26,7 +26,8 @@ use Rattle.log_grammar.proofs.lemmas.lines.LackLf.{reply_line}
 use Rattle.log_grammar.proofs.lemmas.state_machine.Shortening.{code_goes}
 use Rattle.log_grammar.proofs.lemmas.ListEnds.{same_cons}
 use Rattle.log_grammar.specs.Versions.{most_open}
-use Rattle.sasl_desk.specs.Desks.{HoldsBook, IsAttemptOf, IsBookWith, all_spent, session_phase, is_saving}
+use Rattle.log_grammar.proofs.lemmas.login_laws.Upgraded.{is_halt}
+use Rattle.sasl_desk.specs.Desks.{HoldsBook, IsAttemptOf, IsBookWith, spent_by_all, session_phase, is_saving}
 use Rattle.sasl_desk.specs.Events.{ClientEvent}
 use Rattle.sasl_desk.specs.Guests.{guest_of}
 use Rattle.sasl_desk.specs.Halls.{HallFields, hall_of, hall_lines, numbered_bytes, IsSessionRun, IsPhaseOf, IsHallAfter, AnswersIn}
@@ -34,7 +35,7 @@ use Rattle.sasl_desk.specs.Halls.{IsSameHall}
 use Rattle.sasl_desk.specs.Keeper.{IsAttemptJudged, IsJudged, IsJudgedInRange}
 use Rattle.sasl_desk.specs.TurnResults.{after_turn_of, judged_lines, after_judged, SessionAnswers, AsksJudgement, IsTurnOf, IsTurnWritten}
 use Rattle.sasl_desk.specs.Prefix.{prefix, prefixed_bytes}
-use Rattle.sasl_desk.specs.Runs.{Asked, hears, Call, call_of, own_part, IsTurnTaken, IsRun}
+use Rattle.sasl_desk.specs.Runs.{Asked, hears, Call, call_of, server_nonce_of, IsTurnTaken, IsRun}
 use Rattle.sasl_desk.specs.Sessions.{IsSessionAt, IsLeftAt, IsRecord, turn_lines}
 use Rattle.sasl_desk.specs.Spent.{AreSpent, SpentStaysSpent}
 use Rattle.sasl_desk.specs.Turns.{IsPath}
@@ -54,56 +55,57 @@ use Rattle.sasl_desk.proofs.lemmas.halls.Turns.{halted_after, HallStep, stands_b
 use Rattle.sasl_desk.proofs.lemmas.turns.Keepers.{told_due}
 use Rattle.sasl_desk.proofs.lemmas.turns.Paths.{client_turn, turn_path, turn_no_reply}
 use Rattle.sasl_desk.proofs.lemmas.runs.Bytes.{left_rests}
-use Rattle.sasl_desk.proofs.lemmas.runs.IsDeskAfter.{book_after_told, held_at_turn, left_going, kept_held, spent_after, halt_written}
+use Rattle.sasl_desk.proofs.lemmas.runs.IsDeskAfter.{book_after_told, held_at_turn, left_going, kept_held, spent_after}
 use Rattle.sasl_desk.proofs.lemmas.runs.IsDeskAfter.{taken_by_turn, taken_by_reply, taken_by_halt, stored_by_halt}
 use Rattle.sasl_desk.proofs.lemmas.runs.Calls.{turn_saves, saves_by_code, asked_by_code, quiet_by_code, failed_by, open_goes_on}
 
--- numbered lines, as a turn writes them
+-- lines written each after a number have the texts of that number's lines
 prefixed_texts : (n : ℕ) (lines : List LogLine)
-    → map (λ line. prefix (Some n) ++ log_text line) lines ≡ map numbered_text (map (numbered n) lines)
+    → map (λ line. prefix (Some n) ++ log_line_text line) lines ≡ map numbered_text (map (numbered n) lines)
 prefixed_texts n [] = refl
-prefixed_texts n (line ∷ lines) = same_cons _ _ _ _ (append_assoc (decimal n) (32 ∷ []) (log_text line)) (prefixed_texts n lines)
+prefixed_texts n (line ∷ lines) = same_cons _ _ _ _ (append_assoc (decimal n) (32 ∷ []) (log_line_text line)) (prefixed_texts n lines)
 
 -- lines written each after a session's number are, byte for byte, that session's numbered lines
-pub marked_numbered : (n : ℕ) (lines : List LogLine) → prefixed_bytes (Some n) lines ≡ numbered_bytes (map (numbered n) lines)
-marked_numbered n lines = ap ended_by_lf (prefixed_texts n lines)
+pub prefixed_numbered : (n : ℕ) (lines : List LogLine) → prefixed_bytes (Some n) lines ≡ numbered_bytes (map (numbered n) lines)
+prefixed_numbered n lines = ap ended_by_lf (prefixed_texts n lines)
 
--- an open session has not been turned away
+-- a session that is open, and so was not turned away, has a run
 run_of : (accounts : Accounts) (calls : List Call) (at : Place) → is_closed at ≡ false → IsSessionRun accounts calls at
     → IsRun accounts calls at
 run_of accounts calls at is_open (inl run) = run
-run_of accounts calls at is_open (inr (own, turned, same)) =
+run_of accounts calls at is_open (inr (server_nonce, turned, same)) =
     let never : is_closed between ≡ false = subst (λ (p : Place). is_closed p ≡ false) same is_open in absurd (cc never)
 
--- a turn that leaves its session at a place leaves it there in a hall
+-- a turn that leaves its session at a place, or ends it, leaves it so in a hall
 leaves_left : (accounts : Accounts) (next : Place) (ends : ℕ) (going : Option Session) → IsLeftAt accounts next going → ends ≡ ends_of going
     → LeavesAt accounts next ends (after_turn_of going)
 leaves_left accounts next ends (Some going) is same = (is, same)
 leaves_left accounts next ends None is same = (is, same)
 
--- the session answered a turn
+-- a turn that a session answered is a step of its hall
 step_by_answer : BeginsWithItself → {S : Type 0} (facts : S → StoreFacts) (IsStored : List ℕ → Type 0) (start : BookFields)
     (calls : List (Numbered Call)) (keeper : Keeper S) (n : ℕ)
-    (going : Session) (own : List ℕ) (others : List Guest) (given : ℕ) (event : ClientEvent) (moment : ℕ) (lines : List LogLine)
+    (going : Session) (server_nonce : List ℕ) (others : List Guest) (given : ℕ) (event : ClientEvent) (moment : ℕ) (lines : List LogLine)
     (left : AfterTurn) (new : Keeper S)
-    (s : IsHallAfter facts IsStored start calls (hall_of keeper (guest_of n going own ∷ others) given false))
-    → SessionAnswers keeper going own event lines left new
+    (s : IsHallAfter facts IsStored start calls (hall_of keeper (guest_of n going server_nonce ∷ others) given false))
+    → SessionAnswers keeper going server_nonce event lines left new
     → HallStep facts IsStored start calls s.places n event moment lines left new
-step_by_answer itself facts IsStored start calls keeper n going own others given event moment lines left new s t =
+step_by_answer itself facts IsStored start calls keeper n going server_nonce others given event moment lines left new s t =
     let accounts = accounts_in start in
-    let hall = hall_of keeper (guest_of n going own ∷ others) given false in
+    let hall = hall_of keeper (guest_of n going server_nonce ∷ others) given false in
     let is = (s.seated refl).0 in
     let after = book_after_told itself start s.told keeper.book s.is_book in
     let turn = t.hears accounts (s.places n) after.entries is.0 in
     let next = turn.is_answer.next in
-    let path = turn_path accounts own event (s.places n) going t.turn t.message is.0 turn in
+    let path = turn_path accounts server_nonce event (s.places n) going t.turn t.message is.0 turn in
     rw (t.lines_are, t.is_left, t.same) (record {
       next = next;
       told = s.told;
-      taken = taken_by_turn accounts (own_part (of_number n calls)) own event moment (s.places n) going t.turn t.message is.1 is.0 turn;
+      taken = taken_by_turn accounts (server_nonce_of (of_number n calls)) server_nonce event moment (s.places n) going t.turn t.message
+          is.1 is.0 turn;
       spelled = path_on most_open (demands accounts) (hall_lines calls) s.places s.told n (turn_lines t.turn t.message) next s.spelled
           (turn_of_turns t.turn t.message)
-          (turn_no_reply accounts own event (s.places n) t.turn t.message turn)
+          (turn_no_reply accounts server_nonce event (s.places n) t.turn t.message turn)
           (λ line to goes. any_follows facts IsStored start calls hall s refl n line) path;
       turns = turn_of_turns t.turn t.message;
       writable = rw t.lines_are at t.writable;
@@ -117,22 +119,22 @@ step_by_answer itself facts IsStored start calls keeper n going own others given
       spent = s.spent;
     })
 
--- a code, or two in a row, got its reply
+-- a code, or two in a row, with its reply is a step of the hall
 step_by_reply : BeginsWithItself → SpentStaysSpent
     → {S : Type 0} (facts : S → StoreFacts) (IsStored : List ℕ → Type 0) (start : BookFields) (calls : List (Numbered Call))
     (old new : Keeper S)
-    (n : ℕ) (going : Session) (own : List ℕ) (others : List Guest) (given : ℕ) (event : ClientEvent) (moment : ℕ) (name : List ℕ)
+    (n : ℕ) (going : Session) (server_nonce : List ℕ) (others : List Guest) (given : ℕ) (event : ClientEvent) (moment : ℕ) (name : List ℕ)
     (sent : CodeTexts)
-    (reply : Option Reply) (s : IsHallAfter facts IsStored start calls (hall_of old (guest_of n going own ∷ others) given false))
+    (reply : Option Reply) (s : IsHallAfter facts IsStored start calls (hall_of old (guest_of n going server_nonce ∷ others) given false))
     → AsksJudgement old going event name sent
     → IsJudged IsStored old.book (facts old.store) name moment sent (Replied reply) new.book (facts new.store)
     → IsJudgedInRange (Replied reply)
     → HallStep facts IsStored start calls s.places n event moment (judged_lines moment sent (Replied reply))
     (after_judged name (Replied reply)) new
-step_by_reply itself stays facts IsStored start calls old new n going own others given event moment name sent reply s asked
+step_by_reply itself stays facts IsStored start calls old new n going server_nonce others given event moment name sent reply s asked
     (one, kept) range =
     let accounts = accounts_in start in
-    let hall = hall_of old (guest_of n going own ∷ others) given false in
+    let hall = hall_of old (guest_of n going server_nonce ∷ others) given false in
     let seated = (s.seated refl).0 in
     let after = book_after_told itself start s.told old.book s.is_book in
     let asks = asked.asks accounts (s.places n) after.entries seated.0 in
@@ -142,9 +144,9 @@ step_by_reply itself stays facts IsStored start calls old new n going own others
     record {
       next = waits_code name;
       told = s.told ++ t ∷ [];
-      taken = subst (λ (p : Place). IsTurnTaken accounts (own_part (of_number n calls)) event moment p lines (waits_code name))
+      taken = subst (λ (p : Place). IsTurnTaken accounts (server_nonce_of (of_number n calls)) event moment p lines (waits_code name))
           (sym asks.place)
-          (taken_by_reply accounts (own_part (of_number n calls)) event moment name sent reply is_record);
+          (taken_by_reply accounts (server_nonce_of (of_number n calls)) event moment name sent reply is_record);
       spelled = reply_on most_open (demands accounts) (hall_lines calls) s.places s.told n name sent moment reply s.spelled
           (any_follows facts IsStored start calls hall s refl n)
           asks.place (told_due old.book new.book t one accounts s.told after);
@@ -158,18 +160,18 @@ step_by_reply itself stays facts IsStored start calls old new n going own others
       spent = spent_after itself stays start old.book new.book s.told t one s.spent;
     }
 
--- the save for a code, or two in a row, failed
+-- a code, or two in a row, whose save failed is a step of the hall, which halts it
 step_by_halt : BeginsWithItself → {S : Type 0} (facts : S → StoreFacts) (IsStored : List ℕ → Type 0) (start : BookFields)
     (calls : List (Numbered Call)) (old new : Keeper S)
-    (n : ℕ) (going : Session) (own : List ℕ) (others : List Guest) (given : ℕ) (event : ClientEvent) (moment : ℕ) (name : List ℕ)
+    (n : ℕ) (going : Session) (server_nonce : List ℕ) (others : List Guest) (given : ℕ) (event : ClientEvent) (moment : ℕ) (name : List ℕ)
     (sent : CodeTexts)
-    (s : IsHallAfter facts IsStored start calls (hall_of old (guest_of n going own ∷ others) given false))
+    (s : IsHallAfter facts IsStored start calls (hall_of old (guest_of n going server_nonce ∷ others) given false))
     → AsksJudgement old going event name sent
     → IsJudged IsStored old.book (facts old.store) name moment sent Lost new.book (facts new.store)
     → HallStep facts IsStored start calls s.places n event moment (judged_lines moment sent Lost) (after_judged name Lost) new
-step_by_halt itself facts IsStored start calls old new n going own others given event moment name sent s asked judged =
+step_by_halt itself facts IsStored start calls old new n going server_nonce others given event moment name sent s asked judged =
     let accounts = accounts_in start in
-    let hall = hall_of old (guest_of n going own ∷ others) given false in
+    let hall = hall_of old (guest_of n going server_nonce ∷ others) given false in
     let seated = (s.seated refl).0 in
     let after = book_after_told itself start s.told old.book s.is_book in
     let asks = asked.asks accounts (s.places n) after.entries seated.0 in
@@ -182,54 +184,60 @@ step_by_halt itself facts IsStored start calls old new n going own others given 
     record {
       next = halted;
       told = s.told;
-      taken = subst (λ (p : Place). IsTurnTaken accounts (own_part (of_number n calls)) event moment p lines halted) (sym asks.place)
-          (taken_by_halt accounts (own_part (of_number n calls)) event moment name sent is_record);
+      taken = subst (λ (p : Place). IsTurnTaken accounts (server_nonce_of (of_number n calls)) event moment p lines halted) (sym asks.place)
+          (taken_by_halt accounts (server_nonce_of (of_number n calls)) event moment name sent is_record);
       spelled = path_on most_open (demands accounts) (hall_lines calls) s.places s.told n lines halted s.spelled (tt, (tt, tt))
           (tt, (tt, tt))
           (λ line to goes. any_follows facts IsStored start calls hall s refl n line)
           (subst (λ (p : Place). IsPath (demands accounts) p lines halted) (sym asks.place) path);
       turns = (tt, (tt, tt));
-      writable = (asked.writable, (halt_written, tt));
+      writable = (asked.writable, (is_halt, tt));
       leaves = (refl, refl);
       is_book = subst (λ (b : BookFields). IsBookWith start (reverse s.told) b) (sym judged.0) s.is_book;
       stored = stored_by_halt IsStored accounts (of_number n calls) old.book new.book (facts old.store)
           (facts new.store) name event moment sent run
           (holds_book facts IsStored start calls hall s refl) judged;
-      spent = λ ps spent. subst (λ (b : BookFields). AreSpent (all_spent (reverse s.told) ++ ps) b) (sym judged.0) (s.spent ps spent);
+      spent = λ ps spent. subst (λ (b : BookFields). AreSpent (spent_by_all (reverse s.told) ++ ps) b) (sym judged.0) (s.spent ps spent);
     }
 
+-- a code, or two in a row, that was judged is a step of the hall, with its reply or as the save failed
 step_by_code : BeginsWithItself → SpentStaysSpent
     → {S : Type 0} (facts : S → StoreFacts) (IsStored : List ℕ → Type 0) (start : BookFields) (calls : List (Numbered Call))
     (old new : Keeper S)
-    (n : ℕ) (going : Session) (own : List ℕ) (others : List Guest) (given : ℕ) (event : ClientEvent) (moment : ℕ) (name : List ℕ)
+    (n : ℕ) (going : Session) (server_nonce : List ℕ) (others : List Guest) (given : ℕ) (event : ClientEvent) (moment : ℕ) (name : List ℕ)
     (sent : CodeTexts)
-    (judged : CodeJudged) (s : IsHallAfter facts IsStored start calls (hall_of old (guest_of n going own ∷ others) given false))
+    (judged : CodeJudged) (s : IsHallAfter facts IsStored start calls (hall_of old (guest_of n going server_nonce ∷ others) given false))
     → AsksJudgement old going event name sent
     → IsJudged IsStored old.book (facts old.store) name moment sent judged new.book (facts new.store)
     → IsJudgedInRange judged
     → HallStep facts IsStored start calls s.places n event moment (judged_lines moment sent judged) (after_judged name judged) new
-step_by_code itself stays facts IsStored start calls old new n going own others given event moment name sent
+step_by_code itself stays facts IsStored start calls old new n going server_nonce others given event moment name sent
     (Replied reply) s asked judged range =
-    step_by_reply itself stays facts IsStored start calls old new n going own others given event moment name sent reply s asked judged range
-step_by_code itself stays facts IsStored start calls old new n going own others given event moment name sent Lost s asked judged range =
-    step_by_halt itself facts IsStored start calls old new n going own others given event moment name sent s asked judged
+    step_by_reply itself stays facts IsStored start calls old new n going server_nonce others given event moment name sent reply s asked
+    judged range
+step_by_code itself stays facts IsStored start calls old new n going server_nonce others given event moment name sent Lost s asked judged
+    range =
+    step_by_halt itself facts IsStored start calls old new n going server_nonce others given event moment name sent s asked judged
 
+-- each turn of a session is a step of its hall
 step_by_turn : BeginsWithItself → SpentStaysSpent
     → {S : Type 0} (facts : S → StoreFacts) (IsStored : List ℕ → Type 0) (start : BookFields) (calls : List (Numbered Call))
     (old new : Keeper S)
-    (n : ℕ) (going : Session) (own : List ℕ) (others : List Guest) (given : ℕ) (event : ClientEvent) (moment : ℕ) (lines : List LogLine)
+    (n : ℕ) (going : Session) (server_nonce : List ℕ) (others : List Guest) (given : ℕ) (event : ClientEvent) (moment : ℕ)
+    (lines : List LogLine)
     (left : AfterTurn)
-    (s : IsHallAfter facts IsStored start calls (hall_of old (guest_of n going own ∷ others) given false))
-    → IsTurnOf facts IsStored old going own event moment lines left new
+    (s : IsHallAfter facts IsStored start calls (hall_of old (guest_of n going server_nonce ∷ others) given false))
+    → IsTurnOf facts IsStored old going server_nonce event moment lines left new
     → HallStep facts IsStored start calls s.places n event moment lines left new
-step_by_turn itself stays facts IsStored start calls old new n going own others given event moment lines left s (inl t) =
-    step_by_answer itself facts IsStored start calls old n going own others given event moment lines left new s t
-step_by_turn itself stays facts IsStored start calls old new n going own others given event moment lines left s
+step_by_turn itself stays facts IsStored start calls old new n going server_nonce others given event moment lines left s (inl t) =
+    step_by_answer itself facts IsStored start calls old n going server_nonce others given event moment lines left new s t
+step_by_turn itself stays facts IsStored start calls old new n going server_nonce others given event moment lines left s
     (inr (name, sent, asked, t)) =
     rw (t.lines_are, t.is_left)
-    (step_by_code itself stays facts IsStored start calls old new n going own others given event moment name sent t.judged s asked t.is_judged t.in_range)
+    (step_by_code itself stays facts IsStored start calls old new n going server_nonce others given event moment name sent t.judged s
+    asked t.is_judged t.in_range)
 
--- the phase that a turn answers
+-- the phase that a turn leaves its session in
 abbrev pub phase_left : AfterTurn → Phase
 phase_left (Going going) = session_phase going
 phase_left Over = phase.Closed
@@ -243,35 +251,41 @@ session_phase_at accounts at (WaitFirst mechanism) is = (_, is)
 session_phase_at accounts at (WaitFinal waiting) (first, challenge, is, stands) = (_, _, first, challenge, is)
 session_phase_at accounts at (WaitCode name) is = (name, is)
 
+-- the phase that a turn leaves is that of the place at which it leaves its session
 phase_left_at : (accounts : Accounts) (at : Place) (ends : ℕ) (left : AfterTurn) → LeavesAt accounts at ends left
     → IsPhaseOf at (phase_left left)
 phase_left_at accounts at ends (Going going) is = session_phase_at accounts at going is.0
 phase_left_at accounts at ends Over is = is.0
 phase_left_at accounts at ends (Halted going) is = tt
 
--- what is said of saves, as of a desk's
-saves_by_turn : {S : Type 0} (facts : S → StoreFacts) (IsStored : List ℕ → Type 0) (old new : Keeper S) (going : Session) (own : List ℕ)
+-- a turn makes as many saves as its lines stand for
+saves_by_turn : {S : Type 0} (facts : S → StoreFacts) (IsStored : List ℕ → Type 0) (old new : Keeper S) (going : Session)
+    (server_nonce : List ℕ)
     (event : ClientEvent) (moment : ℕ) (lines : List LogLine)
-    (left : AfterTurn) → IsTurnOf facts IsStored old going own event moment lines left new → HoldsBook IsStored old.book (facts old.store)
+    (left : AfterTurn) → IsTurnOf facts IsStored old going server_nonce event moment lines left new
+    → HoldsBook IsStored old.book (facts old.store)
     → (facts new.store).saves ≡ (facts old.store).saves + length (filter is_saving lines)
-saves_by_turn facts IsStored old new going own event moment lines left (inl t) held =
+saves_by_turn facts IsStored old new going server_nonce event moment lines left (inl t) held =
     let none = ap (λ (l : List LogLine). length (filter is_saving l)) t.lines_are ∙ ap (λ (l : List LogLine). length l)
     (turn_saves t.turn t.message) in
     let unasked = ap (λ (k : Keeper _). (facts k.store).saves) t.same in
     omega (arith, none, unasked)
-saves_by_turn facts IsStored old new going own event moment lines left (inr (name, sent, asked, t)) held =
+saves_by_turn facts IsStored old new going server_nonce event moment lines left (inr (name, sent, asked, t)) held =
     rw t.lines_are (saves_by_code IsStored moment sent name t.judged old.book new.book (facts old.store) (facts new.store) held t.is_judged)
 
-quiet_by_turn : {S : Type 0} (facts : S → StoreFacts) (IsStored : List ℕ → Type 0) (old new : Keeper S) (going : Session) (own : List ℕ)
+-- a turn whose lines stand for no save changes neither the book nor the store
+quiet_by_turn : {S : Type 0} (facts : S → StoreFacts) (IsStored : List ℕ → Type 0) (old new : Keeper S) (going : Session)
+    (server_nonce : List ℕ)
     (event : ClientEvent) (moment : ℕ) (lines : List LogLine)
-    (left : AfterTurn) → IsTurnOf facts IsStored old going own event moment lines left new → filter is_saving lines ≡ []
+    (left : AfterTurn) → IsTurnOf facts IsStored old going server_nonce event moment lines left new → filter is_saving lines ≡ []
     → (new.book ≡ old.book) × (facts new.store ≡ facts old.store)
-quiet_by_turn facts IsStored old new going own event moment lines left (inl t) none =
+quiet_by_turn facts IsStored old new going server_nonce event moment lines left (inl t) none =
     (ap (λ (k : Keeper _). k.book) t.same, ap (λ (k : Keeper _). facts k.store) t.same)
-quiet_by_turn facts IsStored old new going own event moment lines left (inr (name, sent, asked, t)) none =
+quiet_by_turn facts IsStored old new going server_nonce event moment lines left (inr (name, sent, asked, t)) none =
     quiet_by_code IsStored moment sent name t.judged old.book new.book (facts old.store) (facts new.store) t.is_judged
     (rw t.lines_are at none)
 
+-- a code that halts a hall does so where its store has failed, and changes no book
 halts_judged : (IsStored : List ℕ → Type 0) (moment : ℕ) (sent : CodeTexts) (name : List ℕ) (judged : CodeJudged) (old new : BookFields)
     (was now : StoreFacts)
     → IsJudged IsStored old was name moment sent judged new now → halted_after (after_judged name judged) ≡ true → (now.failed ≡ true)
@@ -280,35 +294,39 @@ halts_judged IsStored moment sent name (Replied reply) old new was now judged is
 halts_judged IsStored moment sent name Lost old new was now (same, (reply, next, needs, one, loses)) is =
     (failed_by was now loses.text loses.lost, same)
 
+-- a session that goes on or has ended halts no hall
 goes_on_after : (going : Option Session) → halted_after (after_turn_of going) ≡ true → ⊥
 goes_on_after (Some going) is = cc is
 goes_on_after None is = cc is
 
-halts_by_turn : {S : Type 0} (facts : S → StoreFacts) (IsStored : List ℕ → Type 0) (old new : Keeper S) (going : Session) (own : List ℕ)
+-- a turn that halts a hall does so where its store has failed, and changes no book
+halts_by_turn : {S : Type 0} (facts : S → StoreFacts) (IsStored : List ℕ → Type 0) (old new : Keeper S) (going : Session)
+    (server_nonce : List ℕ)
     (event : ClientEvent) (moment : ℕ) (lines : List LogLine)
-    (left : AfterTurn) → IsTurnOf facts IsStored old going own event moment lines left new → halted_after left ≡ true
+    (left : AfterTurn) → IsTurnOf facts IsStored old going server_nonce event moment lines left new → halted_after left ≡ true
     → ((facts new.store).failed ≡ true) × (new.book ≡ old.book)
-halts_by_turn facts IsStored old new going own event moment lines left (inl t) is = absurd
+halts_by_turn facts IsStored old new going server_nonce event moment lines left (inl t) is = absurd
     (goes_on_after t.turn.answer.session (rw t.is_left at is))
-halts_by_turn facts IsStored old new going own event moment lines left (inr (name, sent, asked, t)) is =
+halts_by_turn facts IsStored old new going server_nonce event moment lines left (inr (name, sent, asked, t)) is =
     halts_judged IsStored moment sent name t.judged old.book new.book (facts old.store) (facts new.store) t.is_judged (rw t.is_left at is)
 
+-- a turn with a line for which the store was asked to save is an attempt, and the store was asked to save the book with it
 asks_by_turn : BeginsWithItself → {S : Type 0} (facts : S → StoreFacts) (IsStored : List ℕ → Type 0) (start : BookFields)
     (calls : List (Numbered Call)) (old new : Keeper S) (n : ℕ)
-    (going : Session) (own : List ℕ) (others : List Guest) (given : ℕ) (event : ClientEvent) (moment : ℕ) (lines : List LogLine)
+    (going : Session) (server_nonce : List ℕ) (others : List Guest) (given : ℕ) (event : ClientEvent) (moment : ℕ) (lines : List LogLine)
     (left : AfterTurn)
-    (s : IsHallAfter facts IsStored start calls (hall_of old (guest_of n going own ∷ others) given false))
-    → IsTurnOf facts IsStored old going own event moment lines left new
+    (s : IsHallAfter facts IsStored start calls (hall_of old (guest_of n going server_nonce ∷ others) given false))
+    → IsTurnOf facts IsStored old going server_nonce event moment lines left new
     → (filter is_saving lines ≡ [] → ⊥)
     → (t : LoggedReply) × (next : BookFields) × IsAttemptOf (hears event moment) (s.places n) lines t × IsAttemptJudged old.book t next
     × IsBookText (facts new.store).asked next
-asks_by_turn itself facts IsStored start calls old new n going own others given event moment lines left s (inl t) some =
+asks_by_turn itself facts IsStored start calls old new n going server_nonce others given event moment lines left s (inl t) some =
     absurd (some (ap (filter is_saving) t.lines_are ∙ turn_saves t.turn t.message))
-asks_by_turn itself facts IsStored start calls old new n going own others given event moment lines left s
+asks_by_turn itself facts IsStored start calls old new n going server_nonce others given event moment lines left s
     (inr (name, sent, asked, t)) some =
     let after = book_after_told itself start s.told old.book s.is_book in
     let asks = asked.asks (accounts_in start) (s.places n) after.entries (s.seated refl).0.0 in
-    let hall = hall_of old (guest_of n going own ∷ others) given false in
+    let hall = hall_of old (guest_of n going server_nonce ∷ others) given false in
     rw t.lines_are (asked_by_code IsStored event moment sent name (s.places n) t.judged old.book new.book (facts old.store)
     (facts new.store) asks.place
     (holds_book facts IsStored start calls hall s refl) t.is_judged (rw t.lines_are at some))
@@ -321,34 +339,39 @@ tells_halt (Halted going) = (λ is. refl, λ is. refl)
 
 -- where a guest's turn was taken and its lines written, the hall has answered the call
 pub answers_by_taken_in : BeginsWithItself → SpentStaysSpent
-    → {S : Type 0} (facts : S → StoreFacts) (IsStored : List ℕ → Type 0) (old new : Keeper S) (n : ℕ) (going : Session) (own : List ℕ)
+    → {S : Type 0} (facts : S → StoreFacts) (IsStored : List ℕ → Type 0) (old new : Keeper S) (n : ℕ) (going : Session)
+    (server_nonce : List ℕ)
     (others : List Guest) (given : ℕ) (event : ClientEvent) (moment : ℕ) (left : AfterTurn) (wire wire' log log' : List ℕ)
-    → IsTurnWritten facts IsStored old going own event moment (Some n) wire wire' log log' left new
-    → AnswersIn facts IsStored (hall_of old (guest_of n going own ∷ others) given false) n (hears event moment)
+    → IsTurnWritten facts IsStored old going server_nonce event moment (Some n) wire wire' log log' left new
+    → AnswersIn facts IsStored (hall_of old (guest_of n going server_nonce ∷ others) given false) n (hears event moment)
     (phase_left left) wire wire' log log'
-    (hall_of new (guests_after n own left others) given (halted_after left))
-answers_by_taken_in itself stays facts IsStored old new n going own others given event moment left wire wire' log log' (lines, t, written) =
-    let hall = hall_of old (guest_of n going own ∷ others) given false in
+    (hall_of new (guests_after n server_nonce left others) given (halted_after left))
+answers_by_taken_in itself stays facts IsStored old new n going server_nonce others given event moment left wire wire' log log'
+    (lines, t, written) =
+    let hall = hall_of old (guest_of n going server_nonce ∷ others) given false in
     record {
       lines = lines;
-      logged = written.logged ∙ ap (λ (b : List ℕ). log ++ b) (marked_numbered n lines);
+      logged = written.logged ∙ ap (λ (b : List ℕ). log ++ b) (prefixed_numbered n lines);
       sent = written.sent;
       stands = λ start calls s.
-          let step = step_by_turn itself stays facts IsStored start calls old new n going own others given event moment lines left s t in
-          let after = stands_by_step facts IsStored start calls old new n going own others given event moment lines left s step in (
+          let step = step_by_turn itself stays facts IsStored start calls old new n going server_nonce others given event moment lines
+          left s t in
+          let after = stands_by_step facts IsStored start calls old new n going server_nonce others given event moment lines left s
+          step in (
             after.0,
             subst (λ (p : Place). IsPhaseOf p (phase_left left)) (sym after.1)
                 (phase_left_at (accounts_in start) step.next _ left step.leaves),
           );
-      saves = λ start calls s. saves_by_turn facts IsStored old new going own event moment lines left t
+      saves = λ start calls s. saves_by_turn facts IsStored old new going server_nonce event moment lines left t
           (holds_book facts IsStored start calls hall s refl);
-      asks = λ start calls s some. asks_by_turn itself facts IsStored start calls old new n going own others given event moment lines left s t some;
-      quiet = λ none. quiet_by_turn facts IsStored old new going own event moment lines left t none;
+      asks = λ start calls s some. asks_by_turn itself facts IsStored start calls old new n going server_nonce others given event moment
+          lines left s t some;
+      quiet = λ none. quiet_by_turn facts IsStored old new going server_nonce event moment lines left t none;
       tells = tells_halt left;
-      halts = λ is. halts_by_turn facts IsStored old new going own event moment lines left t is;
+      halts = λ is. halts_by_turn facts IsStored old new going server_nonce event moment lines left t is;
     }
 
--- what a call does is the same where its guests are in another order
+-- a call does the same where the guests before it are in another order
 pub answers_reordered : {S : Type 0} (facts : S → StoreFacts) (IsStored : List ℕ → Type 0) (keeper : Keeper S) (guests others : List Guest)
     (given : ℕ) (is_halted : Bool) (m n : ℕ) (asked : Asked)
     (answered : Phase) (wire wire' log log' : List ℕ) (new : HallFields S) → IsPermutation guests others → m ≡ n
@@ -373,7 +396,7 @@ answers_reordered facts IsStored keeper guests others given is_halted m n asked 
       halts = a.halts;
     }
 
--- where a hall equals another, up to the order of the guests, it does so in any order of its own guests
+-- a hall that is the same as another, up to the order of the guests, is so in any order of its own guests
 pub same_reordered : {S : Type 0} (keeper : Keeper S) (guests others : List Guest) (given : ℕ) (is_halted : Bool) (new : HallFields S)
     → IsPermutation guests others
     → IsSameHall (hall_of keeper others given is_halted) new → IsSameHall (hall_of keeper guests given is_halted) new

@@ -13,17 +13,18 @@ use Rattle.sasl_desk.specs.Guests.{is_of}
 use Rattle.sasl_desk.specs.declared.hall.guest.Guest.{Guest}
 use Rattle.sasl_log.proofs.lemmas.steps.PermutedSlots.{count_one, count_no, count_cons}
 
+-- as many pass a test in two lists joined as in both
 count_append : {X : Type 0} (p : X → Bool) (xs ys : List X) → count_by p (xs ++ ys) ≡ count_by p xs + count_by p ys
 count_append p xs ys = sum_by-append _ xs ys
 
--- guests of a number, and one more
+-- a guest of a number adds one to the guests of that number
 pub count_here : (n : ℕ) (guest : Guest) (guests : List Guest) → guest.number ≡ n
     → count_by (is_of n) (guest ∷ guests) ≡ 1 + count_by (is_of n) guests
 count_here n guest guests same =
     count_cons (is_of n) guest guests ∙ ap (λ (k : ℕ). k + count_by (is_of n) guests)
     (count_one (is_of n) guest (eq-eqb guest.number n same))
 
--- a guest of another number does not count
+-- a guest of another number does not count among those of this one
 pub count_other : (n : ℕ) (guest : Guest) (guests : List Guest) → (guest.number ≡ n → ⊥)
     → count_by (is_of n) (guest ∷ guests) ≡ count_by (is_of n) guests
 count_other n guest guests other = elim (eqb_tells guest.number n) [
@@ -53,7 +54,7 @@ none_of n (guest ∷ guests) none = elim (eqb_tells guest.number n) [
   | inr differ ↦ (differ.1, none_of n guests (sym (count_other n guest guests differ.1) ∙ none))
 ]
 
--- what holds of each, each with what else holds of it
+-- what follows from two facts, each of which holds of each in a list, holds of each
 pub all_with : {X : Type 0} (P Q R : X → Type 0) (xs : List X) → AllByRecursion P xs → AllByRecursion Q xs → ((x : X) → P x → Q x → R x)
     → AllByRecursion R xs
 all_with P Q R [] these those both = tt
@@ -92,7 +93,7 @@ counted_none p (x ∷ xs) none = elim (cases_Bool (p x)) [
       omega (arith, count_no p x fails, count_cons p x xs, counted_none p xs rest)
 ]
 
--- the first that passes is one of all, and passes
+-- the element that `find` finds passes, and what holds of each holds of it
 pub found_holds : {X : Type 0} (P : X → Type 0) (p : X → Bool) (xs : List X) (y : X) → AllByRecursion P xs → find p xs ≡ Some y → P y
     × (p y ≡ true)
 found_holds P p [] y all is = absurd (cc is)
@@ -104,7 +105,7 @@ found_holds P p (x ∷ xs) y all is = elim (cases_Bool (p x)) [
   | inr fails ↦ found_holds P p xs y all.1 (rw fails at is)
 ]
 
--- where none that passes is counted, none is found
+-- where no element that passes is counted, `find` finds none
 pub found_counted : {X : Type 0} (p : X → Bool) (xs : List X) (y : X) → find p xs ≡ Some y → count_by p xs ≡ 0 → ⊥
 found_counted p [] y is none = cc is
 found_counted p (x ∷ xs) y is none = elim (cases_Bool (p x)) [

@@ -11,12 +11,12 @@ use Rattle.std.proofs.lemmas.Grind.{flat_map-append}
 use Rattle.otp_core.specs.Laws.{BeginsWithItself}
 use Rattle.book_format.specs.Book.{BookFields}
 use Rattle.book_format.specs.Trees.{IsBookText}
-use Rattle.account_book.specs.SavedBooks.{WasSaved}
+use Rattle.account_book.specs.SavedBooks.{HasStoredText}
 use Rattle.account_book.specs.Store.{StoreFacts}
 use Rattle.log_grammar.specs.Books.{accounts_in}
-use Rattle.log_grammar.specs.Bytes.{ended_by_lf, IsCut}
+use Rattle.log_grammar.specs.Bytes.{ended_by_lf, IsSplit}
 use Rattle.log_grammar.specs.Versions.{most_open, IsFront, IsClean}
-use Rattle.log_grammar.specs.Lines.{LogLine, header_two, said, halt, log_text}
+use Rattle.log_grammar.specs.Lines.{LogLine, header_two, said, halt, log_line_text}
 use Rattle.log_grammar.specs.LoggedReply.{LoggedReply}
 use Rattle.log_grammar.specs.Places.{Place, before_all, between, halted, is_closed}
 use Rattle.log_grammar.specs.Demands.{Accounts, demands}
@@ -24,8 +24,9 @@ use Rattle.log_grammar.specs.Numbered.{Numbered, numbered, of_number, SpellsNumb
 use Rattle.log_grammar.specs.NumberedLines.{numbered_text, IsNumberedWritable}
 use Rattle.log_grammar.proofs.lemmas.many_sessions.WithoutLast.{numbered_before}
 use Rattle.log_grammar.proofs.lemmas.many_sessions.LinesOfNumber.{of_number_append, of_number_all, of_number_none}
-use Rattle.log_grammar.proofs.lemmas.headline_laws.NumberedOfSessions.{are_written, each_lacks}
-use Rattle.sasl_desk.specs.Desks.{HoldsBook, IsLostAfter, IsStoredAt, session_phase, all_spent}
+use Rattle.log_grammar.proofs.lemmas.session_laws.NumberedOfSessions.{are_written, each_lacks}
+use Rattle.log_grammar.proofs.lemmas.completions.NumberedFronts.{halt_leads_in}
+use Rattle.sasl_desk.specs.Desks.{HoldsBook, IsLostAfter, IsStoredAt, session_phase, spent_by_all}
 use Rattle.sasl_desk.specs.Guests.{is_of}
 use Rattle.sasl_desk.specs.Saved.{AreLinesSaved}
 use Rattle.sasl_desk.specs.Halls.{HallFields, hall_lines, hall_bytes, numbered_bytes, IsSessionRun, IsSeated, IsStoredAfter, IsHallAfter}
@@ -33,22 +34,23 @@ use Rattle.sasl_desk.specs.Halls.{guest_phase, phase_in, IsPhaseOf, IsPhaseIn}
 use Rattle.sasl_desk.specs.Keeper.{IsAttemptJudged}
 use Rattle.sasl_desk.specs.Records.{HasSessionRecords}
 use Rattle.sasl_desk.specs.Restarts.{IsHallRunLeaving}
-use Rattle.sasl_desk.specs.Runs.{Asked, greets, hears, Call, IsAtRest, IsAnsweredBy, IsRun, wire_bytes, own_part}
+use Rattle.sasl_desk.specs.Runs.{Asked, greets, hears, Call, IsAtRest, IsAnsweredBy, IsRun, wire_bytes, server_nonce_of}
 use Rattle.sasl_desk.specs.Serves.{call_lines}
 use Rattle.sasl_desk.specs.Spent.{AreSpent, SpentStaysSpent}
 use Rattle.sasl_desk.specs.declared.hall.guest.Guest.{Guest}
 use Rattle.sasl_desk.proofs.lemmas.halls.Guests.{counted_none, found_holds, found_counted}
 use Rattle.sasl_desk.proofs.lemmas.halls.Calls.{session_phase_at}
-use Rattle.sasl_desk.proofs.lemmas.halls.Turns.{opened, closed, halt_in}
+use Rattle.sasl_desk.proofs.lemmas.halls.Turns.{opened, closed}
 use Rattle.sasl_desk.proofs.lemmas.runs.Records.{run_offers, run_records}
 use Rattle.sasl_desk.proofs.lemmas.runs.Restarts.{held_or_lost, was_saved, told_spent}
 use Rattle.sasl_desk.proofs.lemmas.runs.Bytes.{wire_bytes-append}
 
+-- the log of a hall is cut into its first line and the texts of its calls' lines, where these can be written
 hall_cut : (calls : List (Numbered Call)) → AllByRecursion IsNumberedWritable (hall_lines calls)
-    → IsCut (hall_bytes calls) (log_text header_two ∷ map numbered_text (hall_lines calls)) []
+    → IsSplit (hall_bytes calls) (log_line_text header_two ∷ map numbered_text (hall_lines calls)) []
 hall_cut calls written = record {
-  bytes_are = sym (append-nil (ended_by_lf (log_text header_two ∷ map numbered_text (hall_lines calls)))
-      ∙ flat_map-append (λ text. text ++ 10 ∷ []) (log_text header_two ∷ []) (map numbered_text (hall_lines calls)));
+  bytes_are = sym (append-nil (ended_by_lf (log_line_text header_two ∷ map numbered_text (hall_lines calls)))
+      ∙ flat_map-append (λ text. text ++ 10 ∷ []) (log_line_text header_two ∷ []) (map numbered_text (hall_lines calls)));
   lines = (refl, each_lacks (hall_lines calls) written);
   after = refl;
 }
@@ -58,46 +60,48 @@ pub hall_is_front : {S : Type 0} (facts : S → StoreFacts) (IsStored : List ℕ
     (hall : HallFields S)
     → IsHallAfter facts IsStored start calls hall → IsFront (accounts_in start) (hall_bytes calls)
 hall_is_front facts IsStored start calls hall s = (
-  log_text header_two ∷ map numbered_text (hall_lines calls),
+  log_line_text header_two ∷ map numbered_text (hall_lines calls),
   hall_cut calls s.writable,
   inr (refl, hall_lines calls, s.places, s.told, are_written (hall_lines calls) s.writable, s.spelled),
 )
 
+-- the log of a hall is clean where its places let it end
 hall_ends : {S : Type 0} (facts : S → StoreFacts) (IsStored : List ℕ → Type 0) (start : BookFields) (calls : List (Numbered Call))
     (hall : HallFields S)
     (s : IsHallAfter facts IsStored start calls hall) → MayEndNumbered s.places → IsClean (accounts_in start) (hall_bytes calls)
 hall_ends facts IsStored start calls hall s ends = (
-  log_text header_two ∷ map numbered_text (hall_lines calls),
+  log_line_text header_two ∷ map numbered_text (hall_lines calls),
   hall_cut calls s.writable,
   inr (refl, hall_lines calls, s.places, s.told, are_written (hall_lines calls) s.writable, s.spelled, ends),
 )
 
--- nothing is left to be said at a session's place
-answered_rests : (accounts : Accounts) (own : List ℕ) (asked : Asked) (place at : Place) (lines : List LogLine)
-    → IsAnsweredBy accounts own asked place lines at
+-- after a call nothing is left to be said at its session's place:
+answered_rests : (accounts : Accounts) (server_nonce : List ℕ) (asked : Asked) (place at : Place) (lines : List LogLine)
+    → IsAnsweredBy accounts server_nonce asked place lines at
     → IsAtRest at
-answered_rests accounts own (greets new) place at lines greeting = rw greeting.waits refl
-answered_rests accounts own (hears event moment) place at lines turn = turn.rests
+answered_rests accounts server_nonce (greets new) place at lines greeting = rw greeting.waits refl
+answered_rests accounts server_nonce (hears event moment) place at lines turn = turn.rests
 
 run_rests : (accounts : Accounts) (calls : List Call) (at : Place) → IsRun accounts calls at → IsAtRest at
 run_rests accounts [] at run = rw run tt
-run_rests accounts (c ∷ calls) at (place, run, answered) = answered_rests accounts (own_part calls) c.asked place at c.lines answered
+run_rests accounts (c ∷ calls) at (place, run, answered) = answered_rests accounts (server_nonce_of calls) c.asked place at c.lines answered
 
-stay_rests : (accounts : Accounts) (calls : List Call) (at : Place) → IsSessionRun accounts calls at → IsAtRest at
-stay_rests accounts calls at (inl run) = run_rests accounts calls at run
-stay_rests accounts calls at (inr (own, turned, is)) = rw is tt
+session_run_rests : (accounts : Accounts) (calls : List Call) (at : Place) → IsSessionRun accounts calls at → IsAtRest at
+session_run_rests accounts calls at (inl run) = run_rests accounts calls at run
+session_run_rests accounts calls at (inr (server_nonce, turned, is)) = rw is tt
 
+-- a closed place at which nothing is left to be said is between sessions
 closed_between : (at : Place) → is_closed at ≡ true → IsAtRest at → at ≡ between
 closed_between before_all is rests = absurd (cc rests)
 closed_between between is rests = refl
 closed_between at is rests = absurd (cc is)
 
--- a number without a guest stands where no session is open, and one with a guest does not
+-- a number without a guest is between sessions, and one with a guest is not:
 none_between : {S : Type 0} (facts : S → StoreFacts) (IsStored : List ℕ → Type 0) (start : BookFields) (calls : List (Numbered Call))
     (hall : HallFields S)
     (s : IsHallAfter facts IsStored start calls hall) (n : ℕ) → find (is_of n) hall.guests ≡ None → s.places n ≡ between
 none_between facts IsStored start calls hall s n none = elim (cases_Bool (is_closed (s.places n))) [
-  | inl is ↦ closed_between (s.places n) is (stay_rests (accounts_in start) (of_number n calls) (s.places n) (s.session_runs n))
+  | inl is ↦ closed_between (s.places n) is (session_run_rests (accounts_in start) (of_number n calls) (s.places n) (s.session_runs n))
   | inr is_open ↦ absurd (omega (arith, counted_none (is_of n) hall.guests none, s.guests n, opened (s.places n) is_open))
 ]
 
@@ -108,6 +112,7 @@ some_open : {S : Type 0} (facts : S → StoreFacts) (IsStored : List ℕ → Typ
 some_open facts IsStored start calls hall s n guest some at =
     found_counted (is_of n) hall.guests guest some (s.guests n ∙ closed (s.places n) (rw at refl))
 
+-- where a number has no phase, it has no guest
 no_guest : (is_halted : Bool) (guest : Option Guest) → guest_phase is_halted guest ≡ None → guest ≡ None
 no_guest is_halted None is = refl
 no_guest true (Some guest) is = absurd (cc is)
@@ -121,12 +126,14 @@ closed_is_clean facts IsStored start calls hall s none =
     hall_ends facts IsStored start calls hall s
     (inl (λ n. none_between facts IsStored start calls hall s n (no_guest hall.is_halted (find (is_of n) hall.guests) (none n))))
 
+-- where the store has failed, the place is that of the halt
 lost_at : (IsStored : List ℕ → Type 0) (accounts : Accounts) (calls : List Call) (place : Place) (book : BookFields) (store : StoreFacts)
     → IsStoredAt IsStored accounts calls place book store
     → store.failed ≡ true → place ≡ halted
 lost_at IsStored accounts calls halted book store lost failed = refl
 lost_at IsStored accounts calls place book store held failed = absurd (cc (held.working, failed))
 
+-- where the store of a hall has failed, its log may end
 failed_ends : {S : Type 0} (facts : S → StoreFacts) (IsStored : List ℕ → Type 0) (start : BookFields) (calls : List (Numbered Call))
     (hall : HallFields S)
     (s : IsHallAfter facts IsStored start calls hall) → (facts hall.keeper.store).failed ≡ true → MayEndNumbered s.places
@@ -155,9 +162,9 @@ halted_is_clean facts IsStored start calls hall s lines n last =
     let d = demands (accounts_in start) in
     let b = numbered_before most_open d lines n (said halt) s.places s.told
     (subst (λ (l : List (Numbered LogLine)). SpellsNumbered most_open d l s.places s.told) last s.spelled) in
-    hall_ends facts IsStored start calls hall s (inr (n, halt_in d (b.before n) (s.places n) b.goes.goes))
+    hall_ends facts IsStored start calls hall s (inr (n, halt_leads_in d (b.before n) (said halt) (s.places n) refl b.goes.goes))
 
--- phases
+-- the phase of a number's guest, or none where it has none, is that of its place
 phase_found : {S : Type 0} (facts : S → StoreFacts) (IsStored : List ℕ → Type 0) (start : BookFields) (calls : List (Numbered Call))
     (hall : HallFields S)
     (s : IsHallAfter facts IsStored start calls hall) (n : ℕ) (is_halted : Bool) → is_halted ≡ hall.is_halted → (guest : Option Guest)
@@ -180,19 +187,21 @@ pub phases_of_places : {S : Type 0} (facts : S → StoreFacts) (IsStored : List 
 phases_of_places facts IsStored start calls hall s n = phase_found facts IsStored start calls hall s n hall.is_halted refl
     (find (is_of n) hall.guests) refl
 
--- records
-stay_records : (accounts : Accounts) (calls : List Call) (at : Place) → IsSessionRun accounts calls at → HasSessionRecords accounts calls
-stay_records accounts calls at (inl run) = inl
+-- the calls of a session, let in or turned away, have their records
+session_run_records : (accounts : Accounts) (calls : List Call) (at : Place) → IsSessionRun accounts calls at
+    → HasSessionRecords accounts calls
+session_run_records accounts calls at (inl run) = inl
     (record { offers = run_offers accounts calls at run; records = run_records accounts calls at run })
-stay_records accounts calls at (inr (own, turned, is)) = inr (own, turned)
+session_run_records accounts calls at (inr (server_nonce, turned, is)) = inr (server_nonce, turned)
 
 -- the calls of each number have their records, as at a desk; or its session was turned away and asked nothing more
 pub session_records : {S : Type 0} (facts : S → StoreFacts) (IsStored : List ℕ → Type 0) (start : BookFields) (calls : List (Numbered Call))
     (hall : HallFields S)
     → IsHallAfter facts IsStored start calls hall → (n : ℕ) → HasSessionRecords (accounts_in start) (of_number n calls)
-session_records facts IsStored start calls hall s n = stay_records (accounts_in start) (of_number n calls) (s.places n) (s.session_runs n)
+session_records facts IsStored start calls hall s n = session_run_records (accounts_in start) (of_number n calls) (s.places n)
+    (s.session_runs n)
 
--- the bytes of a log with one more call end with those of the call's lines
+-- the bytes of a hall's log with one more call are those before it, and then those of the call's lines
 pub hall_bytes_next : (c : Numbered Call) (before : List (Numbered Call))
     → hall_bytes (c ∷ before) ≡ hall_bytes before ++ numbered_bytes (map (numbered c.number) c.value.lines)
 hall_bytes_next c before =
@@ -200,8 +209,8 @@ hall_bytes_next c before =
     let whole : numbered_bytes (hall_lines before ++ more) ≡ numbered_bytes (hall_lines before) ++ numbered_bytes more =
     ap ended_by_lf (map-append numbered_text (hall_lines before) more)
     ∙ flat_map-append (λ text. text ++ 10 ∷ []) (map numbered_text (hall_lines before)) (map numbered_text more) in
-    ap (λ (b : List ℕ). ended_by_lf (log_text header_two ∷ []) ++ b) whole
-    ∙ sym (append_assoc (ended_by_lf (log_text header_two ∷ [])) (numbered_bytes (hall_lines before)) (numbered_bytes more))
+    ap (λ (b : List ℕ). ended_by_lf (log_line_text header_two ∷ []) ++ b) whole
+    ∙ sym (append_assoc (ended_by_lf (log_line_text header_two ∷ [])) (numbered_bytes (hall_lines before)) (numbered_bytes more))
 
 -- the lines of a number in the log of a hall are those of its own calls, in their order
 pub of_number_lines : (n : ℕ) (calls : List (Numbered Call)) → of_number n (hall_lines calls) ≡ call_lines (of_number n calls)
@@ -219,12 +228,12 @@ of_number_lines n (c ∷ before) = elim (eqb_tells n c.number) [
       ∙ append-nil (of_number n (hall_lines before)) ∙ of_number_lines n before)
 ]
 
--- the latest call adds the bytes of what the server says in its lines to what was sent before
+-- what the server says in a session's calls is what it said in those before the latest, and then in this one
 pub wire_bytes_next : (c : Call) (before : List Call)
     → wire_bytes (call_lines (c ∷ before)) ≡ wire_bytes (call_lines before) ++ wire_bytes c.lines
 wire_bytes_next c before = wire_bytes-append (call_lines before) c.lines
 
--- what the store holds
+-- wherever a log of a hall stands, the store holds the book, or has failed in its last save
 held_or_lost_after : (IsStored : List ℕ → Type 0) (accounts : Accounts) (calls : List (Numbered Call)) (places : ℕ → Place)
     (book : BookFields) (store : StoreFacts)
     → IsStoredAfter IsStored accounts calls places book store → HoldsBook IsStored book store
@@ -236,14 +245,15 @@ held_or_lost_after IsStored accounts (c ∷ calls) places book store stored =
       | inr lost ↦ inr (of_number c.number (c ∷ calls), lost)
     ]
 
+-- wherever the log of a hall stands, the book was saved
 was_saved_after : (IsStored : List ℕ → Type 0) (accounts : Accounts) (calls : List (Numbered Call)) (places : ℕ → Place) (book : BookFields)
     (store : StoreFacts)
-    → IsStoredAfter IsStored accounts calls places book store → WasSaved IsStored book
+    → IsStoredAfter IsStored accounts calls places book store → HasStoredText IsStored book
 was_saved_after IsStored accounts [] places book store held = (store.saved, held.saved, held.stored)
 was_saved_after IsStored accounts (c ∷ calls) places book store stored =
     was_saved IsStored accounts (of_number c.number (c ∷ calls)) (places c.number) book store stored
 
--- the book after what a log tells was saved
+-- the book to which all that a log tells leads was saved
 pub log_is_saved : {S : Type 0} (facts : S → StoreFacts) (IsStored : List ℕ → Type 0) (start : BookFields) (calls : List (Numbered Call))
     (hall : HallFields S)
     → IsHallAfter facts IsStored start calls hall → AreLinesSaved IsStored start (hall_lines calls)
@@ -258,7 +268,7 @@ log_is_saved facts IsStored start calls hall s = record {
   };
 }
 
--- a book that a run leaves
+-- a book that the hall has, or had with one attempt more, is one that its run may leave
 run_to : {S : Type 0} (facts : S → StoreFacts) (IsStored : List ℕ → Type 0) (start : BookFields) (calls : List (Numbered Call))
     (hall : HallFields S)
     (s : IsHallAfter facts IsStored start calls hall) (left : BookFields)
@@ -294,12 +304,12 @@ pub stopped_hall : {S : Type 0} (facts : S → StoreFacts) (IsStored : List ℕ 
     → IsHallRunLeaving facts IsStored start calls next
 stopped_hall facts IsStored start calls hall t next s one = run_to facts IsStored start calls hall s next (inr (t, one))
 
--- in the book whose text the store of a hall holds, what was spent before is spent, and each counter that a reply used
+-- in the book whose text the store of a hall holds, what was spent before is spent, and so is each counter that a reply used
 pub saved_by_hall : BeginsWithItself → SpentStaysSpent
     → {S : Type 0} (facts : S → StoreFacts) (IsStored : List ℕ → Type 0) (start : BookFields) (calls : List (Numbered Call))
     (hall : HallFields S)
     (s : IsHallAfter facts IsStored start calls hall) (ps : List (List ℕ × ℕ)) → AreSpent ps start
-    → (saved : BookFields) × IsBookText (facts hall.keeper.store).saved saved × AreSpent (all_spent (reverse s.told) ++ ps) saved
+    → (saved : BookFields) × IsBookText (facts hall.keeper.store).saved saved × AreSpent (spent_by_all (reverse s.told) ++ ps) saved
 saved_by_hall itself stays facts IsStored start calls hall s ps spent =
     let book = hall.keeper.book in
     let mine = s.spent ps spent in
@@ -307,15 +317,20 @@ saved_by_hall itself stays facts IsStored start calls hall s ps spent =
       | inl held ↦ (book, held.saved, mine)
       | inr (own_calls, lost) ↦ elim lost.saved [
         | inl before ↦ (book, before.0, mine)
-        | inr after ↦ (lost.next, after, told_spent itself stays book lost.next lost.t (all_spent (reverse s.told) ++ ps) lost.is_told mine)
+        | inr after ↦ (
+          lost.next,
+          after,
+          told_spent itself stays book lost.next lost.t (spent_by_all (reverse s.told) ++ ps) lost.is_told
+              mine,
+        )
       ]
     ]
 
--- in the hall's book with one more attempt, what was spent before is spent, and each counter that a told reply used
+-- in the hall's book with one more attempt, what was spent before is spent, and so is each counter that a reply in its log used
 pub stopped_by_hall : BeginsWithItself → SpentStaysSpent
     → {S : Type 0} (facts : S → StoreFacts) (IsStored : List ℕ → Type 0) (start : BookFields) (calls : List (Numbered Call))
     (hall : HallFields S) (s : IsHallAfter facts IsStored start calls hall) (ps : List (List ℕ × ℕ)) (t : LoggedReply) (next : BookFields)
     → AreSpent ps start
-    → IsAttemptJudged hall.keeper.book t next → AreSpent (all_spent (reverse s.told) ++ ps) next
+    → IsAttemptJudged hall.keeper.book t next → AreSpent (spent_by_all (reverse s.told) ++ ps) next
 stopped_by_hall itself stays facts IsStored start calls hall s ps t next spent one =
-    told_spent itself stays hall.keeper.book next t (all_spent (reverse s.told) ++ ps) one (s.spent ps spent)
+    told_spent itself stays hall.keeper.book next t (spent_by_all (reverse s.told) ++ ps) one (s.spent ps spent)

@@ -21,14 +21,14 @@ use Rattle.log_grammar.proofs.lemmas.many_sessions.WithoutLast.{numbered_before}
 use Rattle.log_grammar.proofs.lemmas.many_sessions.OpenCounts.{open_was_begun}
 use Rattle.log_grammar.proofs.lemmas.many_sessions.LinesOfNumber.{at_each, put_here, put_other, begun_append, closed_append}
 use Rattle.log_grammar.proofs.lemmas.ListEnds.{all_append}
-use Rattle.log_grammar.proofs.lemmas.completions.NumberedFronts.{halt_leads, no_busy_line}
+use Rattle.log_grammar.proofs.lemmas.completions.NumberedFronts.{halt_leads_in, busy_leads_in}
 use Rattle.sasl_log.proofs.lemmas.steps.PermutedSlots.{all_permuted, count_permuted}
 use Rattle.log_grammar.specs.Versions.{most_open}
-use Rattle.sasl_desk.specs.Desks.{HoldsBook, IsStoredAt, IsBookWith, all_spent}
+use Rattle.sasl_desk.specs.Desks.{HoldsBook, IsStoredAt, IsBookWith, spent_by_all}
 use Rattle.sasl_desk.specs.Events.{ClientEvent}
 use Rattle.sasl_desk.specs.Guests.{is_of, guest_of}
 use Rattle.sasl_desk.specs.Halls.{HallFields, hall_of, hall_lines, IsSessionRun, IsSeated, IsHallAfter}
-use Rattle.sasl_desk.specs.Runs.{hears, Call, call_of, own_part, IsTurnTaken}
+use Rattle.sasl_desk.specs.Runs.{hears, Call, call_of, server_nonce_of, IsTurnTaken}
 use Rattle.sasl_desk.specs.Sessions.{IsSessionAt, CanBeWritten}
 use Rattle.sasl_desk.specs.Spent.{AreSpent}
 use Rattle.sasl_desk.specs.Turns.{is_client_turn}
@@ -41,11 +41,11 @@ use Rattle.sasl_desk.proofs.lemmas.halls.Guests.{count_here, count_other, count_
 use Rattle.sasl_desk.proofs.lemmas.halls.Paths.{IsTurnLine, turn_number, turn_begun}
 use Rattle.sasl_desk.proofs.lemmas.turns.Paths.{client_turn}
 
--- the calls of a number, with one more
+-- a call of a number is the latest of that number's calls
 pub of_number_here : {X : Type 0} (n : ℕ) (x : X) (xs : List (Numbered X)) → of_number n (numbered n x ∷ xs) ≡ x ∷ of_number n xs
 of_number_here n x xs = rw (eq-eqb n n refl) refl
 
--- the calls of a number, with one more of another number, are the same
+-- a call of another number is none of this number's calls
 pub of_number_skip : {X : Type 0} (n m : ℕ) (x : X) (xs : List (Numbered X)) → (n ≡ m → ⊥)
     → of_number m (numbered n x ∷ xs) ≡ of_number m xs
 of_number_skip n m x xs other = elim (eqb_tells m n) [
@@ -53,11 +53,11 @@ of_number_skip n m x xs other = elim (eqb_tells m n) [
   | inr differ ↦ rw differ.0 refl
 ]
 
--- an open place counts for one open session
+-- a place at which a session is open counts as one
 pub opened : (at : Place) → is_closed at ≡ false → open_at at ≡ 1
 opened at is = rw is refl
 
--- a closed place counts for no open session
+-- a place at which none is open counts as none
 pub closed : (at : Place) → is_closed at ≡ true → open_at at ≡ 0
 closed at is = rw is refl
 
@@ -67,10 +67,12 @@ turn_is_open before_all turn = absurd (cc turn)
 turn_is_open between turn = absurd (cc turn)
 turn_is_open at turn = refl
 
--- nothing is left to be said at a place: no session is open there, or it is its client's turn
+-- nothing is left to be said at a place: no session is open there, or it is its client's turn. Unlike `IsAtRest`, this holds before
+-- all lines, and not where the log is halted.
 abbrev pub IsResting : Place → Type 0
 IsResting at = (is_closed at ≡ true) ⊎ (is_client_turn at ≡ true)
 
+-- a place where the log is halted, or where `E` is due, is not at rest:
 halted_stirs : (at : Place) → at ≡ halted → IsResting at → ⊥
 halted_stirs at is (inl closed) = let same : is_closed halted ≡ true = subst (λ (p : Place). is_closed p ≡ true) is closed in cc same
 halted_stirs at is (inr turn) = let same : is_client_turn halted ≡ true = subst (λ (p : Place). is_client_turn p ≡ true) is turn in cc same
@@ -79,23 +81,14 @@ over_stirs : (at : Place) → at ≡ over → IsResting at → ⊥
 over_stirs at is (inl closed) = let same : is_closed over ≡ true = subst (λ (p : Place). is_closed p ≡ true) is closed in cc same
 over_stirs at is (inr turn) = let same : is_client_turn over ≡ true = subst (λ (p : Place). is_client_turn p ≡ true) is turn in cc same
 
--- HALT leads to the halted place alone, and BUSY to the one where its `E` is due
-pub halt_in : (d : Demands) (at next : Place) → IsVisitTransition d at (said halt) next → next ≡ halted
-halt_in d at next (inl goes) = halt_leads d at next goes
-halt_in d at next (inr b) = let same = b.1 in absurd (cc same)
-
-busy_in : (d : Demands) (at next : Place) → IsVisitTransition d at (said busy) next → next ≡ over
-busy_in d at next (inl goes) = absurd (no_busy_line d at next goes)
-busy_in d at next (inr b) = b.2
-
 -- any line may follow one that leads to a place where nothing is left to be said
 may_follow : (d : Demands) (at next : Place) (n m : ℕ) (line more : LogLine) → IsVisitTransition d at line next → IsResting next
     → MayFollow n line m more
-may_follow d at next n m (said halt) more goes rests = halted_stirs next (halt_in d at next goes) rests
-may_follow d at next n m (said busy) more goes rests = absurd (over_stirs next (busy_in d at next goes) rests)
+may_follow d at next n m (said halt) more goes rests = halted_stirs next (halt_leads_in d at (said halt) next refl goes) rests
+may_follow d at next n m (said busy) more goes rests = absurd (over_stirs next (busy_leads_in d at (said busy) next refl goes) rests)
 may_follow d at next n m line more goes rests = tt
 
--- where a hall has not halted, nothing is left to be said to any of its sessions
+-- where a hall has not halted, each session that is open has a guest, who stands where its place is
 pub seated_guest : {S : Type 0} (facts : S → StoreFacts) (IsStored : List ℕ → Type 0) (start : BookFields) (calls : List (Numbered Call))
     (hall : HallFields S)
     (s : IsHallAfter facts IsStored start calls hall) → hall.is_halted ≡ false → (n : ℕ) → is_closed (s.places n) ≡ false
@@ -128,7 +121,7 @@ any_follows facts IsStored start calls hall s working n line before x same =
     may_follow d (b.before x.number) (s.places x.number) x.number n x.value line b.goes.goes
     (at_rest facts IsStored start calls hall s working x.number)
 
--- where a place is no halt, a store that is as it has to be there holds the book
+-- a store that is as it has to be at a place that is no halt holds the book
 held_unless : (IsStored : List ℕ → Type 0) (accounts : Accounts) (calls : List Call) (at : Place) (book : BookFields) (store : StoreFacts)
     → (at ≡ halted → ⊥)
     → IsStoredAt IsStored accounts calls at book store → HoldsBook IsStored book store
@@ -145,7 +138,7 @@ holds_book facts IsStored start (c ∷ calls) hall s working =
     held_unless IsStored (accounts_in start) (of_number c.number (c ∷ calls)) (s.places c.number) hall.keeper.book (facts hall.keeper.store)
     (λ is. halted_stirs (s.places c.number) is (at_rest facts IsStored start (c ∷ calls) hall s working c.number)) s.is_stored
 
--- the guests of a hall in another order
+-- a hall stands for the same calls with its guests in another order
 unfoldable pub stands_reordered : {S : Type 0} (facts : S → StoreFacts) (IsStored : List ℕ → Type 0) (start : BookFields)
     (calls : List (Numbered Call)) (keeper : Keeper S) (guests others : List Guest)
     (given : ℕ) (is_halted : Bool) → IsPermutation guests others
@@ -168,17 +161,17 @@ stands_reordered facts IsStored start calls keeper guests others given is_halted
   spent = s.spent;
 }
 
--- a session is left at a place, and its turn has an `E` exactly where it ended
+-- a turn leaves its session at this place, with so many `E` lines
 abbrev pub LeavesAt : Accounts → Place → (ends : ℕ) → AfterTurn → Type 0
 LeavesAt accounts next ends (Going going) = IsSessionAt accounts next going × (ends ≡ 0)
 LeavesAt accounts next ends Over = (next ≡ between) × (ends ≡ 1)
 LeavesAt accounts next ends (Halted going) = (next ≡ halted) × (ends ≡ 0)
 
 -- the guests after a turn of the session of this number: it has a place again unless it ended
-abbrev pub guests_after : (n : ℕ) (own : List ℕ) → AfterTurn → List Guest → List Guest
-guests_after n own (Going going) others = others ++ guest_of n going own ∷ []
-guests_after n own Over others = others
-guests_after n own (Halted going) others = others ++ guest_of n going own ∷ []
+abbrev pub guests_after : (n : ℕ) (server_nonce : List ℕ) → AfterTurn → List Guest → List Guest
+guests_after n server_nonce (Going going) others = others ++ guest_of n going server_nonce ∷ []
+guests_after n server_nonce Over others = others
+guests_after n server_nonce (Halted going) others = others ++ guest_of n going server_nonce ∷ []
 
 -- whether a turn that leaves its session so has halted the hall
 abbrev pub halted_after : AfterTurn → Bool
@@ -186,12 +179,13 @@ halted_after (Going going) = false
 halted_after Over = false
 halted_after (Halted going) = true
 
--- how many seats a session takes after a turn
+-- how many seats a session takes after a turn: none where it has ended, else one
 seats_of : AfterTurn → ℕ
 seats_of (Going going) = 1
 seats_of Over = 0
 seats_of (Halted going) = 1
 
+-- after a turn a session takes a seat exactly where it is open, and has one `E` line exactly where it takes none:
 seats_open : (accounts : Accounts) (next : Place) (ends : ℕ) (left : AfterTurn) → LeavesAt accounts next ends left
     → open_at next ≡ seats_of left
 unfolding seats_of
@@ -205,31 +199,44 @@ seats_end accounts next ends (Going going) is = omega (arith, is.1)
 seats_end accounts next ends Over is = omega (arith, is.1)
 seats_end accounts next ends (Halted going) is = omega (arith, is.1)
 
-length_after : (n : ℕ) (own : List ℕ) (left : AfterTurn) (others : List Guest)
-    → length (guests_after n own left others) ≡ length others + seats_of left
+-- the guests after a turn are the others, and one more where the session takes a seat, who counts under the session's number alone:
+length_after : (n : ℕ) (server_nonce : List ℕ) (left : AfterTurn) (others : List Guest)
+    → length (guests_after n server_nonce left others) ≡ length others + seats_of left
 unfolding seats_of
-length_after n own (Going going) others = length-append others (guest_of n going own ∷ [])
-length_after n own Over others = omega arith
-length_after n own (Halted going) others = length-append others (guest_of n going own ∷ [])
+length_after n server_nonce (Going going) others = length-append others (guest_of n going server_nonce ∷ [])
+length_after n server_nonce Over others = omega arith
+length_after n server_nonce (Halted going) others = length-append others (guest_of n going server_nonce ∷ [])
 
-count_after_here : (n : ℕ) (own : List ℕ) (left : AfterTurn) (others : List Guest) → count_by (is_of n) others ≡ 0
-    → count_by (is_of n) (guests_after n own left others) ≡ seats_of left
+count_after_here : (n : ℕ) (server_nonce : List ℕ) (left : AfterTurn) (others : List Guest) → count_by (is_of n) others ≡ 0
+    → count_by (is_of n) (guests_after n server_nonce left others) ≡ seats_of left
 unfolding seats_of
-count_after_here n own (Going going) others none =
-    omega (arith, none, count_last (is_of n) others (guest_of n going own), count_here n (guest_of n going own) others refl)
-count_after_here n own Over others none = none
-count_after_here n own (Halted going) others none =
-    omega (arith, none, count_last (is_of n) others (guest_of n going own), count_here n (guest_of n going own) others refl)
+count_after_here n server_nonce (Going going) others none =
+    omega (
+      arith,
+      none,
+      count_last (is_of n) others (guest_of n going server_nonce),
+      count_here n (guest_of n going server_nonce) others
+          refl,
+    )
+count_after_here n server_nonce Over others none = none
+count_after_here n server_nonce (Halted going) others none =
+    omega (
+      arith,
+      none,
+      count_last (is_of n) others (guest_of n going server_nonce),
+      count_here n (guest_of n going server_nonce) others
+          refl,
+    )
 
-count_after_other : (n m : ℕ) (own : List ℕ) (left : AfterTurn) (others : List Guest) → (n ≡ m → ⊥)
-    → count_by (is_of m) (guests_after n own left others) ≡ count_by (is_of m) others
-count_after_other n m own (Going going) others other = count_last (is_of m) others (guest_of n going own) ∙ count_other m
-    (guest_of n going own) others other
-count_after_other n m own Over others other = refl
-count_after_other n m own (Halted going) others other = count_last (is_of m) others (guest_of n going own) ∙ count_other m
-    (guest_of n going own) others other
+count_after_other : (n m : ℕ) (server_nonce : List ℕ) (left : AfterTurn) (others : List Guest) → (n ≡ m → ⊥)
+    → count_by (is_of m) (guests_after n server_nonce left others) ≡ count_by (is_of m) others
+count_after_other n m server_nonce (Going going) others other = count_last (is_of m) others (guest_of n going server_nonce) ∙ count_other m
+    (guest_of n going server_nonce) others other
+count_after_other n m server_nonce Over others other = refl
+count_after_other n m server_nonce (Halted going) others other = count_last (is_of m) others (guest_of n going server_nonce) ∙ count_other m
+    (guest_of n going server_nonce) others other
 
--- numbered lines of a turn can be written
+-- numbered lines of a turn that can be written can be so in a log of version 2
 pub turn_written : (n : ℕ) → IsSessionNumber n → (lines : List LogLine) → AllByRecursion IsTurnLine lines → CanBeWritten lines
     → AllByRecursion IsNumberedWritable (map (numbered n) lines)
 turn_written n number [] turns written = tt
@@ -243,7 +250,7 @@ turn_written n number (line ∷ lines) turns written = (
   turn_written n number lines turns.1 written.1,
 )
 
--- the guests of other numbers stand where they stood
+-- guests of other numbers stand where they stood after a call of this one
 pub others_seated : (accounts : Accounts) (calls : List (Numbered Call)) (places : ℕ → Place) (n : ℕ) (call : Call) (next : Place)
     (others : List Guest)
     → AllByRecursion (IsSeated accounts calls places) others → AllByRecursion (λ guest. guest.number ≡ n → ⊥) others
@@ -254,16 +261,16 @@ others_seated accounts calls places n call next others seated differ =
     (λ guest is apart. (
       subst (λ (p : Place). IsSessionAt accounts p guest.session)
           (sym (put_other n next places guest.number (λ same. apart (sym same)))) is.0,
-      is.1 ∙ ap own_part (sym (of_number_skip n guest.number call calls (λ same. apart (sym same)))),
+      is.1 ∙ ap server_nonce_of (sym (of_number_skip n guest.number call calls (λ same. apart (sym same)))),
     ))
 
--- a turn of the session of a number, by which its hall stands on
+-- a turn of the session of a number has such lines, leads to a place, and leaves the book and the store as the hall needs them there
 pub record HallStep {S : Type 0} (facts : S → StoreFacts) (IsStored : List ℕ → Type 0) (start : BookFields) (calls : List (Numbered Call))
     (places : ℕ → Place) (n : ℕ) (event : ClientEvent)
     (moment : ℕ) (lines : List LogLine) (left : AfterTurn) (keeper : Keeper S) : Type 0 where
   pub next : Place
   pub told : List LoggedReply
-  pub taken : IsTurnTaken (accounts_in start) (own_part (of_number n calls)) event moment (places n) lines next
+  pub taken : IsTurnTaken (accounts_in start) (server_nonce_of (of_number n calls)) event moment (places n) lines next
   pub spelled : SpellsNumbered most_open (demands (accounts_in start)) (hall_lines calls ++ map (numbered n) lines) (put n next places) told
   pub turns : AllByRecursion IsTurnLine lines
   pub writable : CanBeWritten lines
@@ -271,30 +278,32 @@ pub record HallStep {S : Type 0} (facts : S → StoreFacts) (IsStored : List ℕ
   pub is_book : IsBookWith start (reverse told) keeper.book
   pub stored : IsStoredAt IsStored (accounts_in start) (call_of (hears event moment) lines ∷ of_number n calls) next keeper.book
       (facts keeper.store)
-  pub spent : (ps : List (List ℕ × ℕ)) → AreSpent ps start → AreSpent (all_spent (reverse told) ++ ps) keeper.book
+  pub spent : (ps : List (List ℕ × ℕ)) → AreSpent ps start → AreSpent (spent_by_all (reverse told) ++ ps) keeper.book
 
-seated_after : (accounts : Accounts) (calls : List (Numbered Call)) (places : ℕ → Place) (n : ℕ) (own : List ℕ) (left : AfterTurn)
+-- the guests after a turn stand at their places, where the others do
+seated_after : (accounts : Accounts) (calls : List (Numbered Call)) (places : ℕ → Place) (n : ℕ) (server_nonce : List ℕ) (left : AfterTurn)
     (others : List Guest) (ends : ℕ)
-    → LeavesAt accounts (places n) ends left → AllByRecursion (IsSeated accounts calls places) others → own ≡ own_part (of_number n calls)
-    → halted_after left ≡ false → AllByRecursion (IsSeated accounts calls places) (guests_after n own left others)
-seated_after accounts calls places n own (Going going) others ends is seated same working =
-    all_append (IsSeated accounts calls places) others (guest_of n going own ∷ []) seated ((is.0, same), tt)
-seated_after accounts calls places n own Over others ends is seated same working = seated
-seated_after accounts calls places n own (Halted going) others ends is seated same working = absurd (cc working)
+    → LeavesAt accounts (places n) ends left → AllByRecursion (IsSeated accounts calls places) others
+    → server_nonce ≡ server_nonce_of (of_number n calls)
+    → halted_after left ≡ false → AllByRecursion (IsSeated accounts calls places) (guests_after n server_nonce left others)
+seated_after accounts calls places n server_nonce (Going going) others ends is seated same working =
+    all_append (IsSeated accounts calls places) others (guest_of n going server_nonce ∷ []) seated ((is.0, same), tt)
+seated_after accounts calls places n server_nonce Over others ends is seated same working = seated
+seated_after accounts calls places n server_nonce (Halted going) others ends is seated same working = absurd (cc working)
 
--- a hall stands on after a turn of one of its sessions, which then stands at the place to which the turn led
+-- a hall stands for one call more after a turn of one of its sessions, which then stands at the place to which the turn led
 pub stands_by_step : {S : Type 0} (facts : S → StoreFacts) (IsStored : List ℕ → Type 0) (start : BookFields) (calls : List (Numbered Call))
     (old new : Keeper S) (n : ℕ) (going : Session)
-    (own : List ℕ) (others : List Guest) (given : ℕ) (event : ClientEvent) (moment : ℕ) (lines : List LogLine) (left : AfterTurn)
-    (s : IsHallAfter facts IsStored start calls (hall_of old (guest_of n going own ∷ others) given false))
+    (server_nonce : List ℕ) (others : List Guest) (given : ℕ) (event : ClientEvent) (moment : ℕ) (lines : List LogLine) (left : AfterTurn)
+    (s : IsHallAfter facts IsStored start calls (hall_of old (guest_of n going server_nonce ∷ others) given false))
     (step : HallStep facts IsStored start calls s.places n event moment lines left new)
     → (after : IsHallAfter facts IsStored start (numbered n (call_of (hears event moment) lines) ∷ calls)
-    (hall_of new (guests_after n own left others) given (halted_after left)))
+    (hall_of new (guests_after n server_nonce left others) given (halted_after left)))
     × (after.places n ≡ step.next)
-stands_by_step facts IsStored start calls old new n going own others given event moment lines left s step =
+stands_by_step facts IsStored start calls old new n going server_nonce others given event moment lines left s step =
     let accounts = accounts_in start in
     let call = call_of (hears event moment) lines in
-    let guest = guest_of n going own in
+    let guest = guest_of n going server_nonce in
     let places = put n step.next s.places in
     let here = put_here n step.next s.places in
     let mine = of_number_here n call calls in
@@ -328,13 +337,22 @@ stands_by_step facts IsStored start calls old new n going own others given event
             (turn_written n number lines step.turns step.writable);
         given = omega (arith, s.given, none, all_begun);
         last_number = s.last_number;
-        guests = at_each (λ (m : ℕ). count_by (is_of m) (guests_after n own left others) ≡ open_at (places m)) n
-            (count_after_here n own left others alone ∙ sym (seats_open accounts (places n) _ left leaves))
-            (λ m other. count_after_other n m own left others other ∙ sym (count_other m guest others other) ∙ s.guests m
+        guests = at_each (λ (m : ℕ). count_by (is_of m) (guests_after n server_nonce left others) ≡ open_at (places m)) n
+            (count_after_here n server_nonce left others alone ∙ sym (seats_open accounts (places n) _ left leaves))
+            (λ m other. count_after_other n m server_nonce left others other ∙ sym (count_other m guest others other) ∙ s.guests m
             ∙ ap open_at (sym (put_other n step.next s.places m other)));
-        open_are = omega (arith, length_after n own left others, seats_end accounts step.next _ left step.leaves, s.open_are, none, all_begun, all_closed);
-        seated = seated_after accounts (numbered n call ∷ calls) places n own left others _ leaves
-            (others_seated accounts calls s.places n call step.next others is.1 (none_of n others alone)) (is.0.1 ∙ ap own_part (sym mine));
+        open_are = omega (
+          arith,
+          length_after n server_nonce left others,
+          seats_end accounts step.next _ left step.leaves,
+          s.open_are,
+          none,
+          all_begun,
+          all_closed,
+        );
+        seated = seated_after accounts (numbered n call ∷ calls) places n server_nonce left others _ leaves
+            (others_seated accounts calls s.places n call step.next others is.1 (none_of n others alone))
+            (is.0.1 ∙ ap server_nonce_of (sym mine));
         is_book = step.is_book;
         is_stored = subst (λ (l : List Call). IsStoredAt IsStored accounts l (places n) new.book (facts new.store)) (sym mine)
             (subst (λ (p : Place). IsStoredAt IsStored accounts (call ∷ of_number n calls) p new.book (facts new.store))

@@ -1,4 +1,4 @@
--- What a call of a desk did.
+-- What a call of a desk saves and changes, and that the desk has then answered it.
 use Rattle.std.proofs.Common.{◌≡◌, inl, inr, ◌⊎◌, ◌+◌, true, ℕ, List, [], ◌∷◌, ◌++◌, length, filter, refl, sym, ◌∙◌, ap, subst, arith}
 use Rattle.std.specs.declared.option.Option.{Option}
 use Rattle.std.specs.declared.option.Option.TheVariants.{None, Some}
@@ -32,11 +32,11 @@ use Rattle.sasl_desk.specs.declared.desk.state.State.TheVariants.{Closed, Open}
 use Rattle.sasl_desk.specs.declared.session.Session.{Session}
 use Rattle.sasl_desk.specs.declared.session.phase.Phase.TheVariants as phase
 use Rattle.sasl_desk.specs.declared.session.Session.TheVariants.{WaitAuth, WaitFirst, WaitFinal, WaitCode}
-use Rattle.sasl_desk.specs.declared.session.turn.Recorded.{Recorded}
-use Rattle.sasl_desk.specs.declared.session.turn.Recorded.TheVariants as recorded
-use Rattle.sasl_desk.specs.declared.session.turn.Saying.{Saying}
-use Rattle.sasl_desk.specs.declared.session.turn.Saying.TheVariants.{Nothing, Continues, Accepts, Refuses}
-use Rattle.sasl_desk.specs.declared.session.turn.Turn.{Turn}
+use Rattle.sasl_desk.specs.declared.session.event.Recorded.{Recorded}
+use Rattle.sasl_desk.specs.declared.session.event.Recorded.TheVariants as recorded
+use Rattle.sasl_desk.specs.declared.session.event.Saying.{Saying}
+use Rattle.sasl_desk.specs.declared.session.event.Saying.TheVariants.{Nothing, Continues, Accepts, Refuses}
+use Rattle.sasl_desk.specs.declared.session.event.Turn.{Turn}
 use Rattle.sasl_desk.proofs.lemmas.turns.Paths.{client_turn}
 use Rattle.sasl_desk.proofs.lemmas.runs.IsDeskAfter.{book_after_told, held_in_turn, lost_now, stands_by_greeting, stands_by_turn}
 use Rattle.sasl_desk.proofs.lemmas.runs.IsDeskAfter.{stands_by_code}
@@ -60,7 +60,7 @@ answer_saves Continues going message = ends_save going
 answer_saves Accepts going message = ends_save going
 answer_saves Refuses going message = ends_save going
 
--- no line of a turn that a session answers stands for a save
+-- for no line of a turn that a session answers is the store asked to save
 pub turn_saves : (turn : Turn) (message : List ℕ) → filter is_saving (turn_lines turn message) ≡ []
 turn_saves turn message =
     recorded_saves turn.recorded (lines_of_answer turn.answer message) ∙ answer_saves turn.answer.says turn.answer.session message
@@ -80,7 +80,7 @@ saves_by_code IsStored moment sent name (Replied None) old new was now held (one
 saves_by_code IsStored moment sent name Lost old new was now held (same, (reply, next, needs, one, loses)) =
     (lost_now was now loses.text held.working loses.lost).begun.counted
 
--- what the store was given to save for a code, or two in a row
+-- a code that needs a save is an attempt, and the store was asked to save the book with it
 pub asked_by_code : (IsStored : List ℕ → Type 0) (event : ClientEvent) (moment : ℕ) (sent : CodeTexts) (name : List ℕ) (at : Place)
     (judged : CodeJudged) (old new : BookFields) (was now : StoreFacts)
     → at ≡ waits_code name → HoldsBook IsStored old was → IsJudged IsStored old was name moment sent judged new now
@@ -131,19 +131,20 @@ quiet_by_code IsStored moment sent name (Replied (Some Locked)) old new was now 
 quiet_by_code IsStored moment sent name (Replied None) old new was now (one, kept) none = kept
 quiet_by_code IsStored moment sent name Lost old new was now judged none = absurd (cc none)
 
--- a store that was to save, and lost it, has failed
+-- a store that was to save and lost it, or that had failed before, has failed
 pub failed_by : (was now : StoreFacts) (text : List ℕ) → ((was.failed ≡ true) × (now ≡ was)) ⊎ IsFailedSave was text now → now.failed ≡ true
 failed_by was now text (inl (failed, same)) = rw same failed
 failed_by was now text (inr lost) = lost.failed
 
--- the desk has halted only where the save was lost
-halts_by_code : (IsStored : List ℕ → Type 0) (moment : ℕ) (sent : CodeTexts) (name own : List ℕ) (judged : CodeJudged)
+-- a desk that has halted after a code has a store that failed, and its book did not change
+halts_by_code : (IsStored : List ℕ → Type 0) (moment : ℕ) (sent : CodeTexts) (name server_nonce : List ℕ) (judged : CodeJudged)
     (old new : BookFields)
     (was now : StoreFacts)
-    → IsJudged IsStored old was name moment sent judged new now → phase_of (state_after (after_judged name judged) own) ≡ phase.Halted
+    → IsJudged IsStored old was name moment sent judged new now
+    → phase_of (state_after (after_judged name judged) server_nonce) ≡ phase.Halted
     → (now.failed ≡ true) × (new ≡ old)
-halts_by_code IsStored moment sent name own (Replied reply) old new was now judged is = absurd (cc is)
-halts_by_code IsStored moment sent name own Lost old new was now (same, (reply, next, needs, one, loses)) is =
+halts_by_code IsStored moment sent name server_nonce (Replied reply) old new was now judged is = absurd (cc is)
+halts_by_code IsStored moment sent name server_nonce Lost old new was now (same, (reply, next, needs, one, loses)) is =
     (failed_by was now loses.text loses.lost, same)
 
 -- an open session is no halt
@@ -154,21 +155,24 @@ open_goes_on (WaitFinal waiting) is = cc is
 open_goes_on (WaitCode name) is = cc is
 
 -- a desk whose session goes on or has ended has not halted
-left_goes_on : (going : Option Session) (own : List ℕ) → phase_of (state_after (after_turn_of going) own) ≡ phase.Halted → ⊥
-left_goes_on None own is = cc is
-left_goes_on (Some going) own is = open_goes_on going is
+left_goes_on : (going : Option Session) (server_nonce : List ℕ) → phase_of (state_after (after_turn_of going) server_nonce) ≡ phase.Halted
+    → ⊥
+left_goes_on None server_nonce is = cc is
+left_goes_on (Some going) server_nonce is = open_goes_on going is
 
--- the session waits for a code of this account, and its client sent one, or two in a row
+-- a desk whose open session judged a code, or two in a row, has answered the call
 answers_by_code : BeginsWithItself → SpentStaysSpent → GoesOnByALine
     → {S : Type 0} (facts : S → StoreFacts) (IsStored : List ℕ → Type 0) (old : Keeper S) (going : Session)
-    (own : List ℕ) (event : ClientEvent) (moment : ℕ) (lines : List LogLine) (left : AfterTurn) (wire wire' log log' : List ℕ)
+    (server_nonce : List ℕ) (event : ClientEvent) (moment : ℕ) (lines : List LogLine) (left : AfterTurn) (wire wire' log log' : List ℕ)
     (new : Desk S)
     (name : List ℕ) (sent : CodeTexts) → AsksJudgement old going event name sent
     → IsCodeJudged facts IsStored old name moment sent lines left new.keeper
-    → AreSent None lines wire wire' log log' → new.state ≡ state_after left own
-    → Answers facts IsStored (desk_of old (Open going own)) (hears event moment) wire wire' log log' new
-answers_by_code itself stays law {S} facts IsStored old going own event moment lines left wire wire' log log' new name sent asked t written is_state =
-    let held = λ (start : BookFields) (calls : List Call) (s : IsDeskAfter facts IsStored start calls (desk_of old (Open going own))).
+    → AreSent None lines wire wire' log log' → new.state ≡ state_after left server_nonce
+    → Answers facts IsStored (desk_of old (Open going server_nonce)) (hears event moment) wire wire' log log' new
+answers_by_code itself stays law {S} facts IsStored old going server_nonce event moment lines left wire wire' log log' new name sent asked
+    t written is_state =
+    let held = λ (start : BookFields) (calls : List Call) (s : IsDeskAfter facts IsStored start calls
+    (desk_of old (Open going server_nonce))).
     held_in_turn IsStored (accounts_in start) calls s.place old.book (facts old.store)
     (client_turn (accounts_in start) s.place going s.is_state.0) s.is_stored in
     record {
@@ -176,12 +180,13 @@ answers_by_code itself stays law {S} facts IsStored old going own event moment l
       logged = written.logged;
       sent = written.sent;
       stands = λ start calls s.
-          let here = subst (λ (g : Session). IsDeskAfter facts IsStored start calls (desk_of old (Open g own))) asked.waits s in
+          let here = subst (λ (g : Session). IsDeskAfter facts IsStored start calls (desk_of old (Open g server_nonce))) asked.waits s in
           let after = book_after_told itself start s.told old.book s.is_book in
           let asks = asked.asks (accounts_in start) s.place after.entries s.is_state.0 in
           let is_record = subst (λ (p : Place). IsRecord event p (heard (asking sent))) asks.place asks.is_record in
           rw (is_state, t.is_left, t.lines_are)
-          (stands_by_code itself stays law facts IsStored start calls old new.keeper name own event moment sent t.judged here is_record
+          (stands_by_code itself stays law facts IsStored start calls old new.keeper name server_nonce event moment sent t.judged here
+          is_record
           asked.writable t.is_judged t.in_range);
       saves = λ start calls s.
           rw t.lines_are
@@ -197,20 +202,20 @@ answers_by_code itself stays law {S} facts IsStored old going own event moment l
           quiet_by_code IsStored moment sent name t.judged old.book new.keeper.book (facts old.store) (facts new.keeper.store) t.is_judged
           (rw t.lines_are at none);
       halts = λ is.
-          halts_by_code IsStored moment sent name own t.judged old.book new.keeper.book (facts old.store)
+          halts_by_code IsStored moment sent name server_nonce t.judged old.book new.keeper.book (facts old.store)
           (facts new.keeper.store) t.is_judged
           (rw (is_state, t.is_left) at is);
     }
 
--- the session answered a turn
+-- a desk whose open session answered a turn has answered the call
 answers_by_turn : BeginsWithItself → GoesOnByALine
-    → {S : Type 0} (facts : S → StoreFacts) (IsStored : List ℕ → Type 0) (keeper : Keeper S) (going : Session) (own : List ℕ)
+    → {S : Type 0} (facts : S → StoreFacts) (IsStored : List ℕ → Type 0) (keeper : Keeper S) (going : Session) (server_nonce : List ℕ)
     (event : ClientEvent)
     (moment : ℕ) (lines : List LogLine) (left : AfterTurn) (wire wire' log log' : List ℕ) (new : Desk S)
-    → SessionAnswers keeper going own event lines left new.keeper → AreSent None lines wire wire' log log'
-    → new.state ≡ state_after left own
-    → Answers facts IsStored (desk_of keeper (Open going own)) (hears event moment) wire wire' log log' new
-answers_by_turn itself law facts IsStored keeper going own event moment lines left wire wire' log log' new t written is_state =
+    → SessionAnswers keeper going server_nonce event lines left new.keeper → AreSent None lines wire wire' log log'
+    → new.state ≡ state_after left server_nonce
+    → Answers facts IsStored (desk_of keeper (Open going server_nonce)) (hears event moment) wire wire' log log' new
+answers_by_turn itself law facts IsStored keeper going server_nonce event moment lines left wire wire' log log' new t written is_state =
     let none_saved : filter is_saving lines ≡ [] = rw t.lines_are (turn_saves t.turn t.message) in
     record {
       lines = lines;
@@ -218,7 +223,7 @@ answers_by_turn itself law facts IsStored keeper going own event moment lines le
       sent = written.sent;
       stands = λ start calls s.
           rw (t.same, is_state, t.is_left, t.lines_are)
-          (stands_by_turn itself law facts IsStored start calls keeper going own event moment t.turn t.message s t.hears
+          (stands_by_turn itself law facts IsStored start calls keeper going server_nonce event moment t.turn t.message s t.hears
           (rw t.lines_are at t.writable));
       saves = λ start calls s.
           let none = ap (λ (l : List LogLine). length l) none_saved in
@@ -226,34 +231,37 @@ answers_by_turn itself law facts IsStored keeper going own event moment lines le
           omega (arith, none, unasked);
       asks = λ start calls s some. absurd (some none_saved);
       quiet = λ none. (ap (λ (k : Keeper _). k.book) t.same, ap (λ (k : Keeper _). facts k.store) t.same);
-      halts = λ is. absurd (left_goes_on t.turn.answer.session own (rw (is_state, t.is_left) at is));
+      halts = λ is. absurd (left_goes_on t.turn.answer.session server_nonce (rw (is_state, t.is_left) at is));
     }
 
 -- where the open session took a turn and its lines were written, the desk has answered the call
 pub answers_by_taken : BeginsWithItself → SpentStaysSpent → GoesOnByALine
-    → {S : Type 0} (facts : S → StoreFacts) (IsStored : List ℕ → Type 0) (old : Keeper S) (going : Session) (own : List ℕ)
+    → {S : Type 0} (facts : S → StoreFacts) (IsStored : List ℕ → Type 0) (old : Keeper S) (going : Session) (server_nonce : List ℕ)
     (event : ClientEvent) (moment : ℕ) (left : AfterTurn) (wire wire' log log' : List ℕ) (new : Desk S)
-    → IsTurnWritten facts IsStored old going own event moment None wire wire' log log' left new.keeper → new.state ≡ state_after left own
-    → Answers facts IsStored (desk_of old (Open going own)) (hears event moment) wire wire' log log' new
-answers_by_taken itself stays law facts IsStored old going own event moment left wire wire' log log' new (lines, inl t, written) is_state =
-    answers_by_turn itself law facts IsStored old going own event moment lines left wire wire' log log' new t written is_state
-answers_by_taken itself stays law facts IsStored old going own event moment left wire wire' log log' new
+    → IsTurnWritten facts IsStored old going server_nonce event moment None wire wire' log log' left new.keeper
+    → new.state ≡ state_after left server_nonce
+    → Answers facts IsStored (desk_of old (Open going server_nonce)) (hears event moment) wire wire' log log' new
+answers_by_taken itself stays law facts IsStored old going server_nonce event moment left wire wire' log log' new (lines, inl t, written)
+    is_state =
+    answers_by_turn itself law facts IsStored old going server_nonce event moment lines left wire wire' log log' new t written is_state
+answers_by_taken itself stays law facts IsStored old going server_nonce event moment left wire wire' log log' new
     (lines, inr (name, sent, asked, t), written) is_state =
-    answers_by_code itself stays law facts IsStored old going own event moment lines left wire wire' log log' new name sent asked t written is_state
+    answers_by_code itself stays law facts IsStored old going server_nonce event moment lines left wire wire' log log' new name sent asked
+    t written is_state
 
--- the desk greeted a client
+-- a closed desk that has written its offer has answered the greeting
 pub answers_by_greeting : GoesOnByALine
     → {S : Type 0} (facts : S → StoreFacts) (IsStored : List ℕ → Type 0) (keeper : Keeper S) (state : State)
-    (own wire wire' log log' : List ℕ)
+    (server_nonce wire wire' log log' : List ℕ)
     → state ≡ Closed → log' ≡ log ++ log_bytes (said (mechs offered_names) ∷ [])
     → wire' ≡ wire ++ wire_bytes (said (mechs offered_names) ∷ [])
-    → Answers facts IsStored (desk_of keeper state) (greets own) wire wire' log log' (desk_of keeper (Open WaitAuth own))
-answers_by_greeting law facts IsStored keeper state own wire wire' log log' closed logged sent = record {
+    → Answers facts IsStored (desk_of keeper state) (greets server_nonce) wire wire' log log' (desk_of keeper (Open WaitAuth server_nonce))
+answers_by_greeting law facts IsStored keeper state server_nonce wire wire' log log' closed logged sent = record {
   lines = said (mechs offered_names) ∷ [];
   logged = logged;
   sent = sent;
   stands = λ start calls s.
-      stands_by_greeting law facts IsStored start calls keeper own
+      stands_by_greeting law facts IsStored start calls keeper server_nonce
       (subst (λ (st : State). IsDeskAfter facts IsStored start calls (desk_of keeper st)) closed s);
   saves = λ start calls s. omega arith;
   asks = λ start calls s some. absurd (some refl);

@@ -1,6 +1,6 @@
 -- What a desk stands for after each of its calls.
 use Rattle.std.proofs.Common.{◌≡◌, inl, inr, ◌⊎◌, Bool, true, false, ℕ, List, [], ◌∷◌, ◌++◌, reverse, refl, sym, ◌∙◌, subst}
-use Rattle.std.proofs.Common.{append_assoc, append-nil, arith}
+use Rattle.std.proofs.Common.{append_assoc, append-nil}
 use Rattle.std.specs.declared.option.Option.{Option}
 use Rattle.std.specs.declared.option.Option.TheVariants.{None, Some}
 use Rattle.std.proofs.lemmas.Grind.{reverse_onto}
@@ -10,7 +10,7 @@ use Rattle.otp_core.specs.Laws.{BeginsWithItself}
 use Rattle.otp_core.specs.declared.token.answer.Reply.{Reply}
 use Rattle.book_format.specs.Book.{BookFields}
 use Rattle.book_format.specs.Trees.{IsBookText}
-use Rattle.account_book.specs.SavedBooks.{needs_save, SavesBook, WasSaved}
+use Rattle.account_book.specs.SavedBooks.{needs_save, SavesBook, HasStoredText}
 use Rattle.account_book.specs.Store.{StoreFacts, IsFailedSave}
 use Rattle.log_grammar.specs.Books.{accounts_in}
 use Rattle.log_grammar.specs.laws.LogLaws.{GoesOnByALine}
@@ -18,23 +18,25 @@ use Rattle.log_grammar.specs.Lines.{LogLine, header, said, heard, mechs, replies
 use Rattle.log_grammar.specs.Words.{offered_names}
 use Rattle.log_grammar.specs.LoggedReply.{LoggedReply, logged_reply_of}
 use Rattle.log_grammar.specs.Places.{Place, before_all, between, offered, waits_code, got_code, halted}
-use Rattle.log_grammar.specs.Demands.{Accounts, IsToldDue, demands}
+use Rattle.log_grammar.specs.Demands.{Accounts, IsLoggedReplyDue, demands}
 use Rattle.log_grammar.specs.Begins.{Begins}
 use Rattle.log_grammar.proofs.lemmas.lines.LackLf.{reply_line}
 use Rattle.log_grammar.proofs.lemmas.state_machine.Shortening.{code_goes}
 use Rattle.log_grammar.proofs.lemmas.ListEnds.{all_append}
 use Rattle.log_grammar.proofs.lemmas.reason_laws.Mended.{two_names}
+use Rattle.log_grammar.proofs.lemmas.session_laws.OfSessions.{is_header}
+use Rattle.log_grammar.proofs.lemmas.login_laws.Upgraded.{is_halt}
 use Rattle.sasl_log.specs.Logins.{KeepsEntries}
 use Rattle.sasl_log.specs.Tokens.{IsBookAfter}
 use Rattle.sasl_desk.specs.Events.{ClientEvent}
 use Rattle.sasl_desk.specs.Turns.{is_client_turn, IsPath}
 use Rattle.sasl_desk.specs.Keeper.{IsAttemptJudged, IsKept, IsJudged, IsJudgedInRange}
 use Rattle.sasl_desk.specs.Sessions.{IsSessionAt, IsLeftAt, IsRecord, IsTurnOnEvent, recorded_shown, lines_of_answer, turn_lines}
-use Rattle.sasl_desk.specs.Sessions.{CanBeWritten, IsOwnChallenge}
-use Rattle.sasl_desk.specs.Runs.{greets, hears, IsAtRest, IsTurnTaken, Call, call_of, run_lines, own_part, IsRun}
+use Rattle.sasl_desk.specs.Sessions.{CanBeWritten, IsChallengeWith}
+use Rattle.sasl_desk.specs.Runs.{greets, hears, IsAtRest, IsTurnTaken, Call, call_of, run_lines, server_nonce_of, IsRun}
 use Rattle.sasl_desk.specs.Spent.{AreSpent, spent_by, SpentStaysSpent}
 use Rattle.sasl_desk.specs.TurnResults.{after_turn_of, judged_lines, after_judged}
-use Rattle.sasl_desk.specs.Desks.{IsStateAt, HoldsBook, IsStoredAt, IsBookWith, all_spent, IsDeskAfter, desk_of, state_after}
+use Rattle.sasl_desk.specs.Desks.{IsStateAt, HoldsBook, IsStoredAt, IsBookWith, spent_by_all, IsDeskAfter, desk_of, state_after}
 use Rattle.sasl_desk.specs.declared.keeper.Keeper.{Keeper}
 use Rattle.sasl_desk.specs.declared.keeper.CodeJudged.{CodeJudged}
 use Rattle.sasl_desk.specs.declared.keeper.CodeJudged.TheVariants.{Replied, Lost}
@@ -42,13 +44,13 @@ use Rattle.sasl_desk.specs.declared.desk.Desk.{Desk}
 use Rattle.sasl_desk.specs.declared.desk.state.State.TheVariants.{Closed, Open, Halted}
 use Rattle.sasl_desk.specs.declared.session.Session.{Session}
 use Rattle.sasl_desk.specs.declared.session.Session.TheVariants.{WaitAuth, WaitCode}
-use Rattle.sasl_desk.specs.declared.session.turn.Turn.{Turn}
+use Rattle.sasl_desk.specs.declared.session.event.Turn.{Turn}
 use Rattle.sasl_desk.proofs.lemmas.turns.Keepers.{told_due, told_after}
 use Rattle.sasl_desk.proofs.lemmas.turns.Paths.{client_turn, turn_path, turn_no_reply, goes_on_by_path}
 use Rattle.sasl_desk.proofs.lemmas.runs.Bytes.{left_rests, answer_bears, answer_answers}
 use Rattle.sasl_log.proofs.lemmas.audits.AuditedLineByLine.{book_first}
 
--- a book with what was told, the latest of which comes first, is the one after it
+-- a book with what was told, the latest first, is the one after what was told, the earliest first
 with_after : BeginsWithItself → (start : BookFields) (before : List LoggedReply) (book : BookFields) → IsBookWith start before book
     → IsBookAfter (accounts_in start) (reverse before) book
 with_after itself start [] book is = subst (λ (b : BookFields). IsBookAfter (accounts_in start) [] b) (sym is) (book_first itself start)
@@ -71,14 +73,14 @@ pub held_in_turn : (IsStored : List ℕ → Type 0) (accounts : Accounts) (calls
 held_in_turn IsStored accounts calls halted book store turn stored = absurd (cc turn)
 held_in_turn IsStored accounts calls at book store turn stored = stored
 
--- where a call leaves the log, and no halt stands there, a store that holds the book is as it is to be
+-- at a place where a call leaves the log and that is no halt, a store that holds the book is as it has to be
 pub held_at_turn : (IsStored : List ℕ → Type 0) (accounts : Accounts) (calls : List Call) (at : Place) (book : BookFields)
     (store : StoreFacts)
     → IsAtRest at → (at ≡ halted → ⊥) → HoldsBook IsStored book store → IsStoredAt IsStored accounts calls at book store
 held_at_turn IsStored accounts calls halted book store rests going held = absurd (going refl)
 held_at_turn IsStored accounts calls at book store rests going held = held
 
--- the place at which a session is left is not that of a halt
+-- a session is not left at a halt
 pub left_going : (accounts : Accounts) (at : Place) (going : Option Session) → IsLeftAt accounts at going → at ≡ halted → ⊥
 left_going accounts at None is same = cc (is, same)
 left_going accounts at (Some going) is same =
@@ -86,12 +88,13 @@ left_going accounts at (Some going) is same =
     cc turn
 
 -- where a turn leaves a session, its desk is in the state that is due there
-left_state : (accounts : Accounts) (own kept : List ℕ) (at : Place) (going : Option Session) → kept ≡ own → IsLeftAt accounts at going
-    → IsStateAt accounts own at (state_after (after_turn_of going) kept)
-left_state accounts own kept at (Some going) same is = (is, same)
-left_state accounts own kept at None same is = is
+left_state : (accounts : Accounts) (server_nonce kept : List ℕ) (at : Place) (going : Option Session) → kept ≡ server_nonce
+    → IsLeftAt accounts at going
+    → IsStateAt accounts server_nonce at (state_after (after_turn_of going) kept)
+left_state accounts server_nonce kept at (Some going) same is = (is, same)
+left_state accounts server_nonce kept at None same is = is
 
--- after a save the store holds the text of the book
+-- a store that saved the book holds its text
 pub saved_held : (IsStored : List ℕ → Type 0) (book : BookFields) (was now : StoreFacts) → SavesBook IsStored was book now
     → HoldsBook IsStored book now
 saved_held IsStored book was now saves = record {
@@ -99,10 +102,6 @@ saved_held IsStored book was now saves = record {
   saved = subst (λ (t : List ℕ). IsBookText t book) (sym saves.saved.saved) saves.is_text;
   stored = subst IsStored (sym saves.saved.saved) saves.stored;
 }
-
--- the first line of a log can be written
-pub header_written : IsWritable header
-header_written = record { spelled = refl; ranges = tt; short = omega arith }
 
 -- a desk that begins stands for its keeper's book and no call
 stands_at_first : BeginsWithItself → GoesOnByALine
@@ -113,7 +112,7 @@ stands_at_first itself law facts IsStored keeper was holds = record {
   told = [];
   is_run = refl;
   begins = law (accounts_in keeper.book) [] before_all [] header between (inl (refl, refl, refl)) refl tt;
-  writable = (header_written, tt);
+  writable = (is_header, tt);
   is_state = refl;
   is_book = refl;
   is_stored = saved_held IsStored keeper.book was (facts keeper.store) holds;
@@ -132,10 +131,11 @@ stands_from itself law facts IsStored book keeper was same holds =
 -- a closed desk that greets stands for one call more, and its session is offered the mechanisms
 pub stands_by_greeting : GoesOnByALine
     → {S : Type 0} (facts : S → StoreFacts) (IsStored : List ℕ → Type 0) (start : BookFields) (calls : List Call) (keeper : Keeper S)
-    (own : List ℕ)
+    (server_nonce : List ℕ)
     → IsDeskAfter facts IsStored start calls (desk_of keeper Closed)
-    → IsDeskAfter facts IsStored start (call_of (greets own) (said (mechs offered_names) ∷ []) ∷ calls) (desk_of keeper (Open WaitAuth own))
-stands_by_greeting law facts IsStored start calls keeper own s =
+    → IsDeskAfter facts IsStored start (call_of (greets server_nonce) (said (mechs offered_names) ∷ []) ∷ calls)
+    (desk_of keeper (Open WaitAuth server_nonce))
+stands_by_greeting law facts IsStored start calls keeper server_nonce s =
     let accounts = accounts_in start in
     let line = said (mechs offered_names) in
     let begins = subst (λ (p : Place). Begins (demands accounts) (run_lines calls) p s.told) s.is_state s.begins in
@@ -153,12 +153,12 @@ stands_by_greeting law facts IsStored start calls keeper own s =
       spent = s.spent;
     }
 
--- the turn that a session took, in the words of a run
-pub taken_by_turn : (accounts : Accounts) (own kept : List ℕ) (event : ClientEvent) (moment : ℕ) (at : Place) (going : Session)
+-- a turn that a session took is the turn of the call, as a run says it
+pub taken_by_turn : (accounts : Accounts) (server_nonce kept : List ℕ) (event : ClientEvent) (moment : ℕ) (at : Place) (going : Session)
     (turn : Turn)
-    (message : List ℕ) → kept ≡ own → IsSessionAt accounts at going → (t : IsTurnOnEvent accounts kept event at turn message)
-    → IsTurnTaken accounts own event moment at (turn_lines turn message) t.is_answer.next
-taken_by_turn accounts own kept event moment at going turn message same is t = record {
+    (message : List ℕ) → kept ≡ server_nonce → IsSessionAt accounts at going → (t : IsTurnOnEvent accounts kept event at turn message)
+    → IsTurnTaken accounts server_nonce event moment at (turn_lines turn message) t.is_answer.next
+taken_by_turn accounts server_nonce kept event moment at going turn message same is t = record {
   recorded = recorded_shown turn.recorded;
   answered = lines_of_answer turn.answer message;
   lines_are = refl;
@@ -166,17 +166,17 @@ taken_by_turn accounts own kept event moment at going turn message same is t = r
   answers = answer_answers turn.answer.says turn.answer.session message;
   path = turn_path accounts kept event at going turn message is t;
   rests = left_rests accounts t.is_answer.next turn.answer.session t.is_answer.left;
-  challenge = subst (λ (o : List ℕ). IsOwnChallenge accounts o t.is_answer.next) same t.is_answer.own_part;
+  challenge = subst (λ (o : List ℕ). IsChallengeWith accounts o t.is_answer.next) same t.is_answer.server_nonce_of;
   plain = t.is_answer.plain;
   moments = answer_bears moment turn.answer.says turn.answer.session message;
 }
 
--- the turn of a code, or two in a row, with its reply, in the words of a run
-pub taken_by_reply : (accounts : Accounts) (own : List ℕ) (event : ClientEvent) (moment : ℕ) (name : List ℕ) (sent : CodeTexts)
+-- a code, or two in a row, with its reply is the turn of the call, as a run says it
+pub taken_by_reply : (accounts : Accounts) (server_nonce : List ℕ) (event : ClientEvent) (moment : ℕ) (name : List ℕ) (sent : CodeTexts)
     (reply : Option Reply)
     → IsRecord event (waits_code name) (heard (asking sent))
-    → IsTurnTaken accounts own event moment (waits_code name) (judged_lines moment sent (Replied reply)) (waits_code name)
-taken_by_reply accounts own event moment name sent reply is_record = record {
+    → IsTurnTaken accounts server_nonce event moment (waits_code name) (judged_lines moment sent (Replied reply)) (waits_code name)
+taken_by_reply accounts server_nonce event moment name sent reply is_record = record {
   recorded = heard (asking sent);
   answered = said (replies moment reply) ∷ [];
   lines_are = refl;
@@ -189,11 +189,11 @@ taken_by_reply accounts own event moment name sent reply is_record = record {
   moments = (refl, tt);
 }
 
--- the turn of a code, or two in a row, whose save failed, in the words of a run
-pub taken_by_halt : (accounts : Accounts) (own : List ℕ) (event : ClientEvent) (moment : ℕ) (name : List ℕ) (sent : CodeTexts)
+-- a code, or two in a row, whose save failed is the turn of the call, as a run says it
+pub taken_by_halt : (accounts : Accounts) (server_nonce : List ℕ) (event : ClientEvent) (moment : ℕ) (name : List ℕ) (sent : CodeTexts)
     → IsRecord event (waits_code name) (heard (asking sent))
-    → IsTurnTaken accounts own event moment (waits_code name) (judged_lines moment sent Lost) halted
-taken_by_halt accounts own event moment name sent is_record = record {
+    → IsTurnTaken accounts server_nonce event moment (waits_code name) (judged_lines moment sent Lost) halted
+taken_by_halt accounts server_nonce event moment name sent is_record = record {
   recorded = heard (asking sent);
   answered = said halt ∷ [];
   lines_are = refl;
@@ -206,23 +206,23 @@ taken_by_halt accounts own event moment name sent is_record = record {
   moments = (tt, tt);
 }
 
--- a desk whose session answers a turn
+-- a desk whose session answers a turn stands for one call more
 pub stands_by_turn : BeginsWithItself → GoesOnByALine
     → {S : Type 0} (facts : S → StoreFacts) (IsStored : List ℕ → Type 0) (start : BookFields) (calls : List Call) (keeper : Keeper S)
-    (going : Session) (own : List ℕ) (event : ClientEvent) (moment : ℕ) (turn : Turn) (message : List ℕ)
-    → IsDeskAfter facts IsStored start calls (desk_of keeper (Open going own))
+    (going : Session) (server_nonce : List ℕ) (event : ClientEvent) (moment : ℕ) (turn : Turn) (message : List ℕ)
+    → IsDeskAfter facts IsStored start calls (desk_of keeper (Open going server_nonce))
     → ((accounts : Accounts) (at : Place) → KeepsEntries accounts keeper.book → IsSessionAt accounts at going
-    → IsTurnOnEvent accounts own event at turn message)
+    → IsTurnOnEvent accounts server_nonce event at turn message)
     → CanBeWritten (turn_lines turn message)
     → IsDeskAfter facts IsStored start (call_of (hears event moment) (turn_lines turn message) ∷ calls)
-    (desk_of keeper (state_after (after_turn_of turn.answer.session) own))
-stands_by_turn itself law facts IsStored start calls keeper going own event moment turn message s hears_it written =
+    (desk_of keeper (state_after (after_turn_of turn.answer.session) server_nonce))
+stands_by_turn itself law facts IsStored start calls keeper going server_nonce event moment turn message s hears_it written =
     let accounts = accounts_in start in
     let is = s.is_state.0 in
     let same = s.is_state.1 in
     let after = book_after_told itself start s.told keeper.book s.is_book in
     let t = hears_it accounts s.place after.entries is in
-    let path = turn_path accounts own event s.place going turn message is t in
+    let path = turn_path accounts server_nonce event s.place going turn message is t in
     let lines = turn_lines turn message in
     record {
       place = t.is_answer.next;
@@ -230,12 +230,12 @@ stands_by_turn itself law facts IsStored start calls keeper going own event mome
       is_run = (
         s.place,
         s.is_run,
-        taken_by_turn accounts (own_part calls) own event moment s.place going turn message same is t,
+        taken_by_turn accounts (server_nonce_of calls) server_nonce event moment s.place going turn message same is t,
       );
       begins = goes_on_by_path law accounts (run_lines calls) s.place s.told lines t.is_answer.next s.begins path
-          (turn_no_reply accounts own event s.place turn message t);
+          (turn_no_reply accounts server_nonce event s.place turn message t);
       writable = all_append IsWritable (run_lines calls) lines s.writable written;
-      is_state = left_state accounts (own_part calls) own t.is_answer.next turn.answer.session same t.is_answer.left;
+      is_state = left_state accounts (server_nonce_of calls) server_nonce t.is_answer.next turn.answer.session same t.is_answer.left;
       is_book = s.is_book;
       is_stored = held_at_turn IsStored accounts (call_of (hears event moment) lines ∷ calls) t.is_answer.next keeper.book
           (facts keeper.store)
@@ -254,24 +254,25 @@ kept_held IsStored false old new was now (same, unasked) held =
     subst (λ (b : BookFields). HoldsBook IsStored b now) (sym same)
     (subst (λ (f : StoreFacts). HoldsBook IsStored old f) (sym unasked) held)
 
--- what was spent after one more reply
+-- with one more reply, each counter that was told is spent in the book with it
 pub spent_after : BeginsWithItself → SpentStaysSpent → (start old new : BookFields) (told : List LoggedReply) (t : LoggedReply)
     → IsAttemptJudged old t new
-    → ((ps : List (List ℕ × ℕ)) → AreSpent ps start → AreSpent (all_spent (reverse told) ++ ps) old)
-    → (ps : List (List ℕ × ℕ)) → AreSpent ps start → AreSpent (all_spent (reverse (told ++ t ∷ [])) ++ ps) new
+    → ((ps : List (List ℕ × ℕ)) → AreSpent ps start → AreSpent (spent_by_all (reverse told) ++ ps) old)
+    → (ps : List (List ℕ × ℕ)) → AreSpent ps start → AreSpent (spent_by_all (reverse (told ++ t ∷ [])) ++ ps) new
 spent_after itself stays start old new told t one before ps spent =
     let unmoved = book_first itself old in
     let on =
-    stays old new t (all_spent (reverse told) ++ ps) one.is_moment (told_due old new t one (accounts_in old) [] unmoved)
+    stays old new t (spent_by_all (reverse told) ++ ps) one.is_moment (told_due old new t one (accounts_in old) [] unmoved)
     (told_after old new t one (accounts_in old) [] unmoved) (before ps spent) in
-    subst (λ (l : List LoggedReply). AreSpent (all_spent l ++ ps) new) (sym (reverse-append told (t ∷ [])))
-    (subst (λ (l : List (List ℕ × ℕ)). AreSpent l new) (sym (append_assoc (spent_by t) (all_spent (reverse told)) ps)) on)
+    subst (λ (l : List LoggedReply). AreSpent (spent_by_all l ++ ps) new) (sym (reverse-append told (t ∷ [])))
+    (subst (λ (l : List (List ℕ × ℕ)). AreSpent l new) (sym (append_assoc (spent_by t) (spent_by_all (reverse told)) ps)) on)
 
 -- a log goes on by a code, or two in a row, and its reply
 begins_by_reply : GoesOnByALine
     → (accounts : Accounts) (log : List LogLine) (name : List ℕ) (told : List LoggedReply) (moment : ℕ) (sent : CodeTexts)
     (reply : Option Reply)
-    → Begins (demands accounts) log (waits_code name) told → IsToldDue accounts (reverse told) (logged_reply_of name moment sent reply)
+    → Begins (demands accounts) log (waits_code name) told → IsLoggedReplyDue accounts (reverse told)
+    (logged_reply_of name moment sent reply)
     → Begins (demands accounts) (log ++ heard (asking sent) ∷ said (replies moment reply) ∷ []) (waits_code name)
     (told ++ logged_reply_of name moment sent reply ∷ [])
 begins_by_reply law accounts log name told moment sent reply begins due =
@@ -284,18 +285,19 @@ begins_by_reply law accounts log name told moment sent reply begins due =
     subst (λ (l : List LogLine). Begins (demands accounts) l (waits_code name) (told ++ logged_reply_of name moment sent reply ∷ []))
     (append_assoc log (line ∷ []) (said (replies moment reply) ∷ [])) second
 
--- a desk whose keeper judged a code, or two in a row
+-- a desk whose keeper judged a code, or two in a row, stands for one call more
 pub stands_by_reply : BeginsWithItself → SpentStaysSpent → GoesOnByALine
     → {S : Type 0} (facts : S → StoreFacts) (IsStored : List ℕ → Type 0) (start : BookFields) (calls : List Call)
-    (old new : Keeper S) (name own : List ℕ) (event : ClientEvent) (moment : ℕ) (sent : CodeTexts) (reply : Option Reply)
-    → IsDeskAfter facts IsStored start calls (desk_of old (Open (WaitCode name) own))
+    (old new : Keeper S) (name server_nonce : List ℕ) (event : ClientEvent) (moment : ℕ) (sent : CodeTexts) (reply : Option Reply)
+    → IsDeskAfter facts IsStored start calls (desk_of old (Open (WaitCode name) server_nonce))
     → IsRecord event (waits_code name) (heard (asking sent))
     → IsWritable (heard (asking sent))
     → IsJudged IsStored old.book (facts old.store) name moment sent (Replied reply) new.book (facts new.store)
     → IsJudgedInRange (Replied reply)
     → IsDeskAfter facts IsStored start (call_of (hears event moment) (judged_lines moment sent (Replied reply)) ∷ calls)
-    (desk_of new (state_after (after_judged name (Replied reply)) own))
-stands_by_reply itself stays law facts IsStored start calls old new name own event moment sent reply s is_record written (one, kept) range =
+    (desk_of new (state_after (after_judged name (Replied reply)) server_nonce))
+stands_by_reply itself stays law facts IsStored start calls old new name server_nonce event moment sent reply s is_record written
+    (one, kept) range =
     let accounts = accounts_in start in
     let at = s.is_state.0 in
     let run = subst (λ (p : Place). IsRun accounts calls p) at s.is_run in
@@ -310,7 +312,7 @@ stands_by_reply itself stays law facts IsStored start calls old new name own eve
       is_run = (
         waits_code name,
         run,
-        taken_by_reply accounts (own_part calls) event moment name sent reply is_record,
+        taken_by_reply accounts (server_nonce_of calls) event moment name sent reply is_record,
       );
       begins = begins_by_reply law accounts (run_lines calls) name s.told moment sent reply begins
           (told_due old.book new.book t one accounts s.told after);
@@ -323,17 +325,13 @@ stands_by_reply itself stays law facts IsStored start calls old new name own eve
       spent = spent_after itself stays start old.book new.book s.told t one s.spent;
     }
 
--- `S HALT` can be written
-pub halt_written : IsWritable (said halt)
-halt_written = record { spelled = refl; ranges = tt; short = omega arith }
-
--- the store failed in a save, and not before it
+-- a store that had not failed, and has failed now, failed in this save
 pub lost_now : (was now : StoreFacts) (text : List ℕ) → was.failed ≡ false → ((was.failed ≡ true) × (now ≡ was)) ⊎ IsFailedSave was text now
     → IsFailedSave was text now
 lost_now was now text working (inl (failed, same)) = let never : false ≡ true = sym working ∙ failed in absurd (cc never)
 lost_now was now text working (inr lost) = lost
 
--- what the store holds after a save in which it failed
+-- after a save that failed, the store is as it has to be at the halt
 pub stored_by_halt : (IsStored : List ℕ → Type 0) (accounts : Accounts) (calls : List Call) (old new : BookFields) (was now : StoreFacts)
     (name : List ℕ) (event : ClientEvent) (moment : ℕ)
     (sent : CodeTexts) → IsRun accounts calls (waits_code name) → HoldsBook IsStored old was
@@ -356,20 +354,20 @@ stored_by_halt IsStored accounts calls old new was now name event moment sent ru
       );
       is_told = subst (λ (b : BookFields). IsAttemptJudged b (logged_reply_of name moment sent reply) next) (sym same) one;
       saved = subst (λ (b : BookFields). (IsBookText now.saved b × IsStored now.saved) ⊎ IsBookText now.saved next) (sym same) of_old;
-      before = subst (λ (b : BookFields). WasSaved IsStored b) (sym same) (was.saved, held.saved, held.stored);
+      before = subst (λ (b : BookFields). HasStoredText IsStored b) (sym same) (was.saved, held.saved, held.stored);
     }
 
--- a desk whose keeper lost a save
+-- a desk whose keeper lost the save for a code stands for one call more, and is halted
 pub stands_by_halt : GoesOnByALine → {S : Type 0} (facts : S → StoreFacts) (IsStored : List ℕ → Type 0) (start : BookFields)
     (calls : List Call)
-    (old new : Keeper S) (name own : List ℕ) (event : ClientEvent) (moment : ℕ) (sent : CodeTexts)
-    → IsDeskAfter facts IsStored start calls (desk_of old (Open (WaitCode name) own))
+    (old new : Keeper S) (name server_nonce : List ℕ) (event : ClientEvent) (moment : ℕ) (sent : CodeTexts)
+    → IsDeskAfter facts IsStored start calls (desk_of old (Open (WaitCode name) server_nonce))
     → IsRecord event (waits_code name) (heard (asking sent))
     → IsWritable (heard (asking sent))
     → IsJudged IsStored old.book (facts old.store) name moment sent Lost new.book (facts new.store)
     → IsDeskAfter facts IsStored start (call_of (hears event moment) (judged_lines moment sent Lost) ∷ calls)
-    (desk_of new (state_after (after_judged name Lost) own))
-stands_by_halt law facts IsStored start calls old new name own event moment sent s is_record written
+    (desk_of new (state_after (after_judged name Lost) server_nonce))
+stands_by_halt law facts IsStored start calls old new name server_nonce event moment sent s is_record written
     (same, (reply, next, needs, one, loses)) =
     let accounts = accounts_in start in
     let at = s.is_state.0 in
@@ -385,34 +383,36 @@ stands_by_halt law facts IsStored start calls old new name own event moment sent
       is_run = (
         waits_code name,
         run,
-        taken_by_halt accounts (own_part calls) event moment name sent is_record,
+        taken_by_halt accounts (server_nonce_of calls) event moment name sent is_record,
       );
       begins = goes_on_by_path law accounts (run_lines calls) (waits_code name) s.told lines halted begins path (tt, (tt, tt));
-      writable = all_append IsWritable (run_lines calls) lines s.writable (written, (halt_written, tt));
+      writable = all_append IsWritable (run_lines calls) lines s.writable (written, (is_halt, tt));
       is_state = tt;
       is_book = subst (λ (b : BookFields). IsBookWith start (reverse s.told) b) (sym same) s.is_book;
       is_stored = stored_by_halt IsStored accounts calls old.book new.book (facts old.store) (facts new.store)
           name event moment sent run held (same, (reply, next, needs, one, loses));
-      spent = λ ps spent. subst (λ (b : BookFields). AreSpent (all_spent (reverse s.told) ++ ps) b) (sym same) (s.spent ps spent);
+      spent = λ ps spent. subst (λ (b : BookFields). AreSpent (spent_by_all (reverse s.told) ++ ps) b) (sym same) (s.spent ps spent);
     }
 
--- a desk whose keeper judged a code, or lost the save of one
+-- a desk whose keeper judged a code, or lost the save for it, stands for one call more
 pub stands_by_code : BeginsWithItself → SpentStaysSpent → GoesOnByALine
     → {S : Type 0} (facts : S → StoreFacts) (IsStored : List ℕ → Type 0) (start : BookFields) (calls : List Call)
-    (old new : Keeper S) (name own : List ℕ) (event : ClientEvent) (moment : ℕ) (sent : CodeTexts) (judged : CodeJudged)
-    → IsDeskAfter facts IsStored start calls (desk_of old (Open (WaitCode name) own))
+    (old new : Keeper S) (name server_nonce : List ℕ) (event : ClientEvent) (moment : ℕ) (sent : CodeTexts) (judged : CodeJudged)
+    → IsDeskAfter facts IsStored start calls (desk_of old (Open (WaitCode name) server_nonce))
     → IsRecord event (waits_code name) (heard (asking sent))
     → IsWritable (heard (asking sent))
     → IsJudged IsStored old.book (facts old.store) name moment sent judged new.book (facts new.store) → IsJudgedInRange judged
     → IsDeskAfter facts IsStored start (call_of (hears event moment) (judged_lines moment sent judged) ∷ calls)
-    (desk_of new (state_after (after_judged name judged) own))
-stands_by_code itself stays law facts IsStored start calls old new name own event moment sent
+    (desk_of new (state_after (after_judged name judged) server_nonce))
+stands_by_code itself stays law facts IsStored start calls old new name server_nonce event moment sent
     (Replied reply) s is_record written judged range =
-    stands_by_reply itself stays law facts IsStored start calls old new name own event moment sent reply s is_record written judged range
-stands_by_code itself stays law facts IsStored start calls old new name own event moment sent Lost s is_record written judged range =
-    stands_by_halt law facts IsStored start calls old new name own event moment sent s is_record written judged
+    stands_by_reply itself stays law facts IsStored start calls old new name server_nonce event moment sent reply s is_record written
+    judged range
+stands_by_code itself stays law facts IsStored start calls old new name server_nonce event moment sent Lost s is_record written judged
+    range =
+    stands_by_halt law facts IsStored start calls old new name server_nonce event moment sent s is_record written judged
 
--- a desk that halts stands for what it stood for
+-- a desk that is halted stands for the calls for which it stood
 pub stands_halted : {S : Type 0} (facts : S → StoreFacts) (IsStored : List ℕ → Type 0) (start : BookFields) (calls : List Call)
     (desk : Desk S)
     → IsDeskAfter facts IsStored start calls desk → IsDeskAfter facts IsStored start calls (desk_of desk.keeper Halted)

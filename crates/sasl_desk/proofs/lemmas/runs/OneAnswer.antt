@@ -16,14 +16,14 @@ use Rattle.log_grammar.specs.Lines.{LogLine, header, header_two, said, heard, ba
 use Rattle.log_grammar.specs.Lines.{ClientLine, auth, auth_with, resp, abort, code, sync, from_client}
 use Rattle.log_grammar.specs.Places.{Place, between, offered, asks_bare, waits_first, got_first, waits_final, got_final, waits_code}
 use Rattle.log_grammar.specs.Places.{leaving, over}
-use Rattle.log_grammar.specs.Demands.{Accounts, Demands, NamesMechanism, IsFirstOf, IsChallenged, IsVerdict, demands}
+use Rattle.log_grammar.specs.Demands.{Accounts, Demands, NamesMechanism, IsFirstOf, IsChallenged, IsVerdictDue, demands}
 use Rattle.log_grammar.specs.state_machine.Steps.{IsTransition}
 use Rattle.log_grammar.proofs.lemmas.demands.Challenges.{one_name, login_of}
 use Rattle.log_grammar.proofs.lemmas.kinds.OneWhy.{mechanism_once, one_verdict}
 use Rattle.sasl_desk.specs.Alone.{IsSameRequest, up_to_acceptance}
 use Rattle.sasl_desk.specs.Events.{ClientEvent, sends, goes_away}
 use Rattle.sasl_desk.specs.Runs.{Asked, greets, hears, IsAtRest, IsAnswerLine, IsTurnTaken, IsAnsweredBy}
-use Rattle.sasl_desk.specs.Sessions.{IsRecord, IsOwnChallenge, LacksExtensions}
+use Rattle.sasl_desk.specs.Sessions.{IsRecord, IsChallengeWith, LacksExtensions}
 use Rattle.sasl_desk.specs.Turns.{is_client_turn, is_due, heard_place, record_place, IsPath}
 use Rattle.sasl_desk.proofs.lemmas.turns.HeardLines.{line_inside}
 use Rattle.sasl_desk.proofs.lemmas.turns.DueRecords.{goes_due, goes_bad, goes_gone}
@@ -51,7 +51,7 @@ record_once law (sends text) at one other a b = absurd a
 record_once law goes_away at gone other a b = absurd b
 record_once law goes_away at one other a b = absurd a
 
--- the server has something to say at a place, other than a reply
+-- at the place the server has something to say, other than a reply
 abbrev pub IsAnswerDue : Place → Type 0
 IsAnswerDue leaving = Unit {0}
 IsAnswerDue over = Unit {0}
@@ -85,14 +85,14 @@ record_due d goes_away at middle gone is goes apart = subst IsAnswerDue (sym (go
 record_due d (sends text) at middle kept is goes apart = absurd is
 record_due d goes_away at middle kept is goes apart = absurd is
 
--- where a session is over, no more of an answer may stand
+-- a path of an answer's lines from between sessions has no line
 tail_between : (d : Demands) (lines : List LogLine) (next : Place) → IsPath d between lines next → AllByRecursion IsAnswerLine lines
     → (lines ≡ []) × (next ≡ between)
 tail_between d [] next path all = (refl, path)
 tail_between d (said (mechs names) ∷ lines) next path all = absurd all.0
 tail_between d (line ∷ lines) next (middle, goes, path) all = absurd goes
 
--- where a session ends, `E` alone may stand
+-- a path of an answer's lines from where `E` is due is `E` alone
 tail_over : (d : Demands) (lines : List LogLine) (next : Place) → IsPath d over lines next → AllByRecursion IsAnswerLine lines
     → IsAtRest next
     → (lines ≡ ended ∷ []) × (next ≡ between)
@@ -102,7 +102,7 @@ tail_over d (ended ∷ lines) next (middle, goes, path) all rests =
     (ap (λ (l : List LogLine). ended ∷ l) rest.0, rest.1)
 tail_over d (line ∷ lines) next (middle, goes, path) all rests = absurd goes
 
--- where it is the client's turn, no line of an answer may stand
+-- no line of an answer may stand at a client's turn, and a path of such lines from there has none:
 client_alone : (d : Demands) (at next : Place) (line : LogLine) → is_client_turn at ≡ true → IsAnswerLine line → IsTransition d at line next
     → ⊥
 client_alone d at next header turn is goes = is
@@ -125,7 +125,7 @@ tail_turn : (d : Demands) (at : Place) (lines : List LogLine) (next : Place) →
 tail_turn d at [] next turn path all = (refl, path)
 tail_turn d at (line ∷ lines) next turn (middle, goes, path) all = absurd (client_alone d at middle line turn all.0 goes)
 
--- a refusal of this text, after which the session is over
+-- the lines are a refusal with this text, after which the session is over
 abbrev pub IsRefusal : (text : List ℕ) → List LogLine → Place → Type 0
 IsRefusal text lines next = (lines ≡ said (refuses text) ∷ ended ∷ []) × (next ≡ between)
 
@@ -141,13 +141,14 @@ ShapeAt accounts (got_first mechanism first) lines next =
     ⊎ ((account : List ℕ) × (text : List ℕ) × IsChallenged accounts mechanism account first text
     × ((lines ≡ said (cont text) ∷ []) × (next ≡ waits_final mechanism account first text)))
 ShapeAt accounts (got_final mechanism account first challenge last) lines next =
-    ((why : Refusal) × IsVerdict accounts mechanism account first challenge last (refuse why)
+    ((why : Refusal) × IsVerdictDue accounts mechanism account first challenge last (refuse why)
     × IsRefusal (due_text (refuse why)) lines next)
-    ⊎ ((signature : List ℕ) × (text : List ℕ) × IsVerdict accounts mechanism account first challenge last (accept signature)
+    ⊎ ((signature : List ℕ) × (text : List ℕ) × IsVerdictDue accounts mechanism account first challenge last (accept signature)
     × IsAuthentic text signature
     × ((lines ≡ said (accepts text) ∷ []) × (next ≡ waits_code account)))
 ShapeAt accounts at lines next = Unit {0}
 
+-- an answer that begins with a refusal is that refusal, and one that leaves the client's turn is one line:
 refused_lines : (text due : List ℕ) (lines : List LogLine) (next middle : Place) (d : Demands) → text ≡ due → middle ≡ over
     → IsPath d middle lines next → AllByRecursion IsAnswerLine lines → IsAtRest next → IsRefusal due (said (refuses text) ∷ lines) next
 refused_lines text due lines next middle d same at path all rests =
@@ -217,24 +218,24 @@ shape_of accounts (got_final m account first challenge last) (said (accepts text
 shape_of accounts (got_final m account first challenge last) (line ∷ lines) next (middle, goes, path) all rests = absurd goes
 shape_of accounts at lines next path all rests = tt
 
--- a server has one challenge to a client-first message, by its entry and its part of the nonce
-challenge_once : HasOneClientFirst → (e : Entry) (first own text other : List ℕ) → IsChallengeTo e first own text
-    → IsChallengeTo e first own other
+-- a server has one challenge to a client-first message, by its entry and its part of the nonce:
+challenge_once : HasOneClientFirst → (e : Entry) (first server_nonce text other : List ℕ) → IsChallengeTo e first server_nonce text
+    → IsChallengeTo e first server_nonce other
     → text ≡ other
-challenge_once one_first e first own text other a b =
+challenge_once one_first e first server_nonce text other a b =
     a.is_challenge.spelled
-    ∙ ap (λ (p : ClientFirstParts). server_first_text (server_first_of (p.nonce ++ own) e.salt e.count []))
+    ∙ ap (λ (p : ClientFirstParts). server_first_text (server_first_of (p.nonce ++ server_nonce) e.salt e.count []))
     (one_first first a.first b.first a.is_first b.is_first)
     ∙ sym b.is_challenge.spelled
 
-own_challenge_once : HasOneClientFirst → (accounts : Accounts) (own mechanism account first text other : List ℕ)
-    → IsOwnChallenge accounts own (waits_final mechanism account first text)
-    → IsOwnChallenge accounts own (waits_final mechanism account first other)
+own_challenge_once : HasOneClientFirst → (accounts : Accounts) (server_nonce mechanism account first text other : List ℕ)
+    → IsChallengeWith accounts server_nonce (waits_final mechanism account first text)
+    → IsChallengeWith accounts server_nonce (waits_final mechanism account first other)
     → text ≡ other
-own_challenge_once one_first accounts own mechanism account first text other (m, named, a) (k, also, b) =
+own_challenge_once one_first accounts server_nonce mechanism account first text other (m, named, a) (k, also, b) =
     let same = mechanism_once k m (sym also ∙ named) in
-    challenge_once one_first (accounts.entry m account) first own text other a
-    (subst (λ (x : Mechanism). IsChallengeTo (accounts.entry x account) first own other) same b)
+    challenge_once one_first (accounts.entry m account) first server_nonce text other a
+    (subst (λ (x : Mechanism). IsChallengeTo (accounts.entry x account) first server_nonce other) same b)
 
 -- there is one acceptance, without extensions, of a signature
 plain_text : HasOneServerFinal → (text signature : List ℕ) → IsAuthentic text signature → LacksExtensions (said (accepts text))
@@ -245,54 +246,57 @@ plain_text one_last text signature is (other, plain) =
     let signatures : signature ≡ other = cc outcome in
     plain.spelled ∙ ap (λ (k : List ℕ). due_text (accept k)) (sym signatures)
 
--- each of two is equal to one of two that are equal
+-- where each of two is one of two that are the same, both are the same
 both_same : {X : Type 0} (one other : X) (same also : X) → one ≡ same → other ≡ also → same ≡ also → one ≡ other
 both_same one other same also a b e = a ∙ e ∙ sym b
 
 -- there is one answer at a place where an answer is due
-once_at : Texts → (accounts : Accounts) (own : List ℕ) (at : Place) (lines others : List LogLine) (next also : Place) → IsAnswerDue at
-    → IsOwnChallenge accounts own next → IsOwnChallenge accounts own also → AllByRecursion LacksExtensions lines
+once_at : Texts → (accounts : Accounts) (server_nonce : List ℕ) (at : Place) (lines others : List LogLine) (next also : Place)
+    → IsAnswerDue at
+    → IsChallengeWith accounts server_nonce next → IsChallengeWith accounts server_nonce also → AllByRecursion LacksExtensions lines
     → AllByRecursion LacksExtensions others → ShapeAt accounts at lines next → ShapeAt accounts at others also → (lines ≡ others)
     × (next ≡ also)
-once_at t accounts own leaving lines others next also due mine yours plain bare a b = (a.0 ∙ sym b.0, a.1 ∙ sym b.1)
-once_at t accounts own over lines others next also due mine yours plain bare a b = (a.0 ∙ sym b.0, a.1 ∙ sym b.1)
-once_at t accounts own (asks_bare m) lines others next also due mine yours plain bare (inl a) (inl b) =
+once_at t accounts server_nonce leaving lines others next also due mine yours plain bare a b = (a.0 ∙ sym b.0, a.1 ∙ sym b.1)
+once_at t accounts server_nonce over lines others next also due mine yours plain bare a b = (a.0 ∙ sym b.0, a.1 ∙ sym b.1)
+once_at t accounts server_nonce (asks_bare m) lines others next also due mine yours plain bare (inl a) (inl b) =
     (a.1.0 ∙ sym b.1.0, a.1.1 ∙ sym b.1.1)
-once_at t accounts own (asks_bare m) lines others next also due mine yours plain bare (inl a) (inr b) = absurd (a.0 b.0.0 b.0.1)
-once_at t accounts own (asks_bare m) lines others next also due mine yours plain bare (inr a) (inl b) = absurd (b.0 a.0.0 a.0.1)
-once_at t accounts own (asks_bare m) lines others next also due mine yours plain bare (inr a) (inr b) =
+once_at t accounts server_nonce (asks_bare m) lines others next also due mine yours plain bare (inl a) (inr b) = absurd (a.0 b.0.0 b.0.1)
+once_at t accounts server_nonce (asks_bare m) lines others next also due mine yours plain bare (inr a) (inl b) = absurd (b.0 a.0.0 a.0.1)
+once_at t accounts server_nonce (asks_bare m) lines others next also due mine yours plain bare (inr a) (inr b) =
     (a.1.0 ∙ sym b.1.0, a.1.1 ∙ sym b.1.1)
-once_at t accounts own (got_first m first) lines others next also due mine yours plain bare (inl a) (inl b) =
+once_at t accounts server_nonce (got_first m first) lines others next also due mine yours plain bare (inl a) (inl b) =
     (a.1.0 ∙ sym b.1.0, a.1.1 ∙ sym b.1.1)
-once_at t accounts own (got_first m first) lines others next also due mine yours plain bare (inl a) (inr (account, text, opens, b)) =
+once_at t accounts server_nonce (got_first m first) lines others next also due mine yours plain bare (inl a)
+    (inr (account, text, opens, b)) =
     absurd (a.0 account (login_of accounts m first account text opens))
-once_at t accounts own (got_first m first) lines others next also due mine yours plain bare (inr (account, text, opens, a)) (inl b) =
+once_at t accounts server_nonce (got_first m first) lines others next also due mine yours plain bare (inr (account, text, opens, a))
+    (inl b) =
     absurd (b.0 account (login_of accounts m first account text opens))
-once_at t accounts own (got_first m first) lines others next also due mine yours plain bare
+once_at t accounts server_nonce (got_first m first) lines others next also due mine yours plain bare
     (inr (account, text, opens, a)) (inr (name, other, begins, b)) =
     let names = one_name t.one_first t.names m first account name (login_of accounts m first account text opens)
     (login_of accounts m first name other begins) in
-    let here = subst (λ (p : Place). IsOwnChallenge accounts own p) a.1 mine in
-    let there = subst (λ (n : List ℕ). IsOwnChallenge accounts own (waits_final m n first other)) (sym names)
-    (subst (λ (p : Place). IsOwnChallenge accounts own p) b.1 yours) in
-    let texts = own_challenge_once t.one_first accounts own m account first text other here there in (
+    let here = subst (λ (p : Place). IsChallengeWith accounts server_nonce p) a.1 mine in
+    let there = subst (λ (n : List ℕ). IsChallengeWith accounts server_nonce (waits_final m n first other)) (sym names)
+    (subst (λ (p : Place). IsChallengeWith accounts server_nonce p) b.1 yours) in
+    let texts = own_challenge_once t.one_first accounts server_nonce m account first text other here there in (
       both_same lines others _ _ a.0 b.0 (ap (λ (x : List ℕ). said (cont x) ∷ []) texts),
       both_same next also _ _ a.1 b.1 (ap (λ (n : List ℕ). waits_final m n first text) names ∙ ap
           (λ (x : List ℕ). waits_final m name first x) texts),
     )
-once_at t accounts own (got_final m account first challenge last) lines others next also due mine yours plain bare
+once_at t accounts server_nonce (got_final m account first challenge last) lines others next also due mine yours plain bare
     (inl (why, a, (lines_are, at))) (inl (reason, b, (others_are, too))) =
     let same = one_verdict t.verdicts accounts m account first challenge last (refuse why) (refuse reason) a b in (
       both_same lines others _ _ lines_are others_are (ap (λ (d : Due). said (refuses (due_text d)) ∷ ended ∷ []) same),
       at ∙ sym too,
     )
-once_at t accounts own (got_final m account first challenge last) lines others next also due mine yours plain bare
+once_at t accounts server_nonce (got_final m account first challenge last) lines others next also due mine yours plain bare
     (inl (why, a, (lines_are, at))) (inr (signature, text, b, authentic, rest)) =
     let same = one_verdict t.verdicts accounts m account first challenge last (refuse why) (accept signature) a b in absurd (cc same)
-once_at t accounts own (got_final m account first challenge last) lines others next also due mine yours plain bare
+once_at t accounts server_nonce (got_final m account first challenge last) lines others next also due mine yours plain bare
     (inr (signature, text, a, authentic, rest)) (inl (why, b, (others_are, too))) =
     let same = one_verdict t.verdicts accounts m account first challenge last (refuse why) (accept signature) b a in absurd (cc same)
-once_at t accounts own (got_final m account first challenge last) lines others next also due mine yours plain bare
+once_at t accounts server_nonce (got_final m account first challenge last) lines others next also due mine yours plain bare
     (inr (signature, text, a, authentic, (lines_are, at))) (inr (other, word, b, genuine, (others_are, too))) =
     let same = one_verdict t.verdicts accounts m account first challenge last (accept signature) (accept other) a b in
     let mine_plain = subst (AllByRecursion LacksExtensions) lines_are plain in
@@ -302,7 +306,7 @@ once_at t accounts own (got_final m account first challenge last) lines others n
       both_same lines others _ _ lines_are others_are (ap (λ (x : List ℕ). said (accepts x) ∷ []) texts),
       at ∙ sym too,
     )
-once_at t accounts own at lines others next also due mine yours plain bare a b = absurd due
+once_at t accounts server_nonce at lines others next also due mine yours plain bare a b = absurd due
 
 -- the record of an event leads to one place
 record_leads : (d : Demands) (event : ClientEvent) (at middle : Place) (kept : LogLine) → IsRecord event at kept
@@ -346,7 +350,7 @@ accepted_right (bad ∷ lines) more is = accepted_right lines more is
 accepted_right (gone ∷ lines) more is = accepted_right lines more is
 accepted_right (ended ∷ lines) more is = accepted_right lines more is
 
--- what follows an acceptance does not enter
+-- what follows lines with an acceptance is not among those up to the acceptance
 pub no_more : (lines more : List LogLine) → has_acceptance lines ≡ true → up_to_acceptance (lines ++ more) ≡ up_to_acceptance lines
 unfolding has_acceptance
 no_more [] more is = absurd (cc is)
@@ -380,11 +384,12 @@ shape_accepts accounts (got_final m name first challenge last) lines next due (i
 shape_accepts accounts at lines next due a = absurd due
 
 -- there is one turn for an event, at a place where no code is awaited
-turn_once : Texts → (accounts : Accounts) (own : List ℕ) (event : ClientEvent) (moment later : ℕ) (at : Place) (lines others : List LogLine)
-    (next also : Place) → ((account : List ℕ) → at ≡ waits_code account → ⊥) → IsTurnTaken accounts own event moment at lines next
-    → IsTurnTaken accounts own event later at others also
+turn_once : Texts → (accounts : Accounts) (server_nonce : List ℕ) (event : ClientEvent) (moment later : ℕ) (at : Place)
+    (lines others : List LogLine)
+    (next also : Place) → ((account : List ℕ) → at ≡ waits_code account → ⊥) → IsTurnTaken accounts server_nonce event moment at lines next
+    → IsTurnTaken accounts server_nonce event later at others also
     → (lines ≡ others) × (next ≡ also) × ((has_acceptance lines ≡ true) ⊎ ((account : List ℕ) → next ≡ waits_code account → ⊥))
-turn_once t accounts own event moment later at lines others next also apart a b =
+turn_once t accounts server_nonce event moment later at lines others next also apart a b =
     let d = demands accounts in
     let (middle, goes, path) = subst (λ (l : List LogLine). IsPath d at l next) a.lines_are a.path in
     let (between_them, goes_too, other_path) = subst (λ (l : List LogLine). IsPath d at l also) b.lines_are b.path in
@@ -395,7 +400,8 @@ turn_once t accounts own event moment later at lines others next also apart a b 
     let shape = shape_of accounts middle a.answered next path a.answers a.rests in
     let other = shape_of accounts middle b.answered also
     (subst (λ (p : Place). IsPath d p b.answered also) (sym same) other_path) b.answers b.rests in
-    let answer = once_at t accounts own middle a.answered b.answered next also due a.challenge b.challenge a.plain b.plain shape other in
+    let answer = once_at t accounts server_nonce middle a.answered b.answered next also due a.challenge b.challenge a.plain b.plain shape
+    other in
     let accepts_it = shape_accepts accounts middle a.answered next due shape in (
       a.lines_are ∙ ap (λ (l : LogLine). l ∷ a.answered) kept ∙ ap (λ (l : List LogLine). b.recorded ∷ l) answer.0 ∙ sym b.lines_are,
       answer.1,
@@ -407,19 +413,20 @@ turn_once t accounts own event moment later at lines others next also apart a b 
     )
 
 -- there is one answer to a call, at a place where no code is awaited
-pub call_once : Texts → (accounts : Accounts) (own theirs : List ℕ) (asked other : Asked) (at : Place) (lines others : List LogLine)
+pub call_once : Texts → (accounts : Accounts) (server_nonce theirs : List ℕ) (asked other : Asked) (at : Place)
+    (lines others : List LogLine)
     (next also : Place)
-    → ((account : List ℕ) → at ≡ waits_code account → ⊥) → own ≡ theirs → IsSameRequest asked other
-    → IsAnsweredBy accounts own asked at lines next
+    → ((account : List ℕ) → at ≡ waits_code account → ⊥) → server_nonce ≡ theirs → IsSameRequest asked other
+    → IsAnsweredBy accounts server_nonce asked at lines next
     → IsAnsweredBy accounts theirs other at others also
     → (lines ≡ others) × (next ≡ also) × ((has_acceptance lines ≡ true) ⊎ ((account : List ℕ) → next ≡ waits_code account → ⊥))
-call_once t accounts own theirs (greets one) (greets two) at lines others next also apart alike same a b = (
+call_once t accounts server_nonce theirs (greets one) (greets two) at lines others next also apart alike same a b = (
   a.says ∙ sym b.says,
   a.waits ∙ sym b.waits,
   inr (λ account is. let wrong : offered ≡ waits_code account = sym a.waits ∙ is in cc wrong),
 )
-call_once t accounts own theirs (hears event moment) (hears other later) at lines others next also apart alike same a b =
-    turn_once t accounts own event moment later at lines others next also apart a
-    (subst (λ (e : ClientEvent). IsTurnTaken accounts own e later at others also) (sym same)
+call_once t accounts server_nonce theirs (hears event moment) (hears other later) at lines others next also apart alike same a b =
+    turn_once t accounts server_nonce event moment later at lines others next also apart a
+    (subst (λ (e : ClientEvent). IsTurnTaken accounts server_nonce e later at others also) (sym same)
     (subst (λ (o : List ℕ). IsTurnTaken accounts o other later at others also) (sym alike) b))
-call_once t accounts own theirs asked other at lines others next also apart alike same a b = absurd same
+call_once t accounts server_nonce theirs asked other at lines others next also apart alike same a b = absurd same

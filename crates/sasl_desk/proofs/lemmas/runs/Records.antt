@@ -12,7 +12,7 @@ use Rattle.log_grammar.specs.Demands.{Accounts}
 use Rattle.log_grammar.specs.Counts.{is_offer}
 use Rattle.sasl_desk.specs.Events.{ClientEvent, sends, goes_away}
 use Rattle.sasl_desk.specs.Sessions.{IsRecord}
-use Rattle.sasl_desk.specs.Runs.{Asked, greets, hears, Call, run_lines, own_part, IsAnswerLine, IsTurnTaken, IsAnsweredBy, IsRun}
+use Rattle.sasl_desk.specs.Runs.{Asked, greets, hears, Call, run_lines, server_nonce_of, IsAnswerLine, IsTurnTaken, IsAnsweredBy, IsRun}
 use Rattle.sasl_desk.specs.Desks.{IsDeskAfter}
 use Rattle.sasl_desk.specs.Records.{is_record, nonces_in, nonces_with, HasRecordOf, AreRecords, HasItsRecords}
 use Rattle.sasl_desk.specs.declared.desk.Desk.{Desk}
@@ -56,40 +56,42 @@ record_offers (sends text) at kept is = absurd is
 record_offers goes_away at gone is = refl
 record_offers goes_away at kept is = absurd is
 
--- the records of a call: none of a greeting, and one of an event
-turn_records : (accounts : Accounts) (own : List ℕ) (event : ClientEvent) (moment : ℕ) (at : Place) (lines : List LogLine) (next : Place)
-    (t : IsTurnTaken accounts own event moment at lines next) → filter is_record lines ≡ t.recorded ∷ []
-turn_records accounts own event moment at lines next t =
+-- the lines of a turn have one record, the event's, and no offer:
+turn_records : (accounts : Accounts) (server_nonce : List ℕ) (event : ClientEvent) (moment : ℕ) (at : Place) (lines : List LogLine)
+    (next : Place)
+    (t : IsTurnTaken accounts server_nonce event moment at lines next) → filter is_record lines ≡ t.recorded ∷ []
+turn_records accounts server_nonce event moment at lines next t =
     ap (filter is_record) t.lines_are
     ∙ rw (record_kept event at t.recorded t.is_record) (ap (λ (l : List LogLine). t.recorded ∷ l) (no_records t.answered t.answers))
 
-turn_offers : (accounts : Accounts) (own : List ℕ) (event : ClientEvent) (moment : ℕ) (at : Place) (lines : List LogLine) (next : Place)
-    → IsTurnTaken accounts own event moment at lines next → filter is_offer lines ≡ []
-turn_offers accounts own event moment at lines next t =
+turn_offers : (accounts : Accounts) (server_nonce : List ℕ) (event : ClientEvent) (moment : ℕ) (at : Place) (lines : List LogLine)
+    (next : Place)
+    → IsTurnTaken accounts server_nonce event moment at lines next → filter is_offer lines ≡ []
+turn_offers accounts server_nonce event moment at lines next t =
     ap (filter is_offer) t.lines_are ∙ rw (record_offers event at t.recorded t.is_record) (no_offers t.answered t.answers)
 
--- the offers of a log with a call more
-offers_next : (accounts : Accounts) (own : List ℕ) (asked : Asked) (at : Place) (lines : List LogLine) (next : Place)
+-- a log with one more call has one offer more, where the call was a greeting, else as many as before
+offers_next : (accounts : Accounts) (server_nonce : List ℕ) (asked : Asked) (at : Place) (lines : List LogLine) (next : Place)
     (before : List LogLine) (nonces : List (List ℕ))
-    → IsAnsweredBy accounts own asked at lines next → length (filter is_offer before) ≡ length nonces
+    → IsAnsweredBy accounts server_nonce asked at lines next → length (filter is_offer before) ≡ length nonces
     → length (filter is_offer (before ++ lines)) ≡ length (nonces_with asked nonces)
-offers_next accounts own (greets new) at lines next before nonces answered same =
+offers_next accounts server_nonce (greets new) at lines next before nonces answered same =
     let added : filter is_offer lines ≡ said (mechs _) ∷ [] = ap (filter is_offer) answered.says in
     let whole = filter-append is_offer before lines ∙ ap (λ (l : List LogLine). filter is_offer before ++ l) added in
     let counted = ap length whole ∙ length-append (filter is_offer before) (said (mechs _) ∷ []) in
     omega (arith, counted, same)
-offers_next accounts own (hears event moment) at lines next before nonces turn same =
+offers_next accounts server_nonce (hears event moment) at lines next before nonces turn same =
     ap length (filter-append is_offer before lines
-    ∙ ap (λ (l : List LogLine). filter is_offer before ++ l) (turn_offers accounts own event moment at lines next turn)
+    ∙ ap (λ (l : List LogLine). filter is_offer before ++ l) (turn_offers accounts server_nonce event moment at lines next turn)
     ∙ append-nil (filter is_offer before))
     ∙ same
 
--- the records of a log with a call more
+-- a log with one more call has one record more, where the call was an event, else those before
 records_next : (accounts : Accounts) (asked : Asked) (at : Place) (lines : List LogLine) (next : Place) (before : List Call)
-    → IsRun accounts before at → IsAnsweredBy accounts (own_part before) asked at lines next
+    → IsRun accounts before at → IsAnsweredBy accounts (server_nonce_of before) asked at lines next
     → AreRecords accounts before (filter is_record (run_lines before))
     → HasRecordOf accounts asked before (AreRecords accounts before) (filter is_record (run_lines before ++ lines))
-records_next accounts (greets own) at lines next before run answered records =
+records_next accounts (greets server_nonce) at lines next before run answered records =
     let whole = filter-append is_record (run_lines before) lines
     ∙ ap (λ (l : List LogLine). filter is_record (run_lines before) ++ l) (ap (filter is_record) answered.says)
     ∙ append-nil (filter is_record (run_lines before)) in
@@ -103,7 +105,7 @@ records_next accounts (hears event moment) at lines next before run turn records
   records,
   filter-append is_record (run_lines before) lines
       ∙ ap (λ (l : List LogLine). filter is_record (run_lines before) ++ l)
-      (turn_records accounts (own_part before) event moment at lines next turn),
+      (turn_records accounts (server_nonce_of before) event moment at lines next turn),
 )
 
 -- the log of a run has as many offers of mechanisms as clients were greeted
@@ -111,7 +113,7 @@ pub run_offers : (accounts : Accounts) (calls : List Call) (at : Place) → IsRu
     → length (filter is_offer (run_lines calls)) ≡ length (nonces_in calls)
 run_offers accounts [] at run = refl
 run_offers accounts (c ∷ before) at (place, run, answered) =
-    offers_next accounts (own_part before) c.asked place c.lines at (run_lines before) (nonces_in before) answered
+    offers_next accounts (server_nonce_of before) c.asked place c.lines at (run_lines before) (nonces_in before) answered
     (run_offers accounts before place run)
 
 -- the records in the log of a run are those of what clients did in its calls, in their order

@@ -3,13 +3,13 @@ use Rattle.std.proofs.Common.{◌≡◌, inl, inr, ◌⊎◌, true, ℕ, List, [
 use Rattle.std.specs.List.{AllByRecursion}
 use Rattle.book_format.specs.Book.{BookFields}
 use Rattle.book_format.specs.Trees.{IsBookText}
-use Rattle.account_book.specs.SavedBooks.{WasSaved}
+use Rattle.account_book.specs.SavedBooks.{HasStoredText}
 use Rattle.account_book.specs.Store.{StoreFacts}
 use Rattle.account_book.specs.Laws.{TokensAreApart, AddedIsApart}
 use Rattle.otp_core.specs.Laws.{BeginsWithItself, CandidatesAreNew}
 use Rattle.log_grammar.specs.Books.{accounts_in}
 use Rattle.log_grammar.specs.laws.LogLaws.{GoesOnByNoOther}
-use Rattle.log_grammar.specs.Lines.{LogLine, said, halt, log_text, log_bytes}
+use Rattle.log_grammar.specs.Lines.{LogLine, said, halt, log_line_text, log_bytes}
 use Rattle.log_grammar.specs.LoggedReply.{LoggedReply}
 use Rattle.log_grammar.specs.Places.{Place, MayEnd, got_code, halted}
 use Rattle.log_grammar.specs.Demands.{Accounts, Demands, demands}
@@ -17,15 +17,15 @@ use Rattle.log_grammar.specs.state_machine.Steps.{IsTransition}
 use Rattle.log_grammar.specs.Begins.{Begins, AreLines}
 use Rattle.log_grammar.specs.Versions.{IsFront, IsClean}
 use Rattle.log_grammar.proofs.lemmas.kinds.ShownByLines.{lines_front, lines_clean}
-use Rattle.log_grammar.proofs.lemmas.headline_laws.OfSessions.{are_lines, each_lacks}
+use Rattle.log_grammar.proofs.lemmas.session_laws.OfSessions.{are_lines, each_lacks}
 use Rattle.sasl_desk.specs.Keeper.{IsAttemptJudged}
 use Rattle.sasl_desk.specs.Sessions.{CanBeWritten}
 use Rattle.sasl_desk.specs.Runs.{Call, run_lines}
 use Rattle.sasl_desk.specs.Saved.{IsLogSaved}
 use Rattle.sasl_desk.specs.Spent.{AreDifferent, IsCounterSpent, AreSpent, spent_by, SpentStaysSpent}
-use Rattle.sasl_desk.specs.Desks.{HoldsBook, IsLostAfter, IsStoredAt, IsStateAt, all_spent, IsDeskAfter, phase_of, session_phase}
+use Rattle.sasl_desk.specs.Desks.{HoldsBook, IsLostAfter, IsStoredAt, IsStateAt, spent_by_all, IsDeskAfter, phase_of, session_phase}
 use Rattle.sasl_desk.specs.Restarts.{DeskRun, IsDeskRunOf, HallRun, IsHallRunOf, IsDeskRunLeaving, Change, desk_ran, hall_ran, judged}
-use Rattle.sasl_desk.specs.Restarts.{unlocked, added, IsChange, AreChanges, spent_by_change, spent_in}
+use Rattle.sasl_desk.specs.Restarts.{unlocked, added, IsChange, AreChanges, spent_by_change, spent_by_changes}
 use Rattle.sasl_desk.specs.declared.desk.Desk.{Desk}
 use Rattle.sasl_desk.specs.declared.desk.state.State.{State}
 use Rattle.sasl_desk.specs.declared.desk.state.State.TheVariants.{Closed, Open, Halted}
@@ -39,7 +39,7 @@ use Rattle.sasl_log.proofs.lemmas.audits.AuditedLineByLine.{book_first}
 -- the bytes of lines that can be written are these lines
 bytes_are_lines : (lines : List LogLine) → CanBeWritten lines → AreLines (log_bytes lines) lines []
 bytes_are_lines lines written = (
-  map log_text lines,
+  map log_line_text lines,
   record { bytes_are = sym (append-nil (log_bytes lines)); lines = each_lacks lines written; after = refl },
   are_lines lines written,
 )
@@ -52,27 +52,30 @@ log_is_front facts IsStored start calls desk s =
     lines_front (accounts_in start) (log_bytes (run_lines calls)) (run_lines calls) s.place s.told
     (bytes_are_lines (run_lines calls) s.writable) s.begins
 
--- where no session is open, or the store has failed, a log may end
+-- an open session is not Closed
 closed_open : (going : Session) → session_phase going ≡ phase.Closed → ⊥
 closed_open WaitAuth is = cc is
 closed_open (WaitFirst mechanism) is = cc is
 closed_open (WaitFinal waiting) is = cc is
 closed_open (WaitCode name) is = cc is
 
-closed_ends : (start : BookFields) (own : List ℕ) (place : Place) (state : State) → IsStateAt (accounts_in start) own place state
+-- at a desk that is Closed a log may end
+closed_ends : (start : BookFields) (server_nonce : List ℕ) (place : Place) (state : State)
+    → IsStateAt (accounts_in start) server_nonce place state
     → phase_of state ≡ phase.Closed
     → MayEnd place
-closed_ends start own place Closed at is = rw at tt
-closed_ends start own place (Open going kept) at is = absurd (closed_open going is)
-closed_ends start own place Halted at is = absurd (cc is)
+closed_ends start server_nonce place Closed at is = rw at tt
+closed_ends start server_nonce place (Open going kept) at is = absurd (closed_open going is)
+closed_ends start server_nonce place Halted at is = absurd (cc is)
 
+-- where the store has failed, a log may end
 lost_ends : (IsStored : List ℕ → Type 0) (accounts : Accounts) (calls : List Call) (place : Place) (book : BookFields) (store : StoreFacts)
     → IsStoredAt IsStored accounts calls place book store
     → store.failed ≡ true → MayEnd place
 lost_ends IsStored accounts calls halted book store lost failed = tt
 lost_ends IsStored accounts calls place book store held failed = absurd (cc (held.working, failed))
 
--- `S HALT` leads to one place alone
+-- `S HALT` leads to a place where a log may end
 halt_leads : (d : Demands) (place next : Place) → IsTransition d place (said halt) next → MayEnd next
 halt_leads d (got_code account sent) next goes = rw goes tt
 halt_leads d place next goes = absurd goes
@@ -101,20 +104,24 @@ halted_is_clean law facts IsStored start calls desk s lines last =
     (bytes_are_lines (run_lines calls) s.writable) s.begins
     (halt_leads (demands (accounts_in start)) before.place s.place before.goes)
 
--- the counters in the last part of a list are different, where all in the list are
-fewer_different : (ps qs : List (List ℕ × ℕ)) → AreDifferent (ps ++ qs) → AreDifferent qs
-fewer_different [] qs all = all
-fewer_different (p ∷ ps) qs all = fewer_different ps qs all.1
+-- of spent counters that are all different, those in the last part of the list are so too:
+different_at_end : (ps qs : List (List ℕ × ℕ)) → AreDifferent (ps ++ qs) → AreDifferent qs
+different_at_end [] qs all = all
+different_at_end (p ∷ ps) qs all = different_at_end ps qs all.1
 
-fewer_all : (book : BookFields) (ps qs : List (List ℕ × ℕ)) → AllByRecursion (λ p. IsCounterSpent book p.0 p.1) (ps ++ qs)
+spent_each_at_end : (book : BookFields) (ps qs : List (List ℕ × ℕ)) → AllByRecursion (λ p. IsCounterSpent book p.0 p.1) (ps ++ qs)
     → AllByRecursion (λ p. IsCounterSpent book p.0 p.1) qs
-fewer_all book [] qs all = all
-fewer_all book (p ∷ ps) qs all = fewer_all book ps qs all.1
+spent_each_at_end book [] qs all = all
+spent_each_at_end book (p ∷ ps) qs all = spent_each_at_end book ps qs all.1
 
-fewer_spent : (book : BookFields) (ps qs : List (List ℕ × ℕ)) → AreSpent (ps ++ qs) book → AreSpent qs book
-fewer_spent book ps qs spent = record { different = fewer_different ps qs spent.different; spent = fewer_all book ps qs spent.spent }
+spent_at_end : (book : BookFields) (ps qs : List (List ℕ × ℕ)) → AreSpent (ps ++ qs) book → AreSpent qs book
+spent_at_end book ps qs spent = record {
+  different = different_at_end ps qs spent.different;
+  spent = spent_each_at_end book ps qs
+      spent.spent;
+}
 
--- what was spent after an attempt that the book's token judged
+-- what was spent, and what an attempt used, is spent in the book that judged it
 spent_after_told : BeginsWithItself → SpentStaysSpent → (old new : BookFields) (t : LoggedReply) (ps : List (List ℕ × ℕ))
     → IsAttemptJudged old t new
     → AreSpent ps old → AreSpent (spent_by t ++ ps) new
@@ -123,44 +130,46 @@ spent_after_told itself stays old new t ps one spent =
     stays old new t ps one.is_moment (told_due old new t one (accounts_in old) [] self)
     (told_after old new t one (accounts_in old) [] self) spent
 
--- what was spent after one run
+-- what was spent, and what was told in a desk's run, is spent in the book that it leaves
 spent_after_run : BeginsWithItself → SpentStaysSpent
     → {S : Type 0} (facts : S → StoreFacts) (IsStored : List ℕ → Type 0) (r : DeskRun) (ps : List (List ℕ × ℕ))
-    → IsDeskRunOf facts IsStored r → AreSpent ps r.start → AreSpent (all_spent (reverse r.told) ++ ps) r.left
+    → IsDeskRunOf facts IsStored r → AreSpent ps r.start → AreSpent (spent_by_all (reverse r.told) ++ ps) r.left
 spent_after_run itself stays facts IsStored r ps run spent =
     let s = run.stands in
-    let own = subst (λ (t : List LoggedReply). AreSpent (all_spent (reverse t) ++ ps) run.desk.keeper.book) (sym run.tells) (s.spent ps spent) in
+    let server_nonce = subst (λ (t : List LoggedReply). AreSpent (spent_by_all (reverse t) ++ ps) run.desk.keeper.book) (sym run.tells)
+    (s.spent ps spent) in
     elim run.leaves [
-      | inl left ↦ subst (λ (b : BookFields). AreSpent (all_spent (reverse r.told) ++ ps) b) (sym left) own
+      | inl left ↦ subst (λ (b : BookFields). AreSpent (spent_by_all (reverse r.told) ++ ps) b) (sym left) server_nonce
       | inr (t, one) ↦
-          fewer_spent r.left (spent_by t) (all_spent (reverse r.told) ++ ps)
-          (spent_after_told itself stays run.desk.keeper.book r.left t (all_spent (reverse r.told) ++ ps) one own)
+          spent_at_end r.left (spent_by t) (spent_by_all (reverse r.told) ++ ps)
+          (spent_after_told itself stays run.desk.keeper.book r.left t (spent_by_all (reverse r.told) ++ ps) one server_nonce)
     ]
 
--- what was spent after one run of a hall
+-- what was spent, and what was told in a hall's run, is spent in the book that it leaves
 spent_after_hall : BeginsWithItself → SpentStaysSpent
     → {S : Type 0} (facts : S → StoreFacts) (IsStored : List ℕ → Type 0) (r : HallRun) (ps : List (List ℕ × ℕ))
-    → IsHallRunOf facts IsStored r → AreSpent ps r.start → AreSpent (all_spent (reverse r.told) ++ ps) r.left
+    → IsHallRunOf facts IsStored r → AreSpent ps r.start → AreSpent (spent_by_all (reverse r.told) ++ ps) r.left
 spent_after_hall itself stays facts IsStored r ps run spent =
     let s = run.stands in
-    let own = subst (λ (t : List LoggedReply). AreSpent (all_spent (reverse t) ++ ps) run.hall.keeper.book) (sym run.tells) (s.spent ps spent) in
+    let server_nonce = subst (λ (t : List LoggedReply). AreSpent (spent_by_all (reverse t) ++ ps) run.hall.keeper.book) (sym run.tells)
+    (s.spent ps spent) in
     elim run.leaves [
-      | inl left ↦ subst (λ (b : BookFields). AreSpent (all_spent (reverse r.told) ++ ps) b) (sym left) own
+      | inl left ↦ subst (λ (b : BookFields). AreSpent (spent_by_all (reverse r.told) ++ ps) b) (sym left) server_nonce
       | inr (t, one) ↦
-          fewer_spent r.left (spent_by t) (all_spent (reverse r.told) ++ ps)
-          (spent_after_told itself stays run.hall.keeper.book r.left t (all_spent (reverse r.told) ++ ps) one own)
+          spent_at_end r.left (spent_by t) (spent_by_all (reverse r.told) ++ ps)
+          (spent_after_told itself stays run.hall.keeper.book r.left t (spent_by_all (reverse r.told) ++ ps) one server_nonce)
     ]
 
--- what was spent after a change
+-- what was spent, and what a change tells, is spent in the book after it
 spent_after : BeginsWithItself → SpentStaysSpent → TokensAreApart → CandidatesAreNew
     → AddedIsApart → {S : Type 0} (facts : S → StoreFacts) (IsStored : List ℕ → Type 0)
     (c : Change) (old new : BookFields) (ps : List (List ℕ × ℕ)) → IsChange facts IsStored c old new → AreSpent ps old
     → AreSpent (spent_by_change c ++ ps) new
 spent_after itself stays apart fresh added_apart facts IsStored (desk_ran r) old new ps (run, start, left) spent =
-    subst (λ (b : BookFields). AreSpent (all_spent (reverse r.told) ++ ps) b) left
+    subst (λ (b : BookFields). AreSpent (spent_by_all (reverse r.told) ++ ps) b) left
     (spent_after_run itself stays facts IsStored r ps run (subst (λ (b : BookFields). AreSpent ps b) (sym start) spent))
 spent_after itself stays apart fresh added_apart facts IsStored (hall_ran r) old new ps (run, start, left) spent =
-    subst (λ (b : BookFields). AreSpent (all_spent (reverse r.told) ++ ps) b) left
+    subst (λ (b : BookFields). AreSpent (spent_by_all (reverse r.told) ++ ps) b) left
     (spent_after_hall itself stays facts IsStored r ps run (subst (λ (b : BookFields). AreSpent ps b) (sym start) spent))
 spent_after itself stays apart fresh added_apart facts IsStored
     (judged t) old new ps one spent = spent_after_told itself stays old new t ps one spent
@@ -169,19 +178,19 @@ spent_after itself stays apart fresh added_apart facts IsStored
 spent_after itself stays apart fresh added_apart facts IsStored (added name account) old new ps is spent =
     added_keeps added_apart old new name account ps is spent
 
--- what was spent after any number of changes
+-- what was spent, and what any number of changes tell, is spent in the book after them
 pub spent_over_changes : BeginsWithItself → SpentStaysSpent → TokensAreApart → CandidatesAreNew
     → AddedIsApart → {S : Type 0}
     (facts : S → StoreFacts) (IsStored : List ℕ → Type 0) (first : BookFields) (changes : List Change) (last : BookFields)
     (ps : List (List ℕ × ℕ)) → AreChanges facts IsStored first changes last
-    → AreSpent ps first → AreSpent (spent_in changes ++ ps) last
+    → AreSpent ps first → AreSpent (spent_by_changes changes ++ ps) last
 spent_over_changes itself stays apart fresh added_apart facts IsStored first [] last ps same spent = subst
     (λ (b : BookFields). AreSpent ps b) (sym same) spent
 spent_over_changes itself stays apart fresh added_apart facts IsStored first (c ∷ before) last ps
     (middle, earlier, change) spent =
     let until = spent_over_changes itself stays apart fresh added_apart facts IsStored first before middle ps earlier spent in
-    subst (λ (l : List (List ℕ × ℕ)). AreSpent l last) (sym (append_assoc (spent_by_change c) (spent_in before) ps))
-    (spent_after itself stays apart fresh added_apart facts IsStored c middle last (spent_in before ++ ps) change until)
+    subst (λ (l : List (List ℕ × ℕ)). AreSpent l last) (sym (append_assoc (spent_by_change c) (spent_by_changes before) ps))
+    (spent_after itself stays apart fresh added_apart facts IsStored c middle last (spent_by_changes before ++ ps) change until)
 
 -- the store holds the book, or it failed in its last save
 pub held_or_lost : (IsStored : List ℕ → Type 0) (accounts : Accounts) (calls : List Call) (place : Place) (book : BookFields)
@@ -193,11 +202,11 @@ held_or_lost IsStored accounts calls place book store held = inl held
 -- wherever its log stands, the book was saved
 pub was_saved : (IsStored : List ℕ → Type 0) (accounts : Accounts) (calls : List Call) (place : Place) (book : BookFields)
     (store : StoreFacts)
-    → IsStoredAt IsStored accounts calls place book store → WasSaved IsStored book
+    → IsStoredAt IsStored accounts calls place book store → HasStoredText IsStored book
 was_saved IsStored accounts calls halted book store lost = lost.before
 was_saved IsStored accounts calls place book store held = (store.saved, held.saved, held.stored)
 
--- the book after what a log tells was saved
+-- the book to which all that a log tells leads was saved
 pub log_is_saved : {S : Type 0} (facts : S → StoreFacts) (IsStored : List ℕ → Type 0) (start : BookFields) (calls : List Call)
     (desk : Desk S)
     → IsDeskAfter facts IsStored start calls desk → IsLogSaved IsStored start (log_bytes (run_lines calls))
@@ -214,7 +223,7 @@ log_is_saved facts IsStored start calls desk s = record {
   };
 }
 
--- a book that a run leaves
+-- a book that the desk has, or had with one attempt more, is one that its run may leave
 run_to : {S : Type 0} (facts : S → StoreFacts) (IsStored : List ℕ → Type 0) (start : BookFields) (calls : List Call) (desk : Desk S)
     (s : IsDeskAfter facts IsStored start calls desk) (left : BookFields)
     → (left ≡ desk.keeper.book) ⊎ ((t : LoggedReply) × IsAttemptJudged desk.keeper.book t left)
@@ -241,7 +250,7 @@ left_book facts IsStored start calls desk s =
       ]
     ]
 
--- a stop within a call leaves the book with the attempt that is judged
+-- a run that stops within a call may leave the book with the attempt that was judged
 pub stopped_run : {S : Type 0} (facts : S → StoreFacts) (IsStored : List ℕ → Type 0) (start : BookFields) (calls : List Call)
     (desk : Desk S) (t : LoggedReply) (next : BookFields)
     → IsDeskAfter facts IsStored start calls desk → IsAttemptJudged desk.keeper.book t next
@@ -251,21 +260,26 @@ stopped_run facts IsStored start calls desk t next s one = run_to facts IsStored
 -- what was spent is spent after one more attempt
 pub told_spent : BeginsWithItself → SpentStaysSpent → (old new : BookFields) (t : LoggedReply) (ps : List (List ℕ × ℕ))
     → IsAttemptJudged old t new → AreSpent ps old → AreSpent ps new
-told_spent itself stays old new t ps one spent = fewer_spent new (spent_by t) ps (spent_after_told itself stays old new t ps one spent)
+told_spent itself stays old new t ps one spent = spent_at_end new (spent_by t) ps (spent_after_told itself stays old new t ps one spent)
 
 -- each counter that was told is spent in the book whose text the store holds
 pub saved_spent : BeginsWithItself → SpentStaysSpent
     → {S : Type 0} (facts : S → StoreFacts) (IsStored : List ℕ → Type 0) (start : BookFields) (calls : List Call) (desk : Desk S)
     (s : IsDeskAfter facts IsStored start calls desk) (ps : List (List ℕ × ℕ)) → AreSpent ps start
-    → (saved : BookFields) × IsBookText (facts desk.keeper.store).saved saved × AreSpent (all_spent (reverse s.told) ++ ps) saved
+    → (saved : BookFields) × IsBookText (facts desk.keeper.store).saved saved × AreSpent (spent_by_all (reverse s.told) ++ ps) saved
 saved_spent itself stays facts IsStored start calls desk s ps spent =
     let book = desk.keeper.book in
-    let own = s.spent ps spent in
+    let server_nonce = s.spent ps spent in
     elim (held_or_lost IsStored (accounts_in start) calls s.place book (facts desk.keeper.store) s.is_stored) [
-      | inl held ↦ (book, held.saved, own)
+      | inl held ↦ (book, held.saved, server_nonce)
       | inr lost ↦ elim lost.saved [
-        | inl before ↦ (book, before.0, own)
-        | inr after ↦ (lost.next, after, told_spent itself stays book lost.next lost.t (all_spent (reverse s.told) ++ ps) lost.is_told own)
+        | inl before ↦ (book, before.0, server_nonce)
+        | inr after ↦ (
+          lost.next,
+          after,
+          told_spent itself stays book lost.next lost.t (spent_by_all (reverse s.told) ++ ps) lost.is_told
+              server_nonce,
+        )
       ]
     ]
 
@@ -274,6 +288,6 @@ pub stopped_spent : BeginsWithItself → SpentStaysSpent
     → {S : Type 0} (facts : S → StoreFacts) (IsStored : List ℕ → Type 0) (start : BookFields) (calls : List Call) (desk : Desk S)
     (s : IsDeskAfter facts IsStored start calls desk) (ps : List (List ℕ × ℕ)) (t : LoggedReply) (next : BookFields) → AreSpent ps start
     → IsAttemptJudged desk.keeper.book t next
-    → AreSpent (all_spent (reverse s.told) ++ ps) next
+    → AreSpent (spent_by_all (reverse s.told) ++ ps) next
 stopped_spent itself stays facts IsStored start calls desk s ps t next spent one =
-    told_spent itself stays desk.keeper.book next t (all_spent (reverse s.told) ++ ps) one (s.spent ps spent)
+    told_spent itself stays desk.keeper.book next t (spent_by_all (reverse s.told) ++ ps) one (s.spent ps spent)

@@ -3,6 +3,7 @@ use Rattle.std.proofs.Common.{◌≡◌, ◌≢◌, ◌<◌, ◌≤◌, ◌-◌,
 use Rattle.std.specs.List.{AllByRecursion}
 use Rattle.std.specs.declared.option.Option.TheVariants.{None, Some}
 use Rattle.std.proofs.lemmas.Slice.Eq.{bytes_eq-Decides}
+use Rattle.std.proofs.lemmas.Option.{same_Some}
 use Rattle.otp_core.specs.Attempt.{Attempt, CodeTexts, OneText, TwoTexts, used_in, used_in_reply, attempt_of}
 use Rattle.otp_core.specs.Ranges.{IsMoment}
 use Rattle.otp_core.specs.Window.{IsCandidate, IsPairCandidate, IsAbove}
@@ -16,7 +17,7 @@ use Rattle.book_format.specs.Book.{BookFields}
 use Rattle.account_book.specs.Tokens.{token_at}
 use Rattle.log_grammar.specs.Books.{accounts_in}
 use Rattle.log_grammar.specs.LoggedReply.{LoggedReply, logged_reply_of}
-use Rattle.log_grammar.specs.Demands.{attempts_of, IsReplyOfToken}
+use Rattle.log_grammar.specs.Demands.{attempts_of, IsReplyDueBy}
 use Rattle.sasl_log.specs.Tokens.{LeadsTo, IsBookAfter}
 use Rattle.sasl_desk.specs.Spent.{IsCounterSpent, AreSpent, used_by_answer, of_account, SpentStaysSpent}
 
@@ -25,13 +26,13 @@ abbrev pub IsBelow : TokenFields → ℕ → Type 0
 IsBelow token counter = (history : List Attempt) (moment c : ℕ) → IsMoment moment → IsLegal token history
     → (IsCandidate token history moment c ⊎ IsPairCandidate token history c) → counter < c
 
--- what leads from a token leads to a token
+-- attempts that lead from a token lead to a token after them
 token_later : (start : TokenFields) (attempts : List Attempt) (o : Option TokenFields) → LeadsTo (Some start) attempts o
     → (token : TokenFields) × (o ≡ Some token) × IsAfter start attempts token
 token_later start attempts None leads = absurd leads
 token_later start attempts (Some token) leads = (token, refl, leads)
 
--- what can pass later could pass before, after what was attempted meanwhile
+-- what can pass in a token after some attempts could pass in the first token after these attempts and those
 could_pass : LegalHistoriesJoin → (start : TokenFields) (attempts : List Attempt) (token : TokenFields) → IsAfter start attempts token
     → (history : List Attempt) (moment c : ℕ) → IsMoment moment → IsLegal token history
     → (IsCandidate token history moment c ⊎ IsPairCandidate token history c)
@@ -41,6 +42,7 @@ could_pass join start attempts token after history moment c is legal can =
     let joined = join start attempts token history after legal in
     (joined.0, elim can [ inl h ↦ inl ((joined.1.candidates moment c is).1 h) | inr h ↦ inr ((joined.1.pairs c).1 h) ])
 
+-- a counter that is below each that can pass is so after attempts too
 still_below : LegalHistoriesJoin → (start : TokenFields) (attempts : List Attempt) (token : TokenFields) (counter : ℕ)
     → IsAfter start attempts token
     → IsBelow start counter → IsBelow token counter
@@ -48,6 +50,7 @@ still_below join start attempts token counter after below history moment c is le
     let before = could_pass join start attempts token after history moment c is legal can in
     below (history ++ attempts) moment c is before.0 before.1
 
+-- what is above some counters is above the last of them
 above_rest : (xs ys : List ℕ) (c : ℕ) → IsAbove (xs ++ ys) c → IsAbove ys c
 above_rest [] ys c above = above
 above_rest (x ∷ xs) ys c above = above_rest xs ys c above.1
@@ -57,6 +60,7 @@ pub above_first : (xs ys : List ℕ) (c : ℕ) → IsAbove (xs ++ ys) c → IsAb
 above_first [] ys c above = tt
 above_first (x ∷ xs) ys c above = (above.0, above_first xs ys c above.1)
 
+-- what is above the counters of some attempts is above those of the earlier of them
 above_earlier : (later earlier : List Attempt) (c : ℕ) → IsAbove (used_in (later ++ earlier)) c → IsAbove (used_in earlier) c
 above_earlier [] earlier c above = above
 above_earlier (a ∷ later) earlier c above =
@@ -70,10 +74,11 @@ now_above join fresh start a token after history moment c is legal can =
     let before = could_pass join start (a ∷ []) token after history moment c is legal can in
     above_first (used_in_reply a.sent a.reply) [] c (above_earlier history (a ∷ []) c (fresh start (history ++ a ∷ []) moment c before.1))
 
--- the account's own attempt
+-- the attempts that an account's own reply adds are that one
 own_attempt : (t : LoggedReply) (r : Reply) → t.reply ≡ Some r → attempts_of t.account (t ∷ []) ≡ attempt_of t.moment t.sent r ∷ []
 own_attempt t r is = rw ((bytes_eq-Decides t.account t.account).1 refl, is) refl
 
+-- a counter that is spent stays so after one more reply
 stays_spent : LegalHistoriesJoin → (old new : BookFields) (t : LoggedReply) → IsBookAfter (accounts_in old) (t ∷ []) new
     → (name : List ℕ) (counter : ℕ) → IsCounterSpent old name counter → IsCounterSpent new name counter
 stays_spent join old new t after name counter used =
@@ -82,17 +87,10 @@ stays_spent join old new t after name counter used =
     let later = token_later used.token (attempts_of name (t ∷ [])) (token_at new name) leads in
     record { token = later.0; has = later.1; below = still_below join used.token _ later.0 counter later.2 used.below }
 
--- what holds of each in a list stays so
+-- where each in a list has a property, each has what follows from it
 pub all_stay : {X : Type 0} (P Q : X → Type 0) → ((x : X) → P x → Q x) → (xs : List X) → AllByRecursion P xs → AllByRecursion Q xs
 all_stay P Q on [] all = tt
 all_stay P Q on (x ∷ xs) all = (on x all.0, all_stay P Q on xs all.1)
-
--- an option holds one token, or one reply, at most
-pub some_inside : (one other : TokenFields) → Some one ≡ Some other → one ≡ other
-some_inside one other same = cc
-
-reply_inside : (one other : Reply) → Some one ≡ Some other → one ≡ other
-reply_inside one other same = cc
 
 -- a counter that could pass is none of those that are spent
 is_other : (old : BookFields) (name : List ℕ) (start : TokenFields) (counter c moment : ℕ) → token_at old name ≡ Some start
@@ -102,12 +100,12 @@ is_other : (old : BookFields) (name : List ℕ) (start : TokenFields) (counter c
 is_other old name start counter c moment has is can at (other, used) up same =
     let names : name ≡ other = ap (λ (p : List ℕ × ℕ). p.0) same in
     let counters : counter ≡ used = ap (λ (p : List ℕ × ℕ). p.1) same in
-    let tokens : start ≡ up.token = some_inside start up.token (sym has ∙ (ap (token_at old) names ∙ up.has)) in
+    let tokens : start ≡ up.token = same_Some start up.token (sym has ∙ (ap (token_at old) names ∙ up.has)) in
     let apart : used < c =
     up.below [] moment c is tt (subst (λ (token : TokenFields). IsCandidate token [] moment c
     ⊎ IsPairCandidate token [] c) tokens can) in omega (arith, apart, at, counters)
 
--- what was spent is spent after what was told
+-- counters that are spent stay so after one more reply
 spent_stays : LegalHistoriesJoin → (old new : BookFields) (t : LoggedReply) (ps : List (List ℕ × ℕ))
     → IsBookAfter (accounts_in old) (t ∷ []) new
     → AreSpent ps old → AreSpent ps new
@@ -117,7 +115,7 @@ spent_stays join old new t ps after spent = record {
       (λ p used. stays_spent join old new t after p.0 p.1 used) ps spent.spent;
 }
 
--- the token after a pass, and what can pass with it
+-- after a pass there is a token still, and what can pass with it is above the counters that the pass used
 after_pass_of : LegalHistoriesJoin → CandidatesAreNew
     → (old new : BookFields) (name : List ℕ) (moment : ℕ) (sent : CodeTexts) (c : ℕ) (start : TokenFields)
     → token_at old name ≡ Some start → IsBookAfter (accounts_in old) (logged_reply_of name moment sent (Some (Pass c)) ∷ []) new
@@ -128,10 +126,12 @@ after_pass_of join fresh old new name moment sent c start has after =
     let t = logged_reply_of name moment sent (Some (Pass c)) in
     let a = attempt_of moment sent (Pass c) in
     let leads = subst (λ (o : Option TokenFields). LeadsTo o (attempts_of name (t ∷ [])) (token_at new name)) has (after.tokens name) in
-    let own = subst (λ (attempts : List Attempt). LeadsTo (Some start) attempts (token_at new name)) (own_attempt t (Pass c) refl) leads in
-    let later = token_later start (a ∷ []) (token_at new name) own in
+    let server_nonce = subst (λ (attempts : List Attempt). LeadsTo (Some start) attempts (token_at new name))
+    (own_attempt t (Pass c) refl) leads in
+    let later = token_later start (a ∷ []) (token_at new name) server_nonce in
     (later.0, later.1, now_above join fresh start a later.0 later.2)
 
+-- the counter of a pass is spent after it, and so are both of a pass of two codes in a row:
 spent_by_one : LegalHistoriesJoin → CandidatesAreNew
     → (old new : BookFields) (name : List ℕ) (moment : ℕ) (text : List ℕ) (c : ℕ) (start : TokenFields)
     (ps : List (List ℕ × ℕ)) → token_at old name ≡ Some start → IsMoment moment → IsFitting start [] moment (OneText text) c
@@ -183,18 +183,19 @@ spent_by_two join fresh old new name moment first second c start ps has is (w, n
       );
     }
 
--- the reply of a token without attempts is the one that is due
-due_is : (start : TokenFields) (moment : ℕ) (sent : CodeTexts) (r : Reply) → IsReplyOfToken (Some start) [] moment sent (Some r)
+-- the reply of a token without attempts is the one due, and there is none without a token:
+due_is : (start : TokenFields) (moment : ℕ) (sent : CodeTexts) (r : Reply) → IsReplyDueBy (Some start) [] moment sent (Some r)
     → IsDueReply start [] moment sent r
 due_is start moment sent r (reply, same, due) = subst (λ (x : Reply). IsDueReply start [] moment sent x)
-    (sym (reply_inside r reply same)) due
+    (sym (same_Some r reply same)) due
 
-none_due : (moment : ℕ) (sent : CodeTexts) (r : Reply) → IsReplyOfToken None [] moment sent (Some r) → ⊥
+none_due : (moment : ℕ) (sent : CodeTexts) (r : Reply) → IsReplyDueBy None [] moment sent (Some r) → ⊥
 none_due moment sent r same = cc
 
+-- with each reply that is due, what it used is spent, and what was spent before
 spent_next : LegalHistoriesJoin → CandidatesAreNew
     → (old new : BookFields) (name : List ℕ) (moment : ℕ) (sent : CodeTexts) (reply : Option Reply)
-    (ps : List (List ℕ × ℕ)) (o : Option TokenFields) → token_at old name ≡ o → IsReplyOfToken o [] moment sent reply → IsMoment moment
+    (ps : List (List ℕ × ℕ)) (o : Option TokenFields) → token_at old name ≡ o → IsReplyDueBy o [] moment sent reply → IsMoment moment
     → IsBookAfter (accounts_in old) (logged_reply_of name moment sent reply ∷ []) new → AreSpent ps old
     → AreSpent (of_account name (used_by_answer sent reply) ++ ps) new
 spent_next join fresh old new name moment sent None ps o has due is after spent = spent_stays join old new _ ps after spent
@@ -207,7 +208,7 @@ spent_next join fresh old new name moment (TwoTexts first second) (Some (Pass c)
     spent_by_two join fresh old new name moment first second c start ps has is
     (due_is start moment (TwoTexts first second) (Pass c) due).1 after spent
 
--- what was spent stays spent, over each reply that is due
+-- the law: what was spent stays spent over each reply that is due
 pub spent_stays_spent : LegalHistoriesJoin → CandidatesAreNew → SpentStaysSpent
 spent_stays_spent join fresh old new t ps is due after spent =
     spent_next join fresh old new t.account t.moment t.sent t.reply ps (token_at old t.account) refl due is after spent

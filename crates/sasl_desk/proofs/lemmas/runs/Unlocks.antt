@@ -5,6 +5,7 @@ use Rattle.std.specs.Str.{bytes_eq}
 use Rattle.std.specs.declared.option.Option.TheVariants.{None, Some}
 use Rattle.std.proofs.lemmas.Bool.{cases_Bool}
 use Rattle.std.proofs.lemmas.Slice.Eq.{bytes_eq-Decides}
+use Rattle.std.proofs.lemmas.Option.{same_Some}
 use Rattle.otp_core.specs.Attempt.{Attempt, CodeTexts, OneText, TwoTexts, attempt_of}
 use Rattle.otp_core.specs.Ranges.{IsMoment}
 use Rattle.otp_core.specs.Window.{IsCandidate, IsPairCandidate}
@@ -22,7 +23,7 @@ use Rattle.account_book.specs.Accounts.{account_at, with_account, with_changed, 
 use Rattle.account_book.specs.Laws.{TokensAreApart, AddedIsApart}
 use Rattle.account_book.specs.Tokens.{token_at, with_token, IsUnlocked}
 use Rattle.sasl_desk.specs.Spent.{IsCounterSpent, AreSpent}
-use Rattle.sasl_desk.proofs.lemmas.runs.Spent.{IsBelow, all_stay, some_inside}
+use Rattle.sasl_desk.proofs.lemmas.runs.Spent.{IsBelow, all_stay}
 
 -- a counter can pass after a history, alone or as the first of a pair
 abbrev CanPass : TokenFields → List Attempt → ℕ → ℕ → Type 0
@@ -32,7 +33,7 @@ CanPass token history moment c = IsCandidate token history moment c ⊎ IsPairCa
 abbrev IsBelowAfter : TokenFields → List Attempt → ℕ → Type 0
 IsBelowAfter token history counter = (moment c : ℕ) → IsMoment moment → CanPass token history moment c → counter < c
 
--- what can pass after FAIL or LOCKED could pass before
+-- what can pass after FAIL, or after LOCKED, could pass before it:
 fail_can : (token : TokenFields) (before : List Attempt) (at : ℕ) (sent : CodeTexts) (moment c : ℕ)
     → CanPass token (attempt_of at sent Fail ∷ before) moment c → CanPass token before moment c
 fail_can (Hotp t) before at sent moment c can = can
@@ -67,11 +68,12 @@ below_ever fresh token counter below [] legal = below
 below_ever fresh token counter below (a ∷ before) legal =
     below_next fresh token counter before a.moment a.sent a.reply legal.0 legal.1 (below_ever fresh token counter below before legal.2)
 
--- failures have no part in what can pass
+-- what can pass in an unlocked token could pass before: failures have no part in it
 unlocked_can : (token : TokenFields) (moment c : ℕ) → CanPass (unlocked token) [] moment c → CanPass token [] moment c
 unlocked_can (Hotp t) moment c can = can
 unlocked_can (Totp t) moment c can = can
 
+-- a counter below each that can pass is so after the token is unlocked
 unlocked_below : CandidatesAreNew → (token : TokenFields) (counter : ℕ) → IsBelow token counter → IsBelow (unlocked token) counter
 unlocked_below fresh token counter below history moment c is legal can =
     below_ever fresh (unlocked token) counter (λ m k at now. below [] m k at tt (unlocked_can token m k now)) history legal moment c is can
@@ -86,7 +88,7 @@ spent_unlocked apart fresh old name token has other counter used =
     elim (cases_Bool (bytes_eq name other)) [
       | inl is ↦
           let names : name ≡ other = (bytes_eq-Decides name other).0 is in
-          let same : used.token ≡ token = some_inside used.token token (sym used.has ∙ (sym (ap (token_at old) names) ∙ has)) in
+          let same : used.token ≡ token = same_Some used.token token (sym used.has ∙ (sym (ap (token_at old) names) ∙ has)) in
           record {
             token = unlocked token;
             has = rw is at now;
@@ -97,6 +99,7 @@ spent_unlocked apart fresh old name token has other counter used =
           record { token = used.token; has = same ∙ used.has; below = used.below }
     ]
 
+-- a counter that is spent stays so after the book's account is unlocked, if it has a token
 unlocked_as : TokensAreApart → CandidatesAreNew → (old new : BookFields) (name : List ℕ) (o : Option TokenFields) → token_at old name ≡ o
     → IsUnlocked old name new
     → (other : List ℕ) (counter : ℕ) → IsCounterSpent old other counter → IsCounterSpent new other counter

@@ -20,36 +20,43 @@ use Rattle.scram_ends.specs.declared.verdict.Verdict.{Verdict}
 use Rattle.log_grammar.specs.Places.{Place, between, asks_bare, waits_first, got_first, waits_final, got_final, waits_code, leaving, over}
 use Rattle.log_grammar.specs.Demands.{Accounts, NamesMechanism, IsFirstOf}
 use Rattle.sasl_log.proofs.lemmas.steps.Logins.{stands_same, challenge_of}
-use Rattle.sasl_desk.specs.Waiting.{waiting_of}
+use Rattle.sasl_desk.specs.ChallengedLogin.{challenged_login_of}
 use Rattle.sasl_desk.specs.Sessions.{answer_of, verdict_answer, IsBareNoDue, IsAnswer}
 use Rattle.sasl_desk.specs.declared.session.Session.TheVariants.{WaitFirst, WaitFinal}
-use Rattle.sasl_desk.specs.declared.session.turn.Saying.TheVariants.{Nothing, Continues, Refuses}
+use Rattle.sasl_desk.specs.declared.session.event.Saying.TheVariants.{Nothing, Continues, Refuses}
 
 -- a bare `S NO` is due to a client that is turned away
-pub bare_no_due : (accounts : Accounts) (own : List ℕ) (at : Place) → IsBareNoDue at → IsAnswer accounts own at (answer_of Refuses None) []
-bare_no_due accounts own leaving away =
-    record { next = between; path = (over, (refl, refl), (between, refl, refl)); left = refl; own_part = tt; plain = (tt, (tt, tt)) }
-bare_no_due accounts own (asks_bare mechanism) away =
+pub bare_no_due : (accounts : Accounts) (server_nonce : List ℕ) (at : Place) → IsBareNoDue at
+    → IsAnswer accounts server_nonce at (answer_of Refuses None) []
+bare_no_due accounts server_nonce leaving away =
+    record { next = between; path = (over, (refl, refl), (between, refl, refl)); left = refl; server_nonce_of = tt; plain = (tt, (tt, tt)) }
+bare_no_due accounts server_nonce (asks_bare mechanism) away =
     record {
       next = between;
       path = (over, ((away, refl), refl), (between, refl, refl));
       left = refl;
-      own_part = tt;
+      server_nonce_of = tt;
       plain = (tt, (tt, tt));
     }
-bare_no_due accounts own (got_first mechanism first) away =
+bare_no_due accounts server_nonce (got_first mechanism first) away =
     record {
       next = between;
       path = (over, ((away, refl), refl), (between, refl, refl));
       left = refl;
-      own_part = tt;
+      server_nonce_of = tt;
       plain = (tt, (tt, tt));
     }
-bare_no_due accounts own at away = absurd away
+bare_no_due accounts server_nonce at away = absurd away
 
 -- nothing but `E` is due after a client that has gone away
-pub departure_due : (accounts : Accounts) (own : List ℕ) → IsAnswer accounts own over (answer_of Nothing None) []
-departure_due accounts own = record { next = between; path = (between, refl, refl); left = refl; own_part = tt; plain = (tt, tt) }
+pub departure_due : (accounts : Accounts) (server_nonce : List ℕ) → IsAnswer accounts server_nonce over (answer_of Nothing None) []
+departure_due accounts server_nonce = record {
+  next = between;
+  path = (between, refl, refl);
+  left = refl;
+  server_nonce_of = tt;
+  plain = (tt, tt);
+}
 
 -- a mechanism that is not offered opens no login
 pub not_offered : (mechanism first : List ℕ) → ((m : Mechanism) → NamesMechanism mechanism m → ⊥) → (name : List ℕ)
@@ -69,25 +76,25 @@ first_of mechanism first name m p authzid named is taken =
     record { m = m; offered = named; parts = p; authzid = authzid; is_first = is; taken_up = taken }
 
 -- the empty challenge is due to a client that asks for a mechanism that is offered
-pub invitation_due : (accounts : Accounts) (own : List ℕ) (mechanism : List ℕ) (m : Mechanism) → NamesMechanism mechanism m
-    → IsAnswer accounts own (asks_bare mechanism) (answer_of Continues (Some (WaitFirst m))) []
-invitation_due accounts own mechanism m named = record {
+pub invitation_due : (accounts : Accounts) (server_nonce : List ℕ) (mechanism : List ℕ) (m : Mechanism) → NamesMechanism mechanism m
+    → IsAnswer accounts server_nonce (asks_bare mechanism) (answer_of Continues (Some (WaitFirst m))) []
+invitation_due accounts server_nonce mechanism m named = record {
   next = waits_first mechanism;
   path = (waits_first mechanism, (((m, named), refl), refl), refl);
   left = ap waits_first named;
-  own_part = tt;
+  server_nonce_of = tt;
   plain = (tt, tt);
 }
 
 -- the challenge that a server writes is due, and the server stands for its login
 challenge_to : HasOneClientFirst → SpellsOneName
-    → (accounts : Accounts) (own : List ℕ) (wait : ServerWait) (m : Mechanism) (mechanism name client_first server_first : List ℕ)
+    → (accounts : Accounts) (server_nonce : List ℕ) (wait : ServerWait) (m : Mechanism) (mechanism name client_first server_first : List ℕ)
     → NamesMechanism mechanism m → IsFirstOf mechanism client_first name
-    → IsChallengeTo (accounts.entry m name) client_first own server_first
+    → IsChallengeTo (accounts.entry m name) client_first server_nonce server_first
     → StandsFor wait (challenged_login (accounts.entry m name) m client_first server_first)
-    → IsAnswer accounts own (got_first mechanism client_first)
-    (answer_of Continues (Some (WaitFinal (waiting_of wait m name)))) server_first
-challenge_to once names accounts own wait m mechanism name client_first server_first named first shows stands = record {
+    → IsAnswer accounts server_nonce (got_first mechanism client_first)
+    (answer_of Continues (Some (WaitFinal (challenged_login_of wait m name)))) server_first
+challenge_to once names accounts server_nonce wait m mechanism name client_first server_first named first shows stands = record {
   next = waits_final mechanism name client_first server_first;
   path = (
     waits_final mechanism name client_first server_first,
@@ -95,32 +102,35 @@ challenge_to once names accounts own wait m mechanism name client_first server_f
     refl,
   );
   left = (client_first, server_first, ap (λ (t : List ℕ). waits_final t name client_first server_first) named, stands);
-  own_part = (m, named, shows);
+  server_nonce_of = (m, named, shows);
   plain = (tt, tt);
 }
 
 -- a challenge of a server that stands for the account's login is due after its client-first message, and the session then waits
 -- for the final one
-pub challenge_due : HasOneClientFirst → SpellsOneName → (accounts : Accounts) (own : List ℕ) (wait : ServerWait) (m : Mechanism)
+pub challenge_due : HasOneClientFirst → SpellsOneName → (accounts : Accounts) (server_nonce : List ℕ) (wait : ServerWait) (m : Mechanism)
     (mechanism name client_first server_first message : List ℕ) (entry : Entry) → entry ≡ accounts.entry m name → message ≡ server_first
-    → NamesMechanism mechanism m → IsFirstOf mechanism client_first name → IsChallengeTo entry client_first own server_first
+    → NamesMechanism mechanism m → IsFirstOf mechanism client_first name → IsChallengeTo entry client_first server_nonce server_first
     → StandsFor wait (challenged_login entry m client_first server_first)
-    → IsAnswer accounts own (got_first mechanism client_first) (answer_of Continues (Some (WaitFinal (waiting_of wait m name)))) message
-challenge_due once names accounts own wait m mechanism name client_first server_first message entry same written named first shows stands =
-    let here = subst (λ (e : Entry). IsChallengeTo e client_first own server_first) same shows in
+    → IsAnswer accounts server_nonce (got_first mechanism client_first)
+    (answer_of Continues (Some (WaitFinal (challenged_login_of wait m name)))) message
+challenge_due once names accounts server_nonce wait m mechanism name client_first server_first message entry same written named first
+    shows stands =
+    let here = subst (λ (e : Entry). IsChallengeTo e client_first server_nonce server_first) same shows in
     let stood = stands_same wait entry (accounts.entry m name) m client_first client_first server_first same refl stands in
-    subst (λ (t : List ℕ). IsAnswer accounts own (got_first mechanism client_first)
-    (answer_of Continues (Some (WaitFinal (waiting_of wait m name)))) t)
-    (sym written) (challenge_to once names accounts own wait m mechanism name client_first server_first named first here stood)
+    subst (λ (t : List ℕ). IsAnswer accounts server_nonce (got_first mechanism client_first)
+    (answer_of Continues (Some (WaitFinal (challenged_login_of wait m name)))) t)
+    (sym written) (challenge_to once names accounts server_nonce wait m mechanism name client_first server_first named first here stood)
 
 -- an acceptance is due where its verdict is
-pub acceptance_due : (accounts : Accounts) (own : List ℕ) (m : Mechanism) (name client_first server_first client_final signature : List ℕ)
+pub acceptance_due : (accounts : Accounts) (server_nonce : List ℕ) (m : Mechanism)
+    (name client_first server_first client_final signature : List ℕ)
     → IsDue (challenged_login (accounts.entry m name) m client_first server_first) client_final (accept signature)
     → IsServerFinal (due_text (accept signature)) (final_due (accept signature))
-    → IsAnswer accounts own (got_final (name_of m) name client_first server_first client_final)
+    → IsAnswer accounts server_nonce (got_final (name_of m) name client_first server_first client_final)
     (verdict_answer (verdict_of (accept signature)) name)
     (due_text (accept signature))
-acceptance_due accounts own m name client_first server_first client_final signature due is = record {
+acceptance_due accounts server_nonce m name client_first server_first client_final signature due is = record {
   next = waits_code name;
   path = (
     waits_code name,
@@ -140,41 +150,45 @@ acceptance_due accounts own m name client_first server_first client_final signat
     refl,
   );
   left = refl;
-  own_part = tt;
+  server_nonce_of = tt;
   plain = ((signature, is), tt);
 }
 
 -- a denial is due where its verdict is, with the message that says why
-pub denial_due : (accounts : Accounts) (own : List ℕ) (m : Mechanism) (name client_first server_first client_final : List ℕ) (why : Refusal)
+pub denial_due : (accounts : Accounts) (server_nonce : List ℕ) (m : Mechanism) (name client_first server_first client_final : List ℕ)
+    (why : Refusal)
     → IsDue (challenged_login (accounts.entry m name) m client_first server_first) client_final (refuse why)
-    → IsAnswer accounts own (got_final (name_of m) name client_first server_first client_final)
+    → IsAnswer accounts server_nonce (got_final (name_of m) name client_first server_first client_final)
     (verdict_answer (verdict_of (refuse why)) name)
     (due_text (refuse why))
-denial_due accounts own m name client_first server_first client_final why due = record {
+denial_due accounts server_nonce m name client_first server_first client_final why due = record {
   next = between;
   path = (over, ((why, (m, refl, due), refl), refl), (between, refl, refl));
   left = refl;
-  own_part = tt;
+  server_nonce_of = tt;
   plain = (tt, (tt, tt));
 }
 
-by_due : (accounts : Accounts) (own : List ℕ) (m : Mechanism) (name client_first server_first client_final : List ℕ) (d : Due)
+-- the answer that bears a verdict is due where the verdict is
+by_due : (accounts : Accounts) (server_nonce : List ℕ) (m : Mechanism) (name client_first server_first client_final : List ℕ) (d : Due)
     → IsDue (challenged_login (accounts.entry m name) m client_first server_first) client_final d → IsServerFinal (due_text d) (final_due d)
-    → IsAnswer accounts own (got_final (name_of m) name client_first server_first client_final) (verdict_answer (verdict_of d) name)
+    → IsAnswer accounts server_nonce (got_final (name_of m) name client_first server_first client_final)
+    (verdict_answer (verdict_of d) name)
     (due_text d)
-by_due accounts own m name client_first server_first client_final (accept signature) due is =
-    acceptance_due accounts own m name client_first server_first client_final signature due is
-by_due accounts own m name client_first server_first client_final (refuse why) due is =
-    denial_due accounts own m name client_first server_first client_final why due
+by_due accounts server_nonce m name client_first server_first client_final (accept signature) due is =
+    acceptance_due accounts server_nonce m name client_first server_first client_final signature due is
+by_due accounts server_nonce m name client_first server_first client_final (refuse why) due is =
+    denial_due accounts server_nonce m name client_first server_first client_final why due
 
 -- the answer that bears the verdict is due
-pub verdict_due : (accounts : Accounts) (own : List ℕ) (m : Mechanism) (name client_first server_first client_final message : List ℕ)
+pub verdict_due : (accounts : Accounts) (server_nonce : List ℕ) (m : Mechanism)
+    (name client_first server_first client_final message : List ℕ)
     (v : Verdict) (d : Due)
     → IsDue (challenged_login (accounts.entry m name) m client_first server_first) client_final d → v ≡ verdict_of d → message ≡ due_text d
     → IsServerFinal (due_text d) (final_due d)
-    → IsAnswer accounts own (got_final (name_of m) name client_first server_first client_final) (verdict_answer v name) message
-verdict_due accounts own m name client_first server_first client_final message v d due says written is =
+    → IsAnswer accounts server_nonce (got_final (name_of m) name client_first server_first client_final) (verdict_answer v name) message
+verdict_due accounts server_nonce m name client_first server_first client_final message v d due says written is =
     let at = got_final (name_of m) name client_first server_first client_final in
-    let here = by_due accounts own m name client_first server_first client_final d due is in
-    let worded = subst (λ (w : Verdict). IsAnswer accounts own at (verdict_answer w name) (due_text d)) (sym says) here in
-    subst (λ (t : List ℕ). IsAnswer accounts own at (verdict_answer v name) t) (sym written) worded
+    let here = by_due accounts server_nonce m name client_first server_first client_final d due is in
+    let worded = subst (λ (w : Verdict). IsAnswer accounts server_nonce at (verdict_answer w name) (due_text d)) (sym says) here in
+    subst (λ (t : List ℕ). IsAnswer accounts server_nonce at (verdict_answer v name) t) (sym written) worded

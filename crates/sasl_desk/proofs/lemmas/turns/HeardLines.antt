@@ -14,8 +14,8 @@ use Rattle.sasl_desk.specs.Turns.{is_due}
 use Rattle.sasl_desk.specs.Sessions.{IsLineOf, IsRecord, IsRecordOfLine, ComesOfEvent, ComesOfLine, AsksFor, AsksForEvent, TakesMemory}
 use Rattle.sasl_desk.specs.Sessions.{SentWhatTakesMemory}
 use Rattle.sasl_desk.specs.declared.session.Session.{Session}
-use Rattle.sasl_desk.specs.declared.session.turn.Heard.{Heard}
-use Rattle.sasl_desk.specs.declared.session.turn.Heard.TheVariants.{Answered, Asks}
+use Rattle.sasl_desk.specs.declared.session.event.HearResult.{HearResult}
+use Rattle.sasl_desk.specs.declared.session.event.HearResult.TheVariants.{Answered, ToJudge}
 
 -- lines of a client that are one line of the protocol are the same
 pub line_inside : (one other : ClientLine) → from_client one ≡ from_client other → one ≡ other
@@ -34,22 +34,25 @@ record_of_line once (sends text) line at bad is kept = λ other also.
     subst (λ (l : ClientLine). is_due at l ≡ false) (line_inside line other (once text (from_client line) (from_client other) is also)) kept
 record_of_line once (sends text) line at recorded is kept = absurd kept
 
-heard_of_line : EachTextIsAtMostOneLine → (accounts : Accounts) (own : List ℕ) (event : ClientEvent) (line : ClientLine) (at : Place)
-    (h : Heard) (message : List ℕ)
-    → IsLineOf event line → ComesOfLine accounts own line at h message → ComesOfEvent accounts own event at h message
-heard_of_line once accounts own event line at (Answered turn) message is came =
+-- what came of a line of the client came of the event that was this line
+heard_of_line : EachTextIsAtMostOneLine → (accounts : Accounts) (server_nonce : List ℕ) (event : ClientEvent) (line : ClientLine)
+    (at : Place)
+    (h : HearResult) (message : List ℕ)
+    → IsLineOf event line → ComesOfLine accounts server_nonce line at h message → ComesOfEvent accounts server_nonce event at h message
+heard_of_line once accounts server_nonce event line at (Answered turn) message is came =
     record { is_record = record_of_line once event line at _ is came.is_record; is_answer = came.is_answer }
-heard_of_line once accounts own event line at (Asks name sent) message is came =
+heard_of_line once accounts server_nonce event line at (ToJudge name sent) message is came =
     record { place = came.0; is_record = record_of_line once event line at (heard (asking (texts_of sent))) is came.1 }
 
 -- what came of a line of the client, unless the call failed, came of the event that was this line
 pub all_heard_of_line : EachTextIsAtMostOneLine
-    → (accounts : Accounts) (own : List ℕ) (event : ClientEvent) (line : ClientLine) (at : Place) (r : Result Heard Session)
+    → (accounts : Accounts) (server_nonce : List ℕ) (event : ClientEvent) (line : ClientLine) (at : Place) (r : Result HearResult Session)
     (message : List ℕ)
-    → IsLineOf event line → IfOk r (λ h. ComesOfLine accounts own line at h message)
-    → IfOk r (λ h. ComesOfEvent accounts own event at h message)
-all_heard_of_line once accounts own event line at (Ok h) message is came = heard_of_line once accounts own event line at h message is came
-all_heard_of_line once accounts own event line at (Err back) message is came = tt
+    → IsLineOf event line → IfOk r (λ h. ComesOfLine accounts server_nonce line at h message)
+    → IfOk r (λ h. ComesOfEvent accounts server_nonce event at h message)
+all_heard_of_line once accounts server_nonce event line at (Ok h) message is came = heard_of_line once accounts server_nonce event line at
+    h message is came
+all_heard_of_line once accounts server_nonce event line at (Err back) message is came = tt
 
 -- a text that is no line of a client is recorded as `C BAD`
 pub no_line_record : (event : ClientEvent) (at : Place) → ((line : ClientLine) → IsLineOf event line → ⊥) → (event ≡ goes_away → ⊥)
@@ -57,19 +60,19 @@ pub no_line_record : (event : ClientEvent) (at : Place) → ((line : ClientLine)
 no_line_record goes_away at no_line sent = absurd (sent refl)
 no_line_record (sends text) at no_line sent = λ line is. absurd (no_line line is)
 
--- a code is that of the event where it is that of the line that the event was
-asks_of_line : (event : ClientEvent) (line : ClientLine) (h : Heard) → IsLineOf event line → AsksFor h line → AsksForEvent h event
+-- a code that is to be judged is that of the event, where it is that of the line that the event was
+asks_of_line : (event : ClientEvent) (line : ClientLine) (h : HearResult) → IsLineOf event line → AsksFor h line → AsksForEvent h event
 asks_of_line event line (Answered turn) is same = tt
-asks_of_line event line (Asks name sent) is same = subst (λ (l : ClientLine). IsLineOf event l) same is
+asks_of_line event line (ToJudge name sent) is same = subst (λ (l : ClientLine). IsLineOf event l) same is
 
 -- unless the call failed, a code that is to be judged is that of the event, where it is that of the line that the event was
-pub all_asks_of_line : (event : ClientEvent) (line : ClientLine) (r : Result Heard Session) → IsLineOf event line
+pub all_asks_of_line : (event : ClientEvent) (line : ClientLine) (r : Result HearResult Session) → IsLineOf event line
     → IfOk r (λ h. AsksFor h line)
     → IfOk r (λ h. AsksForEvent h event)
 all_asks_of_line event line (Ok h) is same = asks_of_line event line h is same
 all_asks_of_line event line (Err back) is same = tt
 
--- a code takes memory, and so do two in a row
+-- a line with a code, or with two in a row, takes memory to answer
 takes_code : (sent : CodeTexts) → TakesMemory (asking sent)
 takes_code (OneText text) = tt
 takes_code (TwoTexts first second) = tt

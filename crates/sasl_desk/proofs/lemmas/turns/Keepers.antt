@@ -18,18 +18,19 @@ use Rattle.account_book.proofs.lemmas.Maps.{is_changed}
 use Rattle.account_book.proofs.lemmas.Tokens.{tokens_go_back, tokens_stay}
 use Rattle.log_grammar.specs.Lines.{IsReplyInRange}
 use Rattle.log_grammar.specs.LoggedReply.{LoggedReply, logged_reply_of}
-use Rattle.log_grammar.specs.Demands.{Accounts, IsToldDue}
+use Rattle.log_grammar.specs.Demands.{Accounts, IsLoggedReplyDue}
 use Rattle.sasl_log.proofs.lemmas.steps.Tokens.{reply_by, book_after}
 use Rattle.sasl_log.specs.Tokens.{IsBookAfter}
 use Rattle.sasl_desk.specs.Keeper.{IsAttemptJudged, IsKept}
 
--- a token judged what was sent, and leads on from where it was
+-- a token judged what was sent by the reply due to it, and now is the one after that attempt
 pub record IsStep (token : TokenFields) (moment : ℕ) (sent : CodeTexts) (reply : Reply) (now : TokenFields) : Type 0 where
   pub due : (start : TokenFields) (history : List Attempt) → IsAfter start history token → IsDueReply start history moment sent reply
   pub after : (start : TokenFields) (history : List Attempt) → IsAfter start history token
       → IsAfter start (attempt_of moment sent reply ∷ history) now
   pub state : now ≡ advanced token moment reply
 
+-- a book with the token after an attempt is the one after the attempt
 attempted : (old new : BookFields) (name : List ℕ) (token now : TokenFields) (moment : ℕ) (sent : CodeTexts) (reply : Reply)
     → IsStep token moment sent reply now → IsChanged old name (with_token now) new → IsAttempt old name token moment sent reply new
 attempted old new name token now moment sent reply step put = record {
@@ -55,7 +56,7 @@ told_none old name moment sent is has = record { is_moment = is; answered = rw h
 -- what is told is the reply that is due, and leads on from what was told before
 pub told_due : (old new : BookFields) (t : LoggedReply) → IsAttemptJudged old t new → (accounts : Accounts) (told : List LoggedReply)
     → IsBookAfter accounts told old
-    → IsToldDue accounts (reverse told) t
+    → IsLoggedReplyDue accounts (reverse told) t
 told_due old new t one accounts told h = reply_by accounts told old t.account t.moment t.sent t.reply new one.answered h
 
 -- the book in which an attempt was judged is the book after what was told before, with that attempt's reply told last
@@ -65,7 +66,7 @@ pub told_after : (old new : BookFields) (t : LoggedReply) → IsAttemptJudged ol
 told_after old new t one accounts told h = book_after accounts told old t.account t.moment t.sent t.reply new
     (token_at old t.account) refl one.answered h
 
--- the counter of a token's reply is one that can pass
+-- the reply of a token whose counter is at most the largest is in its range
 pub reply_in_range : (reply : Reply) → ((c : ℕ) → reply ≡ Pass c → c ≤ most_counter) → IsReplyInRange (Some reply)
 reply_in_range (Pass counter) most = most counter refl
 reply_in_range Fail most = tt

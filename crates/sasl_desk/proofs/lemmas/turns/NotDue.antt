@@ -6,7 +6,7 @@ use Rattle.sasl_log.specs.declared.line.ClientLine.{ClientLine}
 use Rattle.sasl_log.specs.declared.line.ClientLine.TheVariants.{Auth, AuthWith, Resp, Abort, Code, Sync}
 use Rattle.sasl_desk.specs.Turns.{is_auth_due, is_code_due, is_due}
 
--- after the offer: a line that is no AUTH and no ABORT
+-- after the offer a line that is no AUTH and no ABORT is not due
 pub all_but_auth : (line : ClientLine) → ((mechanism : Bor (List ℕ)) → line ≡ Auth mechanism → ⊥)
     → ((mechanism : Bor (List ℕ)) (message : List ℕ) → line ≡ AuthWith mechanism message → ⊥) → (line ≡ Abort → ⊥)
     → is_due offered (client_shown line) ≡ false
@@ -17,7 +17,7 @@ all_but_auth Abort auth with_message abort = absurd (abort refl)
 all_but_auth (Code text) auth with_message abort = refl
 all_but_auth (Sync first second) auth with_message abort = refl
 
--- where no AUTH and no code is due: a line that is no RESP and no ABORT
+-- where no AUTH and no code is due, a line that is no RESP and no ABORT is not due
 pub all_but_resp : (at : Place) (line : ClientLine) → is_auth_due at ≡ false → is_code_due at ≡ false
     → ((message : List ℕ) → line ≡ Resp message → ⊥) → (line ≡ Abort → ⊥) → is_due at (client_shown line) ≡ false
 all_but_resp at (Auth mechanism) auth code resp abort = auth
@@ -27,7 +27,7 @@ all_but_resp at Abort auth code resp abort = absurd (abort refl)
 all_but_resp at (Code text) auth code resp abort = code
 all_but_resp at (Sync first second) auth code resp abort = code
 
--- where codes are due: a line that is no CODE, no SYNC and no ABORT
+-- where codes are due, a line that is no CODE, no SYNC and no ABORT is not due
 pub all_but_codes : (name : List ℕ) (line : ClientLine) → ((text : Bor (List ℕ)) → line ≡ Code text → ⊥)
     → ((first second : Bor (List ℕ)) → line ≡ Sync first second → ⊥) → (line ≡ Abort → ⊥)
     → is_due (waits_code name) (client_shown line) ≡ false

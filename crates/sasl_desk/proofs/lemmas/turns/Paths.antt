@@ -15,19 +15,19 @@ use Rattle.sasl_desk.specs.Turns.{is_client_turn, record_place, IsPath}
 use Rattle.sasl_desk.specs.Sessions.{IsSessionAt, IsRecord, IsTurnOnEvent, recorded_shown, turn_lines, said_lines, end_lines}
 use Rattle.sasl_desk.specs.declared.session.Session.{Session}
 use Rattle.sasl_desk.specs.declared.session.Session.TheVariants.{WaitAuth, WaitFirst, WaitFinal, WaitCode}
-use Rattle.sasl_desk.specs.declared.session.turn.Saying.{Saying}
-use Rattle.sasl_desk.specs.declared.session.turn.Saying.TheVariants.{Nothing, Continues, Accepts, Refuses}
-use Rattle.sasl_desk.specs.declared.session.turn.Turn.{Turn}
+use Rattle.sasl_desk.specs.declared.session.event.Saying.{Saying}
+use Rattle.sasl_desk.specs.declared.session.event.Saying.TheVariants.{Nothing, Continues, Accepts, Refuses}
+use Rattle.sasl_desk.specs.declared.session.event.Turn.{Turn}
 use Rattle.sasl_desk.proofs.lemmas.turns.DueRecords.{due_goes, bad_goes, gone_goes}
 
--- where a session stands it is the client's turn
+-- the place where a session stands is its client's turn
 pub client_turn : (accounts : Accounts) (at : Place) (going : Session) → IsSessionAt accounts at going → is_client_turn at ≡ true
 client_turn accounts at WaitAuth is = rw is refl
 client_turn accounts at (WaitFirst mechanism) is = rw is refl
 client_turn accounts at (WaitFinal waiting) (client_first, server_first, place, stands) = rw place refl
 client_turn accounts at (WaitCode name) is = rw is refl
 
--- what is recorded may stand
+-- what is recorded of an event may stand at a client's turn
 pub record_goes : (d : Demands) (at : Place) (event : ClientEvent) (recorded : LogLine) → is_client_turn at ≡ true
     → IsRecord event at recorded
     → IsTransition d at recorded (record_place at recorded)
@@ -36,11 +36,13 @@ record_goes d at (sends text) bad turn is = bad_goes d at turn
 record_goes d at goes_away gone turn is = gone_goes d at turn
 record_goes d at event recorded turn is = absurd is
 
--- the lines of a turn are a path
-pub turn_path : (accounts : Accounts) (own : List ℕ) (event : ClientEvent) (at : Place) (going : Session) (turn : Turn) (message : List ℕ)
+-- the lines of a turn are a path from the session's place to the one after the turn
+pub turn_path : (accounts : Accounts) (server_nonce : List ℕ) (event : ClientEvent) (at : Place) (going : Session) (turn : Turn)
+    (message : List ℕ)
     → IsSessionAt accounts at going
-    → (t : IsTurnOnEvent accounts own event at turn message) → IsPath (demands accounts) at (turn_lines turn message) t.is_answer.next
-turn_path accounts own event at going turn message is t = (
+    → (t : IsTurnOnEvent accounts server_nonce event at turn message)
+    → IsPath (demands accounts) at (turn_lines turn message) t.is_answer.next
+turn_path accounts server_nonce event at going turn message is t = (
   record_place at (recorded_shown turn.recorded),
   record_goes (demands accounts) at event (recorded_shown turn.recorded) (client_turn accounts at going is) t.is_record,
   t.is_answer.path,
@@ -58,6 +60,7 @@ record_no_reply (sends text) at bad is = tt
 record_no_reply goes_away at gone is = tt
 record_no_reply event at recorded is = absurd is
 
+-- the end of a session and the lines of its answer are no replies:
 ends_no_reply : (going : Option Session) → AllByRecursion IsNoReply (end_lines going)
 ends_no_reply (Some going) = tt
 ends_no_reply None = (tt, tt)
@@ -70,10 +73,10 @@ answer_no_reply Accepts going message = (tt, ends_no_reply going)
 answer_no_reply Refuses going message = (tt, ends_no_reply going)
 
 -- no line of a turn is a reply
-pub turn_no_reply : (accounts : Accounts) (own : List ℕ) (event : ClientEvent) (at : Place) (turn : Turn) (message : List ℕ)
-    → IsTurnOnEvent accounts own event at turn message
+pub turn_no_reply : (accounts : Accounts) (server_nonce : List ℕ) (event : ClientEvent) (at : Place) (turn : Turn) (message : List ℕ)
+    → IsTurnOnEvent accounts server_nonce event at turn message
     → AllByRecursion IsNoReply (turn_lines turn message)
-turn_no_reply accounts own event at turn message t =
+turn_no_reply accounts server_nonce event at turn message t =
     (record_no_reply event at (recorded_shown turn.recorded) t.is_record, answer_no_reply turn.answer.says turn.answer.session message)
 
 -- a line that is no reply tells nothing

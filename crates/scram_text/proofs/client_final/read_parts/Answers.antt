@@ -19,7 +19,8 @@ pub returns-in_default-nonce_of-clause-fault : goal.returns-in_default-nonce_of-
 returns-in_default-nonce_of-clause-fault c =
     let cut = c.in_ok-pieces.ensures.cut in
     fault_of longest_nonce (Channel ∷ Nonce ∷ []) (Proof ∷ []) c.args.message.now _ _ cut.short cut.is_text cut.cut_whole
-    (nonce_fault _ _ _ _ (field_fits 99 longest_channel _ _ c.in-Some.ensures.spelled c.in-Some.ensures.class) c.in_default-nonce_of.ensures.none)
+    (nonce_fault _ _ _ _ (field_fits 99 longest_channel _ _ c.in-Some.ensures.spelled c.in-Some.ensures.class)
+    c.in_default-nonce_of.ensures.none)
 
 pub returns-in_err-extensions-clause-fault : goal.returns-in_err-extensions-clause-fault
 returns-in_err-extensions-clause-fault c =
@@ -30,15 +31,15 @@ returns-in_err-extensions-clause-fault c =
     (c.in-Some-nonce_of.nonce.now, c.in-Some-nonce_of.ensures.spelled, c.in-Some-nonce_of.ensures.class)
     c.in_err-extensions.ensures.fault))
 
-pub returns-in_default-tag_of-clause-fault : goal.returns-in_default-tag_of-clause-fault
-returns-in_default-tag_of-clause-fault c =
+pub returns-in_default-short_bytes_of-clause-fault : goal.returns-in_default-short_bytes_of-clause-fault
+returns-in_default-short_bytes_of-clause-fault c =
     let cut = c.in_ok-pieces.ensures.cut in
     let rest : List (List ℕ) = parts_of_some (option_copied c.in_ok-pieces.pieces.rest) in
     let count = rw cut.cut_whole at cut.count in
     fault_of longest_nonce (Channel ∷ Nonce ∷ []) (Proof ∷ []) c.args.message.now _ _ cut.short cut.is_text cut.cut_whole
     (proof_fault _ _ _ rest _ (field_fits 99 longest_channel _ _ c.in-Some.ensures.spelled c.in-Some.ensures.class)
     (c.in-Some-nonce_of.nonce.now, c.in-Some-nonce_of.ensures.spelled, c.in-Some-nonce_of.ensures.class)
-    c.in_ok-extensions.ensures.found c.in_default-tag_of.ensures.none
+    c.in_ok-extensions.ensures.found c.in_default-short_bytes_of.ensures.none
     (omega (arith, count, length-append rest (c.in_ok-pieces.pieces.proof.now ∷ []))))
 
 pub returns-clause-found : goal.returns-clause-found
@@ -48,18 +49,18 @@ returns-clause-found c =
       channel = c.in-Some.channel.items;
       nonce = c.in-Some-nonce_of.nonce.now;
       extensions = parts_of_some (option_copied c.in_ok-pieces.pieces.rest);
-      proof = c.in-Some-tag_of.proof.items;
+      proof = c.in-Some-short_bytes_of.proof.items;
     } in
     let spelled = client_final_spelled c.args.message.now c.in_ok-pieces.pieces.without_proof.now c.in_ok-pieces.pieces.proof.now
     c.in_ok-pieces.pieces.channel.now c.in_ok-pieces.pieces.nonce.now p cut.whole cut.cut
-    c.in-Some.ensures.spelled c.in-Some-nonce_of.ensures.spelled c.in-Some-tag_of.ensures.spelled in (
+    c.in-Some.ensures.spelled c.in-Some-nonce_of.ensures.spelled c.in-Some-short_bytes_of.ensures.spelled in (
       p,
       record {
         spelled = spelled.1;
         channel = c.in-Some.ensures.class;
         nonce = c.in-Some-nonce_of.ensures.class;
         extensions = c.in_ok-extensions.ensures.found;
-        proof = c.in-Some-tag_of.ensures.class;
+        proof = c.in-Some-short_bytes_of.ensures.class;
         is_text = cut.is_text;
         short = cut.short;
       },

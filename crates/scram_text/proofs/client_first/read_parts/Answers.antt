@@ -13,7 +13,8 @@ pub returns-in_err-authzid-clause-fault : goal.returns-in_err-authzid-clause-fau
 returns-in_err-authzid-clause-fault c =
     let cut = c.in_ok-pieces.ensures.cut in
     let p = err_from_is_err_and c.from_residual-in_err-authzid.result c.from_residual-in_err-authzid.ensures.1 in
-    rw (p.1, p.2) (authzid_fault c.args.message.now _ _ _ _ cut.short cut.is_text cut.cut cut.enough c.in-Some.ensures.class c.in_err-authzid.ensures.fault)
+    rw (p.1, p.2) (authzid_fault c.args.message.now _ _ _ _ cut.short cut.is_text cut.cut cut.enough c.in-Some.ensures.class
+    c.in_err-authzid.ensures.fault)
 
 pub returns-in_err-bare-clause-fault : goal.returns-in_err-bare-clause-fault
 returns-in_err-bare-clause-fault c =
@@ -28,7 +29,8 @@ returns-clause-found c =
     let (bare, is, shows) = c.in_ok-bare.ensures.found in
     let p : ClientFirstParts = record bare { flag = c.in_ok-pieces.pieces.flag.now; authzid = c.in_ok-authzid.authzid } in
     let spelled = client_first_spelled c.args.message.now c.in_ok-pieces.pieces.header.now c.in_ok-pieces.pieces.flag.now
-    c.in_ok-pieces.pieces.authzid.now c.in_ok-pieces.pieces.bare.now p cut.header cut.header_parts refl c.in_ok-authzid.ensures.spelled is.cut in (
+    c.in_ok-pieces.pieces.authzid.now c.in_ok-pieces.pieces.bare.now p cut.header cut.header_parts refl c.in_ok-authzid.ensures.spelled
+    is.cut in (
       p,
       record {
         spelled = spelled.2;

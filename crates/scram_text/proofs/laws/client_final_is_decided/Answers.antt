@@ -1,5 +1,5 @@
-use Rattle.scram_text.proofs.lemmas.MessagesDecided.{client_final_law}
+use Rattle.scram_text.proofs.lemmas.MessagesDecided.{client_final_is_decided}
 use Rattle.scram_text.proofs.laws.client_final_is_decided.Goals as goal
 
 pub returns : goal.returns
-returns c = client_final_law
+returns c = client_final_is_decided

@@ -1,5 +1,5 @@
-use Rattle.scram_text.proofs.lemmas.MessagesDecided.{client_first_law}
+use Rattle.scram_text.proofs.lemmas.MessagesDecided.{client_first_is_decided}
 use Rattle.scram_text.proofs.laws.client_first_is_decided.Goals as goal
 
 pub returns : goal.returns
-returns c = client_first_law
+returns c = client_first_is_decided

@@ -1,5 +1,5 @@
-use Rattle.scram_text.proofs.lemmas.MessagesDecided.{server_final_law}
+use Rattle.scram_text.proofs.lemmas.MessagesDecided.{server_final_is_decided}
 use Rattle.scram_text.proofs.laws.server_final_is_decided.Goals as goal
 
 pub returns : goal.returns
-returns c = server_final_law
+returns c = server_final_is_decided

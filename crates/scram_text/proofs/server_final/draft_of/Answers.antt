@@ -8,8 +8,9 @@ pub returns-clause-draft : goal.returns-clause-draft
 returns-clause-draft c =
     subst (λ (text : List ℕ). IsDraftOf c.add_extensions.new.self text)
     (server_final_composed (verifier_or_error_of c.args.outcome.now) c.args.extensions.now)
-    (c.add_extensions.ensures _ c.told-draft.ensures.draft)
+    (c.add_extensions.ensures _ c.outcome_draft-draft.ensures.draft)
 
 pub returns-clause-is_message : goal.returns-clause-is_message
 returns-clause-is_message c = λ short.
-    server_final_related (verifier_or_error_of c.args.outcome.now) c.args.extensions.now c.told-draft.ensures.is_text c.requires short
+    server_final_related (verifier_or_error_of c.args.outcome.now) c.args.extensions.now c.outcome_draft-draft.ensures.is_text c.requires
+    short

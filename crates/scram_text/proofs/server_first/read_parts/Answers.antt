@@ -47,7 +47,8 @@ returns-clause-found c =
     } in (
       p,
       record {
-        spelled = server_first_spelled c.args.message.now _ _ _ p cut.marked c.in-Some.ensures.spelled c.in-Some-salt_of.ensures.spelled c.in-Some-count_of.ensures.spelled;
+        spelled = server_first_spelled c.args.message.now _ _ _ p cut.marked c.in-Some.ensures.spelled c.in-Some-salt_of.ensures.spelled
+            c.in-Some-count_of.ensures.spelled;
         mext = cut.marked.value;
         nonce = c.in-Some.ensures.class;
         salt = c.in-Some-salt_of.ensures.class;

@@ -8,6 +8,7 @@ use Rattle.book_format.specs.declared.fault.BookWhy.TheVariants.{NoMemory}
 use Rattle.book_format.proofs.lemmas.BookTexts.{text_found, text_held}
 use Rattle.book_format.proofs.contents.Contents.read.Goals as goal
 
+-- what was read of some bytes is a book that they are the text of, and the only one:
 found : (bytes : List ℕ) (r : Result BookFields BookFault) → IsReadOrFault (λ b. b) r (book_in bytes)
     → IfOk r (λ book. IsBookText bytes book)
 found bytes (Ok book) h = text_found bytes book h

@@ -7,6 +7,7 @@ use Rattle.book_format.specs.Tables.{mech}
 use Rattle.book_format.specs.declared.account.MechKeys.{MechKeys}
 use Rattle.book_format.proofs.write.account.put_keys.Goals as goal
 
+-- what holds anyway holds where a result is Ok
 on_any : {A E : Type 0} (P : Type 0) (r : Result A E) → P → OnOk r P
 on_any P (Ok x) p = p
 on_any P (Err e) p = tt

@@ -2,21 +2,21 @@ use Rattle.std.proofs.Common.{◌≡◌, ◌+◌, inl, inr, ℕ, true, refl, sym
 use Rattle.std.proofs.lemmas.Bool.{both_ways, cases_lt}
 use Rattle.otp_core.specs.Code.{hotp_text_by}
 use Rattle.otp_core.specs.declared.hash.OtpHash.TheVariants.{Sha1}
-use Rattle.otp_core.proofs.token.answer.find_pair_with.Goals.{else-follows_first-via-then-follows_first+else-is_text}
+use Rattle.otp_core.proofs.token.answer.find_pair_with.Goals.{else-follows_first-via-then-follows_first+else-code_is}
 use Rattle.otp_core.proofs.token.answer.find_pair_with.Goals.{else-follows_first-via-else-follows_first}
 use Rattle.otp_core.proofs.token.answer.find_pair_with.Goals as goal
 
-pub returns-then-is_text-clause-some : goal.returns-then-is_text-clause-some
-returns-then-is_text-clause-some c =
+pub returns-then-code_is-clause-some : goal.returns-then-code_is-clause-some
+returns-then-code_is-clause-some c =
     let text_of = λ (k : ℕ). hotp_text_by Sha1 c.args.token.now.digits c.args.token.now.secret k in
     let code : c.hotp_with-code.result ≡ text_of c.loop-counter.counter = rw (c.bytes.ensures.value) at
     (c.hotp_with-code.ensures _ c.new-prepared.ensures) in
     let (w, next, from, first) = c.loop-counter.invariant.flag.0 c.if-follows_first.true in
-    let here = sym code ∙ c.is_text.ensures.0 c.if-is_text.true in
+    let here = sym code ∙ c.code_is.ensures.0 c.if-code_is.true in
     (w, next, from, omega (arith, next, c.loop-counter-test.true), first, subst (λ (n : ℕ). text_of n ≡ c.args.second.now) next here)
 
-pub returns-then-is_text-clause-least : goal.returns-then-is_text-clause-least
-returns-then-is_text-clause-least c = λ w from below first second. elim (cases_lt (w + 1) c.loop-counter.counter) [
+pub returns-then-code_is-clause-least : goal.returns-then-code_is-clause-least
+returns-then-code_is-clause-least c = λ w from below first second. elim (cases_lt (w + 1) c.loop-counter.counter) [
   | inl before ↦ absurd (c.loop-counter.invariant.none w from before first second)
   | inr reached ↦ reached
 ]
@@ -30,10 +30,10 @@ loop-counter-preserved c =
     let old = c.loop-counter.invariant in
     record {
       flag = (
-        λ is. (counter, refl, c.loop-counter.auto.counter, sym code ∙ c.is_text-follows_first.ensures.0 is),
+        λ is. (counter, refl, c.loop-counter.auto.counter, sym code ∙ c.code_is-follows_first.ensures.0 is),
         λ (w, next, from, first).
             let same : w ≡ counter = omega (arith, next) in
-            c.is_text-follows_first.ensures.1 (code ∙ subst (λ (n : ℕ). text_of n ≡ c.args.first.now) same first),
+            c.code_is-follows_first.ensures.1 (code ∙ subst (λ (n : ℕ). text_of n ≡ c.args.first.now) same first),
       );
       none = λ w from below first second. elim (cases_lt (w + 1) counter) [
         | inl before ↦ old.none w from before first second
@@ -41,9 +41,9 @@ loop-counter-preserved c =
             let next : counter ≡ w + 1 = omega (arith, reached, below) in
             let follows = old.flag.1 (w, next, from, first) in
             elim c.else-follows_first.branch [
-              | else-follows_first-via-then-follows_first+else-is_text b ↦
-                  both_ways b.is_text.result b.if-is_text.false
-                  (b.is_text.ensures.1 (code ∙ subst (λ (n : ℕ). text_of n ≡ c.args.second.now) (sym next) second))
+              | else-follows_first-via-then-follows_first+else-code_is b ↦
+                  both_ways b.code_is.result b.if-code_is.false
+                  (b.code_is.ensures.1 (code ∙ subst (λ (n : ℕ). text_of n ≡ c.args.second.now) (sym next) second))
               | else-follows_first-via-else-follows_first b ↦ both_ways c.loop-counter.follows_first b.if-follows_first.false follows
             ]
       ];

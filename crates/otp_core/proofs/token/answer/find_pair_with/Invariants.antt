@@ -11,4 +11,5 @@ pub record IsSought (text_of : ℕ → List ℕ) (from counter : ℕ) (first sec
 
 abbrev pub invariant-loop-counter : goal.invariant-loop-counter
 invariant-loop-counter l =
-    IsSought (λ k. hotp_text_by Sha1 l.fn.token.digits l.fn.token.secret k) l.fn.counters.first l.counter l.fn.first l.fn.second l.follows_first
+    IsSought (λ k. hotp_text_by Sha1 l.fn.token.digits l.fn.token.secret k) l.fn.counters.first l.counter l.fn.first l.fn.second
+    l.follows_first

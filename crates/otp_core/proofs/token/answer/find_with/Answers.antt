@@ -1,6 +1,5 @@
-use Rattle.std.proofs.Common.{◌≡◌, ◌≤◌, ◌<◌, ◌+◌, ℕ, List, true, false, nat_eq, ◌∙◌}
-use lib.Pointwise.{pointwise}
-use Rattle.std.proofs.lemmas.Cmp.{nat_list_eq_equiv}
+use Rattle.std.proofs.Common.{◌≡◌, ◌≤◌, ◌<◌, ◌+◌, ℕ, List, ◌∙◌}
+use Rattle.std.proofs.lemmas.Bool.{both_ways}
 use borrow.Author.Count.{below_more}
 use Rattle.otp_core.specs.Code.{hotp_text}
 use Rattle.otp_core.proofs.token.answer.find_with.Goals as goal
@@ -17,7 +16,4 @@ loop-counter-preserved g c =
     let text_of = λ (k : ℕ). hotp_text g.H.HashFn.digest_of g.H.HashFn.BLOCK c.args.digits c.args.secret.now k in
     let code = rw (c.bytes.ensures.value) at (c.hotp_with.ensures _ c.new-prepared.ensures) in
     none_up_to text_of _ _ _ c.loop-counter.invariant (λ same.
-    let text : c.as_bytes.result.now ≡ c.args.text.now = c.as_bytes.ensures.value ∙ (c.text.ensures.value ∙ (code ∙ same)) in
-    let equal : pointwise nat_eq c.as_bytes.result.now c.args.text.now ≡ true = rw text (nat_list_eq_equiv.refl c.args.text.now) in
-    let differs : c.eq.result ≡ false = c.if-eq.false in
-    cc (c.eq.ensures, differs, equal))
+    both_ways c.code_is.result c.if-code_is.false (c.code_is.ensures.1 (code ∙ same)))

@@ -7,7 +7,8 @@ use Rattle.sasl_desk.proofs.keeper.Keeper.judge.Goals as goal
 pub returns-then-eq-clause-ok : goal.returns-then-eq-clause-ok
 returns-then-eq-clause-ok g c =
     let locked : c.judge-reply.result ≡ Locked = search rules in
-    told_locked g.S.BookStore.IsStored _ c.args.name.now c.in-Some.token c.judge-reply.new.self c.args.moment _ c.judge-reply.result c.moment_is_in_range.ensures (sym c.token.ensures ∙ c.in-Some.is)
+    told_locked g.S.BookStore.IsStored _ c.args.name.now c.in-Some.token c.judge-reply.new.self c.args.moment _ c.judge-reply.result
+    c.moment_is_in_range.ensures (sym c.token.ensures ∙ c.in-Some.is)
     (record { due = c.judge-reply.ensures.due; after = c.judge-reply.ensures.after; state = c.judge-reply.ensures.state })
     locked _
 

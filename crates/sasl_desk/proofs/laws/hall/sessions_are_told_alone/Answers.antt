@@ -1,4 +1,4 @@
-use Rattle.sasl_desk.proofs.lemmas.runs.ToldAlone.{sessions_alone}
+use Rattle.sasl_desk.proofs.lemmas.runs.SameRequests.{sessions_alone}
 use Rattle.sasl_desk.proofs.laws.hall.sessions_are_told_alone.Goals as goal
 
 pub returns : goal.returns
@@ -9,6 +9,6 @@ returns g c =
       one_last = c.has_one_server_final.ensures;
       names = c.spells_one_name.ensures;
       verdicts = c.at_most_one_verdict_is_due.ensures;
-      lines = c.is_one_line.ensures;
+      lines = c.each_text_is_at_most_one_line.ensures;
     })
     g.S.BookStore.facts g.S.BookStore.IsStored

@@ -6,19 +6,19 @@ use Rattle.sasl_desk.proofs.session.Session.hear.Goals as goal
 
 pub returns-in-Gone-clause-heard : goal.returns-in-Gone-clause-heard
 returns-in-Gone-clause-heard g c = λ accounts at keeps is. rw (c.in-Gone.is, c.requires)
-    (c.departed.ensures.turn accounts c.args.own.now at goes_away tt)
+    (c.gone_turn.ensures.turn accounts c.args.server_nonce.now at goes_away tt)
 
 pub returns-in-Some-clause-heard : goal.returns-in-Some-clause-heard
 returns-in-Some-clause-heard g c = λ accounts at keeps is.
     rw c.in-Line.is
-    (all_heard_of_line c.is_one_line.ensures accounts c.args.own.now (sends c.in-Line.text.now)
+    (all_heard_of_line c.each_text_is_at_most_one_line.ensures accounts c.args.server_nonce.now (sends c.in-Line.text.now)
     (client_shown c.in-Some.line) at c.hear_line.result
     c.hear_line.new.message.items c.in-Some.ensures.some (c.hear_line.ensures.heard accounts at keeps is))
 
 pub returns-in-None-clause-heard : goal.returns-in-None-clause-heard
 returns-in-None-clause-heard g c = λ accounts at keeps is.
     rw (c.in-Line.is, c.requires)
-    (c.spoiled.ensures.turn accounts c.args.own.now at (sends c.in-Line.text.now)
+    (c.bad_turn.ensures.turn accounts c.args.server_nonce.now at (sends c.in-Line.text.now)
     (no_line_record (sends c.in-Line.text.now) at c.in-None.ensures.none (λ same. cc same)))
 
 pub returns-in-Some-clause-asked : goal.returns-in-Some-clause-asked

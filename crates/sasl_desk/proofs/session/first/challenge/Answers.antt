@@ -15,14 +15,15 @@ new-requires g c =
 pub returns-in-Ok-clause-due : goal.returns-in-Ok-clause-due
 returns-in-Ok-clause-due g c = λ accounts name keeps named.
     let m = c.args.mechanism in
-    let user = c.args.user in
+    let user = c.args.name in
     let first = c.args.client_first.now in
     let (parts, authzid, is, taken) = c.requires.taken in
     let (server_first, written, shows, stands) = c.in-Ok.ensures.ok in
     let entry = c.view-view.ensures.entry ∙ keeps m user in
     let message : c.server_first.new.out.items ≡ server_first = written ∙ ap (λ (t : List ℕ). t ++ server_first) c.requires.empty in
     rw c.new.ensures
-    (challenge_due c.has_one_client_first.ensures c.spells_one_name.ensures accounts c.args.own.now c.in-Ok.wait m name user first server_first
+    (challenge_due c.has_one_client_first.ensures c.spells_one_name.ensures accounts c.args.server_nonce.now c.in-Ok.wait m name user
+    first server_first
     c.server_first.new.out.items (entry_of c.view-view.result) entry message named
     (first_of name first user m parts authzid named is taken) shows stands)
 
@@ -37,5 +38,5 @@ returns-in-Err-First-clause-due g c = λ accounts name keeps named.
     let first = c.args.client_first.now in
     let refused = c.in-Err-First.ensures.first _ c.in-Err-First.field-0-is in
     rw (c.in-Err-First.ensures.unchanged.0, c.requires.empty)
-    (c.refusal.ensures.due accounts c.args.own.now (got_first name first)
+    (c.bare_no.ensures.due accounts c.args.server_nonce.now (got_first name first)
     (not_first c.refused_is_not_taken_up.ensures name first _ refused))

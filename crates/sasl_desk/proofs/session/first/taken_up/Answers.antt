@@ -6,5 +6,5 @@ pub returns-in-Err-clause-due : goal.returns-in-Err-clause-due
 returns-in-Err-clause-due g c = λ accounts name keeps named.
     let first = c.args.client_first.now in
     rw c.requires
-    (c.refusal.ensures.due accounts c.args.own.now (got_first name first)
+    (c.bare_no.ensures.due accounts c.args.server_nonce.now (got_first name first)
     (not_first c.refused_is_not_taken_up.ensures name first c.in-Err.field-0 c.in-Err.ensures.err))

@@ -5,7 +5,8 @@ use Rattle.sasl_desk.proofs.lemmas.turns.Writable.{heard_can_be}
 use Rattle.sasl_desk.proofs.session.hear.hear_code.Goals as goal
 
 pub returns-in-Abort-clause-heard : goal.returns-in-Abort-clause-heard
-returns-in-Abort-clause-heard c = λ accounts own. rw c.in-Abort.is (c.aborted.ensures.line accounts own (waits_code c.args.name) refl)
+returns-in-Abort-clause-heard c = λ accounts server_nonce. rw c.in-Abort.is
+    (c.abort_turn.ensures.line accounts server_nonce (waits_code c.args.name) refl)
 
 pub returns-in-Code-clause-lines : goal.returns-in-Code-clause-lines
 returns-in-Code-clause-lines c = (heard_can_be _ (rw c.in-Code.is at c.requires), tt)
@@ -14,5 +15,5 @@ pub returns-in-Sync-clause-lines : goal.returns-in-Sync-clause-lines
 returns-in-Sync-clause-lines c = (heard_can_be _ (rw c.in-Sync.is at c.requires), tt)
 
 pub returns-in_default-clause-heard : goal.returns-in_default-clause-heard
-returns-in_default-clause-heard c = λ accounts own. c.spoiled.ensures.line accounts own (waits_code c.args.name) _
+returns-in_default-clause-heard c = λ accounts server_nonce. c.bad_turn.ensures.line accounts server_nonce (waits_code c.args.name) _
     (all_but_codes c.args.name c.args.line c.in_default.not-Code c.in_default.not-Sync c.in_default.not-Abort)

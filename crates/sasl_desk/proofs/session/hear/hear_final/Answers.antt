@@ -4,29 +4,29 @@ use Rattle.sasl_desk.proofs.lemmas.turns.Writable.{heard_can_be}
 use Rattle.sasl_desk.proofs.session.hear.hear_final.Goals as goal
 
 pub returns-in-Ok-clause-turn : goal.returns-in-Ok-clause-turn
-returns-in-Ok-clause-turn g c = λ accounts own at is.
+returns-in-Ok-clause-turn g c = λ accounts server_nonce at is.
     let (client_first, server_first, place, stands) = is in
     rw (c.in-Resp.is, place) (record {
       is_record = (refl, refl);
-      is_answer = c.in-Ok.ensures.due accounts own client_first server_first stands;
+      is_answer = c.in-Ok.ensures.due accounts server_nonce client_first server_first stands;
     })
 
 pub returns-in-Abort-clause-turn : goal.returns-in-Abort-clause-turn
-returns-in-Abort-clause-turn g c = λ accounts own at is.
+returns-in-Abort-clause-turn g c = λ accounts server_nonce at is.
     let (client_first, server_first, place, stands) = is in
-    rw (c.in-Abort.is, c.requires.empty) (c.aborted.ensures.line accounts own at (rw place refl))
+    rw (c.in-Abort.is, c.requires.empty) (c.abort_turn.ensures.line accounts server_nonce at (rw place refl))
 
 pub returns-in-Ok-clause-lines : goal.returns-in-Ok-clause-lines
 returns-in-Ok-clause-lines g c = (heard_can_be _ (rw c.in-Resp.is at c.requires.line), c.in-Ok.ensures.lines)
 
 pub returns-in-Abort-clause-lines : goal.returns-in-Abort-clause-lines
-returns-in-Abort-clause-lines g c = rw c.requires.empty c.aborted.ensures.lines
+returns-in-Abort-clause-lines g c = rw c.requires.empty c.abort_turn.ensures.lines
 
 pub returns-in_default-clause-turn : goal.returns-in_default-clause-turn
-returns-in_default-clause-turn g c = λ accounts own at is.
+returns-in_default-clause-turn g c = λ accounts server_nonce at is.
     let (client_first, server_first, place, stands) = is in
-    rw c.requires.empty (c.spoiled.ensures.line accounts own at _
+    rw c.requires.empty (c.bad_turn.ensures.line accounts server_nonce at _
     (all_but_resp at c.args.line (rw place refl) (rw place refl) c.in_default.not-Resp c.in_default.not-Abort))
 
 pub returns-in_default-clause-lines : goal.returns-in_default-clause-lines
-returns-in_default-clause-lines g c = rw c.requires.empty c.spoiled.ensures.lines
+returns-in_default-clause-lines g c = rw c.requires.empty c.bad_turn.ensures.lines

@@ -47,6 +47,7 @@ copy_of-requires-2 g c =
       omega arith,
       header_fits c.args.name.now authzid c.args.nonce.now (client_first_text first) c.in-Ok.message.header.now first
           (honest_first authzid c.args.name.now c.args.nonce.now
-          (client_first_text first) c.are_in_class.ensures.authzid c.are_in_class.ensures.name c.in_ok-write_client_first.ensures.is_message)
+          (client_first_text first) c.are_in_class.ensures.authzid c.are_in_class.ensures.name
+          c.in_ok-write_client_first.ensures.is_message)
           shows.header,
     )

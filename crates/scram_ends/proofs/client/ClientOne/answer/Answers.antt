@@ -35,7 +35,8 @@ returns-in_err-write_with_proof-clause-no_memory g c =
     let field = field_of_bytes 64 proof c.prove-answer.ensures.bytes (omega (arith, c.prove-answer.ensures.len, size.0))
     (omega (arith, c.prove-answer.ensures.len, size.1)) in
     let composed = c.in_ok-without_proof.ensures.ok proof in
-    let full = answer_fails c.write_with_proof.result _ c.in_ok-without_proof.without_proof header c.args.challenge.now.nonce.now proof c.in_err-write_with_proof.was
+    let full = answer_fails c.write_with_proof.result _ c.in_ok-without_proof.without_proof header c.args.challenge.now.nonce.now proof
+    c.in_err-write_with_proof.was
     range.1 (sent_nonce _ p.nonce shows.nonce is.nonce) field composed
     c.write_with_proof.ensures.unwritable c.write_with_proof.ensures.over_limit in
     let room = c.write_with_proof.ensures.no_memory
@@ -44,7 +45,8 @@ returns-in_err-write_with_proof-clause-no_memory g c =
       (
         client_final_text final,
         (expecting c.args.self.now (record { expected = c.prove-answer.result.expected }) l c.args.server_first.now c.args.password.now
-            header c.args.challenge.now.nonce.now c.args.challenge.now.salt c.as_slice.result.now proof c.args.challenge.now.count p started is
+            header c.args.challenge.now.nonce.now c.args.challenge.now.salt c.as_slice.result.now proof c.args.challenge.now.count p
+            started is
             c.as_slice-header.ensures.value shows.nonce shows.salt shows.count (c.as_slice.ensures final composed)
             (c.prove-answer.ensures.proof started.first started.bare)
             (c.prove-answer.ensures.expected started.first started.bare) room.0).honest,
@@ -61,7 +63,8 @@ returns-clause-ok g c = λ l p started is shows.
       client_final_text final,
       c.in_ok-write_with_proof.ensures.ok final composed refl,
       expecting c.args.self.now (record { expected = c.prove-answer.result.expected }) l c.args.server_first.now c.args.password.now
-          header c.args.challenge.now.nonce.now c.args.challenge.now.salt c.as_slice.result.now proof c.args.challenge.now.count p started is
+          header c.args.challenge.now.nonce.now c.args.challenge.now.salt c.as_slice.result.now proof c.args.challenge.now.count p started
+          is
           c.as_slice-header.ensures.value shows.nonce shows.salt shows.count (c.as_slice.ensures final composed)
           (c.prove-answer.ensures.proof started.first started.bare) (c.prove-answer.ensures.expected started.first started.bare)
           (c.in_ok-write_with_proof.ensures.is_message final composed refl),

@@ -14,12 +14,6 @@ returns-in-Ok-clause-valid g c = λ l stands.
       rw c.verdict.ensures (valid_iff l c.args.client_final.now d (c.verdict_on-judged.ensures l stands) c.in-Ok.ensures.is_message),
     )
 
-pub returns-in-Err-clause-memory : goal.returns-in-Err-clause-memory
-returns-in-Err-clause-memory g c = λ l stands.
-    memory_alone l c.args.client_final.now (due_of c.verdict_on-judged.result) c.in-Err.fault (c.verdict_on-judged.ensures l stands)
-    (λ same. c.in-Err.ensures.unwritable (ap (λ (f : WriteFault). Err f) same))
-    (λ same. c.in-Err.ensures.over_limit (ap (λ (f : WriteFault). Err f) same))
-
 pub returns-in-Err-clause-no_memory : goal.returns-in-Err-clause-no_memory
 returns-in-Err-clause-no_memory g c = λ l stands.
     let d = due_of c.verdict_on-judged.result in
@@ -29,4 +23,4 @@ returns-in-Err-clause-no_memory g c = λ l stands.
     (λ same. c.in-Err.ensures.unwritable (ap (λ (f : WriteFault). Err f) same))
     (λ same. c.in-Err.ensures.over_limit (ap (λ (f : WriteFault). Err f) same)) in
     let room = c.in-Err.ensures.no_memory (ap (λ (f : WriteFault). Err f) memory) in
-    (d, due, room.0, room.1)
+    (memory, (d, due, room.0, room.1))

@@ -25,6 +25,7 @@ returns-clause-ok c =
       authzid = c.in_ok-taken.taken.authzid;
       challenge = found.0;
     } in
-    let is_opening = c.if-not-is_challenge_to.ensures.opens c.args.client_first.now c.args.server_first.now o taken.1 taken.2.taken_up found.1 taken.2.nonce found.2 in
+    let is_opening = c.if-not-is_challenge_to.ensures.opens c.args.client_first.now c.args.server_first.now o taken.1 taken.2.taken_up
+    found.1 taken.2.nonce found.2 in
     c.wait_for.ensures c.args.client_first.now o is_opening
     (record { header = taken.2.header; bare = taken.2.bare; name = refl; authzid = refl; nonce = found.2.nonce })

@@ -35,7 +35,8 @@ returns-in-Silent-Mechs-clause-says c =
     let stage : c.args.self.now.stage ≡ Silent = search (rules, c.in-Silent-Mechs.is-0) in
     let line : IsLine c.args.line.now (from_server (mechs c.in-Silent-Mechs.names.now)) =
     rw (c.in-Ok-FromServer.field-0-is, c.in-Silent-Mechs.is-1) at c.in-Ok-FromServer.ensures.ok in
-    beginning_may_be_said c.args.self.now c.args.self.now.stage _ c.args.line.now c.in-Silent-Mechs.names.now c.ask.result stage line c.ask.ensures.says
+    beginning_may_be_said c.args.self.now c.args.self.now.stage _ c.args.line.now c.in-Silent-Mechs.names.now c.send_first.result stage
+    line c.send_first.ensures.says
 
 pub returns-in_ok-challenge-in-Begun-Cont-clause-says : goal.returns-in_ok-challenge-in-Begun-Cont-clause-says
 returns-in_ok-challenge-in-Begun-Cont-clause-says c =
@@ -43,15 +44,16 @@ returns-in_ok-challenge-in-Begun-Cont-clause-says c =
     let line : IsLine c.args.line.now (from_server (cont c.in-Begun-Cont.message)) =
     rw (c.in-Ok-FromServer.field-0-is, c.in-Begun-Cont.is-1) at c.in-Ok-FromServer.ensures.ok in
     let message : c.in-Begun-Cont.message ≡ c.as_slice.result.now = search rules in
-    answer_may_be_said c.args.self.now c.in-Begun-Cont.client c.args.self.now.stage _ c.args.line.now c.as_slice.result.now c.prove.result stage
-    (subst (λ (text : List ℕ). IsLine c.args.line.now (from_server (cont text))) message line) c.prove.ensures.says
+    answer_may_be_said c.args.self.now c.in-Begun-Cont.client c.args.self.now.stage _ c.args.line.now c.as_slice.result.now
+    c.send_final.result stage
+    (subst (λ (text : List ℕ). IsLine c.args.line.now (from_server (cont text))) message line) c.send_final.ensures.says
 
 pub returns-in-Silent-Mechs-clause-leaves : goal.returns-in-Silent-Mechs-clause-leaves
 returns-in-Silent-Mechs-clause-leaves c =
     let stage : c.args.self.now.stage ≡ Silent = search (rules, c.in-Silent-Mechs.is-0) in
     let line : IsLine c.args.line.now (from_server (mechs c.in-Silent-Mechs.names.now)) =
     rw (c.in-Ok-FromServer.field-0-is, c.in-Silent-Mechs.is-1) at c.in-Ok-FromServer.ensures.ok in
-    leaves_unoffered c.args.self.now c.args.line.now c.in-Silent-Mechs.names.now c.ask.result stage line c.ask.ensures.leaves
+    leaves_unoffered c.args.self.now c.args.line.now c.in-Silent-Mechs.names.now c.send_first.result stage line c.send_first.ensures.leaves
 
 pub returns-in_ok-challenge-in-Begun-Cont-clause-leaves : goal.returns-in_ok-challenge-in-Begun-Cont-clause-leaves
 returns-in_ok-challenge-in-Begun-Cont-clause-leaves c =
@@ -59,12 +61,13 @@ returns-in_ok-challenge-in-Begun-Cont-clause-leaves c =
     let line : IsLine c.args.line.now (from_server (cont c.in-Begun-Cont.message)) =
     rw (c.in-Ok-FromServer.field-0-is, c.in-Begun-Cont.is-1) at c.in-Ok-FromServer.ensures.ok in
     let message : c.in-Begun-Cont.message ≡ c.as_slice.result.now = search rules in
-    leaves_unanswered c.args.self.now c.in-Begun-Cont.client c.args.line.now c.as_slice.result.now c.prove.result stage
-    (subst (λ (text : List ℕ). IsLine c.args.line.now (from_server (cont text))) message line) c.prove.ensures.leaves
+    leaves_unanswered c.args.self.now c.in-Begun-Cont.client c.args.line.now c.as_slice.result.now c.send_final.result stage
+    (subst (λ (text : List ℕ). IsLine c.args.line.now (from_server (cont text))) message line) c.send_final.ensures.leaves
 
 pub returns-in-Proved-Accepts-clause-leaves : goal.returns-in-Proved-Accepts-clause-leaves
 returns-in-Proved-Accepts-clause-leaves c =
     let stage : c.args.self.now.stage ≡ Proved c.in-Proved-Accepts.client = sym c.in-Proved-Accepts.ensures.value in
     let line : IsLine c.args.line.now (from_server (accepts c.in-Proved-Accepts.message)) =
     rw (c.in-Ok-FromServer.field-0-is, c.in-Proved-Accepts.is-1) at c.in-Ok-FromServer.ensures.ok in
-    leaves_unproved c.args.self.now c.in-Proved-Accepts.client c.args.line.now c.in-Proved-Accepts.message c.check_signature.result stage line c.check_signature.ensures.leaves
+    leaves_unproved c.args.self.now c.in-Proved-Accepts.client c.args.line.now c.in-Proved-Accepts.message c.check_signature.result stage
+    line c.check_signature.ensures.leaves

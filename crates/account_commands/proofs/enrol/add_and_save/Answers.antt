@@ -1,0 +1,45 @@
+use Rattle.std.proofs.Common.{inl, inr, refl, sym}
+use Rattle.std.proofs.lemmas.Result.{err_from_is_err_and, on_ok_weaker, IfErr-weaker}
+use Rattle.account_commands.proofs.lemmas.EnrolFaults.{not_added, not_saved}
+use Rattle.account_commands.proofs.lemmas.Results.{on_ok_both}
+use Rattle.account_commands.proofs.enrol.add_and_save.Goals as goal
+
+-- the book of the file has changed, and the account is added to the one that is there now
+pub returns-in_ok-held-in-Some-found-clause-saved : goal.returns-in_ok-held-in-Some-found-clause-saved
+returns-in_ok-held-in-Some-found-clause-saved g c =
+    let read = rw c.in-Some-found.is at c.in_ok-file.ensures.read in
+    let saved = rw (sym c.in_ok-held-in-Some-found.ensures.saved) at read in
+    on_ok_both c.enrol.result c.enrol.ensures.added c.enrol.ensures.saved
+    (λ added done. record {
+      first = c.in_ok-held-in-Some-found.held.book;
+      is_first = inr (_, record { is_text = c.in_ok-held-in-Some-found.ensures.text; is_read = saved });
+      last = c.enrol.new.self.book;
+      is_enrolled = added;
+      is_saved = (done.text, done.is_text, done.stored);
+    })
+
+pub returns-in_default-clause-saved : goal.returns-in_default-clause-saved
+returns-in_default-clause-saved g c =
+    on_ok_weaker c.save.result
+    (λ saved. record {
+      first = c.args.book;
+      is_first = inl refl;
+      last = c.add_to.new.book;
+      is_enrolled = c.in_ok-add_to.ensures.added;
+      is_saved = let done = rw c.new-in_default.ensures.book at saved in (done.text, done.is_text, done.stored);
+    })
+    c.save.ensures.saved
+
+pub returns-in_ok-held-in-Some-found-clause-err : goal.returns-in_ok-held-in-Some-found-clause-err
+returns-in_ok-held-in-Some-found-clause-err g c =
+    let read = rw c.in-Some-found.is at c.in_ok-file.ensures.read in
+    let saved = rw (sym c.in_ok-held-in-Some-found.ensures.saved) at read in
+    IfErr-weaker c.enrol.result _ _
+    (λ fault other. not_saved _ _ _ _ _ _ _ (record { is_text = c.in_ok-held-in-Some-found.ensures.text; is_read = saved })
+    (rw c.in_ok-held-in-Some-found.ensures.path at other))
+    c.enrol.ensures.err
+
+pub returns-in_err-add_to-clause-err : goal.returns-in_err-add_to-clause-err
+returns-in_err-add_to-clause-err g c =
+    let e = err_from_is_err_and c.from_residual.result c.from_residual.ensures.1 in
+    rw (e.1, e.2) (not_added _ _ _ _ _ c.in_err-add_to.ensures.err)

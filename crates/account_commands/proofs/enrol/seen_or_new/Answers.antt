@@ -1,6 +1,0 @@
-use Rattle.std.proofs.Common.{inl, refl}
-use Rattle.account_commands.proofs.enrol.seen_or_new.Goals as goal
-
--- the book that was read, and no random byte
-pub returns-in-Some-clause-book : goal.returns-in-Some-clause-book
-returns-in-Some-clause-book g c = inl (_, rw c.in-Some.is at c.requires, refl)

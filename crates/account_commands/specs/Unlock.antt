@@ -1,0 +1,41 @@
+-- What the command `unlock` changes and prints, and which faults end it.
+use Rattle.std.specs.Prelude.{ℕ, ◌≡◌, ◌⊎◌, List, [], ◌∷◌, ◌++◌, codes, Option}
+use Rattle.std.specs.Str.{byte}
+use Rattle.std.specs.Io.KnownBytes.{Appends}
+use Rattle.book_format.specs.Book.{BookFields}
+use Rattle.account_book.specs.Accounts.{account_at}
+use Rattle.account_book.specs.SavedBooks.{HasStoredText}
+use Rattle.book_file.specs.Text.{IsWritten}
+use Rattle.clap.specs.declared.parser.matches.ArgMatches.{ArgMatches}
+use Rattle.command_line.specs.Fault.{IsTokenFault}
+use Rattle.command_line.specs.declared.fault.Fault.{Fault}
+use Rattle.command_line.specs.declared.fault.Fault.TheVariants.{CannotWriteOutput}
+use Rattle.command_line.specs.declared.option_name.OptionName.TheVariants as option
+use Rattle.command_io.specs.BadValues.{HasBadValue}
+use Rattle.command_io.specs.HeldBook.{IsReadBook, IsStoredShort, IsTokenUnlocked, IsUnheld}
+use Rattle.command_words.specs.Values.{given_value}
+
+-- a book is read from a file, the token of the name that the words give is unlocked, and the text of the book as it is then is
+-- written to a file; and the name is printed
+pub record UnlocksAsked {File : Type 0} (bytes_of written_to : File → Option (List ℕ)) (words : ArgMatches) (old new : Option (List ℕ))
+    : Type 0 where
+  pub text : List ℕ
+  pub first : BookFields
+  pub is_first : IsReadBook bytes_of text first
+  pub last : BookFields
+  pub is_unlocked : IsTokenUnlocked (given_value words option.Name) first last
+  pub is_saved : HasStoredText (IsStoredShort (IsWritten written_to)) last
+  pub printed : Appends old new (codes "unlocked " ++ (given_value words option.Name ++ byte "\n" ∷ []))
+
+-- a book that was read has no token for the name, or can't be saved in the file of this path: the fault says which
+abbrev pub CannotUnlockToken : {File : Type 0} → (bytes_of : File → Option (List ℕ)) → (path name : List ℕ) → Fault → Type 0
+CannotUnlockToken bytes_of path name fault =
+    (text : List ℕ) × (book : BookFields) × IsReadBook bytes_of text book × IsTokenFault path (account_at book name) fault
+
+-- the fault that ends `unlock`: the name is none, the book can't be held or read, it has no token for the name or can't be saved, the
+-- output can't be written, or memory ran out
+abbrev pub CannotUnlock : {File : Type 0} → (bytes_of : File → Option (List ℕ)) → ArgMatches → Fault → Type 0
+CannotUnlock bytes_of words fault =
+    HasBadValue (option.Name ∷ []) words fault
+    ⊎ (IsUnheld bytes_of (given_value words option.Book) fault
+    ⊎ (CannotUnlockToken bytes_of (given_value words option.Book) (given_value words option.Name) fault ⊎ (fault ≡ CannotWriteOutput)))

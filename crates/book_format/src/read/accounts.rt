@@ -1,0 +1,186 @@
+//! The accounts of a book.
+ghost use Rattle.std.specs.Prelude.{◌≡◌, ◌≤◌, codes, [], Ok, Some};
+ghost use Rattle.toml.specs.Data.{get_member};
+ghost use Rattle.toml.specs.View.{view, items_view, table_view};
+ghost use Rattle.book_format.specs.ValueTypes.{plain_name_of, are_texts, names_in, names_of, name_list_in};
+ghost use Rattle.book_format.specs.Reading.{IsReadAs, IsReadOrFault, named_account_of, accounts_from, in_account};
+ghost use Rattle.book_format.specs.Rows.{in_table, read_or, read_some, table_in};
+ghost use Rattle.book_format.specs.Tables.{mech, token, account};
+ghost use Rattle.book_format.specs.declared.fault.BookWhy.TheVariants.{NoMemory};
+
+use crate::account::{Account, MechKeys, SHA1_KEY_LEN, SHA256_KEY_LEN};
+use crate::fault::{BookFault, BookWhy};
+use crate::read::field::{at, check_keys, table_of};
+use crate::read::mech::mech_of;
+use crate::read::token::token_of;
+use otp_core::Token;
+use scram_text::PlainName;
+use std::alloc::Global;
+use std::collections::BTreeMap;
+use toml::{Table, Value};
+
+// The most names that an account may act as.
+const MOST_NAMES: usize = 16;
+
+/// The accounts of a table in byte order of names, each wholly read before the next. The fault is that of the first account at
+/// fault, with its index; or, at any place, `NoMemory`.
+#[tactic(auto, unfolding(crate::specs::Reading::accounts_from))]
+pub(crate) fn accounts_from(
+    alloc: Global,
+    table: &Table,
+) -> Result<BTreeMap<PlainName, Account>, BookFault>
+    ensures { IsReadOrFault (λ m. m.entries) result (accounts_from 0 (table_view table.now)) }
+{
+    let mut accounts = BTreeMap::new(alloc);
+    let mut index = 0;
+    for (key, value) in table.iter() {
+        let (name, account) = match named_account_of(alloc, key.as_str(), value) {
+            Ok(entry) => entry,
+            Err(why) => return Err(in_account(why, index)),
+        };
+        if accounts.insert(name, account).is_err() {
+            return Err(in_account(BookWhy::NoMemory, index));
+        }
+        index += 1;
+    }
+    Ok(accounts)
+}
+
+// The fault in the account of this index.
+fn in_account(why: BookWhy, index: usize) -> BookFault
+    ensures { result ≡ record { why = why; account = Some index } }
+{
+    BookFault {
+        why,
+        account: Some(index),
+    }
+}
+
+// An account and its name. `Name` where the key is no plain name, then the fault of the account.
+#[tactic(auto, unfolding(crate::specs::Reading::named_account_of))]
+fn named_account_of(
+    alloc: Global,
+    key: &str,
+    value: &Value,
+) -> Result<(PlainName, Account), BookWhy>
+    ensures { IsReadAs (λ e. e) result (named_account_of key.now (view value.now)) }
+{
+    let name = plain_name_of(key)?;
+    let account = account_of(alloc, value)?;
+    Ok((name, account))
+}
+
+// The name. `Name` where the text is not 1 to 255 bytes of 20 to 7E hex.
+fn plain_name_of(text: &str) -> Result<PlainName, BookWhy>
+    ensures { result ≡ plain_name_of text.now }
+{
+    PlainName::new(text.as_bytes()).ok_or(BookWhy::Name)
+}
+
+// The account of a table. `Key` where the value is no table or a key is unknown; then the fault of the first of `sha1`,
+// `sha256`, `act_as` and `token` at fault. Each may be missing.
+#[tactic(auto, unfolding(crate::specs::Rows::table_in, crate::specs::Rows::read_table))]
+fn account_of(alloc: Global, value: &Value) -> Result<Account, BookWhy>
+    ensures { IsReadAs (λ a. a) result (table_in account (view value.now)) }
+{
+    let table = table_of(value)?;
+    check_keys(table, &["sha1", "sha256", "act_as", "token"])?;
+    let sha1 = mech_if_any(SHA1_KEY_LEN, table, "sha1")?;
+    let sha256 = mech_if_any(SHA256_KEY_LEN, table, "sha256")?;
+    let act_as = act_as_if_any(alloc, table)?;
+    let token = token_if_any(table)?;
+    Ok(Account {
+        sha1,
+        sha256,
+        act_as,
+        token,
+    })
+}
+
+// What is kept for a mechanism, or None where its key is missing. The faults are those of `mech_of`.
+fn mech_if_any(len: usize, table: &Table, key: &str) -> Result<Option<MechKeys>, BookWhy>
+    requires { len ≤ 64 }
+    ensures { result ≡ read_some key.now (in_table (mech len)) (table_view table.now) }
+{
+    match at(table, key) {
+        Some(value) => Ok(Some(mech_of(len, value)?)),
+        None => Ok(None),
+    }
+}
+
+// The token, or None where there is no key `token`. The faults are those of `token_of`.
+fn token_if_any(table: &Table) -> Result<Option<Token>, BookWhy>
+    ensures { result ≡ read_some (codes "token") token (table_view table.now) }
+{
+    match at(table, "token") {
+        Some(value) => Ok(Some(token_of(value)?)),
+        None => Ok(None),
+    }
+}
+
+// The names that the account may act as: none where there is no key `act_as`. The faults are those of `act_as_of`.
+fn act_as_if_any(alloc: Global, table: &Table) -> Result<Vec<PlainName>, BookWhy>
+    ensures { IsReadAs (λ v. v.items) result (read_or (Ok []) name_list_in (get_member (codes "act_as") (table_view table.now))) }
+{
+    match at(table, "act_as") {
+        Some(value) => act_as_of(alloc, value),
+        None => Ok(Vec::new(alloc)),
+    }
+}
+
+// The names of a list. `Key` where the value is no list or has a value that is no text, then `Name` where there are more than
+// 16 or one is not plain.
+#[tactic(auto, unfolding(crate::specs::ValueTypes::name_list_in))]
+fn act_as_of(alloc: Global, value: &Value) -> Result<Vec<PlainName>, BookWhy>
+    ensures { IsReadAs (λ v. v.items) result (name_list_in (view value.now)) }
+{
+    let list = value.as_array().ok_or(BookWhy::Key)?;
+    names_of(alloc, list.as_slice())
+}
+
+// The names: the types of all are judged before the value of any. Their number is judged before their
+// values too, since both faults are `Name`.
+fn names_of(alloc: Global, list: &[Value]) -> Result<Vec<PlainName>, BookWhy>
+    ensures { IsReadAs (λ v. v.items) result (names_of (items_view list.now)) }
+{
+    if !are_texts(list) {
+        return Err(BookWhy::Key);
+    }
+    if list.len() > MOST_NAMES {
+        return Err(BookWhy::Name);
+    }
+    names_in(alloc, list)
+}
+
+// Whether each value is a text.
+fn are_texts(list: &[Value]) -> bool
+    ensures { result ≡ are_texts (items_view list.now) }
+{
+    for value in list {
+        if value.as_str().is_none() {
+            return false;
+        }
+    }
+    true
+}
+
+// The names of texts. `Key` at the first value that is no text, and `Name` at the first that is no plain name.
+#[tactic(auto, unfolding(crate::specs::ValueTypes::names_in, crate::specs::ValueTypes::text_in))]
+fn names_in(alloc: Global, list: &[Value]) -> Result<Vec<PlainName>, BookWhy>
+    ensures { IsReadAs (λ v. v.items) result (names_in (items_view list.now)) }
+{
+    let mut names = Vec::new(alloc);
+    for value in list {
+        let Some(text) = value.as_str() else {
+            return Err(BookWhy::Key);
+        };
+        let name = match plain_name_of(text) {
+            Ok(name) => name,
+            Err(why) => return Err(why),
+        };
+        if names.push(name).is_err() {
+            return Err(BookWhy::NoMemory);
+        }
+    }
+    Ok(names)
+}

@@ -1,0 +1,167 @@
+//! The values of a table: texts, whole numbers, bytes, tables.
+ghost use Rattle.std.specs.Prelude.{◌≡◌, ◌≤◌, Err, Ok, option_map, ok_or, IfOk, IfSome, length};
+ghost use Rattle.std.specs.List.{list_any};
+ghost use Rattle.std.specs.Str.{bytes_eq};
+ghost use Rattle.toml.specs.Data.{get_member};
+ghost use Rattle.toml.specs.View.{view, table_view};
+ghost use Rattle.book_format.specs.Keys.{has_only};
+ghost use Rattle.hex.specs.Hex.{decode_of};
+ghost use Rattle.book_format.specs.ValueTypes.{number, number_of, bytes, bytes_in, decoded, text_in};
+ghost use Rattle.book_format.specs.Reading.{seen};
+ghost use Rattle.book_format.specs.Rows.{demand, number_at, read_at, read_or, table_of};
+ghost use Rattle.book_format.specs.declared.fault.BookWhy.{BookWhy};
+ghost use Rattle.book_format.specs.declared.fault.BookWhy.TheVariants.{Key};
+
+use crate::fault::BookWhy;
+use arrayvec::ArrayVec;
+use mac_core::Tag;
+use toml::{Table, Value};
+
+/// The value at a key.
+pub(crate) fn at<'a>(table: &'a Table, key: &str) -> Option<&'a Value>
+    ensures { option_map (λ v. view v.now) result ≡ get_member key.now (table_view table.now) }
+{
+    table.get(key)
+}
+
+/// The value at a key, or `Key` where it is missing.
+pub(crate) fn required<'a>(table: &'a Table, key: &str) -> Result<&'a Value, BookWhy>
+    ensures { seen (λ v. view v.now) result ≡ ok_or (get_member key.now (table_view table.now)) Key }
+{
+    at(table, key).ok_or(BookWhy::Key)
+}
+
+/// The members of a table. `Key` for another value.
+pub(crate) fn table_of(value: &Value) -> Result<&Table, BookWhy>
+    ensures { seen (λ t. table_view t.now) result ≡ table_of (view value.now) }
+{
+    value.as_table().ok_or(BookWhy::Key)
+}
+
+/// Answers `Key` where the table has a key that is not among these.
+pub(crate) fn check_keys(table: &Table, keys: &[&str]) -> Result<(), BookWhy>
+    ensures { result ≡ demand (has_only (λ key. list_any (λ k. bytes_eq k.now key) keys.now) (table_view table.now)) Key }
+{
+    if has_only(table, keys) {
+        Ok(())
+    } else {
+        Err(BookWhy::Key)
+    }
+}
+
+// Whether each key of the table is among these.
+#[tactic(auto, unfolding(crate::specs::Keys::has_only))]
+fn has_only(table: &Table, keys: &[&str]) -> bool
+    ensures { result ≡ has_only (λ key. list_any (λ k. bytes_eq k.now key) keys.now) (table_view table.now) }
+{
+    for (key, _) in table.iter() {
+        if !is_among(keys, key.as_str()) {
+            return false;
+        }
+    }
+    true
+}
+
+// Whether the key is among these.
+fn is_among(keys: &[&str], key: &str) -> bool
+    ensures { result ≡ list_any (λ k. bytes_eq k.now key.now) keys.now }
+{
+    keys.iter().any(|known| *known == key)
+}
+
+/// The text at a key. `Key` where it is missing or the value has another type.
+#[tactic(auto, unfolding(crate::specs::ValueTypes::text_in))]
+pub(crate) fn text_at<'a>(table: &'a Table, key: &str) -> Result<&'a str, BookWhy>
+    ensures { seen (λ t. t.now) result ≡ read_or (Err Key) text_in (get_member key.now (table_view table.now)) }
+{
+    required(table, key)?.as_str().ok_or(BookWhy::Key)
+}
+
+/// The whole number, from `least` to `most`. `Key` for a value of another type, and `why` for another number.
+#[tactic(auto, unfolding(crate::specs::ValueTypes::number_of))]
+pub(crate) fn number_of(value: &Value, least: u64, most: u64, why: BookWhy) -> Result<u64, BookWhy>
+    ensures value { result ≡ number_of why least most (view value.now) }
+    ensures least { IfOk result (λ n. least ≤ n) }
+    ensures most { IfOk result (λ n. n ≤ most) }
+{
+    let number = value.as_integer().ok_or(BookWhy::Key)?;
+    if number < 0 {
+        return Err(why);
+    }
+    let number = number as u64;
+    if least <= number && number <= most {
+        Ok(number)
+    } else {
+        Err(why)
+    }
+}
+
+/// The whole number from `least` to `most` at a key. `Key` where it is missing or the value has another
+/// type, and `why` where it is another number.
+#[tactic(auto, unfolding(crate::specs::ValueTypes::number_of))]
+pub(crate) fn number_at(
+    table: &Table,
+    key: &str,
+    least: u64,
+    most: u64,
+    why: BookWhy,
+) -> Result<u64, BookWhy>
+    ensures value { result ≡ read_at key.now (number why least most) (table_view table.now) }
+    ensures least { IfOk result (λ n. least ≤ n) }
+    ensures most { IfOk result (λ n. n ≤ most) }
+    ensures at { IfOk result (λ n. number_at key.now (table_view table.now) ≡ n) }
+{
+    number_of(required(table, key)?, least, most, why)
+}
+
+/// The whole number at a key, at most `most`, or 0 where the key is missing. `Key` where the value has another
+/// type, and `why` where it is another number.
+pub(crate) fn number_or_zero(
+    table: &Table,
+    key: &str,
+    most: u64,
+    why: BookWhy,
+) -> Result<u64, BookWhy>
+    ensures value { result ≡ read_or (Ok 0) (number_of why 0 most) (get_member key.now (table_view table.now)) }
+    ensures most { IfOk result (λ n. n ≤ most) }
+{
+    match at(table, key) {
+        Some(value) => number_of(value, 0, most, why),
+        None => Ok(0),
+    }
+}
+
+// The bytes of a hexadecimal text in either case, or None where it is not one of `least` to `most` bytes.
+fn bytes_within(least: usize, most: usize, text: &str) -> Option<Tag>
+    requires { most ≤ 64 }
+    ensures value { (why : BookWhy) → ok_or (option_map (λ bytes. bytes.items) result) why ≡ decoded why least most (decode_of text.now) }
+    ensures least { IfSome result (λ bytes. least ≤ length bytes.items) }
+    ensures most { IfSome result (λ bytes. length bytes.items ≤ most) }
+{
+    let count = text.len() / 2;
+    if count < least || most < count {
+        return None;
+    }
+    let mut buffer = [0; 64];
+    hex::decode_to_slice(text, &mut buffer[..count]).ok()?;
+    ArrayVec::try_from(&buffer[..count]).ok()
+}
+
+/// The bytes, `least` to `most` of them, whose hexadecimal text, in either case, is at a key. `Key`
+/// where it is missing or the value has another type, and `why` for another text.
+#[tactic(auto, unfolding(crate::specs::ValueTypes::bytes_in, crate::specs::ValueTypes::text_in))]
+pub(crate) fn bytes_at(
+    table: &Table,
+    key: &str,
+    least: usize,
+    most: usize,
+    why: BookWhy,
+) -> Result<Tag, BookWhy>
+    requires { most ≤ 64 }
+    ensures value { seen (λ v. v.items) result ≡ read_at key.now (bytes why least most) (table_view table.now) }
+    ensures least { IfOk result (λ bytes. least ≤ length bytes.items) }
+    ensures most { IfOk result (λ bytes. length bytes.items ≤ most) }
+{
+    let text = text_at(table, key)?;
+    bytes_within(least, most, text).ok_or(why)
+}

@@ -1,0 +1,39 @@
+//! A token of either kind: `kind`, and the keys of that kind.
+ghost use Rattle.std.specs.Prelude.{◌≡◌};
+ghost use Rattle.toml.specs.View.{view, table_view};
+ghost use Rattle.book_format.specs.Tables.{token_in, token_of_kind};
+
+mod hotp;
+mod setting;
+mod totp;
+
+use crate::fault::BookWhy;
+use crate::read::field::{table_of, text_at};
+use hotp::{hotp_of, hotp_token};
+use otp_core::Token;
+use toml::{Table, Value};
+use totp::{totp_of, totp_token};
+
+/// The token of a table. `Key` where the value is no table or `kind` is missing or no text, then what `kind_of` answers.
+#[tactic(auto, unfolding(crate::specs::Tables::token_in))]
+pub(crate) fn token_of(value: &Value) -> Result<Token, BookWhy>
+    ensures { result ≡ token_in (view value.now) }
+{
+    let table = table_of(value)?;
+    let kind = text_at(table, "kind")?;
+    kind_of(kind, table)
+}
+
+// The token of the kind of this name. `Token` for another name, else the fault of the first key at fault.
+#[tactic(auto, unfolding(crate::specs::Tables::token_of_kind))]
+fn kind_of(kind: &str, table: &Table) -> Result<Token, BookWhy>
+    ensures { result ≡ token_of_kind kind.now (table_view table.now) }
+{
+    if kind == "hotp" {
+        Ok(hotp_token(hotp_of(table)?))
+    } else if kind == "totp" {
+        Ok(totp_token(totp_of(table)?))
+    } else {
+        Err(BookWhy::Token)
+    }
+}

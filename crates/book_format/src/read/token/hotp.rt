@@ -1,0 +1,72 @@
+//! A HOTP token: `secret`, `digits`, `next`, `look_ahead`, `sync_ahead`, `limit`, `failures`.
+ghost use Rattle.std.specs.Prelude.{◌≡◌, IfOk};
+ghost use Rattle.toml.specs.View.{table_view};
+ghost use Rattle.otp_core.specs.Settings.{IsHotpInRange};
+ghost use Rattle.otp_core.specs.declared.token.kinds.TokenFields.TheVariants.{Hotp};
+ghost use Rattle.book_format.specs.Rows.{read_table};
+ghost use Rattle.book_format.specs.Tables.{hotp};
+
+use crate::fault::BookWhy;
+use crate::read::field::{bytes_at, check_keys, number_at, number_or_zero};
+use crate::read::token::setting::{digits_of, secret_of};
+use otp_core::{
+    HotpFields, LEAST_DIGITS, LEAST_SECRET, MOST_COUNTER, MOST_DIGITS, MOST_LIMIT, MOST_LOOK_AHEAD,
+    MOST_SECRET, MOST_SYNC_AHEAD, Token,
+};
+use toml::Table;
+
+/// The settings and the state of a HOTP token, of a table whose `kind` says that it is one. `Key` where a key is unknown;
+/// then of the first key at fault, in the order above: `Key` where it is missing or its value has another type, and `Token`
+/// where the value is out of its range. `sync_ahead` may be missing.
+#[tactic(auto, unfolding(crate::specs::Rows::read_table))]
+pub(super) fn hotp_of(table: &Table) -> Result<HotpFields, BookWhy>
+    ensures value { result ≡ read_table hotp (table_view table.now) }
+    ensures range { IfOk result IsHotpInRange }
+{
+    check_keys(
+        table,
+        &[
+            "kind",
+            "secret",
+            "digits",
+            "next",
+            "look_ahead",
+            "sync_ahead",
+            "limit",
+            "failures",
+        ],
+    )?;
+    let secret = bytes_at(table, "secret", LEAST_SECRET, MOST_SECRET, BookWhy::Token)?;
+    let digits = number_at(
+        table,
+        "digits",
+        u64::from(LEAST_DIGITS),
+        u64::from(MOST_DIGITS),
+        BookWhy::Token,
+    )?;
+    let next = number_at(table, "next", 0, MOST_COUNTER + 1, BookWhy::Token)?;
+    let look_ahead = number_at(table, "look_ahead", 0, MOST_LOOK_AHEAD, BookWhy::Token)?;
+    let sync_ahead = number_or_zero(table, "sync_ahead", MOST_SYNC_AHEAD, BookWhy::Token)?;
+    let limit = number_at(table, "limit", 1, MOST_LIMIT, BookWhy::Token)?;
+    let failures = number_at(table, "failures", 0, limit, BookWhy::Token)?;
+    Ok(HotpFields {
+        secret: secret_of(&secret),
+        digits: digits_of(digits),
+        next,
+        look_ahead,
+        sync_ahead,
+        limit,
+        failures,
+    })
+}
+
+/// The token of settings that are in their ranges.
+pub(super) fn hotp_token(fields: HotpFields) -> Token
+    requires { IsHotpInRange fields }
+    ensures { result ≡ Hotp fields }
+{
+    let Ok(token) = Token::hotp(fields) else {
+        unreachable!()
+    };
+    token
+}

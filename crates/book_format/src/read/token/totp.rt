@@ -1,0 +1,135 @@
+//! A TOTP token: `hash`, `secret`, `digits`, `t0`, `step`, `back`, `ahead`, `max_drift`, `last`, `drift`,
+//! `limit`, `failures`.
+ghost use Rattle.std.specs.Prelude.{◌≡◌, ◌≤◌, codes, nat_abs, IfOk};
+ghost use Rattle.std.specs.Option.{ForSome};
+ghost use Rattle.toml.specs.View.{table_view};
+ghost use Rattle.otp_core.specs.Ranges.{most_counter};
+ghost use Rattle.otp_core.specs.Settings.{IsTotpInRange};
+ghost use Rattle.otp_core.specs.declared.token.kinds.TokenFields.TheVariants.{Totp};
+ghost use Rattle.book_format.specs.Keys.{is_among, has_only};
+ghost use Rattle.book_format.specs.ValueTypes.{number, signed, hash};
+ghost use Rattle.book_format.specs.Rows.{demand, read_at, read_some, read_table, table_keys};
+ghost use Rattle.book_format.specs.Tables.{totp};
+ghost use Rattle.book_format.specs.declared.fault.BookWhy.TheVariants as why;
+
+use crate::fault::BookWhy;
+use crate::read::field::{at, bytes_at, check_keys, number_at, number_of, required, text_at};
+use crate::read::token::setting::{digits_of, moment_of, secret_of};
+use otp_core::{
+    LAST_MOMENT, LEAST_DIGITS, LEAST_SECRET, LONGEST_STEP, MOST_COUNTER, MOST_DIGITS, MOST_DRIFT,
+    MOST_LIMIT, MOST_SECRET, MOST_STEPS_ASIDE, OtpHash, Token, TotpFields,
+};
+use toml::Table;
+
+/// The settings and the state of a TOTP token, of a table whose `kind` says that it is one. `Key` where a key is unknown;
+/// then of the first key at fault, in the order above: `Key` where it is missing or its value has another type, and `Token`
+/// where the value is out of its range. `last` may be missing.
+#[tactic(auto, unfolding(crate::specs::Rows::read_table))]
+pub(super) fn totp_of(table: &Table) -> Result<TotpFields, BookWhy>
+    ensures value { result ≡ read_table totp (table_view table.now) }
+    ensures range { IfOk result IsTotpInRange }
+{
+    check_totp_keys(table)?;
+    let hash = hash_at(table, "hash")?;
+    let secret = bytes_at(table, "secret", LEAST_SECRET, MOST_SECRET, BookWhy::Token)?;
+    let digits = number_at(
+        table,
+        "digits",
+        u64::from(LEAST_DIGITS),
+        u64::from(MOST_DIGITS),
+        BookWhy::Token,
+    )?;
+    let t0 = number_at(table, "t0", 0, LAST_MOMENT, BookWhy::Token)?;
+    let step = number_at(table, "step", 1, LONGEST_STEP, BookWhy::Token)?;
+    let back = number_at(table, "back", 0, MOST_STEPS_ASIDE, BookWhy::Token)?;
+    let ahead = number_at(table, "ahead", 0, MOST_STEPS_ASIDE, BookWhy::Token)?;
+    let max_drift = number_at(table, "max_drift", 0, MOST_DRIFT, BookWhy::Token)?;
+    let last = last_if_any(table)?;
+    let drift = drift_at(table, "drift", max_drift)?;
+    let limit = number_at(table, "limit", 1, MOST_LIMIT, BookWhy::Token)?;
+    let failures = number_at(table, "failures", 0, limit, BookWhy::Token)?;
+    Ok(TotpFields {
+        hash,
+        secret: secret_of(&secret),
+        digits: digits_of(digits),
+        t0: moment_of(t0),
+        step,
+        back,
+        ahead,
+        max_drift,
+        last,
+        drift,
+        limit,
+        failures,
+    })
+}
+
+// Answers `Key` where the table has a key that a TOTP token has not.
+fn check_totp_keys(table: &Table) -> Result<(), BookWhy>
+    ensures { result ≡ demand (has_only (is_among (table_keys totp)) (table_view table.now)) why.Key }
+{
+    check_keys(
+        table,
+        &[
+            "kind",
+            "hash",
+            "secret",
+            "digits",
+            "t0",
+            "step",
+            "back",
+            "ahead",
+            "max_drift",
+            "last",
+            "drift",
+            "limit",
+            "failures",
+        ],
+    )
+}
+
+/// The token of settings that are in their ranges.
+pub(super) fn totp_token(fields: TotpFields) -> Token
+    requires { IsTotpInRange fields }
+    ensures { result ≡ Totp fields }
+{
+    let Ok(token) = Token::totp(fields) else {
+        unreachable!()
+    };
+    token
+}
+
+// The hash function at a key. `Key` where it is missing or no text, and `Token` where no hash function has the name.
+#[tactic(auto, unfolding(crate::specs::ValueTypes::hash_in))]
+fn hash_at(table: &Table, key: &str) -> Result<OtpHash, BookWhy>
+    ensures { result ≡ read_at key.now hash (table_view table.now) }
+{
+    let name = text_at(table, key)?;
+    OtpHash::of_name(name).ok_or(BookWhy::Token)
+}
+
+// The last step, or None where there is no key `last`. `Key` for a value of another type, and `Token` for one out of its range.
+fn last_if_any(table: &Table) -> Result<Option<u64>, BookWhy>
+    ensures value { result ≡ read_some (codes "last") (number why.Token 0 most_counter) (table_view table.now) }
+    ensures range { IfOk result (λ last. ForSome last (λ l. l ≤ most_counter)) }
+{
+    match at(table, "last") {
+        Some(value) => Ok(Some(number_of(value, 0, MOST_COUNTER, BookWhy::Token)?)),
+        None => Ok(None),
+    }
+}
+
+// The drift at a key, at most `most` steps to either side. `Key` where it is missing or no whole number, and `Token` where it
+// is further off.
+#[tactic(auto, unfolding(crate::specs::ValueTypes::signed_in))]
+fn drift_at(table: &Table, key: &str, most: u64) -> Result<i64, BookWhy>
+    ensures value { result ≡ read_at key.now (signed why.Token most) (table_view table.now) }
+    ensures range { IfOk result (λ drift. nat_abs drift ≤ most) }
+{
+    let drift = required(table, key)?.as_integer().ok_or(BookWhy::Key)?;
+    if drift.unsigned_abs() <= most {
+        Ok(drift)
+    } else {
+        Err(BookWhy::Token)
+    }
+}

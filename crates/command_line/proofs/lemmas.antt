@@ -1,2 +1,0 @@
--- Lemmas: what the proofs of this crate cite.
-pub mod Decimals

@@ -1,5 +1,0 @@
-use Rattle.log_grammar.proofs.lemmas.lines.Cuts.{cut_somehow}
-use Rattle.log_grammar.proofs.laws.are_cut.Goals as goal
-
-pub returns : goal.returns
-returns c = cut_somehow

@@ -1,5 +1,0 @@
-use Rattle.log_grammar.proofs.lemmas.lines.Cuts.{cut_one_way}
-use Rattle.log_grammar.proofs.laws.are_cut_one_way.Goals as goal
-
-pub returns : goal.returns
-returns c = cut_one_way

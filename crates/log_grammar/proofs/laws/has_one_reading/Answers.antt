@@ -1,5 +1,0 @@
-use Rattle.log_grammar.proofs.lemmas.state_machine.PlaceBefore.{one_reading}
-use Rattle.log_grammar.proofs.laws.has_one_reading.Goals as goal
-
-pub returns : goal.returns
-returns c = one_reading c.has_one_client_first.ensures c.spells_one_name.ensures

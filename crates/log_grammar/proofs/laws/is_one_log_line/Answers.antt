@@ -1,5 +1,0 @@
-use Rattle.log_grammar.proofs.lemmas.lines.ReadBack.{one_log_line}
-use Rattle.log_grammar.proofs.laws.is_one_log_line.Goals as goal
-
-pub returns : goal.returns
-returns c = one_log_line

@@ -1,5 +1,0 @@
--- For src/headline.rt: a clean log is that of its sessions.
-pub mod SessionCounts
-pub mod MomentRanges
-pub mod OfSessions
-pub mod NumberedOfSessions

@@ -1,0 +1,127 @@
+-- What a line of a number tells, and what was told with the number of each reply.
+use Rattle.std.proofs.Common.{◌≡◌, ◌⊎◌, inl, inr, ℕ, true, false, List, [], ◌∷◌, ◌++◌, refl, sym, ◌∙◌, ap, subst, append-nil}
+use Rattle.std.specs.Prelude.{map}
+use Rattle.std.proofs.lemmas.Bool.{eq-eqb}
+use Rattle.std.proofs.lemmas.List.{map-append}
+use Rattle.log_grammar.specs.Lines.{LogLine, said, replies}
+use Rattle.log_grammar.specs.LoggedReply.{LoggedReply, logged_reply_of}
+use Rattle.log_grammar.specs.Places.{Place, got_code}
+use Rattle.log_grammar.specs.Demands.{Demands}
+use Rattle.log_grammar.specs.state_machine.Steps.{IsTransition, told_at}
+use Rattle.log_grammar.specs.Numbered.{Numbered, numbered, of_number, is_reply, reply_numbers}
+use Rattle.log_grammar.specs.state_machine.NumberedSteps.{IsVisitTransition}
+use Rattle.log_grammar.proofs.lemmas.many_sessions.LinesOfNumber.{of_number_append, same_numbered}
+use Rattle.log_grammar.proofs.lemmas.ListEnds.{some_last, last_same, with_last}
+
+-- a line tells of a code exactly where it is a reply
+abbrev pub Tells : Place → LogLine → Type 0
+Tells place line = ((told_at place line ≡ []) × (is_reply line ≡ false))
+    ⊎ ((t : LoggedReply) × (told_at place line ≡ t ∷ []) × (is_reply line ≡ true))
+
+-- a line that may stand at a session's place tells of one code where it is a reply, and else of none
+telling : (d : Demands) (place : Place) (line : LogLine) (next : Place) → IsTransition d place line next → Tells place line
+telling d (got_code account sent) (said (replies moment reply)) next h = inr (logged_reply_of account moment sent reply, refl, refl)
+telling d place (said (replies moment reply)) next h = absurd h
+telling d place line next h = inl (refl, refl)
+
+-- a line that may stand at a number's place tells of one code where it is a reply, and else of none
+pub telling_in : (d : Demands) (place : Place) (line : LogLine) (next : Place) → IsVisitTransition d place line next → Tells place line
+telling_in d place line next (inl h) = telling d place line next h
+telling_in d place line next (inr b) = inl (ap (λ (p : Place). told_at p line) b.0, ap is_reply b.1)
+
+-- what was told, each with this number
+abbrev pub numbered_told_of : ℕ → List LoggedReply → List (Numbered LoggedReply)
+numbered_told_of n told = map (numbered n) told
+
+-- the numbers of the replies that were told
+abbrev pub numbers_of : List (Numbered LoggedReply) → List ℕ
+numbers_of numbered_told = map (λ t. t.number) numbered_told
+
+-- what was told, without the numbers
+abbrev pub values_of : List (Numbered LoggedReply) → List LoggedReply
+values_of numbered_told = map (λ t. t.value) numbered_told
+
+-- what was told is the same again without the number that it was given
+pub values_numbered : (n : ℕ) (told : List LoggedReply) → values_of (numbered_told_of n told) ≡ told
+values_numbered n [] = refl
+values_numbered n (t ∷ told) = ap (λ l. t ∷ l) (values_numbered n told)
+
+-- what a line tells has the number of the line, where the line is a reply
+pub numbers_told : (n : ℕ) (place : Place) (line : LogLine) → Tells place line
+    → numbers_of (numbered_told_of n (told_at place line)) ≡ reply_numbers (numbered n line ∷ [])
+numbers_told n place line (inl none) = rw (none.0, none.1) refl
+numbers_told n place line (inr one) = rw (one.1, one.2) refl
+
+-- nothing was told where the list of its numbers is empty
+pub none_numbered : (numbered_told : List (Numbered LoggedReply)) → numbers_of numbered_told ≡ [] → numbered_told ≡ []
+none_numbered [] e = refl
+none_numbered (m ∷ numbered_told) e = absurd (cc e)
+
+-- what was told is what was told before, and then what a line of this number tells
+pub record ToldBefore (n : ℕ) (numbered_told : List (Numbered LoggedReply)) (numbers : List ℕ)
+    (before more : List LoggedReply) : Type 0 where
+  pub earlier : List (Numbered LoggedReply)
+  pub same : numbered_told ≡ earlier ++ numbered_told_of n more
+  pub order : numbers_of earlier ≡ numbers
+  pub mine : of_number n earlier ≡ before
+
+-- where a line tells nothing, what was told is what was told before it
+told_before_none : (n : ℕ) (numbered_told : List (Numbered LoggedReply)) (numbers : List ℕ) (before : List LoggedReply)
+    → numbers_of numbered_told ≡ numbers ++ []
+    → of_number n numbered_told ≡ before ++ [] → ToldBefore n numbered_told numbers before []
+told_before_none n numbered_told numbers before order mine =
+    record {
+      earlier = numbered_told;
+      same = sym (append-nil numbered_told);
+      order = order ∙ append-nil numbers;
+      mine = mine ∙ append-nil before;
+    }
+
+-- one reply of a number is all that was told under it
+of_number_last : (n : ℕ) (m : Numbered LoggedReply) → m.number ≡ n → of_number n (m ∷ []) ≡ m.value ∷ []
+of_number_last n m same = rw (eq-eqb n m.number (sym same)) refl
+
+-- where a line tells of one reply, what was told is what was told before it, and this reply:
+told_before_last : (n : ℕ) (t : LoggedReply) (front : List (Numbered LoggedReply)) (last : Numbered LoggedReply) (numbers : List ℕ)
+    (before : List LoggedReply)
+    → numbers_of (front ++ last ∷ []) ≡ numbers ++ n ∷ [] → of_number n (front ++ last ∷ []) ≡ before ++ t ∷ []
+    → ToldBefore n (front ++ last ∷ []) numbers before (t ∷ [])
+told_before_last n t front last numbers before order mine =
+    let ends = last_same (numbers_of front) numbers last.number n
+    (sym (map-append (λ (m : Numbered LoggedReply). m.number) front (last ∷ [])) ∙ order) in
+    let told = sym (of_number_append n front (last ∷ []) ∙ ap (λ (l : List LoggedReply). of_number n front ++ l)
+    (of_number_last n last ends.1)) ∙ mine in
+    let also = last_same (of_number n front) before last.value t told in
+    record {
+      earlier = front;
+      same = ap (λ (m : Numbered LoggedReply). front ++ m ∷ []) (same_numbered last.number n last.value t ends.1 also.1);
+      order = ends.0;
+      mine = also.0;
+    }
+
+told_before_one : (n : ℕ) (t : LoggedReply) (numbered_told : List (Numbered LoggedReply)) (numbers : List ℕ) (before : List LoggedReply)
+    → numbers_of numbered_told ≡ numbers ++ n ∷ []
+    → of_number n numbered_told ≡ before ++ t ∷ [] → ToldBefore n numbered_told numbers before (t ∷ [])
+told_before_one n t [] numbers before order mine = absurd (some_last numbers n (sym order))
+told_before_one n t (m ∷ numbered_told) numbers before order mine =
+    let last = with_last m numbered_told in
+    let found = told_before_last n t last.0 last.1 numbers before
+    (subst (λ (l : List (Numbered LoggedReply)). numbers_of l ≡ numbers ++ n ∷ []) last.2 order)
+    (subst (λ (l : List (Numbered LoggedReply)). of_number n l ≡ before ++ t ∷ []) last.2 mine) in
+    subst (λ (l : List (Numbered LoggedReply)). ToldBefore n l numbers before (t ∷ [])) (sym last.2) found
+
+-- what was told is what was told before a line, and then what the line tells
+pub told_before_line : (n : ℕ) (place : Place) (line : LogLine) (numbered_told : List (Numbered LoggedReply)) (numbers : List ℕ)
+    (before : List LoggedReply) → Tells place line
+    → numbers_of numbered_told ≡ numbers ++ reply_numbers (numbered n line ∷ []) → of_number n numbered_told ≡ before ++ told_at place line
+    → ToldBefore n numbered_told numbers before (told_at place line)
+told_before_line n place line numbered_told numbers before (inl none) order mine =
+    let numbers_are = rw none.1 at order in
+    let told = rw none.0 at mine in
+    subst (λ (t : List LoggedReply). ToldBefore n numbered_told numbers before t) (sym none.0)
+    (told_before_none n numbered_told numbers before numbers_are told)
+told_before_line n place line numbered_told numbers before (inr one) order mine =
+    let numbers_are = rw one.2 at order in
+    let told = rw one.1 at mine in
+    subst (λ (t : List LoggedReply). ToldBefore n numbered_told numbers before t) (sym one.1)
+    (told_before_one n one.0 numbered_told numbers before numbers_are told)

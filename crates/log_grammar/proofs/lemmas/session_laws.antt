@@ -1,0 +1,5 @@
+-- For src/by_sessions.rt: a clean log is that of its sessions.
+pub mod SessionCounts
+pub mod MomentRanges
+pub mod OfSessions
+pub mod NumberedOfSessions

@@ -1,0 +1,81 @@
+-- Clean logs by the sessions that they are made of, the line at fault by the clean logs that lines begin, and the
+-- account of each code by the login of its session.
+use Rattle.std.specs.Prelude.{ℕ, ◌≡◌, ◌⊎◌, ◌↔◌, List, [], ◌∷◌, ◌++◌, flat_map}
+use Rattle.std.specs.List.{AllByRecursion}
+use Rattle.otp_core.specs.Attempt.{CodeTexts}
+use Rattle.log_grammar.specs.Lines.{LogLine, header, said, ended, halt, mechs, log_bytes, EndsWith, IsWritable}
+use Rattle.log_grammar.specs.Bytes.{IsSplit}
+use Rattle.log_grammar.specs.LoggedReply.{LoggedReply}
+use Rattle.log_grammar.specs.Places.{got_code}
+use Rattle.log_grammar.specs.Demands.{Accounts, AllCanBeChallenged, IsFirstOf, demands}
+use Rattle.log_grammar.specs.Sessions.{Session, session_lines, session_told, SessionMeets}
+use Rattle.log_grammar.specs.laws.Histories.{IsHistory}
+use Rattle.log_grammar.specs.Begins.{Begins}
+use Rattle.log_grammar.specs.VersionOne.{version_one}
+use Rattle.log_grammar.specs.LogKinds.{IsCleanOf}
+use Rattle.log_grammar.specs.Versions.{IsFront, BeginsClean, IsFirstOutsideCleanLogs, IsFaultLine}
+use Rattle.log_grammar.specs.laws.Outcomes.{IsSentBy}
+
+-- the session is closed: `E` is its last line
+abbrev pub IsClosed : Session → Type 0
+IsClosed s = EndsWith (session_lines s) (ended ∷ [])
+
+-- the session halted: `S HALT` is its last line
+abbrev pub IsHalted : Session → Type 0
+IsHalted s = EndsWith (session_lines s) (said halt ∷ [])
+
+-- each session but the last is closed, and the last is closed or halted
+abbrev pub AreOver : List Session → Type 0
+AreOver [] = Unit {0}
+AreOver (s ∷ []) = IsClosed s ⊎ IsHalted s
+AreOver (s ∷ t ∷ more) = IsClosed s × AreOver (t ∷ more)
+
+-- the bytes are `SCRAMLOG 1` and the lines of these sessions, each ended by an LF; each session meets its demands; and
+-- what was told of each account in all of them, in its order, is a legal history of its token
+pub record IsLogOf (accounts : Accounts) (bytes : List ℕ) (sessions : List Session) : Type 0 where
+  pub spelled : bytes ≡ log_bytes (header ∷ flat_map session_lines sessions)
+  pub lines : AllByRecursion IsWritable (flat_map session_lines sessions)
+  pub over : AreOver sessions
+  pub good : AllByRecursion (SessionMeets (demands accounts)) sessions
+  pub histories : (account : List ℕ) → IsHistory (accounts.token account) account (flat_map session_told sessions)
+
+-- a log of version 1 is clean exactly where it is that of some sessions
+abbrev pub CleanLogsAreThoseOfSessions : Type 0
+CleanLogsAreThoseOfSessions = (accounts : Accounts) (bytes : List ℕ)
+    → IsCleanOf (version_one accounts) bytes ↔ ((sessions : List Session) × IsLogOf accounts bytes sessions)
+
+-- whole lines are a front exactly where they begin a clean log
+abbrev pub FrontsAreWhatBeginsCleanLogs : Type 0
+FrontsAreWhatBeginsCleanLogs = (accounts : Accounts) → AllCanBeChallenged accounts → (bytes : List ℕ) (texts : List (List ℕ))
+    → IsSplit bytes texts []
+    → IsFront accounts bytes ↔ BeginsClean accounts bytes
+
+-- a line is the fault line exactly where it is the first that begins no clean log
+abbrev pub FaultLinesBeginNoCleanLog : Type 0
+FaultLinesBeginNoCleanLog = (accounts : Accounts) → AllCanBeChallenged accounts
+    → (bytes : List ℕ) (texts : List (List ℕ)) (rest : List ℕ) (k : ℕ)
+    → IsSplit bytes texts rest → IsFaultLine accounts bytes k ↔ IsFirstOutsideCleanLogs accounts bytes texts k
+
+-- the session begins with `S MECHS` and the lines by which the client sends this first message
+abbrev pub HasFirst : Session → (mechanism first : List ℕ) → Type 0
+HasFirst s mechanism first =
+    (names : List ℕ) × (sent : List LogLine) × (more : List LogLine) × IsSentBy mechanism first sent
+    × (session_lines s ≡ said (mechs names) ∷ sent ++ more)
+
+-- the client-first message of the session names this account
+abbrev pub IsLoginOf : Session → List ℕ → Type 0
+IsLoginOf s account = (mechanism : List ℕ) × (first : List ℕ) × HasFirst s mechanism first × IsFirstOf mechanism first account
+
+-- the account of each code that is answered in a session that meets its demands is the one that its client-first message names
+abbrev pub EachCodeIsOfItsLogin : Type 0
+EachCodeIsOfItsLogin = (accounts : Accounts) (s : Session) → SessionMeets (demands accounts) s
+    → AllByRecursion (λ t. IsLoginOf s t.account) (session_told s)
+
+-- the lines end with those of a session whose client-first message names this account
+abbrev pub EndsInLoginOf : List LogLine → List ℕ → Type 0
+EndsInLoginOf log account = (s : Session) × EndsWith log (session_lines s) × IsLoginOf s account
+
+-- where the reply to a code is due, the last lines are those of a session whose client-first names the account
+abbrev pub EachReplyDueFollowsItsLogin : Type 0
+EachReplyDueFollowsItsLogin = (accounts : Accounts) (log : List LogLine) (account : List ℕ) (sent : CodeTexts) (told : List LoggedReply)
+    → Begins (demands accounts) log (got_code account sent) told → EndsInLoginOf log account

@@ -1,0 +1,19 @@
+-- What a pass asks of a token, and the reply of a counter that was found. For private functions alone: no public contract cites
+-- this file.
+use Rattle.std.specs.Prelude.{ℕ, ◌≤◌, [], Option, None, Some}
+use Rattle.otp_core.specs.Ranges.{most_counter}
+use Rattle.otp_core.specs.Window.{IsCandidate}
+use Rattle.otp_core.specs.declared.token.answer.Reply.{Reply}
+use Rattle.otp_core.specs.declared.token.answer.Reply.TheVariants.{Pass, Fail}
+use Rattle.otp_core.specs.declared.token.kinds.TokenFields.{TokenFields}
+use Rattle.otp_core.specs.declared.token.kinds.TokenFields.TheVariants.{Hotp, Totp}
+
+-- a pass of this counter at a moment leaves the token in its ranges
+abbrev pub CanMoveTo : TokenFields → (moment c : ℕ) → Type 0
+CanMoveTo (Hotp t) moment c = c ≤ most_counter
+CanMoveTo (Totp t) moment w = IsCandidate (Totp t) [] moment w
+
+-- the reply, where this is the counter that fits, or none
+abbrev pub reply_of : Option ℕ → Reply
+reply_of None = Fail
+reply_of (Some c) = Pass c

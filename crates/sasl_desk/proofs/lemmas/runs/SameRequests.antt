@@ -1,0 +1,173 @@
+-- A session is told one thing, up to its outcome.
+use Rattle.std.proofs.Common.{◌≡◌, ◌≢◌, ◌⊎◌, inl, inr, true, ℕ, List, [], ◌∷◌, ◌++◌, refl, sym, ◌∙◌, ap, subst}
+use Rattle.scram_ends.specs.Entry.{Entry}
+use Rattle.scram_ends.specs.First.{IsChallengeTo}
+use Rattle.scram_ends.specs.Opening.{IsOpening}
+use Rattle.scram_ends.specs.Stages.{challenged_login}
+use Rattle.scram_ends.specs.Verdict.{Due, accept, refuse, IsDue}
+use Rattle.log_grammar.specs.Lines.{LogLine, said, cont, accepts, refuses}
+use Rattle.log_grammar.specs.Places.{Place, between, got_first, waits_final, got_final, waits_code}
+use Rattle.log_grammar.specs.Demands.{Accounts, IsVerdictDue, demands}
+use Rattle.log_grammar.specs.state_machine.Steps.{IsTransition}
+use Rattle.sasl_desk.specs.Alone.{IsSameRequest, HaveSameRequests, up_to_acceptance, HaveSameEntries}
+use Rattle.sasl_desk.specs.Halls.{HallFields, hall_lines, busy_lines, IsSessionRun, IsHallAfter}
+use Rattle.sasl_desk.specs.Runs.{Asked, greets, hears, Call, server_nonce_after, server_nonce_of, IsAnsweredBy, IsRun}
+use Rattle.sasl_desk.specs.Serves.{call_lines}
+use Rattle.sasl_desk.specs.Sessions.{IsChallengeWith}
+use Rattle.sasl_desk.specs.Turns.{IsPath}
+use Rattle.book_format.specs.Book.{BookFields}
+use Rattle.account_book.specs.Store.{StoreFacts}
+use Rattle.log_grammar.specs.Books.{accounts_in}
+use Rattle.log_grammar.specs.Numbered.{Numbered, of_number}
+use Rattle.sasl_desk.proofs.lemmas.halls.Laws.{of_number_lines}
+use Rattle.sasl_desk.proofs.lemmas.runs.OneAnswer.{Texts, has_acceptance, accepted_left, accepted_right, no_more, call_once}
+
+-- after calls that asked the same, sessions have the same part of the nonce:
+server_nonce_after_alike : (asked other : Asked) (server_nonce theirs : List ℕ) → IsSameRequest asked other → server_nonce ≡ theirs
+    → server_nonce_after asked server_nonce ≡ server_nonce_after other theirs
+server_nonce_after_alike (greets one) (greets two) server_nonce theirs same alike = same
+server_nonce_after_alike (hears event moment) (hears other later) server_nonce theirs same alike = alike
+server_nonce_after_alike asked other server_nonce theirs same alike = absurd same
+
+server_nonce_alike : (calls others : List Call) → HaveSameRequests calls others → server_nonce_of calls ≡ server_nonce_of others
+server_nonce_alike [] [] same = refl
+server_nonce_alike (c ∷ calls) (d ∷ others) same = server_nonce_after_alike c.asked d.asked (server_nonce_of calls)
+    (server_nonce_of others) same.0
+    (server_nonce_alike calls others same.1)
+server_nonce_alike calls others same = absurd same
+
+-- of two runs of a session: both have come to the same acceptance, or they are the same so far and wait for no code
+abbrev AreAlone : List Call → List Call → Place → Place → Type 0
+AreAlone calls others at also =
+    ((has_acceptance (call_lines calls) ≡ true) × (has_acceptance (call_lines others) ≡ true)
+    × (up_to_acceptance (call_lines calls) ≡ up_to_acceptance (call_lines others)))
+    ⊎ ((call_lines calls ≡ call_lines others) × (at ≡ also) × ((account : List ℕ) → at ≡ waits_code account → ⊥))
+
+-- two runs of a session that were asked the same are the same so far, or have both come to the same acceptance
+alone : Texts → (accounts : Accounts) (calls others : List Call) (at also : Place) → IsRun accounts calls at → IsRun accounts others also
+    → HaveSameRequests calls others → AreAlone calls others at also
+alone t accounts [] [] at also run runs same =
+    inr (refl, run ∙ sym runs, λ account is. let wrong : between ≡ waits_code account = sym run ∙ is in cc wrong)
+alone t accounts (c ∷ calls) (d ∷ others) at also (place, run, answered) (other, runs, answers) same =
+    elim (alone t accounts calls others place other run runs same.1) [
+      | inl (one, two, told) ↦ inl (
+        accepted_left (call_lines calls) c.lines one,
+        accepted_left (call_lines others) d.lines two,
+        no_more (call_lines calls) c.lines one ∙ told ∙ sym (no_more (call_lines others) d.lines two),
+      )
+      | inr (lines, here, apart) ↦
+          let once = call_once t accounts (server_nonce_of calls) (server_nonce_of others) c.asked d.asked place c.lines d.lines at also
+          apart
+          (server_nonce_alike calls others same.1) same.0
+          answered (subst (λ (p : Place). IsAnsweredBy accounts (server_nonce_of others) d.asked p d.lines also) (sym here) answers) in
+          let whole = ap (λ (l : List LogLine). l ++ c.lines) lines ∙ ap (λ (l : List LogLine). call_lines others ++ l) once.0 in
+          elim once.2 [
+            | inl is ↦
+                let accepted = accepted_right (call_lines calls) c.lines is in
+                inl (accepted, subst (λ (l : List LogLine). has_acceptance l ≡ true) whole accepted, ap up_to_acceptance whole)
+            | inr apart_too ↦ inr (whole, once.1, apart_too)
+          ]
+    ]
+alone t accounts calls others at also run runs same = absurd same
+
+-- what is demanded of a session, and its whole run, are the same by accounts with the same entries:
+verdict_moved : (one other : Accounts) → HaveSameEntries other one → (mechanism name first challenge last : List ℕ) (due : Due)
+    → IsVerdictDue other mechanism name first challenge last due → IsVerdictDue one mechanism name first challenge last due
+verdict_moved one other same mechanism name first challenge last due (m, named, is) =
+    (m, named, subst (λ (e : Entry). IsDue (challenged_login e m first challenge) last due) (same m name) is)
+
+goes_moved : (one other : Accounts) → HaveSameEntries other one → (at : Place) (line : LogLine) (next : Place)
+    → IsTransition (demands other) at line next
+    → IsTransition (demands one) at line next
+goes_moved one other same (got_first m first) (said (cont text)) next (account, c, at) = (
+  account,
+  record {
+    m = c.m;
+    offered = c.offered;
+    opening = c.opening;
+    of_name = c.of_name;
+    opens = subst (λ (e : Entry). IsOpening e first text c.opening) (same c.m account) c.opens;
+  },
+  at,
+)
+goes_moved one other same (got_first m first) line next goes = goes
+goes_moved one other same (got_final m account first challenge last) (said (refuses text)) next ((why, is, e), at) =
+    ((why, verdict_moved one other same m account first challenge last (refuse why) is, e), at)
+goes_moved one other same (got_final m account first challenge last) (said (accepts text)) next ((signature, is, authentic), at) =
+    ((signature, verdict_moved one other same m account first challenge last (accept signature) is, authentic), at)
+goes_moved one other same (got_final m account first challenge last) line next goes = goes
+goes_moved one other same at line next goes = goes
+
+path_moved : (one other : Accounts) → HaveSameEntries other one → (at : Place) (lines : List LogLine) (next : Place)
+    → IsPath (demands other) at lines next → IsPath (demands one) at lines next
+path_moved one other same at [] next path = path
+path_moved one other same at (line ∷ lines) next (middle, goes, path) =
+    (middle, goes_moved one other same at line middle goes, path_moved one other same middle lines next path)
+
+challenge_moved : (one other : Accounts) → HaveSameEntries other one → (server_nonce : List ℕ) (at : Place)
+    → IsChallengeWith other server_nonce at
+    → IsChallengeWith one server_nonce at
+challenge_moved one other same server_nonce (waits_final mechanism account first challenge) (m, named, is) =
+    (m, named, subst (λ (e : Entry). IsChallengeTo e first server_nonce challenge) (same m account) is)
+challenge_moved one other same server_nonce at is = tt
+
+answered_moved : (one other : Accounts) → HaveSameEntries other one
+    → (server_nonce : List ℕ) (asked : Asked) (at : Place) (lines : List LogLine) (next : Place)
+    → IsAnsweredBy other server_nonce asked at lines next → IsAnsweredBy one server_nonce asked at lines next
+answered_moved one other same server_nonce (greets new) at lines next g = g
+answered_moved one other same server_nonce (hears event moment) at lines next t = record {
+  recorded = t.recorded;
+  answered = t.answered;
+  lines_are = t.lines_are;
+  is_record = t.is_record;
+  answers = t.answers;
+  path = path_moved one other same at lines next t.path;
+  rests = t.rests;
+  challenge = challenge_moved one other same server_nonce next t.challenge;
+  plain = t.plain;
+  moments = t.moments;
+}
+
+run_moved : (one other : Accounts) → HaveSameEntries other one → (calls : List Call) (at : Place) → IsRun other calls at
+    → IsRun one calls at
+run_moved one other same [] at run = run
+run_moved one other same (c ∷ calls) at (place, run, answered) = (
+  place,
+  run_moved one other same calls place run,
+  answered_moved one other same (server_nonce_of calls) c.asked place c.lines at
+      answered,
+)
+
+-- two runs that were asked the same, over books with the same entries, tell the same up to the acceptance
+pub told_alone : Texts → (one other : Accounts) (calls others : List Call) (at also : Place) → HaveSameEntries one other
+    → IsRun one calls at
+    → IsRun other others also → HaveSameRequests calls others → up_to_acceptance (call_lines calls) ≡ up_to_acceptance (call_lines others)
+told_alone t one other calls others at also entries run runs same =
+    elim (alone t one calls others at also run (run_moved one other (λ m name. sym (entries m name)) others also runs) same) [
+      | inl (accepted, too, told) ↦ told
+      | inr (lines, here, apart) ↦ ap up_to_acceptance lines
+    ]
+
+-- a session that was not turned away has a run
+not_away : (accounts : Accounts) (calls : List Call) (at : Place) → (call_lines calls ≡ busy_lines → ⊥) → IsSessionRun accounts calls at
+    → IsRun accounts calls at
+not_away accounts calls at let_in (inl run) = run
+not_away accounts calls at let_in (inr (server_nonce, turned, is)) = absurd (let_in (ap call_lines turned))
+
+-- two sessions with equal entries and requests, neither turned away, have equal lines up to an acceptance
+pub sessions_alone : Texts
+    → {S : Type 0} (facts : S → StoreFacts) (IsStored : List ℕ → Type 0) (start begun : BookFields) (calls others : List (Numbered Call))
+    (hall other : HallFields S) (n m : ℕ) → IsHallAfter facts IsStored start calls hall → IsHallAfter facts IsStored begun others other
+    → HaveSameEntries (accounts_in start) (accounts_in begun)
+    → of_number n (hall_lines calls) ≢ busy_lines → of_number m (hall_lines others) ≢ busy_lines
+    → HaveSameRequests (of_number n calls) (of_number m others)
+    → up_to_acceptance (of_number n (hall_lines calls)) ≡ up_to_acceptance (of_number m (hall_lines others))
+sessions_alone t facts IsStored start begun calls others hall other n m s r entries let_in let_in_too same =
+    let one = not_away (accounts_in start) (of_number n calls) (s.places n) (λ is. let_in (of_number_lines n calls ∙ is))
+    (s.session_runs n) in
+    let two = not_away (accounts_in begun) (of_number m others) (r.places m) (λ is. let_in_too (of_number_lines m others ∙ is))
+    (r.session_runs m) in
+    ap up_to_acceptance (of_number_lines n calls)
+    ∙ told_alone t (accounts_in start) (accounts_in begun) (of_number n calls) (of_number m others) (s.places n)
+    (r.places m) entries one two same
+    ∙ ap up_to_acceptance (sym (of_number_lines m others))

@@ -1,0 +1,51 @@
+-- Parts that are a letter, `=` and a value: as the code tests them, and as the grammar has them.
+use Rattle.std.proofs.Common.{◌≡◌, ◌↔◌, inl, inr, ℕ, Bool, true, not, ◌&&◌, List, [], ◌∷◌, length, refl, sym, ap, subst, arith}
+use Rattle.std.specs.Prelude.{IsTrue, ◌==◌}
+use Rattle.std.specs.List.{list_all}
+use Rattle.std.proofs.lemmas.Bool.{cases_Bool, eqb-true, both_ways, and_parts}
+use Rattle.scram_text.specs.Class.{is_letter, is_comma}
+use Rattle.scram_text.specs.Name.{LacksComma}
+use Rattle.scram_text.specs.Parts.{IsExtension}
+use Rattle.scram_text.specs.Pieces.{is_attribute}
+use Rattle.scram_text.proofs.lemmas.Names.{heads}
+
+-- tests that both pass pass together
+both_pass : (x y : Bool) → x ≡ true → y ≡ true → (x && y) ≡ true
+both_pass x y p q = rw (p, q) refl
+
+-- a part without a comma that passes the code's test is an extension
+attribute_extension : (part : List ℕ) → LacksComma part → IsTrue (is_attribute part) → IsExtension part
+attribute_extension [] lacks h = absurd (cc h)
+attribute_extension (a ∷ []) lacks h = absurd (cc h)
+attribute_extension (a ∷ b ∷ []) lacks h = absurd (cc h)
+attribute_extension (a ∷ b ∷ c ∷ value) lacks h =
+    let (letter, equals) = and_parts (is_letter a) (b == 61) h in
+    let (first, others) = and_parts (not (is_comma a)) (list_all (λ x. not (is_comma x)) (b ∷ c ∷ value)) lacks in
+    let (second, rest) = and_parts (not (is_comma b)) (list_all (λ x. not (is_comma x)) (c ∷ value)) others in
+    (a, letter, (c ∷ value, ap (λ (n : ℕ). a ∷ n ∷ c ∷ value) (eqb-true b 61 equals), record { at_least = omega arith; no_comma = rest }))
+
+-- an extension passes the code's test
+extension_attribute : (part : List ℕ) → IsExtension part → IsTrue (is_attribute part)
+extension_attribute [] (letter, is_one, (value, spelled, is)) = absurd (cc spelled)
+extension_attribute (a ∷ []) (letter, is_one, (value, spelled, is)) =
+    let none = (heads a letter [] (61 ∷ value) spelled).1 in absurd (cc none)
+extension_attribute (a ∷ b ∷ []) (letter, is_one, (value, spelled, is)) =
+    let second = heads b 61 [] value (heads a letter (b ∷ []) (61 ∷ value) spelled).1 in
+    let none : 0 ≡ length value = ap length second.1 in
+    absurd (omega (arith, none, is.at_least))
+extension_attribute (a ∷ b ∷ c ∷ rest) (letter, is_one, (value, spelled, is)) =
+    let first = heads a letter (b ∷ c ∷ rest) (61 ∷ value) spelled in
+    let second = heads b 61 (c ∷ rest) value first.1 in
+    both_pass (is_letter a) (b == 61) (subst (λ (n : ℕ). is_letter n ≡ true) (sym first.0) is_one)
+    (subst (λ (n : ℕ). (n == 61) ≡ true) (sym second.0) refl)
+
+-- the code's test of a part without a comma is that of an extension
+pub extension_iff : (part : List ℕ) → LacksComma part → IsTrue (is_attribute part) ↔ IsExtension part
+extension_iff part lacks = (attribute_extension part lacks, extension_attribute part)
+
+-- an extension has no comma
+pub extension_lacks : (part : List ℕ) → IsExtension part → LacksComma part
+extension_lacks part (letter, is_one, (value, spelled, is)) = elim (cases_Bool (is_comma letter)) [
+  | inl hit ↦ absurd (both_ways (is_letter 44) refl (rw (eqb-true letter 44 hit) at is_one))
+  | inr miss ↦ subst LacksComma (sym spelled) (rw miss is.no_comma)
+]
