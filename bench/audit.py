@@ -3,7 +3,7 @@
 
 Usage: audit.py PROGRAM
 
-Each log is made here, each message and each code by Python's hmac: logins of RFC 5802 and RFC 7677 by turns, each
+Each log is made here, each message and each code by Python's hmac: logins by SCRAM-SHA-1 and SCRAM-SHA-256 by turns, each
 with nonces of its own, one after another, and as logs of version 2, one after another and 64 at once; and sessions of many
 accounts in each of which many codes pass. Each audit has to answer with the log's own counts. Best of several turns, with the
 start of the program and the reading of the book.
@@ -152,4 +152,5 @@ def main():
         print(f"{ACCOUNTS} accounts, {ACCOUNTS * CODES} codes, {lines} lines: {taken:.2f} s, {lines / taken:.0f} lines a second")
 
 
-main()
+if __name__ == "__main__":
+    main()

@@ -30,4 +30,5 @@ def main():
         print(f"keys {mechanism} at {COUNT}: {ours:.3f} s, OpenSSL {openssl:.3f} s, ratio {ours / openssl:.2f}")
 
 
-main()
+if __name__ == "__main__":
+    main()

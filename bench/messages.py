@@ -1,6 +1,8 @@
 #!/usr/bin/env python3
-"""Times the readers of the four messages beside the same by Python's re and base64, and codes beside oathtool; and the
+"""Times the readers of the four messages beside matches by Python's re and base64, and codes beside oathtool; and the
 search for two codes in a row.
+
+The readers check more than Python does here: that a text is UTF-8 and has no NUL, and the limits of messages, salts and proofs.
 
 Usage: messages.py BENCH
 
@@ -74,4 +76,5 @@ def main():
     print(f"two codes in a row among 1000: {CODES_OF_SEARCH / search:,.0f} codes a second, {search * 1000:.2f} ms")
 
 
-main()
+if __name__ == "__main__":
+    main()

@@ -45,4 +45,5 @@ def main():
     print(f"verdicts: {COUNT / ours:,.0f} a second; by Python's hmac two HMACs and a hash {two:,.0f}, four {four:,.0f}")
 
 
-main()
+if __name__ == "__main__":
+    main()

@@ -3,8 +3,9 @@
 
 Usage: audits.py PROGRAM
 
-Each row of data/audits/cases.csv, as audit_cases.py reads it. sha1.log is the example of RFC 5802, section 5, sha256.log that of
-RFC 7677, section 3, and twice.log the log that docs/OPERATING.md names. Then come a login whose challenge has an extension, its proof made
+Each row of data/audits/cases.csv, as audit_cases.py reads it. The logs were put together by hand: sha1.log from the example of RFC 5802,
+section 5, and sha256.log from that of RFC 7677, section 3; twice.log, which docs/OPERATING.md names, and interleaved.log from the former
+and codes of RFC 4226. The keys in their books are by Python's hashlib. Then come a login whose challenge has an extension, its proof made
 by Python's hmac; logs of a million lines; logs that are pipes; progress shown at a terminal; files that can't be read; and a book that
 another run holds.
 """
@@ -21,7 +22,7 @@ import suite
 from audit_cases import TABLE, cases
 from checks import equal
 from expected import AUDITS, SESSION_LEFT, login_keys, proved
-from suite import MOST_BYTES, PROGRAM, SALT, audit_says, fault_text, sleeps, until
+from suite import MOST_BYTES, PROGRAM, SALT, audit_says, prints, sleeps, until
 
 KEYS = AUDITS / "keys.toml"
 LOGIN = AUDITS / "sha1.log"
@@ -44,12 +45,12 @@ def reason(answer):
 def rows_of_table(folder):
     """Each row, which leaves the book as it is. Each reason has one."""
     rows, log = cases(), pathlib.Path(folder, "log")
-    equal({reason(answer) for *_, answer in rows} - {None}, REASONS, "the reasons that have a row")
-    for line, (book, text, answer) in enumerate(rows, 2):
+    equal({reason(row.answer) for row in rows} - {None}, REASONS, "the reasons that have a row")
+    for line, (book, text, answer, shows) in enumerate(rows, 2):
         log.write_bytes(text)
-        before = book.read_bytes()
-        audit_says(book, log, answer, f"{TABLE.name}: line {line}")
-        equal(book.read_bytes(), before, f"{TABLE.name}: line {line}: the book")
+        before, where = book.read_bytes(), f"{TABLE.name}: line {line}: {shows}"
+        audit_says(book, log, answer, where)
+        equal(book.read_bytes(), before, f"{where}: the book")
 
 
 def signed(challenge):
@@ -112,24 +113,37 @@ def shown_at(terminal):
     return shown
 
 
+def audit_at_a_terminal(wait):
+    """What an audit shows whose standard error is a terminal, and which waits so many seconds for more of its log. And how many seconds
+    it took."""
+    terminal, end = os.openpty()
+    words = [PROGRAM, "audit", "--book", KEYS, "--log", "/dev/stdin"]
+    began = time.monotonic()
+    running = subprocess.Popen(words, stdin=subprocess.PIPE, stdout=subprocess.PIPE, stderr=end)
+    running.stdin.write(HEADER + SESSION_LEFT)
+    running.stdin.flush()
+    # The program counts its two seconds from when it begins to read, and sleeps once it has read what is there.
+    until(lambda: sleeps(running.pid))
+    time.sleep(wait)
+    running.stdin.write(SESSION_LEFT)
+    running.stdin.close()
+    equal((running.stdout.read(), running.wait(20)), (b"clean sessions=2 accepted=0 codes=0\n", 0), "an audit at a terminal")
+    seconds = time.monotonic() - began
+    os.write(end, b"!")
+    shown = shown_at(terminal)
+    os.close(end)
+    os.close(terminal)
+    return shown.removesuffix(b"!"), seconds
+
+
 def progress_on_a_terminal(folder):
     """Where standard error is a terminal, a run of two seconds shows its progress there, and clears it at the end."""
-    for wait, shown in [(2.2, f"\r7 lines, {len(HEADER + SESSION_LEFT * 2)} bytes\r\x1b[K".encode()), (0, b"")]:
-        terminal, end = os.openpty()
-        words = [PROGRAM, "audit", "--book", KEYS, "--log", "/dev/stdin"]
-        running = subprocess.Popen(words, stdin=subprocess.PIPE, stdout=subprocess.PIPE, stderr=end)
-        running.stdin.write(HEADER + SESSION_LEFT)
-        running.stdin.flush()
-        # The program counts its two seconds from when it begins to read, and sleeps once it has read what is there.
-        until(lambda: sleeps(running.pid))
-        time.sleep(wait)
-        running.stdin.write(SESSION_LEFT)
-        running.stdin.close()
-        equal((running.stdout.read(), running.wait(20)), (b"clean sessions=2 accepted=0 codes=0\n", 0), "an audit at a terminal")
-        os.write(end, b"!")
-        equal(shown_at(terminal), shown + b"!", "what is shown at the terminal")
-        os.close(end)
-        os.close(terminal)
+    shown, _ = audit_at_a_terminal(2.2)
+    equal(shown, f"\r7 lines, {len(HEADER + SESSION_LEFT * 2)} bytes\r\x1b[K".encode(), "what is shown at the terminal")
+    # A machine that is busy may hold up even a short run, which is then tried again.
+    runs = (audit_at_a_terminal(0) for _ in range(20))
+    shown = next((shown for shown, seconds in runs if seconds < 1.5), None)
+    equal(shown, b"", "what is shown at the terminal in a short run, of which one takes less than 1.5 seconds")
 
 
 def long_logs(folder):
@@ -149,8 +163,7 @@ def long_logs(folder):
 
 def refuses(what, book, log, status, fault):
     """Runs an audit that prints nothing, and compares its status and its fault, which is given without its beginning."""
-    done = subprocess.run([PROGRAM, "audit", "--book", book, "--log", log], capture_output=True, text=True)
-    equal((done.returncode, done.stdout, done.stderr), (status, "", fault_text(fault)), what)
+    prints([PROGRAM, "audit", "--book", book, "--log", log], b"", status, "", fault, what)
 
 
 def unreadable_files(folder):

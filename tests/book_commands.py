@@ -18,7 +18,7 @@ from concurrent.futures import ThreadPoolExecutor
 
 import suite
 from checks import equal, holds
-from suite import AS_NOBODY, BOOK_OF_USER, CODES, MOST_BYTES, NOBODY, ROOT, fault_text, hotp, is_root, read_book, seen, token
+from suite import AS_NOBODY, BOOK_OF_USER, CODES, LIMIT, MOST_BYTES, NOBODY, ROOT, fault_text, hotp, is_root, read_book, seen, token
 
 # A copy of the program that the user nobody can run, wherever the program is.
 COPY = tempfile.TemporaryDirectory()
@@ -44,7 +44,7 @@ def run(command, options, text="", **how):
     words = [f"--{name}={value}" for name, value in options.items()]
     given = {"stdin": text} if isinstance(text, int) else {"input": text}
     streams = {"stdout": subprocess.PIPE, "stderr": subprocess.PIPE, "text": True, **given, **how}
-    return subprocess.run([PROGRAM, command, *words], **streams)
+    return subprocess.run([PROGRAM, command, *words], timeout=LIMIT, **streams)
 
 
 def well(command, book, **how):
@@ -363,6 +363,24 @@ def others_next(folder):
     equal(os.listdir(folder), ["book.new"], "the folder")
 
 
+def closed_next(folder):
+    """A next text that its owner may not open is named in the fault, and stays: no run can tell whether another one holds it. Once it may
+    be opened the next run removes it."""
+    book, next_text = (put(os.path.join(folder, name)) for name in ["book", "book.new"])
+    if ROOT:
+        for path in [folder, book, next_text]:
+            os.chown(path, NOBODY.pw_uid, NOBODY.pw_gid)
+    os.chmod(next_text, 0)
+    before = seen(book), access(next_text)
+    for command in GOOD:
+        says(command, well(command, book, **AS_NOBODY), 3, "", f"cannot write {next_text}")
+    equal((seen(book), access(next_text)), before, "the book and the next text")
+    os.chmod(next_text, 0o600)
+    for command in GOOD:
+        succeeds(command, book, **AS_NOBODY)
+    equal(os.listdir(folder), ["book"], "the folder")
+
+
 # Names that TOML takes bare, has to quote, has to escape, or could take for something else.
 NAMES = [
     *" !\"#$%&'()*+,-./09:;<=>?@AZ[\\]^_`az{|}~",
@@ -437,6 +455,7 @@ TESTS = [
     unlocked,
     names,
     hard_links,
+    closed_next,
     held_by_another,
 ]
 if is_root():

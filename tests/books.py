@@ -23,7 +23,8 @@ import suite
 from checks import equal, holds
 from kills import kill_at_any_moment, start
 from suite import (
-    BOOK_OF_USER, CODES, MOST_BYTES, PROGRAM, BookFolder, code, hotp, is_locked, read_book, seen, sleeps, taken, token, until,
+    BOOK_OF_USER, CODES, LIMIT, MOST_BYTES, PROGRAM, BookFolder, code, hotp, is_locked, ran, read_book, seen, sleeps, taken,
+    token, until,
 )
 
 BOOK = BOOK_OF_USER + hotp(look_ahead=3, limit=100)
@@ -32,7 +33,7 @@ FIRST_CODE = CODES[0]
 NONE = 0xFFFFFFFF
 
 
-def write(path):
+def put_book(path):
     with open(path, "w") as file:
         file.write(BOOK)
 
@@ -42,14 +43,14 @@ def verify_words(path):
 
 
 def verify(path, text):
-    return subprocess.run(verify_words(path), input=text, capture_output=True, text=True)
+    return subprocess.run(verify_words(path), input=text, capture_output=True, text=True, timeout=LIMIT)
 
 
 def start_verify(path, text):
     return start(verify_words(path), text)
 
 
-def enrol(path, name, count):
+def start_enrol(path, name, count):
     words = [PROGRAM, "enrol", "--book", path, "--name", name, "--count", str(count)]
     run = subprocess.Popen(words, stdin=subprocess.PIPE, stdout=subprocess.DEVNULL, text=True)
     run.stdin.write("pencil\n")
@@ -75,7 +76,7 @@ def waiting_verify(path, text=""):
 
 def answered(run, text, want):
     """Gives a run the rest of its input, and compares its status, output and faults."""
-    output, faults = run.communicate(text)
+    output, faults = run.communicate(text, timeout=LIMIT)
     equal((run.returncode, output, faults), want)
 
 
@@ -84,10 +85,10 @@ def twenty_at_once(folder):
     book, link = os.path.join(folder, "book"), os.path.join(folder, "link")
     os.symlink("book", link)
     for _ in range(5):
-        write(book)
+        put_book(book)
         runs = [start_verify([book, link][n % 2], FIRST_CODE) for n in range(20)]
         printed = [run.stdout.read() for run in runs]
-        statuses = sorted(run.wait() for run in runs)
+        statuses = sorted(run.wait(LIMIT) for run in runs)
         equal(sorted(printed), ["FAIL 5\n"] * 19 + ["PASS 5 0\n"])
         equal(statuses, [0] + [1] * 19)
         equal((token(book)["next"], token(book)["failures"]), (1, 19))
@@ -114,12 +115,12 @@ def modes(folder):
     book = os.path.join(folder, "book")
     for mask in [0o000, 0o022, 0o077]:
         old = os.umask(mask)
-        equal(enrol(book, "user", 1).wait(), 0)
+        equal(start_enrol(book, "user", 1).wait(LIMIT), 0)
         os.umask(old)
         equal(os.stat(book).st_mode & 0o7777, 0o600)
         os.remove(book)
     for before, after in [(0o640, 0o600), (0o604, 0o600), (0o600, 0o600), (0o444, 0o400)]:
-        write(book)
+        put_book(book)
         os.chmod(book, before)
         equal(verify(book, FIRST_CODE).stdout, "PASS 5 0\n")
         equal(os.stat(book).st_mode & 0o7777, after)
@@ -130,7 +131,7 @@ def access_lists(folder):
     """A save gives nobody more access by an access list: neither the group, whose bits in the mode are the list's mask,
     nor those whom the folder's list names for new files."""
     book = os.path.join(folder, "book")
-    write(book)
+    put_book(book)
     os.chmod(book, 0o600)
     entries = [(1, 6, NONE), (2, 4, 1234), (4, 0, NONE), (16, 4, NONE), (32, 0, NONE)]
     listed = struct.pack("<I", 2) + b"".join(struct.pack("<HHI", *entry) for entry in entries)
@@ -149,7 +150,7 @@ def access_lists(folder):
 def unwritable(folder):
     """A save that can't be made leaves the old book, and nothing is printed."""
     book = os.path.join(folder, "book")
-    write(book)
+    put_book(book)
     os.mkdir(book + ".new")
     run = verify(book, FIRST_CODE)
     equal((run.returncode, run.stdout, run.stderr), (3, "", f"scramotp: cannot write {book}\n"), run)
@@ -162,7 +163,7 @@ def unwritable(folder):
 def locked_by_another(folder):
     """A run waits for up to 30 seconds, and goes on at once where the lock becomes free."""
     book = os.path.join(folder, "book")
-    write(book)
+    put_book(book)
     lock = locked(book)
     begun = time.monotonic()
     run = verify(book, FIRST_CODE)
@@ -171,18 +172,19 @@ def locked_by_another(folder):
     equal((run.returncode, run.stdout, run.stderr), (3, "", faults), run)
     holds(29 < waited < 60, "the seconds that the run waited, which should be 30", waited)
     run = start_verify(book, FIRST_CODE)
+    until(lambda: sleeps(run.pid))
     time.sleep(0.5)
     equal(run.poll(), None)
     os.close(lock)
     equal(run.stdout.read(), "PASS 5 0\n")
-    equal(run.wait(), 0)
+    equal(run.wait(LIMIT), 0)
 
 
 def locked_folder(folder):
     """A lock of the folder keeps no run from the book; nor does a lock of another book in it."""
     book, other = os.path.join(folder, "book"), os.path.join(folder, "other")
-    write(book)
-    write(other)
+    put_book(book)
+    put_book(other)
     lock = locked(folder)
     waiting = waiting_verify(other)
     equal(verify(book, FIRST_CODE).stdout, "PASS 5 0\n")
@@ -193,7 +195,7 @@ def locked_folder(folder):
 def one_lock(folder):
     """The book is opened once, and each next file once: the run keeps its lock, even when it saves."""
     book = os.path.join(folder, "book")
-    write(book)
+    put_book(book)
     kinds = {0x20: "open", 0x80: "take its place"}
     libc = ctypes.CDLL(None)
     told = libc.inotify_init()
@@ -241,8 +243,8 @@ def swapped(folder):
         shutil.copy(os.path.join(held + ".old", "book"), book)
 
     for turn in [move, link, copy, edit, rename_folder]:
-        write(book)
-        write(other)
+        put_book(book)
+        put_book(other)
         os.chmod(other, 0o644)
         run = waiting_verify(book)
         turn()
@@ -258,20 +260,20 @@ def swapped(folder):
 def keys_before_the_lock(folder):
     """`enrol` makes its keys while others use the book, or make it, and adds its account to the book as it is then."""
     book, new = os.path.join(folder, "book"), os.path.join(folder, "new")
-    write(book)
-    slow = [enrol(path, "slow", 3000000) for path in [book, new]]
+    put_book(book)
+    slow = [start_enrol(path, "slow", 3000000) for path in [book, new]]
     # Each of the two makes its keys for seconds of processor time, and is stopped early in that.
     until(lambda: all(taken(run.pid) > 0.1 for run in slow))
     for run in slow:
         run.send_signal(signal.SIGSTOP)
     try:
         equal(verify(book, FIRST_CODE).stdout, "PASS 5 0\n")
-        equal(enrol(new, "quick", 1).wait(), 0)
+        equal(start_enrol(new, "quick", 1).wait(LIMIT), 0)
         equal([run.poll() for run in slow], [None, None])
     finally:
         for run in slow:
             run.send_signal(signal.SIGCONT)
-    equal([run.wait() for run in slow], [0, 0])
+    equal([run.wait(LIMIT) for run in slow], [0, 0])
     equal((sorted(read_book(book)["accounts"]), token(book)["next"]), (["slow", "user"], 1))
     equal(sorted(read_book(new)["accounts"]), ["quick", "slow"])
     equal(sorted(os.listdir(folder)), ["book", "new"])
@@ -281,11 +283,11 @@ def made_at_once(folder):
     """Runs that make a book at the same time find what the others have added, even where some are killed."""
     book = os.path.join(folder, "book")
     for _ in range(40):
-        runs = [enrol(book, f"user{number}", 1) for number in range(6)]
+        runs = [start_enrol(book, f"user{number}", 1) for number in range(6)]
         for run in runs[:2]:
             time.sleep(random.uniform(0, 0.008))
             run.kill()
-        statuses = [run.wait() for run in runs]
+        statuses = [run.wait(LIMIT) for run in runs]
         equal(statuses[2:], [0] * 4, statuses)
         equal(verify(book, "").stderr, "scramotp: no such account\n")
         equal(os.listdir(folder), ["book"])
@@ -298,7 +300,7 @@ def pipes(folder):
     """In a folder that others may write, a pipe that takes the book's place at any moment keeps no run waiting."""
     book, pipe, file = (os.path.join(folder, name) for name in ["book", "pipe", "file"])
     os.chmod(folder, 0o777)
-    write(file)
+    put_book(file)
     os.mkfifo(pipe)
     os.chmod(pipe, 0o666)
     is_over = threading.Event()
@@ -324,13 +326,13 @@ def pipes(folder):
 def left_by_a_killed_run(folder):
     """The next run removes the next text that a killed run left, even where it saves nothing."""
     book = os.path.join(folder, "book")
-    write(book)
-    write(book + ".new")
+    put_book(book)
+    put_book(book + ".new")
     equal(verify(book, "").returncode, 0)
     equal(os.listdir(folder), ["book"])
     os.remove(book)
-    write(book + ".new")
-    equal(enrol(book, "user", 1).wait(), 0)
+    put_book(book + ".new")
+    equal(start_enrol(book, "user", 1).wait(LIMIT), 0)
     equal(os.listdir(folder), ["book"])
 
 
@@ -354,23 +356,23 @@ def shown_texts(folder):
     shown = os.path.join(folder, "a\\x0a\\x1b[2J\\x7f\\x9b\u00e9")
     run = verify(book, "")
     equal((run.returncode, run.stderr), (3, f"scramotp: cannot read {shown}\n"), run)
-    write(book)
+    put_book(book)
     lock = locked(book)
     run = verify(book, "")
     os.close(lock)
     equal(run.stderr, f"scramotp: other runs held {shown} for 30 seconds\nscramotp: cannot read {shown}\n", run)
     for words in [["a\n\x1b[2J"], ["verify", "--\x1b[2J\n"], ["verify", "--book", "x", "\x1b[2J\nscramotp: no token"]]:
-        run = subprocess.run([PROGRAM, *words], capture_output=True, text=True)
-        equal(run.returncode, 2, run)
-        holds("\\x1b[2J" in run.stderr, run)
-        holds("\x1b" not in run.stderr, run)
-        holds("\nscramotp" not in run.stderr, run)
+        status, _, faults = ran([PROGRAM, *words])
+        equal(status, 2, faults)
+        holds("\\x1b[2J" in faults, faults)
+        holds("\x1b" not in faults, faults)
+        holds("\nscramotp" not in faults, faults)
 
 
 def input_limit(folder):
     """All lines together may have 16777216 bytes; the replies before that are printed."""
     book = os.path.join(folder, "book")
-    write(book)
+    put_book(book)
     run = verify(book, "x\n" + "a" * (MOST_BYTES - 2))
     equal((run.returncode, run.stdout, run.stderr), (1, "FAIL 5\nFAIL 5\n", ""))
     run = verify(book, "x\n" + "a" * (MOST_BYTES - 1))
@@ -380,14 +382,14 @@ def input_limit(folder):
 def told_at_once(folder):
     """A reply is printed while the input is still open."""
     book = os.path.join(folder, "book")
-    write(book)
+    put_book(book)
     run = subprocess.Popen(verify_words(book), stdin=subprocess.PIPE, stdout=subprocess.PIPE)
     run.stdin.write(FIRST_CODE.encode() + b"\n")
     run.stdin.flush()
     ready, _, _ = select.select([run.stdout], [], [], 20)
     told = os.read(run.stdout.fileno(), 100) if ready else None
     run.stdin.close()
-    equal((told, run.wait()), (b"PASS 5 0\n", 0))
+    equal((told, run.wait(LIMIT)), (b"PASS 5 0\n", 0))
     run.stdout.close()
 
 

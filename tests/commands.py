@@ -16,10 +16,10 @@ import suite
 from checks import equal, holds
 from expected import DATA, keys_of
 from suite import (
-    BOOK_OF_USER, KEYS_OF_PENCIL, MOST_BYTES, PROGRAM, SALT, SECRET, fault_text, hotp, program_on_path, read_book, token, totp,
+    BOOK_OF_USER, KEYS_OF_PENCIL, LIMIT, MOST_BYTES, PROGRAM, SALT, SECRET, SEEDS, fault_text, hotp, prints, program_on_path, ran,
+    read_book, token, totp,
 )
 
-LONGER = "3132333435363738393031323334353637383930313233343536373839303132"
 # 64 bytes
 LONGEST = "00112233445566778899aabbccddeeff00112233445566778899AABBCCDDEEFF" * 2
 
@@ -46,16 +46,14 @@ EXAMPLES = [
 
 def check(words, text, status, printed="", fault=""):
     """Runs the program, and compares status, output and fault; a fault of its own is given without its beginning."""
-    data = text if isinstance(text, bytes) else text.encode()
-    run = subprocess.run([PROGRAM, *words], input=data, capture_output=True)
-    equal((run.returncode, run.stdout.decode(), run.stderr.decode()), (status, printed, fault_text(fault)), (words, text[:100]))
+    prints([PROGRAM, *words], text, status, printed, fault)
 
 
 def check_usage(words, begin):
     """Runs the program with faulty words, and compares its status and how its fault begins, which is `begin`."""
-    run = subprocess.run([PROGRAM, *words], input="pencil\n", capture_output=True, text=True)
-    equal((run.returncode, run.stdout), (2, ""), words)
-    holds(run.stderr.startswith(begin), words, run)
+    status, output, faults = ran([PROGRAM, *words], "pencil\n")
+    equal((status, output), (2, ""), words, faults)
+    holds(faults.startswith(begin), words, faults)
 
 
 def keys(mechanism, salt, count):
@@ -67,12 +65,12 @@ def write(path, *parts):
         file.write("".join(parts))
 
 
-def on(book, command, name="user", *more):
+def words_on(book, command, name="user", *more):
     return [command, "--book", book, "--name", name, *more]
 
 
 def verify(book, moment, text, status, printed):
-    check(on(book, "verify", "user", "--moment", moment), text, status, printed)
+    check(words_on(book, "verify", "user", "--moment", moment), text, status, printed)
 
 
 def passwords(folder):
@@ -132,7 +130,8 @@ def codes(folder):
         (SECRET, "--digits 8 --moment 20000000000", "65353130"),
         (SECRET, "--digits 8 --moment 69 --t0 10", "94287082"),
         (SECRET, "--digits 8 --moment 119 --step 60", "94287082"),
-        (LONGER, "--digits 8 --moment 1111111109 --hash sha256", "68084774"),
+        (SEEDS["sha256"], "--digits 8 --moment 1111111109 --hash sha256", "68084774"),
+        (SEEDS["sha512"], "--digits 8 --moment 1111111109 --hash sha512", "25091201"),
     ]:
         check(["code", "--secret", secret, *words.split()], "", 0, printed + "\n")
 
@@ -184,10 +183,10 @@ def usage(folder):
 
 def help_of(words):
     """What is printed for --help, in lines of at most 100 columns."""
-    run = subprocess.run([PROGRAM, *words, "--help"], capture_output=True, text=True)
-    equal((run.returncode, run.stderr), (0, ""), run)
-    holds(all(len(line) <= 100 for line in run.stdout.splitlines()), run.stdout)
-    return run.stdout
+    status, output, faults = ran([PROGRAM, *words, "--help"])
+    equal((status, faults), (0, ""), words, output)
+    holds(all(len(line) <= 100 for line in output.splitlines()), output)
+    return output
 
 
 def help_and_version(folder):
@@ -213,10 +212,10 @@ def runs_example(folder, command):
     with tempfile.TemporaryDirectory() as beside:
         environment, words = program_on_path(beside), ["sh", "-ec", example_of(command)[1]]
         began = int(time.time())
-        run = subprocess.run(words, cwd=folder, env=environment, stdin=subprocess.DEVNULL, capture_output=True, text=True, umask=0)
+        status, output, faults = ran(words, cwd=folder, env=environment, umask=0)
         moments = range(began, int(time.time()) + 1)
-    equal((run.returncode, run.stderr), (0, ""), command, run)
-    holds(run.stdout in [dict(EXAMPLES)[command].format(moment) for moment in moments], command, run)
+    equal((status, faults), (0, ""), command, output)
+    holds(output in [dict(EXAMPLES)[command].format(moment) for moment in moments], command, output)
 
 
 def examples(folder):
@@ -253,10 +252,11 @@ def server_signature(folder):
         b"c=biws,r=rOprNGfwEbeRWgbNEkqO%hvYDpWUa2RaTCAfuxFIlj)hNlF$k0"
     )
     words = keys("SCRAM-SHA-256", "5b6d99689d12358eeca04b141236fa81", "4096")
-    run = subprocess.run([PROGRAM, *words], input="pencil\n", capture_output=True, text=True, check=True)
-    stored, server = run.stdout.splitlines()
-    holds(stored.startswith("stored="), run)
-    holds(server.startswith("server="), run)
+    status, output, faults = ran([PROGRAM, *words], "pencil\n")
+    equal((status, faults), (0, ""), output)
+    stored, server = output.splitlines()
+    holds(stored.startswith("stored="), output)
+    holds(server.startswith("server="), output)
     signature = digest(bytes.fromhex(server.removeprefix("server=")), auth_message, "sha256").hex()
     equal(signature, "eabae24d1062db75a9451ff0b6ea7e98c8546549ff741e672d3251b2397de46e")
 
@@ -274,15 +274,19 @@ def hotp_codes(folder):
     verify(book, "5", "\n", 1, "FAIL 5\n")
 
 
-def two_codes_in_a_row(folder):
-    """A line `SYNC text text` passes by two codes of RFC 4226, appendix D, in a row, and spends both."""
+# The codes of counters 8 and 9, as a line of `verify`.
+FAR_PAIR = "SYNC 399871 520489\n"
+
+
+def pairs_of_codes(folder):
+    """A line `SYNC text text` passes by two codes of RFC 4226, appendix D, in a row, and spends both; with no key sync_ahead by those of
+    the next two counters alone."""
     book = os.path.join(folder, "book")
-    far = "SYNC 399871 520489\n"
     runs = [
-        (8, "399871\nSYNC 338314 969429\n" + far, "FAIL 5\nFAIL 5\nPASS 5 9\n"),
+        (8, "399871\nSYNC 338314 969429\n" + FAR_PAIR, "FAIL 5\nFAIL 5\nPASS 5 9\n"),
         (8, "SYNC 969429 338314\n338314\n969429\n254676\n", "PASS 5 4\nFAIL 5\nFAIL 5\nPASS 5 5\n"),
         (8, "SYNC 287082 969429\n" * 3 + "SYNC 755224 287082\n", "FAIL 5\n" * 3 + "LOCKED 5\n"),
-        (7, far, "FAIL 5\n"),
+        (7, FAR_PAIR, "FAIL 5\n"),
         (0, "SYNC 287082 359152\nSYNC 755224 287082\n", "FAIL 5\nPASS 5 1\n"),
         (None, "SYNC 287082 359152\nSYNC 755224 287082\n", "FAIL 5\nPASS 5 1\n"),
     ]
@@ -290,9 +294,19 @@ def two_codes_in_a_row(folder):
         write(book, BOOK_OF_USER, hotp(3, 3, sync_ahead))
         verify(book, "5", text, 1, printed)
         equal(token(book)["sync_ahead"], sync_ahead or 0, token(book))
+
+
+def a_far_pair(folder):
+    """Two codes in a row beyond the window of one code move the token on, and count no failure."""
+    book = os.path.join(folder, "book")
     write(book, BOOK_OF_USER, hotp(3, 3, 8))
-    verify(book, "5", far, 0, "PASS 5 9\n")
+    verify(book, "5", FAR_PAIR, 0, "PASS 5 9\n")
     equal((token(book)["next"], token(book)["failures"]), (10, 0), token(book))
+
+
+def texts_that_are_no_pair(folder):
+    """Lines that only look like `SYNC text text` are codes that fail."""
+    book = os.path.join(folder, "book")
     write(book, BOOK_OF_USER, hotp(3, 100, 8))
     for line in ["SYNC 755224", "SYNC 755224  287082", "SYNC  755224 287082", "SYNC 755224 287082 ", " SYNC 755224 287082",
                  "sync 755224 287082", "SYNC 755224 287082\r", "SYNC 755224 287082 359152", "SYNC\t755224 287082",
@@ -326,17 +340,30 @@ def totp_codes(folder):
     verify(book, "59", "94287082", 1, "FAIL 59\n")
 
 
+def totp_codes_of_each_hash(folder):
+    """Codes of RFC 6238, appendix B, of tokens by each hash function: each passes once, and none at a token by another."""
+    book, moment = os.path.join(folder, "book"), "1111111109"
+    codes_of = {"sha1": "07081804", "sha256": "68084774", "sha512": "25091201"}
+    for function, passes in codes_of.items():
+        write(book, BOOK_OF_USER, totp(5, function))
+        others = [other for other in codes_of.values() if other != passes]
+        text = "\n".join([*others, passes, passes])
+        verify(book, moment, text, 1, "FAIL {0}\nFAIL {0}\nPASS {0} 37037036\nFAIL {0}\n".format(moment))
+        kept = token(book)
+        equal((kept["hash"], kept["last"], kept["failures"]), (function, 37037036, 1), kept)
+
+
 def locked_tokens(folder):
     """A locked token takes no code until it is unlocked, and never again a code that has passed."""
     book = os.path.join(folder, "book")
     write(book, BOOK_OF_USER, hotp(0, 2))
     verify(book, "3", "000000\n111111\n755224\n", 1, "FAIL 3\nFAIL 3\nLOCKED 3\n")
-    check(on(book, "unlock"), "", 0, "unlocked user\n")
+    check(words_on(book, "unlock"), "", 0, "unlocked user\n")
     verify(book, "3", "755224", 0, "PASS 3 0\n")
     write(book, BOOK_OF_USER, hotp(3, 3))
     verify(book, "5", "755224\n000000\n000000\n000000\n", 1, "PASS 5 0\nFAIL 5\nFAIL 5\nFAIL 5\n")
     verify(book, "5", "287082", 1, "LOCKED 5\n")
-    check(on(book, "unlock"), "", 0, "unlocked user\n")
+    check(words_on(book, "unlock"), "", 0, "unlocked user\n")
     verify(book, "5", "755224", 1, "FAIL 5\n")
 
 
@@ -345,7 +372,7 @@ def enrolling(folder):
     book, file = os.path.join(folder, "book"), os.path.join(folder, "random")
     with open(file, "wb") as out:
         out.write(bytes(range(64)))
-    words = on(book, "enrol", "user", "--random", file)
+    words = words_on(book, "enrol", "user", "--random", file)
     check(words, "pencil\n", 0, "enrolled user\n")
     made = read_book(book)
     equal((made["decoy_key"], made["decoy_count"]), (bytes(range(32)).hex(), 4096), made)
@@ -355,20 +382,19 @@ def enrolling(folder):
         lines = f"stored={found['stored']}\nserver={found['server']}\n"
         equal(lines, key_lines(mechanism, b"pencil", salt, 4096), made)
     check(words, "pencil\n", 1, fault="name is taken")
-    check(on(book, "verify", "user", "--moment", "5"), "755224\n", 1, fault="no token")
+    check(words_on(book, "verify", "user", "--moment", "5"), "755224\n", 1, fault="no token")
     equal(sorted(os.listdir(folder)), ["book", "random"])
 
 
 def words_that_are_no_text(folder):
     """A word that is not UTF-8 is refused before any is looked at."""
-    run = subprocess.run([PROGRAM, "keys", "--salt", b"\xff"], stdin=subprocess.DEVNULL, capture_output=True, text=True)
-    equal((run.returncode, run.stdout, run.stderr), (2, "", "error: the arguments are not UTF-8 text\n"))
+    equal(ran([PROGRAM, "keys", "--salt", b"\xff"]), (2, "", "error: the arguments are not UTF-8 text\n"))
 
 
 def unprinted_help(folder):
     """Help that can't be printed is a fault of the output."""
     with open("/dev/full", "wb") as full:
-        run = subprocess.run([PROGRAM, "--help"], stdout=full, stderr=subprocess.PIPE, text=True)
+        run = subprocess.run([PROGRAM, "--help"], stdout=full, stderr=subprocess.PIPE, text=True, timeout=LIMIT)
     equal((run.returncode, run.stderr), (3, fault_text("cannot write output")))
 
 
@@ -385,9 +411,12 @@ TESTS = [
     input_limit,
     server_signature,
     hotp_codes,
-    two_codes_in_a_row,
+    pairs_of_codes,
+    a_far_pair,
+    texts_that_are_no_pair,
     two_steps_in_a_row,
     totp_codes,
+    totp_codes_of_each_hash,
     locked_tokens,
     enrolling,
     words_that_are_no_text,

@@ -180,4 +180,5 @@ def main():
     print(f"documents.py: {len(PAGES)} pages name what is there")
 
 
-main()
+if __name__ == "__main__":
+    main()

@@ -11,10 +11,10 @@ that is not refused so is tried again alone, by a check of the whole crate. A ba
 fails that none of them changes, is tried in halves.
 
 An edit has the form that `rt help` describes, and changes src/ or specs/. One of a definition in specs/ belongs to no function, and is
-refused where a proof of the crate falls with it. The script works in a temporary folder, over the
-libraries that `rt ci` or `rt lib` left in crates/NAME/out/, if they are newer than their sources, or else builds them there; with
---built it takes them as they are, as after an `rt ci`, whose libraries may be older files that are kept. Whether the crates are
-proved as they are, `rt ci` says.
+refused where a proof of the crate falls with it. One that makes the same change as an earlier one of its crate counts as let through.
+The script works in a temporary folder, over the libraries that `rt ci` or `rt lib` left in crates/NAME/out/, if they are newer than
+their sources, or else builds them there; with --built it takes them as they are, as after an `rt ci`, whose libraries may be older files
+that are kept. Whether the crates are proved as they are, `rt ci` says.
 
 What was refused is kept on this machine, as `rt ci` keeps what it proved: by the sum of all that the trial read, which is the kit, this
 script, the edit, and the sources of its crate and of those below. A later run tries the others, and with --anew all.
@@ -307,8 +307,11 @@ class Room:
     def owner(self, part: str, file: str, line: int) -> Function | None:
         """Returns the function to which a line of src/ or a file of proofs/ belongs, or None."""
         folder = tuple(file.split("/")[:-1])
-        is_own = lambda it: it.holds(f"src/{file}", line) if part == "src" else part == "proofs" and it.is_proved_in(folder)
-        return max(filter(is_own, self.functions), key=lambda it: len(it.of), default=None)
+        if part == "src":
+            own = (it for it in self.functions if it.holds(f"src/{file}", line))
+        else:
+            own = (it for it in self.functions if part == "proofs" and it.is_proved_in(folder))
+        return max(own, key=lambda it: len(it.of), default=None)
 
 
 def goal_in(text: str) -> str:
@@ -360,6 +363,7 @@ class Count:
 def try_crate(room: Room, is_first: bool, options: argparse.Namespace) -> Count:
     """Tries the edits of a crate, and counts how that ends; the first crate begins with the script's test."""
     began, edits, tried, count = time.monotonic(), [], set(), Count()
+    changes: dict[tuple[tuple[tuple[str, int], str], ...], str] = {}
 
     def tell(name: str, outcome: Outcome, when: str = "") -> None:
         print(f"{room.crate}/{name}: {outcome.text}{when}", flush=True)
@@ -370,9 +374,15 @@ def try_crate(room: Room, is_first: bool, options: argparse.Namespace) -> Count:
 
     for path in edits_of(room.source):
         try:
-            edits.append(read_edit(path, room.source, room.functions))
+            edit = read_edit(path, room.source, room.functions)
         except Unusable as fault:
             tell(path.stem, Outcome(False, f"DOES NOT APPLY: {fault}"))
+            continue
+        earlier = changes.setdefault(tuple(sorted(edit.lines.items())), edit.name)
+        if earlier == edit.name:
+            edits.append(edit)
+        else:
+            tell(edit.name, Outcome(False, f"THE SAME CHANGE AS {earlier}"))
     if is_first:
         self_test(room, edits)
     if options.self_test:

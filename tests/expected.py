@@ -8,14 +8,15 @@ import pathlib
 from checks import equal
 
 DATA = pathlib.Path(__file__).resolve().parent / "data"
-# Recorded logs, the books that they are judged by, and the table cases.csv.
+# Logs that were put together by hand from the examples of RFC 5802 and RFC 7677 and codes of RFC 4226, the books that they are judged
+# by, and the table cases.csv.
 AUDITS = DATA / "audits"
 # Books, and the table cases.csv of their faults.
 BOOK_FAULTS = DATA / "book_faults"
 # keys.csv and codes.csv: keys and codes that other software made.
 VECTORS = DATA / "vectors"
 
-# The recorded login of RFC 5802's example, section 5, line by line without LF; of these, the lines from the mechanisms to the acceptance.
+# The login of RFC 5802's example, section 5, line by line without LF; of these, the lines from the mechanisms to the acceptance.
 LOGIN_LINES = (AUDITS / "sha1.log").read_text().splitlines()
 MECHS, AUTH, CONT, RESP, OK = LOGIN_LINES[1:6]
 # The text of that log up to the acceptance, and the text of the end of a session whose client goes away.

@@ -17,7 +17,8 @@ from command_table import BOOK, LIMIT_100, audited, book_of, commands, left, new
 from expected import ACCEPTED, GONE, numbered
 from suite import CODES, token
 
-# The token of BOOK (RFC 4226, appendix D): it lets a code lie three counters ahead, and of two in a row the first none.
+# The token of BOOK (RFC 4226, appendix D): a single code may be up to three counters ahead, and the first of two in a row has to be the
+# next one.
 AHEAD = 3
 # What is sent: codes, and lines with two in a row.
 SENT = [

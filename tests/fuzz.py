@@ -21,7 +21,7 @@ import sys
 import tempfile
 import tomllib
 
-from checks import equal
+from checks import equal, fail, holds
 from expected import AUDITS, AUTH, BOOK_FAULTS, MECHS, RESP, code, keys_of, numbered
 from suite import PROGRAM, processor_time
 
@@ -51,30 +51,21 @@ BITS = [
 ]
 
 
-class Unexpected(Exception):
-    """What was seen instead of what has to be."""
-
-
-def expect(is_so, *seen):
-    if not is_so:
-        raise Unexpected(*seen)
-
-
 def run(words, data=b""):
     """Status and output of a run, whose faults have to be stated ones."""
     before = processor_time()
     try:
         done = subprocess.run([PROGRAM, *words], input=data, capture_output=True, timeout=60)
     except subprocess.TimeoutExpired:
-        raise Unexpected(words, "it does not end") from None
-    expect(processor_time() - before <= SECONDS, words, "too long")
+        fail([words], ["it does not end"])
+    holds(processor_time() - before <= SECONDS, words, "too long")
     # A log's line at fault is an answer, and goes to standard output; `upgrade` has none, and tells it as a fault.
     told, other = (done.stdout, done.stderr) if words[0] == "audit" else (done.stderr, done.stdout)
     is_of_log = words[0] in ("audit", "upgrade") and done.returncode in (1, 3) and re.fullmatch(OF_A_LOG, told)
     if is_of_log:
-        expect(other == b"", words, done)
+        holds(other == b"", words, done)
         return done.returncode, told
-    expect(done.returncode in FAULTS and re.fullmatch(FAULTS[done.returncode], done.stderr), words, done)
+    holds(done.returncode in FAULTS and re.fullmatch(FAULTS[done.returncode], done.stderr), words, done)
     return done.returncode, done.stdout
 
 
@@ -114,17 +105,17 @@ def a_book(folder, chosen):
     words = ["unlock", "--book", book, "--name", "user"]
     status, _ = run(words)
     if status != 0:
-        expect(book.read_bytes() == text, "a refused book has changed")
+        holds(book.read_bytes() == text, "a refused book has changed")
         return
     wanted = tomllib.loads(text.decode())
     wanted["accounts"]["user"]["token"]["failures"] = 0
     first = book.read_bytes()
-    expect(plain(tomllib.loads(first.decode())) == plain(wanted), first)
-    expect(run(words)[0] == 0 and book.read_bytes() == first, "a second save differs", first)
+    holds(plain(tomllib.loads(first.decode())) == plain(wanted), first)
+    holds(run(words)[0] == 0 and book.read_bytes() == first, "a second save differs", first)
     log = folder / "log"
     log.write_bytes(b"SCRAMLOG 2\n")
     answer = run(["audit", "--book", book, "--log", log])
-    expect(answer == (0, b"clean sessions=0 accepted=0 codes=0\n"), answer)
+    holds(answer == (0, b"clean sessions=0 accepted=0 codes=0\n"), answer)
     yield "a book that is read"
 
 
@@ -165,19 +156,19 @@ def a_log(folder, chosen):
     upgraded, other = run(["upgrade", "--log", log])
     if upgraded == 0 and b"\nSCRAMLOG" not in text:
         log.write_bytes(other)
-        expect(run(words) == (status, answer), "the upgraded log", answer)
+        holds(run(words) == (status, answer), "the upgraded log", answer)
         yield "an upgraded log"
     if status == 0:
-        expect(re.fullmatch(rb"clean sessions=\d+ accepted=\d+ codes=\d+\n", answer), answer)
+        holds(re.fullmatch(rb"clean sessions=\d+ accepted=\d+ codes=\d+\n", answer), answer)
         yield "a clean log"
         return
     line = int(re.match(rb"line (\d+): ", answer)[1])
     before = b"".join(lines_of(text)[: line - 1])
-    expect(line <= text.count(b"\n") + 1, answer)
+    holds(line <= text.count(b"\n") + 1, answer)
     log.write_bytes(before)
     front = run(words)
     cut_there = (1, b"line %d: cut\n" % line)
-    expect(front == cut_there or front[0] == 0 and line > 1, "the lines before", answer, front)
+    holds(front == cut_there or front[0] == 0 and line > 1, "the lines before", answer, front)
     yield "the lines before a fault"
 
 
@@ -203,7 +194,7 @@ def words_of_code(_, chosen):
     yield repr(words).encode()
     status, printed = run(words)
     if status != 0:
-        expect(printed == b"", printed)
+        holds(printed == b"", printed)
         return
     secret, digits = bytes.fromhex(given["--secret"]), int(given.get("--digits", 6))
     if "--counter" in given:
@@ -211,7 +202,7 @@ def words_of_code(_, chosen):
     else:
         since = int(given["--moment"]) - int(given.get("--t0", 0))
         wanted = code(secret, since // int(given.get("--step", 30)), digits, given.get("--hash", "sha1"))
-    expect(printed == f"{wanted}\n".encode(), printed, wanted)
+    holds(printed == f"{wanted}\n".encode(), printed, wanted)
     yield "a code of a counter" if "--counter" in given else "a code of a moment"
 
 
@@ -227,12 +218,12 @@ def words_of_keys(_, chosen):
     status, printed = run(words, password + chosen.choice([b"", b"\n", b"\nmore"]))
     is_password = 1 <= len(password) <= 1024 and all(32 <= byte <= 126 for byte in password)
     right = count in ("1", "2", "4096") and 1 <= len(salt) <= 64 and is_password
-    expect(status == (0 if right else 2), status, printed)
+    holds(status == (0 if right else 2), status, printed)
     if not right:
-        expect(printed == b"", printed)
+        holds(printed == b"", printed)
         return
     stored, server = keys_of(function, password, salt, int(count))
-    expect(printed.decode() == f"stored={stored}\nserver={server}\n", printed)
+    holds(printed.decode() == f"stored={stored}\nserver={server}\n", printed)
     yield "the keys of a password"
 
 
@@ -271,14 +262,14 @@ def a_hall(folder, chosen):
 
     status, printed, answer = heard(events)
     lines = printed.splitlines()
-    expect(answer in [(0, answer[1]), (1, b"line %d: cut\n" % (len(lines) + 1))], answer)
+    holds(answer in [(0, answer[1]), (1, b"line %d: cut\n" % (len(lines) + 1))], answer)
     begun = [line.split()[0] for line in lines if b" S MECHS " in line]
     ended = {line.split()[0] for line in lines if line.endswith(b" E")}
     # Each event has one line of its own: a client's, or the first of a session.
     taken = sum(re.match(rb"\d+ (C |S MECHS|S BUSY)", line) is not None for line in lines)
-    expect((status, taken) == (0, len(events)) or status == 1 and taken < len(events), status, taken)
+    holds((status, taken) == (0, len(events)) or status == 1 and taken < len(events), status, taken)
     status, more, answer = heard(events[:taken] + [b"gone %s 9" % number for number in begun if number not in ended])
-    expect(status == 0 and more.startswith(printed) and answer[0] == 0, status, answer)
+    holds(status == 0 and more.startswith(printed) and answer[0] == 0, status, answer)
     if b" S OK " in more:
         yield "a login in a hall"
     if b" S PASS " in more:
@@ -321,4 +312,5 @@ def main():
     print(f"fuzz.py: {count} inputs of each of {len(KINDS)} kinds, from seed {seed}")
 
 
-main()
+if __name__ == "__main__":
+    main()

@@ -19,6 +19,7 @@ from checks import equal
 from clients import Account, book, dealt, gone, logged_in, of_session, opened, said, turned_away
 from expected import AUDITS, AUTH, MECHS, RESP, orders_of_turns
 from halls import HOTP_BOOK, OWN, Hall, clean, handed, login, next_lines
+from suite import LIMIT
 
 SHUFFLES = 1000
 # A folder of files in memory, where a system has one.
@@ -121,7 +122,7 @@ def told_at_once(folder):
     for event, lines in login() + [said("CODE 755224", "S PASS 5 0"), gone()]:
         equal(handed(running, event.replace("#", "1") + "\n", len(lines)), "".join(f"1 {line}\n" for line in lines))
     equal(here.token()["next"], 1)
-    output, faults = running.communicate()
+    output, faults = running.communicate(timeout=LIMIT)
     equal((running.returncode, output, faults), (0, "", ""))
 
 

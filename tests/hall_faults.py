@@ -13,7 +13,7 @@ import suite
 from checks import equal, holds
 from clients import Account, book, dealt, gone, logged_in, opened, said
 from halls import HOTP_BOOK, Hall, clean, handed, login, next_lines
-from suite import MOST_BYTES
+from suite import LIMIT, MOST_BYTES, sleeps, until
 
 # Input lines that say no event, where sessions 2 and 3 are open, session 1 has ended and no other has begun.
 NO_EVENTS = [
@@ -114,11 +114,12 @@ def held_books(folder):
     waiting = subprocess.Popen(words, stdin=subprocess.PIPE, stdout=subprocess.PIPE, text=True)
     waiting.stdin.write("755224\n")
     waiting.stdin.close()
+    until(lambda: sleeps(waiting.pid))
     time.sleep(0.5)
     equal(waiting.poll(), None)
-    output, faults = running.communicate("gone 2 5\n")
+    output, faults = running.communicate("gone 2 5\n", timeout=LIMIT)
     equal((running.returncode, output, faults), (0, "2 C GONE\n2 E\n", ""))
-    equal((waiting.stdout.read(), waiting.wait()), ("FAIL 5\n", 1))
+    equal((waiting.stdout.read(), waiting.wait(LIMIT)), ("FAIL 5\n", 1))
     waiting.stdout.close()
 
 
@@ -131,7 +132,7 @@ def outputs_that_fail(folder):
     running.stdout.close()
     running.stdin.write(text)
     running.stdin.close()
-    equal((running.stderr.read(), running.wait()), ("scramotp: cannot write output\n", 3))
+    equal((running.stderr.read(), running.wait(LIMIT)), ("scramotp: cannot write output\n", 3))
     running.stderr.close()
     equal(here.token()["next"], 0)
 

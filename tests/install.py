@@ -4,7 +4,8 @@
 Usage: install.py PROGRAM
 
 Wherever DESTDIR and PREFIX lead, also where a name has a space, the program and the tools of tools/ come there, and no other file. A
-program that is not built, or is older than its sources, is refused. `make run` prints the keys of RFC 5802's example. Needs `make`.
+program that is not built, or is older than its sources, is refused. `make run` prints the keys of RFC 5802's example, which are those
+by Python's hashlib. Needs `make`.
 """
 import os
 import pathlib

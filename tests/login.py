@@ -7,6 +7,7 @@ Usage: login.py PROGRAM
 import base64
 import os
 import pathlib
+import random
 import re
 import socket
 import subprocess
@@ -17,7 +18,7 @@ import suite
 from checks import equal, holds
 from expected import ACCEPTED, AUDITS, GONE, decoy_salt
 from halls import clean, handed, next_lines
-from suite import MOST_BYTES, NONCES, PROGRAM, hotp
+from suite import LIMIT, MOST_BYTES, NONCES, PROGRAM, hotp, ran
 
 # RFC 5802's and RFC 7677's own logins
 SHA1 = ["--mechanism", "SCRAM-SHA-1", *NONCES]
@@ -36,7 +37,7 @@ class Login(suite.BookFolder):
         return [PROGRAM, "login", "--book", self.book, "--name", name, "--socket", path or self.socket, *more]
 
     def run(self, words, text):
-        return subprocess.run(words, input=text.encode(), capture_output=True, timeout=60)
+        return subprocess.run(words, input=text.encode(), capture_output=True, timeout=LIMIT)
 
     def log_of(self, words, text, status):
         """Runs a login, compares its status and that no fault is told, and returns its log."""
@@ -188,7 +189,7 @@ def replies_at_once(folder):
     for code, lines in [("755224", "C CODE 755224\nS PASS 5 0\n"), ("000000", "C CODE 000000\nS FAIL 5\n")]:
         equal(handed(running, code + "\n", 2), lines)
     equal((here.account()["token"]["next"], here.account()["token"]["failures"]), (1, 1))
-    output, faults = running.communicate()
+    output, faults = running.communicate(timeout=LIMIT)
     equal((running.returncode, output, faults), (1, GONE, ""))
     holds(not os.path.lexists(here.socket), "the socket is left")
 
@@ -200,7 +201,7 @@ def another_at_the_path(folder):
     equal(next_lines(running, 6), ACCEPTED)
     here.socket.unlink()
     here.socket.write_text("another")
-    output, faults = running.communicate()
+    output, faults = running.communicate(timeout=LIMIT)
     equal((running.returncode, output, faults), (0, GONE, ""))
     equal(here.socket.read_text(), "another")
 
@@ -222,7 +223,7 @@ def failed_saves(folder):
         equal(next_lines(running, 6), ACCEPTED)
         book = here.book.read_bytes()
         os.mkdir(f"{here.book}.new")
-        output, faults = running.communicate(line + "\n755224\n")
+        output, faults = running.communicate(line + "\n755224\n", timeout=LIMIT)
         equal((running.returncode, output), (3, sent + "S HALT\n"))
         equal(faults, f"scramotp: cannot write {here.book}\n")
         equal(here.book.read_bytes(), book)
@@ -240,9 +241,9 @@ def random_nonces(folder):
     for name, password in [("one", "pencil"), ("two users", "a,b=c"), ("~" * 255, " " * 1024)]:
         here.book.unlink()
         enrol = [PROGRAM, "enrol", "--book", here.book, "--name", name]
-        subprocess.run(enrol, input=password, check=True, capture_output=True, text=True)
+        equal(ran(enrol, password)[::2], (0, ""), name)
         here.put(here.book.read_text())
-        data = os.urandom(36)
+        data = random.randbytes(36)
         file.write_bytes(data)
         log = here.log_of(here.words("--random", file, name=name), password, 0)
         client, service = (base64.b64encode(part).decode() for part in [data[:18], data[18:]])

@@ -13,7 +13,7 @@ import suite
 from checks import equal, holds
 from expected import AUDITS
 from kills import kill_at_any_moment, start
-from suite import PROGRAM, BookFolder, code, hotp, token
+from suite import LIMIT, PROGRAM, BookFolder, code, hotp, token
 
 KEYS = (AUDITS / "keys.toml").read_text()
 BOOK = KEYS + hotp(look_ahead=3, limit=100, sync_ahead=10)
@@ -50,7 +50,7 @@ def killed_at_any_moment(folder):
     kill_at_any_moment(here, started, RUNS, [1])
     path.unlink(missing_ok=True)
     run = start_login(here.book, path, [code(token(here.book)["next"])])
-    output, faults = run.communicate()
+    output, faults = run.communicate(timeout=LIMIT)
     equal((run.returncode, faults), (0, ""), output)
     holds("\nS PASS " in output, output, faults)
     equal(sorted(os.listdir(folder)), ["before", "book"])
@@ -65,12 +65,12 @@ def left_sockets(folder):
     run.stdin.flush()
     equal(run.stdout.readline(), "SCRAMLOG 1\n")
     run.kill()
-    run.communicate()
+    run.communicate(timeout=LIMIT)
     for removed, want in [(False, (3, "scramotp: socket fault\n")), (True, (0, ""))]:
         if removed:
             os.remove(path)
         run = start_login(book, path, [])
-        _, faults = run.communicate()
+        _, faults = run.communicate(timeout=LIMIT)
         equal((run.returncode, faults), want)
         equal(not os.path.lexists(path), removed, path)
 
@@ -81,7 +81,7 @@ def twenty_at_once(folder):
     for _ in range(5):
         book.write_text(BOOK)
         runs = [start_login(book, f"{folder}/socket{number}", [code(0)]) for number in range(20)]
-        logs = [run.communicate() for run in runs]
+        logs = [run.communicate(timeout=LIMIT) for run in runs]
         holds(all(faults == "" for _, faults in logs), logs)
         replies = sorted(re.findall(r"^S (PASS|FAIL) ", log, re.M) for log, _ in logs)
         equal(replies, [["FAIL"]] * 19 + [["PASS"]])

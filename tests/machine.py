@@ -10,6 +10,7 @@ the user nobody where permissions matter. Needs `cc`.
 """
 import collections
 import concurrent.futures
+import functools
 import os
 import pathlib
 import random
@@ -152,11 +153,17 @@ class Machine:
 
     def no_room(self, command):
         """No byte can be written to a file. Pipes are no files."""
-        limit = lambda: resource.setrlimit(resource.RLIMIT_FSIZE, (0, 0))
+        limit = functools.partial(resource.setrlimit, resource.RLIMIT_FSIZE, (0, 0))
         return run(command, self.folder, preexec_fn=limit, restore_signals=False)
 
+    def set_clock(self, second):
+        """The clock stands at this second from now on. Whoever reads it meanwhile finds this second or the one before."""
+        next_clock = self.clock.with_name("next_clock")
+        next_clock.write_text(str(second))
+        next_clock.replace(self.clock)
+
     def turned(self, command, seconds):
-        self.clock.write_text(str(seconds))
+        self.set_clock(seconds)
         return run(command, self.folder, env=self.with_clock)
 
     def short_random(self, command):
@@ -212,7 +219,7 @@ def few_descriptors(folder):
     for name, command in named().items():
         for most in range(4, 16):
             prepare(here.folder, command)
-            limit = lambda: resource.setrlimit(resource.RLIMIT_NOFILE, (most, most))
+            limit = functools.partial(resource.setrlimit, resource.RLIMIT_NOFILE, (most, most))
             status, printed, fault = answer = run(command, here.folder, preexec_fn=limit)
             holds(is_kept(here.folder, command, printed), name, most, answer)
             equal(left(here.folder), set(), name, most, answer)
@@ -354,12 +361,12 @@ class Clocks(Machine):
         """The replies to codes, each of which is sent while the clock stands at this second; the log is clean."""
         login, before = self.named["login"], self.book.read_text()
         words, pipe = login.in_folder(self.folder)[:-2], subprocess.PIPE
-        self.clock.write_text(str(turns[0][0]))
+        self.set_clock(turns[0][0])
         with subprocess.Popen(words, stdin=pipe, stdout=pipe, text=True, bufsize=1, env=self.with_clock) as run_of_login:
             run_of_login.stdin.write("pencil\n")
             lines = [run_of_login.stdout.readline() for _ in range(6)]
             for clock, code in turns:
-                self.clock.write_text(str(clock))
+                self.set_clock(clock)
                 run_of_login.stdin.write(f"{code}\n")
                 lines += [run_of_login.stdout.readline() for _ in range(2)]
             run_of_login.stdin.close()

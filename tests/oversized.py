@@ -24,7 +24,7 @@ from clients import Account, Exchange, base, dealt, escaped, gone, logged_in, op
 from command_table import BOOK, command_of, commands, login_log, prepare
 from expected import AUDITS, SESSION_LEFT
 from halls import Hall, clean
-from suite import MOST_BYTES, PROGRAM, sleeps
+from suite import MOST_BYTES, PROGRAM, ran, sleeps
 
 # A hall's log of RFC 5802's login, and the events that lead to it.
 HALL = command_of("hall", 0)
@@ -36,7 +36,7 @@ NO_AND_END = ["S NO :", "E"]
 
 
 def decoy(name):
-    """The challenge's salt and count for a name that has no account (RFC 5802, section 5)."""
+    """The challenge's salt and count for a name that has no account (this project's form, as docs/PROMISES.md has it)."""
     return f"s={base(expected.decoy_salt(name))},i={clients.COUNT}"
 
 
@@ -72,10 +72,10 @@ def lengths_of_first_messages(folder):
         here.prints(events, 0, log)
         here.audited(log, clean(1))
         tried += 1
-    told("client-first messages", tried)
+    print_count("client-first messages", tried)
 
 
-def told(what, count):
+def print_count(what, count):
     print(f"oversized.py: {count} {what} at their limits and past them")
 
 
@@ -100,7 +100,7 @@ def lengths_of_lines(folder):
         here.prints(events, 0, log)
         open_still = log.endswith("S FAIL 5\n")
         here.audited(log + "1 C GONE\n1 E\n" * open_still, clean(1, log.count(" S OK :")))
-    told("lines", len(rows))
+    print_count("lines", len(rows))
 
 
 def final_message(account, more, given=None):
@@ -134,7 +134,7 @@ def lengths_of_last_messages(folder):
         here.prints(events, 0, log)
         here.audited(log, clean(1, log.count(" S OK :")))
     equal(len(final_message(account, rows[0][0]).final), 2048)
-    told("client-final messages", len(rows))
+    print_count("client-final messages", len(rows))
 
 
 def lengths_of_words(folder):
@@ -148,40 +148,35 @@ def lengths_of_words(folder):
         log = "SCRAMLOG 1\n" + "".join(line.removeprefix("1 ") for line in dealt([0] * len(visit), [visit])[1].splitlines(True)[1:])
         option = "client" if own > 256 else "server"
         want = (0, log, "") if own == others else (2, "", f"scramotp: bad value for --{option}-nonce\n")
-        done = ended([*words, "--client-nonce", "n" * own, "--server-nonce", "s" * others], b"password of user")
+        done = ran([*words, "--client-nonce", "n" * own, "--server-nonce", "s" * others], b"password of user")
         equal(done, want, own, others)
         tried += 1
     for size in [9, 10, 64, 65]:
         want = (0, f"{expected.code(bytes(size), 7)}\n", "") if 10 <= size <= 64 else (2, "", "scramotp: bad value for --secret\n")
-        equal(ended([PROGRAM, "code", "--secret", "00" * size, "--counter", "7"], b""), want, size)
+        equal(ran([PROGRAM, "code", "--secret", "00" * size, "--counter", "7"], b""), want, size)
         tried += 1
-    told("nonces and secrets", tried)
+    print_count("nonces and secrets", tried)
 
 
 def lengths_of_files(folder):
-    """A book of 16777216 bytes is read, and one of one more byte is not; and so is the line of a password, which is then none."""
+    """A book of 16777216 bytes is read, and one of one more byte is not. So is the line of a password: of that length it is read, and is
+    a bad password."""
     tried = 0
     for command in commands():
         if command.name in ("login", "hall"):
             for size, want in [(MOST_BYTES, (0, command.printed, "")), (MOST_BYTES + 1, (3, "", f"scramotp: cannot read {folder}/book\n"))]:
                 prepare(folder, command)
                 pathlib.Path(folder, "book").write_text(BOOK + "#" * (size - len(BOOK)))
-                equal(ended(command.in_folder(folder), command.text.encode()), want, command.name, size)
+                equal(ran(command.in_folder(folder), command.text.encode()), want, command.name, size)
                 tried += 1
         if command.name == "enrol":
             unread = (3, "", "scramotp: cannot read input\n")
             for size, want in [(MOST_BYTES, (2, "", "scramotp: bad password\n")), (MOST_BYTES + 1, unread)]:
                 prepare(folder, command)
-                equal(ended(command.in_folder(folder), b"a" * size), want, size)
+                equal(ran(command.in_folder(folder), b"a" * size), want, size)
                 equal(pathlib.Path(folder, "book").read_text(), BOOK)
                 tried += 1
-    told("books and passwords", tried)
-
-
-def ended(words, data):
-    """Status, output and faults of a run that is given all of this."""
-    done = subprocess.run(words, input=data, capture_output=True, timeout=60)
-    return done.returncode, done.stdout.decode(), done.stderr.decode()
+    print_count("books and passwords", tried)
 
 
 class Fed:
@@ -272,7 +267,7 @@ def endless_logs(folder):
             holds(not run.feed(itertools.chain([begin], parts)), words, begin)
             equal(run.end(), want, words, begin)
     words = [PROGRAM, "audit", "--book", "/dev/zero", "--log", AUDITS / "sha1.log"]
-    equal(ended(words, b""), (3, "", "scramotp: cannot read /dev/zero\n"))
+    equal(ran(words, b""), (3, "", "scramotp: cannot read /dev/zero\n"))
     print(f"oversized.py: {2 * len(rows)} logs and a book that never end")
 
 

@@ -18,7 +18,6 @@ import os
 import re
 import shlex
 import signal
-import subprocess
 import sys
 import time
 from concurrent.futures import ThreadPoolExecutor
@@ -28,7 +27,7 @@ import expected
 import suite
 from checks import equal, holds
 from expected import AUDITS, BOOK_FAULTS, VECTORS, keys_of
-from suite import BOOK_OF_USER, CODES, NOBODY, ROOT, code, hotp, is_locked, is_root, program_on_path, read_book, seen, until
+from suite import BOOK_OF_USER, CODES, LIMIT, NOBODY, ROOT, code, hotp, is_locked, is_root, program_on_path, read_book, seen, until
 from tool_runs import TOOLS, book_of, does, ran, start, with_tools
 
 DOCUMENT = Path(sys.argv[2]) if len(sys.argv) > 2 else Path(__file__).resolve().parent.parent / "docs" / "OPERATING.md"
@@ -170,8 +169,8 @@ def an_edit_waits(folder):
     edit = start(folder, "tools/edit-book book.toml sed s/4096/4097/")
     time.sleep(0.5)
     equal(edit.poll(), None)
-    equal(run.communicate(CODES[0] + "\n"), ("PASS 5 0\n", ""))
-    equal(edit.communicate(), ("", ""))
+    equal(run.communicate(CODES[0] + "\n", timeout=LIMIT), ("PASS 5 0\n", ""))
+    equal(edit.communicate(timeout=LIMIT), ("", ""))
     equal(edit.returncode, 0)
     found = book_of(folder)
     equal((found["decoy_count"], found["accounts"]["user"]["token"]["next"]), (4097, 1), found)
@@ -183,7 +182,7 @@ def a_run_waits(folder):
     slow = start(folder, "tools/edit-book book.toml sh -c 'sed s/4096/4097/; sleep 1'")
     until(lambda: is_locked(book))
     does(folder, verify("user", CODES[0]), printed="PASS 5 0\n")
-    equal(slow.communicate(), ("", ""))
+    equal(slow.communicate(timeout=LIMIT), ("", ""))
     equal(slow.returncode, 0)
     found = book_of(folder)
     equal((found["decoy_count"], found["accounts"]["user"]["token"]["next"]), (4097, 1), found)
@@ -307,7 +306,7 @@ def a_password(folder):
     enrolled(folder)
     with_fob(folder)
     before = book_of(folder)
-    [change] = blocks("Change a password")
+    change, _ = blocks("Change a password")
     does(folder, change, "another one\n", f"enrolled {NAME}\n")
     after = book_of(folder)
     for table, mechanism in [("sha1", "sha1"), ("sha256", "sha256")]:
@@ -329,7 +328,7 @@ def a_password_of_one_mechanism(folder):
         enrolled(folder)
         does(folder, f"tools/edit-book book.toml tools/drop-tables '[accounts.\"{NAME}\".{lost}]'")
         before = book_of(folder)
-        [change] = blocks("Change a password")
+        change, _ = blocks("Change a password")
         does(folder, change, "another one\n", f"enrolled {NAME}\n")
         after = book_of(folder)
         for mechanism in ("sha1", "sha256"):
@@ -339,11 +338,40 @@ def a_password_of_one_mechanism(folder):
         equal(after, before)
 
 
+def a_first_password(folder):
+    """An account with a token alone gets keys for both mechanisms, and keeps its token. A name without an account gets none, and an account
+    that has keys keeps them."""
+    enrolled(folder)
+    does(folder, blocks("Give a user one-time codes")[-1])
+    does(folder, verify(FOB, CODES[0]), printed="PASS 5 0\n")
+    before = book_of(folder)
+    _, first = blocks("Change a password")
+    mistyped = first.replace("fob", "fab")
+    holds(mistyped != first, first)
+    equal(ran(folder, mistyped, "another one\n")[1:], ("", "scramotp: no such account\n"))
+    equal(book_of(folder), before)
+    left = Path(folder, "left")
+    left.mkdir()
+    does(folder, first + FORGOTTEN, "another one\n", f"enrolled {FOB}\n", TMPDIR=str(left))
+    equal(list(left.iterdir()), [])
+    after = book_of(folder)
+    for mechanism in ("sha1", "sha256"):
+        keys = after["accounts"][FOB].pop(mechanism)
+        equal((keys["stored"], keys["server"]), keys_of(mechanism, b"another one", bytes.fromhex(keys["salt"]), keys["count"]))
+    equal(after, before)
+    does(folder, verify(FOB, CODES[1]), printed="PASS 5 1\n")
+    before = book_of(folder)
+    _, output, faults = ran(folder, first, "a third\n")
+    equal(output, f"enrolled {FOB}\n")
+    holds(re.fullmatch(r"scramotp: bad book: 60\nedit-book: .* is as it was; look into .*\n", faults), faults)
+    equal(book_of(folder), before)
+
+
 def a_password_that_is_refused(folder):
     """Where `enrol` refuses the password, or a later step fails, the book is as it was."""
     enrolled(folder)
     before = Path(folder, "book.toml").read_bytes()
-    [change] = blocks("Change a password")
+    change, _ = blocks("Change a password")
     for password in ["ü\n", "\n", ""]:
         _, output, faults = ran(folder, change, password)
         equal((output, faults), ("", "scramotp: bad password\n"), password)
@@ -496,6 +524,11 @@ def keys_at_fault(folder):
     wrong = {"the document: 'x' is unknown", "the document: 'decoy_count' is of another type"}
     status, output, faults = ran(folder, script)
     equal((status, set(output.splitlines()), faults), (0, wrong, ""), output)
+    for number, text in enumerate([b"x = \n", b"x = '\xff'\n"]):
+        Path(folder, f"none{number}.toml").write_bytes(text)
+        status, output, faults = ran(folder, f"tools/find-key none{number}.toml")
+        equal((status, output), (1, ""), faults)
+        holds(re.fullmatch(r"find-key: no TOML: [^\n]*\n", faults), faults)
     with open(BOOK_FAULTS / "cases.csv", newline="", encoding="ascii") as table:
         rows = [row for row in csv.DictReader(table) if row["answer"] == "62" or not row["answer"].isdigit()]
     for number, row in enumerate(rows):
@@ -567,8 +600,8 @@ def all_in_order(folder):
         status, output, faults = ran(folder, LEAVES_NOTHING.format(block.replace(INSTALLED, str(TOOLS))), inputs.get(title, ""))
         equal((status, faults), (0, ""), title, output)
         printed += output.splitlines()
-    added, secret, ahead, changed, *verifiers = printed
-    equal((added, changed, verifiers), (f"enrolled {NAME}", f"enrolled {NAME}", list(both)), printed)
+    added, secret, ahead, changed, first, *verifiers = printed
+    equal((added, changed, first, verifiers), (f"enrolled {NAME}", f"enrolled {NAME}", f"enrolled {FOB}", list(both)), printed)
     equal(len(base64.b32decode(secret)), 20, printed)
     holds(re.fullmatch(r"PASS \d+ 9", ahead), printed)
     accounts = book_of(folder)["accounts"]
@@ -592,8 +625,7 @@ def units(folder):
                 (credentials / name).write_bytes(source.read_bytes())
             holds((credentials / name).is_file(), name)
         [command] = re.findall(r"^ExecStart=(.*)$", unit, re.M)
-        done = subprocess.run(shlex.split(command), env=program_on_path(folder, **where), capture_output=True, text=True)
-        answers.append((done.returncode, done.stdout, done.stderr))
+        answers.append(suite.ran(shlex.split(command), env=program_on_path(folder, **where)))
     equal(answers, [(0, "enrolled user\n", ""), (0, "clean sessions=1 accepted=1 codes=0\n", "")])
     keys = read_book(state / "book.toml")["accounts"]["user"]["sha256"]
     equal(keys["stored"], keys_of("sha256", b"pencil", bytes.fromhex(keys["salt"]), keys["count"])[0])
@@ -619,6 +651,7 @@ TESTS = [
     an_account,
     a_password,
     a_password_of_one_mechanism,
+    a_first_password,
     a_password_that_is_refused,
     a_removed_account,
     decoys,

@@ -26,6 +26,7 @@
 
 enum turn { GOES_ON, REFUSED, LATE, SHORT };
 
+/* Neither count nor descriptor is kept from other threads: a program has one. */
 static unsigned long calls;
 static const char *wrong = "none";
 static int torn = -1;
@@ -149,11 +150,17 @@ static int opened(const char *call, int folder, const char *path, int flags, mod
     return fd;
 }
 
+/* The mode that follows these flags, where they say that one does. */
+static mode_t mode_after(int flags, va_list more)
+{
+    return flags & O_CREAT || (flags & O_TMPFILE) == O_TMPFILE ? va_arg(more, mode_t) : 0;
+}
+
 int open(const char *path, int flags, ...)
 {
     va_list more;
     va_start(more, flags);
-    mode_t mode = va_arg(more, mode_t);
+    mode_t mode = mode_after(flags, more);
     va_end(more);
     return opened("open", AT_FDCWD, path, flags, mode);
 }
@@ -162,7 +169,7 @@ int openat(int folder, const char *path, int flags, ...)
 {
     va_list more;
     va_start(more, flags);
-    mode_t mode = va_arg(more, mode_t);
+    mode_t mode = mode_after(flags, more);
     va_end(more);
     return opened("openat", folder, path, flags, mode);
 }

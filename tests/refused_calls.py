@@ -9,14 +9,13 @@ Usage: refused_calls.py PROGRAM
 """
 import pathlib
 import re
-import subprocess
 
 import shims
 import suite
 from checks import equal, holds
 from command_table import parsed_book, with_account
 from expected import AUDITS, MECHS
-from suite import BOOK_OF_USER, PROGRAM, hotp
+from suite import BOOK_OF_USER, PROGRAM, hotp, ran
 
 BENCH = pathlib.Path(__file__).parent.parent / "crates" / "bench" / "out" / "bench"
 BOOK = (AUDITS / "sha256.toml").read_text() + hotp(look_ahead=3, limit=3)
@@ -51,10 +50,10 @@ def made(kind, folder, shim, refused):
     """What bench printed of these calls whose request of this number was refused, or None where it did not come to make them; and how
     many requests it made."""
     environment = {"LD_PRELOAD": shim, "REFUSED": str(refused)}
-    run = subprocess.run([BENCH, kind, "1", "given"], cwd=folder, capture_output=True, text=True, env=environment)
-    holds(run.returncode in (0, 1), kind, refused, run)
-    requests = int(re.search(r"^requests (\d+)$", run.stderr, re.M).group(1))
-    return None if run.returncode else run.stdout, requests
+    status, output, faults = ran([BENCH, kind, "1", "given"], cwd=folder, env=environment)
+    holds(status in (0, 1), kind, refused, status, faults)
+    requests = int(re.search(r"^requests (\d+)$", faults, re.M).group(1))
+    return None if status else output, requests
 
 
 def each_refused(kind, folder, given):
@@ -86,9 +85,9 @@ def count_told(folder, kind, logged, check):
 def is_clean(folder, log):
     """Whether the log is clean, and begins as the whole one does."""
     (pathlib.Path(folder) / "log").write_text(log)
-    audit = subprocess.run([PROGRAM, "audit", "--book", "given", "--log", "log"], cwd=folder, capture_output=True, text=True)
+    status, output, _ = ran([PROGRAM, "audit", "--book", "given", "--log", "log"], cwd=folder)
     is_front = LOGGED.startswith(log.removesuffix("C GONE\nE\n"))
-    return is_front and audit.returncode == 0 and audit.stdout.startswith("clean sessions=")
+    return is_front and status == 0 and output.startswith("clean sessions=")
 
 
 def calls_are_made_again(folder):

@@ -8,22 +8,21 @@ Usage: refused_memory.py PROGRAM
 import os
 import pathlib
 import re
-import subprocess
 
 import shims
 import suite
 from checks import equal, holds
 from command_table import book_of, commands, is_done, is_front, is_kept, left, new_book, prepare, printed_begins_clean, run
 from expected import AUDITS
-from suite import PROGRAM
+from suite import PROGRAM, ran
 
 
 def run_refused(folder, words, shim, refused):
     """What a command printed that was refused this request, and how many requests it made."""
     environment = {"LD_PRELOAD": shim, "REFUSED": str(refused)}
-    run = subprocess.run([PROGRAM, *words], cwd=folder, capture_output=True, text=True, env=environment)
-    faults, requests = run.stderr.rsplit("requests ", 1)
-    return run.returncode, run.stdout, faults, int(requests)
+    status, output, said = ran([PROGRAM, *words], cwd=folder, env=environment)
+    faults, requests = said.rsplit("requests ", 1)
+    return status, output, faults, int(requests)
 
 
 def each_is_told(folder, words, printed):

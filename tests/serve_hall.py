@@ -16,7 +16,7 @@ import clients
 import suite
 from checks import equal, holds
 from expected import MECHS
-from suite import BOOK_OF_USER, blocks_of, seen, until
+from suite import BOOK_OF_USER, LIMIT, blocks_of, seen, until
 from tool_runs import TOOLS, book_of, does, ran, start, with_tools
 
 OPERATING = TOOLS.parent / "docs" / "OPERATING.md"
@@ -124,7 +124,7 @@ def a_hall_of_your_own(folder):
 
 
 def a_full_hall(folder):
-    """Where 64 clients are there the next is turned away, until one leaves. Who has no token can send codes all the same."""
+    """Where 64 clients are there the next is turned away, until one leaves. A client without a token can send codes all the same."""
     account = clients.Account("bare", "SCRAM-SHA-256")
     book, token, _ = clients.book([account]).partition('\n[accounts."bare".token]\n')
     holds(token, "the token that is left out")
@@ -213,7 +213,7 @@ def a_socket_that_is_left(folder):
     serving = serving_hall(folder, BOOK_OF_USER)
     greeted(folder)
     serving.kill()
-    serving.communicate()
+    serving.communicate(timeout=LIMIT)
     for name in ["hall.log", "hall.log.toml"]:
         Path(folder, name).unlink()
     begins_no_hall(folder, "hall.sock")

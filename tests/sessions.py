@@ -3,10 +3,9 @@
 
 Usage: sessions.py PROGRAM
 
-Three sessions dealt in all 1680 orders of their turns, each log clean, and with one session's outcome turned, at fault in
-that line with the same outcome due in every order; 64 logins with codes, shuffled, in which replies follow the order of the
-whole log; 64 open sessions and a 65th that is turned away; numbers that are none, or not due; and the longest
-lines.
+Three sessions in all 1680 orders of their turns: each log is clean, and where one session's outcome is turned, that line is at fault,
+with the same outcome due in every order. 64 logins with codes, in random orders: replies follow the order of the whole log. 64 open
+sessions and a 65th that is turned away; numbers that are none, or not due; and the longest lines.
 """
 import pathlib
 import random

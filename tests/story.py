@@ -16,7 +16,7 @@ from pathlib import Path
 
 import suite
 from checks import equal, holds
-from suite import program_on_path
+from suite import LIMIT, program_on_path
 
 TOP = Path(__file__).resolve().parent.parent
 TITLE = "Quick start"
@@ -70,7 +70,7 @@ def without_comment(command):
 
 def is_whole(command):
     """Whether bash can run this as it is: no quote and no document is left open."""
-    read = subprocess.run(["bash", "-n"], input=command, capture_output=True, text=True)
+    read = subprocess.run(["bash", "-n"], input=command, capture_output=True, text=True, timeout=LIMIT)
     return read.returncode == 0 and not read.stderr
 
 

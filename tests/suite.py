@@ -13,6 +13,7 @@ import sys
 import tempfile
 import time
 import tomllib
+import traceback
 
 import expected
 from checks import equal
@@ -24,6 +25,9 @@ PROGRAM = os.path.abspath(sys.argv[1])
 # The times at which runs are stopped and the orders that are tried follow from this number: SEED=N in the environment takes the same.
 SEED = int(os.environ.get("SEED") or secrets.randbelow(1 << 32))
 random.seed(SEED)
+
+# The most seconds that a run may take: a test whose run hangs fails then, and is named.
+LIMIT = 120
 
 # Whether root runs the script, and how it then runs the program as the user nobody, where permissions matter.
 ROOT = os.geteuid() == 0
@@ -42,6 +46,9 @@ def is_root():
 # The secret and the codes of RFC 4226, appendix D.
 SECRET = "3132333435363738393031323334353637383930"
 CODES = ["755224", "287082", "359152", "969429", "338314", "254676", "287922", "162583", "399871", "520489"]
+
+# The seeds of the program in RFC 6238, appendix A, of 20, 32 and 64 bytes. Its appendix B has their codes, and names the first alone.
+SEEDS = {"sha1": SECRET, "sha256": SECRET + SECRET[:24], "sha512": SECRET * 3 + SECRET[:8]}
 
 # RFC 5802, section 5: the salt and the nonces; the password is `pencil`, and the count 4096. The keys are those of that example by
 # Python's hashlib: the RFC prints only the proof and the signature that they make.
@@ -75,13 +82,13 @@ failures = {failures}
 """
 
 
-def totp(limit):
-    """A TOTP token for `user`, with the secret of RFC 6238's appendix B."""
+def totp(limit, function="sha1"):
+    """A TOTP token for `user`, with the seed that RFC 6238 has for this hash function."""
     return f"""
 [accounts.user.token]
 kind = "totp"
-hash = "sha1"
-secret = "{SECRET}"
+hash = "{function}"
+secret = "{SEEDS[function]}"
 digits = 8
 t0 = 0
 step = 30
@@ -176,20 +183,30 @@ def processor_time():
     return times.children_user + times.children_system
 
 
+def ran(words, data=b"", **how):
+    """Runs a command with this input, which is a text or bytes. Returns its status, its output and its faults."""
+    given = data.encode() if isinstance(data, str) else data
+    done = subprocess.run(words, input=given, capture_output=True, timeout=LIMIT, **how)
+    return done.returncode, done.stdout.decode(), done.stderr.decode()
+
+
+def prints(words, data, status, output="", fault="", *about):
+    """Runs a command with this input, and compares its status, its output and its fault, which is given without its beginning."""
+    equal(ran(words, data), (status, output, fault_text(fault)), *(about or (words, data[:200])))
+
+
 def begins_clean(book, log):
     """Whether a log, which may be cut, is at fault in no line that it has, by the book that it began with."""
-    words = [PROGRAM, "audit", "--book", book, "--log", "/dev/stdin"]
-    done = subprocess.run(words, input=log, capture_output=True, text=True, timeout=60)
+    _, output, faults = ran([PROGRAM, "audit", "--book", book, "--log", "/dev/stdin"], log)
     cut = f"line {log.count(chr(10)) + 1}: cut\n"
-    return done.stderr == "" and (done.stdout.startswith("clean ") or done.stdout == cut)
+    return faults == "" and (output.startswith("clean ") or output == cut)
 
 
-def audit_says(book, log, answer, *about, text=None):
+def audit_says(book, log, answer, *about, text=""):
     """Runs an audit of a file, or of a text as standard input. Compares its answer, the status that goes with that, and that no fault
     is told."""
-    done = subprocess.run([PROGRAM, "audit", "--book", book, "--log", log], input=text, capture_output=True, text=True, timeout=60)
     status = 0 if answer.startswith("clean ") else 3 if answer == "read fault" else 1
-    equal((done.returncode, done.stdout, done.stderr), (status, f"{answer}\n", ""), *about)
+    equal(ran([PROGRAM, "audit", "--book", book, "--log", log], text), (status, f"{answer}\n", ""), *about)
 
 
 class BookFolder:
@@ -207,9 +224,7 @@ class BookFolder:
 
     def prints(self, words, text, status, log, fault=""):
         """Runs the program on this input, and compares its status, log and fault."""
-        data = text if isinstance(text, bytes) else text.encode()
-        done = subprocess.run(words, input=data, capture_output=True, timeout=60)
-        equal((done.returncode, done.stdout.decode(), done.stderr.decode()), (status, log, fault_text(fault)), (words, text[:200]))
+        prints(words, text, status, log, fault)
 
     def seen(self):
         """What differs once the book was written or replaced, or another file was left beside it."""
@@ -231,6 +246,7 @@ def run_all(tests):
                 failed += 1
                 line = (fault.__traceback__.tb_next or fault.__traceback__).tb_lineno
                 print(f"{test.__name__}: line {line}: {type(fault).__name__}: {fault}", file=sys.stderr)
+                print("".join(traceback.format_tb(fault.__traceback__)[1:]), end="", file=sys.stderr)
     print(f"{os.path.basename(sys.argv[0])}: {len(tests) - failed} passed, {failed} failed", file=sys.stderr)
     if failed:
         print(f"{os.path.basename(sys.argv[0])}: SEED={SEED}", file=sys.stderr)

@@ -36,7 +36,7 @@ def can_be_upgraded(log, answer):
 def same_answers(folder):
     """The audit's answer to each log of the table, before and after. A first line in the middle has no number in either."""
     upgraded = 0
-    for book, log, answer in cases():
+    for book, log, answer, _ in cases():
         status, text, fault = run(["upgrade"], log)
         if can_be_upgraded(log, answer):
             equal((status, text, fault), (0, numbered(log.decode()).encode(), b""), log)

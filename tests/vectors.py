@@ -7,12 +7,11 @@ In data/vectors, keys.csv has the keys of passwords as GNU SASL and Dovecot made
 one-time codes as oathtool made them; the last column of a row says which.
 """
 import csv
-import subprocess
 
 import suite
-from checks import equal, holds
+from checks import holds
 from expected import VECTORS
-from suite import PROGRAM
+from suite import PROGRAM, prints
 
 
 def keys(row):
@@ -38,8 +37,7 @@ def each_row(name, case):
     holds(rows, f"{name} has no rows")
     for row in rows:
         words, line, want = case(row)
-        done = subprocess.run([PROGRAM, *words], input=line.encode(), capture_output=True)
-        equal((done.returncode, done.stdout, done.stderr), (0, want.encode(), b""), words)
+        prints([PROGRAM, *words], line, 0, want, "", words)
     print(f"vectors.py: {name}: {len(rows)} rows as made elsewhere")
 
 
