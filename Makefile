@@ -5,8 +5,8 @@ DESTDIR ?=
 CPU ?= x86-64-v2
 JOBS ?= $(shell nproc)
 PROGRAM = crates/scramotp/out/scramotp
-# The kit by which all is proved, as rt version prints it; README.md and docs/PROMISES.md name it too.
-KIT = rattle-kit-13f logic dac8208d650f15bf
+# The kit with which the last make test passed, as rt version prints it; README.md and docs/PROMISES.md name it too.
+KIT = rattle-kit-13b logic dac8208d650f15bf
 # What the program stands on.
 LIBRARIES = mac_core otp_core scram_text scram_ends book_format account_book book_file command_line command_words log_grammar sasl_log sasl_desk command_io account_commands commands
 # What is installed beside it.
@@ -50,18 +50,11 @@ uses = $(filter $(LIBRARIES),$(shell sed -n 's/^$(1): //p' crates.txt))
 # The sources of a crate.
 sources_of = $(filter crates/$(1)/%,$(SOURCES))
 
-# The sources of all libraries.
-LIBRARY_SOURCES = $(foreach it,$(LIBRARIES),$(wildcard $(addprefix crates/$(it)/,src specs proofs)))
-
-# A library is proved after those that it uses; those that do not use one another are proved at the same time. What was never built here is
-# proved in a copy of the sources, since two runs of rt in one tree wait for one another where they use the same library; what is built in
-# one copy rt takes over into another, and into this tree.
+# A library is proved after those that it uses, and one at a time: rt locks those that it uses too, and each uses mac_core.
 define library_rule
 crates/$(1)/out/built: $(foreach it,$(call uses,$(1)),crates/$(it)/out/built) $(call sources_of,$(1)) crates.txt
-	@echo "$$$$(date +%T) $(1)" && mkdir -p $$(@D) && log="$$$$PWD/$$(@D)/build.log" && at=. && \
-		{ test -d $$(@D)/rlib || { at=$$(@D)/tree && mkdir -p $$$$at && cp -a --parents $$(LIBRARY_SOURCES) $$$$at && \
-		sed -n '$$(foreach it,$$(LIBRARIES),/^$$(it):/p;)' crates.txt >$$$$at/crates.txt; }; } && \
-		cd $$$$at/crates/$(1) && { rt lib --jobs $(JOBS) >"$$$$log" 2>&1 || { cat "$$$$log"; exit 1; }; }
+	@echo "$$$$(date +%T) $(1)" && mkdir -p $$(@D) && cd crates/$(1) && \
+		{ rt lib --jobs $(JOBS) >out/build.log 2>&1 || { cat out/build.log; exit 1; }; }
 	@touch $$@
 endef
 $(foreach it,$(LIBRARIES),$(eval $(call library_rule,$(it))))
@@ -71,7 +64,7 @@ libraries: $(foreach it,$(LIBRARIES),crates/$(it)/out/built)
 $(PROGRAM): $(SOURCES)
 	@$(MAKE) --no-print-directory kit
 	@echo 'This proves $(words $(LIBRARIES)) libraries and the program, and builds it for $(CPU). From nothing, allow 40 minutes on 4 cores.'
-	@$(MAKE) --no-print-directory -j 3 libraries
+	@$(MAKE) --no-print-directory libraries
 	@echo "$$(date +%T) scramotp"
 	@mkdir -p $(@D) && cd crates/scramotp && \
 		{ rt run --jobs $(JOBS) $(addprefix --cpu=,$(filter-out x86-64-v2,$(CPU))) -- --version 2>out/build.log || { cat out/build.log; exit 1; }; }
@@ -115,7 +108,8 @@ clean:
 kit:
 	@command -v rt >/dev/null || { echo 'rt, the command of the Rattle kit, is not on your PATH' >&2; exit 1; }
 
-# The documents name the kit by which all was proved. Another kit proves all anew, and may refuse what that one proved.
+# The documents name the kit with which all last passed.
+# Another kit proves all anew, and one of another logic may refuse what this one proved.
 this_kit: kit
 	@found="$$(rt version)"; test "$$found" = '$(KIT)' || \
 		echo "The documents name the kit $(KIT), and this is $$found. Once all passes with it, change KIT in the Makefile." >&2
