@@ -5,7 +5,7 @@ DESTDIR ?=
 CPU ?= x86-64-v2
 JOBS ?= $(shell nproc)
 PROGRAM = crates/scramotp/out/scramotp
-# The kit with which the last make test passed, as rt version prints it; README.md and docs/PROMISES.md name it too.
+# The kit with which all was last proved, as rt version prints it; README.md and docs/PROMISES.md name it too.
 KIT = rattle-kit-13b logic dac8208d650f15bf
 # What the program stands on.
 LIBRARIES = mac_core otp_core scram_text scram_ends book_format account_book book_file command_line command_words log_grammar sasl_log sasl_desk command_io account_commands commands
@@ -108,7 +108,7 @@ clean:
 kit:
 	@command -v rt >/dev/null || { echo 'rt, the command of the Rattle kit, is not on your PATH' >&2; exit 1; }
 
-# The documents name the kit with which all last passed.
+# The documents name the kit with which all was last proved.
 # Another kit proves all anew, and one of another logic may refuse what this one proved.
 this_kit: kit
 	@found="$$(rt version)"; test "$$found" = '$(KIT)' || \
