@@ -6,7 +6,7 @@ CPU ?= x86-64-v2
 JOBS ?= $(shell nproc)
 PROGRAM = crates/scramotp/out/scramotp
 # The kit with which all was last proved, as rt version prints it; README.md and docs/PROMISES.md name it too.
-KIT = rattle-kit-13b logic dac8208d650f15bf
+KIT = rattle-kit-13f logic dac8208d650f15bf
 # What the program stands on.
 LIBRARIES = mac_core otp_core scram_text scram_ends book_format account_book book_file command_line command_words log_grammar sasl_log sasl_desk command_io account_commands commands
 # What is installed beside it.
@@ -27,7 +27,7 @@ help:
 	@echo '              CPU=x86-64-v3 builds it for newer processors'
 	@echo 'make install  copies the built program to $$(DESTDIR)$$(PREFIX)/bin,'
 	@echo '              and its tools to $$(DESTDIR)$$(PREFIX)/share/scramotp'
-	@echo 'make test     the gate: every proof, test and run, wrong bodies, and tests of the built program'
+	@echo 'make test     the gate: proves all, sees that wrong bodies are refused, builds the program and runs all tests'
 	@echo 'make fuzz     gives the built program random input, for some minutes'
 	@echo 'make bench    compares speeds with OpenSSL, with Python, and with oathtool'
 	@echo 'make clean    removes what was built'
@@ -108,11 +108,11 @@ clean:
 kit:
 	@command -v rt >/dev/null || { echo 'rt, the command of the Rattle kit, is not on your PATH' >&2; exit 1; }
 
-# The documents name the kit with which all was last proved.
-# Another kit proves all anew, and one of another logic may refuse what this one proved.
+# No fault: another kit proves all anew. But one of another logic may refuse what this one proved.
 this_kit: kit
 	@found="$$(rt version)"; test "$$found" = '$(KIT)' || \
-		echo "The documents name the kit $(KIT), and this is $$found. Once all passes with it, change KIT in the Makefile." >&2
+		echo "The documents name the kit $(KIT), and this is $$found." \
+			"Once all passes with it, change KIT in the Makefile, and its name in README.md and docs/PROMISES.md." >&2
 
 # What else the tests need; they would miss it only after the proofs.
 needed:

@@ -17,9 +17,6 @@ import sys
 import tempfile
 
 from timed import exactly, processor
-
-sys.path.append(str(pathlib.Path(__file__).resolve().parent.parent / "tests"))
-
 from expected import code, login_keys, proved
 
 LOGINS = 142_000

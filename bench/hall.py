@@ -16,7 +16,7 @@ import tempfile
 import time
 
 from serve import LOGGED, book
-from timed import processor
+from timed import check, processor
 
 # Each of these is a multiple of 64.
 LOGINS = 200_000
@@ -24,6 +24,7 @@ FEW, MANY = 6_400, 1_000_000
 TURNS = 5
 # What an input of 16777216 bytes can hold.
 SESSIONS = 700_000
+STAYING = 63
 LINES = 7  # that a log has of each login
 
 
@@ -32,9 +33,14 @@ def logged(count):
     return count * LOGGED + sum(LINES * (len(str(number)) + 1) for number in range(1, count + 1))
 
 
+def serves(count, size):
+    """Whether a run of bench says that it has served so many logins, of which the log has so many bytes."""
+    return lambda printed: printed.startswith(f"served {count} logged {size} sent ")
+
+
 def seconds(bench, kind, count, size, path):
     """The processor time of a run that serves so many logins, of which a log has so many bytes."""
-    return processor([bench, kind, str(count), path], lambda it: it.startswith(f"served {count} logged {size} sent "))
+    return processor([bench, kind, str(count), path], serves(count, size))
 
 
 def rate(bench, kind, size, path):
@@ -44,30 +50,32 @@ def rate(bench, kind, size, path):
     return LOGINS / (all_of_them - none)
 
 
-def peak(words, given=None):
+def peak(words, is_due, given=None):
     """The most memory in KiB of a run, looked up until it ends."""
-    most, child = 0, subprocess.Popen(words, stdin=given, stdout=subprocess.DEVNULL)
-    while child.poll() is None:
-        status = pathlib.Path(f"/proc/{child.pid}/status").read_text()
-        most = max(most, *[int(line.split()[1]) for line in status.splitlines() if line.startswith("VmHWM:")], 0)
-        time.sleep(0.01)
-    if child.returncode:
-        sys.exit(f"{words}: status {child.returncode}")
+    most = 0
+    with tempfile.TemporaryFile("w+") as output:
+        child = subprocess.Popen(words, stdin=given, stdout=output)
+        while child.poll() is None:
+            status = pathlib.Path(f"/proc/{child.pid}/status").read_text()
+            most = max(most, *[int(line.split()[1]) for line in status.splitlines() if line.startswith("VmHWM:")], 0)
+            time.sleep(0.01)
+        output.seek(0)
+        check(words, child.returncode, output.read(), "", is_due)
     return most
 
 
 def come_and_go(path, count):
     """Input of `hall`: 63 sessions begin and stay, and so many others begin and end, one after another."""
     with open(path, "w") as file:
-        file.write("open z\n" * 63)
-        file.writelines(f"open z\ngone {number} 0\n" for number in range(64, 64 + count))
+        file.write("open z\n" * STAYING)
+        file.writelines(f"open z\ngone {number} 0\n" for number in range(STAYING + 1, STAYING + 1 + count))
 
 
 def of_program(program, path, given, count):
     """The most memory of `hall` whose sessions come and go."""
     come_and_go(given, count)
     with open(given, "rb") as events:
-        return peak([program, "hall", "--book", path], events)
+        return peak([program, "hall", "--book", path], lambda printed: printed.count(" S MECHS ") == STAYING + count, events)
 
 
 def main():
@@ -78,7 +86,7 @@ def main():
         alone = rate(bench, "alone", LOGINS * LOGGED, path)
         together = rate(bench, "together", logged(LOGINS), path)
         print(f"logins a second: {alone:,.0f} at a desk, {together:,.0f} in a hall with 64 open, ratio {together / alone:.2f}")
-        few, many = (peak([bench, "together", str(count), path]) for count in (FEW, MANY))
+        few, many = (peak([bench, "together", str(count), path], serves(count, logged(count))) for count in (FEW, MANY))
         print(f"peak memory of a hall: {few} KiB for {FEW} logins, {many} KiB for {MANY}, ratio {many / few:.3f}")
         few, many = (of_program(program, path, given, count) for count in (FEW, SESSIONS))
         print(f"peak memory of `hall`: {few} KiB for {FEW} sessions, {many} KiB for {SESSIONS}, ratio {many / few:.3f}")

@@ -6,18 +6,14 @@ Usage: keys.py PROGRAM
 Runs both in turn, several times, and prints for each mechanism the best time of each, in seconds, and
 their ratio. Start-up is in both: of a process here, and of python3 with hashlib there.
 """
-import subprocess
 import sys
 
-from timed import anything, wall
+from timed import exactly, wall
+from expected import keys_of
 
 COUNT = 1_000_000
 TURNS = 7
 SALT = "4125c247e43ab1e93c6dff76"
-
-
-def seconds(words, given=""):
-    return wall(words, anything, given, subprocess.DEVNULL)
 
 
 def main():
@@ -25,7 +21,9 @@ def main():
     for mechanism, digest in (("SCRAM-SHA-1", "sha1"), ("SCRAM-SHA-256", "sha256")):
         words = [program, "keys", "--mechanism", mechanism, "--salt", SALT, "--count", str(COUNT)]
         line = f"import hashlib; hashlib.pbkdf2_hmac('{digest}', b'pencil', bytes.fromhex('{SALT}'), {COUNT})"
-        turns = [(seconds(words, "pencil\n"), seconds([sys.executable, "-c", line])) for _ in range(TURNS)]
+        stored, server = keys_of(digest, b"pencil", bytes.fromhex(SALT), COUNT)
+        ours_is_due = exactly(f"stored={stored}\nserver={server}\n")
+        turns = [(wall(words, ours_is_due, "pencil\n"), wall([sys.executable, "-c", line], exactly(""))) for _ in range(TURNS)]
         ours, openssl = (min(column) for column in zip(*turns))
         print(f"keys {mechanism} at {COUNT}: {ours:.3f} s, OpenSSL {openssl:.3f} s, ratio {ours / openssl:.2f}")
 

@@ -16,9 +16,6 @@ import time
 
 from books import mechanism
 from timed import exactly, wall
-
-sys.path.append(str(pathlib.Path(__file__).resolve().parent.parent / "tests"))
-
 from expected import AUDITS, code
 
 LOGINS = 100_000

@@ -1,8 +1,12 @@
 """What the scripts of this folder share: how long a run takes. One that fails, or does not print what it should, ends the script."""
 import os
+import pathlib
 import subprocess
 import sys
 import time
+
+# What the scripts compare with is in expected.py of the tests.
+sys.path.append(str(pathlib.Path(__file__).resolve().parent.parent / "tests"))
 
 
 def exactly(want):

@@ -3,21 +3,15 @@
 
 Usage: book_faults.py PROGRAM
 
-In data/book_faults, each row of cases.csv is a book: a file beside it, in which `old`, which is there once, is
-replaced by `new`, and then `old2` by `new2`. `\\n`, `\\\\` and `\\xNN` are written as in Python. `base` names the file, and
-`shows` says what the row is about. The row's answer is a fault's number, as docs/FORMATS.md has it, or what `unlock` prints
-for the account `user` in a book that it reads. A book is judged before a name is looked up, and one that is refused is left
-as it is.
+The table is data/book_faults/cases.csv. A book is judged before a name is looked up, and one that is refused is left as it is.
 """
-import csv
 import pathlib
 
 import suite
+from book_cases import TABLE, cases
 from checks import equal
-from expected import BOOK_FAULTS, edited
 from suite import PROGRAM, prints
 
-TABLE = BOOK_FAULTS / "cases.csv"
 NUMBERS = {str(number) for number in range(60, 68)}
 
 
@@ -28,23 +22,21 @@ def due(answer):
     return 1, "", f"bad book: {answer}" if answer in NUMBERS else answer
 
 
-def check(where, path, row):
-    """Runs a row, and compares what the program answers, and the book that it refuses."""
-    book = edited((BOOK_FAULTS / row["base"]).with_suffix(".toml").read_bytes(), row)
-    path.write_bytes(book)
-    status, output, fault = due(row["answer"])
+def check(where, path, case):
+    """Runs a case, and compares what the program answers, and the book that it refuses."""
+    path.write_bytes(case.book)
+    status, output, fault = due(case.answer)
     prints([PROGRAM, "unlock", "--book", path, "--name", "user"], b"", status, output, fault, where)
     if status != 0:
-        equal(path.read_bytes(), book, f"{where}: the book")
+        equal(path.read_bytes(), case.book, f"{where}: the book")
 
 
 def rows_of_table(folder):
     """Each row. Each number has one."""
-    with open(TABLE, newline="", encoding="ascii") as table:
-        rows = list(csv.DictReader(table))
-    for line, row in enumerate(rows, 2):
-        check(f"{TABLE.name}: line {line}: {row['shows']}", pathlib.Path(folder, "book"), row)
-    equal(NUMBERS - {row["answer"] for row in rows}, set(), "the numbers that have no row")
+    rows = cases()
+    for line, case in enumerate(rows, 2):
+        check(f"{TABLE.name}: line {line}: {case.shows}", pathlib.Path(folder, "book"), case)
+    equal(NUMBERS - {case.answer for case in rows}, set(), "the numbers that have no row")
     print(f"book_faults.py: {len(rows)} books as they should be")
 
 

@@ -7,8 +7,8 @@ Usage: documents.py
 Each link between pages leads to a page and a section of it. Each path between backquotes is one of the repository, and each file of
 sources that is named is one of a crate. Each name that a page of promises has between backquotes is one of the sources. So is each of a
 page for maintainers, of docs/REFUSALS.md and of docs/TESTING.md, or one of a script, where it has no space. run.py runs each script of
-this folder that takes a program, and docs/TESTING.md names each script. The sizes of docs/PROMISES.md are about those of the sources, and
-docs/TESTING.md tells how many rows the tables of vectors and of faulty books have. The kit that the Makefile names is that of
+this folder that takes a program, and docs/TESTING.md names each script. The sizes of docs/PROMISES.md and README.md are about those of the
+sources, and docs/TESTING.md tells how many rows the tables of vectors and of faulty books have. The kit that the Makefile names is that of
 docs/PROMISES.md and README.md.
 """
 import csv
@@ -139,6 +139,7 @@ def stale_sizes():
     edits = len([*TOP.glob("crates/*/edits/*.edit"), *TOP.glob("crates/*/must-fail/*.edit")])
     code = [f"crates/{name}/src/**/*.rt" for name in [*libraries, "scramotp"]]
     for name, form, size, is_exact in [
+        ("../README.md", r"some\s+(\d+) lines of definitions", lines_of("crates/*/specs/**/*.antt"), False),
         ("PROMISES.md", r"some\s+(\d+) of definitions", lines_of("crates/*/specs/**/*.antt"), False),
         ("PROMISES.md", r"some\s+(\d+) of code", lines_of(*code), False),
         ("PROMISES.md", r"The\s+(\d+) lines of proofs", lines_of("crates/*/proofs/**/*.antt"), False),

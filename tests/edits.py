@@ -18,8 +18,8 @@ that are kept. Whether the crates are proved as they are, `rt ci` says.
 
 What was refused is kept on this machine, as `rt ci` keeps what it proved: by the sum of all that the trial read, which is the kit, this
 script, the edit, and the sources of its crate and of those below. A later run tries the others, and with --anew all.
-Each run begins with a test of the script: an edit without a change is let through, and one whose text is gone, or of which a line
-would not be read, is unusable.
+Each run begins with a test of the script in the smallest of its crates, unless that has only edits of definitions: an edit without a
+change is let through, and one whose text is gone, or of which a line would not be read, is unusable.
 """
 import argparse
 import hashlib
@@ -36,22 +36,19 @@ from dataclasses import dataclass, field
 from functools import cache
 from pathlib import Path
 
+from edit_sources import EDITED, Edit, Function, Unusable, edits_of, functions_of, read_edit
+
 # The libraries that each crate uses, as crates.txt lists them.
 Uses = dict[str, list[str]]
 
 TOP = Path(__file__).resolve().parent.parent
-FOLDERS = ("must-fail", "edits")
 # What a check reads of a crate.
 PARTS = ("src", "specs", "proofs")
-# Where an edit may change it.
-EDITED = ("src/", "specs/")
 # The status of a check of a path that fits no function, or several.
 FITS_NOTHING = 2
 # More than a check of the largest crate here takes, in bytes.
 MEMORY = 3 << 30
 
-FUNCTION = re.compile(r"( *)(?:pub(?:\([a-z ]+\))? )?(?:(?:const|unsafe) )*fn (\w+)")
-IMPL = re.compile(r"impl(?:<.*?>)? (?:(?:\w+::)*(\w+)(?:<(.*?)>)? for )?(?:\w+::)*(\w+)")
 # What a check says of a place: an error in a file, or a goal of a function that has no proof.
 ERROR = re.compile(r"(?:\./)?(src|specs|proofs)/([^\s:]+):(\d+):\d+: error: (.*)")
 GOAL = re.compile(r"note: (src)/([^\s:]+):(\d+):\d+: (it is not proved that .*)")
@@ -59,53 +56,6 @@ GOAL = re.compile(r"note: (src)/([^\s:]+):(\d+):\d+: (it is not proved that .*)"
 UNREAD = re.compile(
     r"is not in scope|has no field|has no `|is no name|was not admitted|operand is missing|expected the end|cannot continue"
 )
-
-
-class Unusable(Exception):
-    """An edit that cannot be applied, and why."""
-
-
-@dataclass(frozen=True)
-class Function:
-    """A function: the path of its module, its type and trait or nothing, its name, and its first and last line in a file of src/."""
-
-    module: tuple[str, ...]
-    of: str
-    trait: str
-    name: str
-    file: str
-    first: int
-    last: int
-
-    def __str__(self) -> str:
-        return "::".join([*self.module, *[self.of] * bool(self.of), self.name])
-
-    def path(self) -> str:
-        """Returns the end of its name as a check prints it, in which the name of a trait and of its arguments follow the type's in one
-        word, as `FaultFromIoError`. A method's module is left out, since it is that of its type."""
-        return f"{self.of}{self.trait}::{self.name}" if self.of else str(self)
-
-    def holds(self, file: str, line: int) -> bool:
-        """Returns whether the line is one of its lines."""
-        return self.file == file and self.first <= line <= self.last
-
-    def is_proved_in(self, folder: tuple[str, ...]) -> bool:
-        """Returns whether this folder below proofs/ is its own. A method's is at the module of its type, which may be another
-        than its own; the name of a trait follows the type's in one word."""
-        if self.of:
-            return len(folder) > 1 and folder[-1] == self.name and folder[-2].startswith(self.of)
-        return folder == (*self.module, self.name)
-
-
-@dataclass
-class Edit:
-    """A wrong body: the lines that it writes, by file and number, the functions from its first line to its last, and its text."""
-
-    name: str
-    lines: dict[tuple[str, int], str]
-    owners: set[Function]
-    is_inside: bool
-    text: str = ""
 
 
 @dataclass
@@ -124,80 +74,6 @@ class Outcome:
 
     is_refused: bool
     text: str
-
-
-def functions_of(crate: Path) -> list[Function]:
-    """Finds a crate's functions by the layout of `rt fmt`, in which a body ends with a brace below its first letter."""
-    found = []
-    for path in sorted((crate / "src").rglob("*.rt")):
-        file, of, trait = path.relative_to(crate).as_posix(), "", ""
-        module = () if file in ("src/lib.rt", "src/main.rt") else tuple(file.removeprefix("src/").removesuffix(".rt").split("/"))
-        lines = path.read_text(encoding="utf-8").split("\n")
-        for at, line in enumerate(lines):
-            if line[:1].isalpha() and line != "where":
-                trait, arguments, of = it.groups("") if (it := IMPL.match(line)) else ("", "", "")
-                trait += "".join(word[0].upper() + word[1:] for word in re.findall(r"\b[A-Za-z]\w*", arguments))
-            if it := FUNCTION.match(line):
-                found.append(Function(module, of, trait, it[2], file, first_line(lines, at, it[1]), last_line(lines, at, it[1])))
-    return found
-
-
-def first_line(lines: list[str], at: int, indent: str) -> int:
-    """Returns the number of the first line of the function whose `fn` is at index `at`, with its attributes, after this indent."""
-    while at > 0 and lines[at - 1].startswith(indent + "#["):
-        at -= 1
-    return at + 1
-
-
-def last_line(lines: list[str], at: int, indent: str) -> int:
-    """Returns the number of the last line of the function that begins at index `at`, after this indent."""
-    if lines[at].endswith((";", "}")):
-        return at + 1
-    for below in range(at + 1, len(lines)):
-        if lines[below] == indent + "}":
-            return below + 1
-        if FUNCTION.match(lines[below]) or lines[below] and not lines[below].startswith(indent):
-            return below
-    return len(lines)
-
-
-def read_edit(path: Path, crate: Path, functions: list[Function]) -> Edit:
-    """Reads an edit and applies it to the crate's sources, or raises Unusable."""
-    file, old, whole = "", "", path.read_text(encoding="utf-8")
-    texts: dict[str, str] = {}
-    places: set[tuple[str, int]] = set()
-    for line in whole.split("\n"):
-        if line.startswith("file: "):
-            file = line.removeprefix("file: ").strip()
-            if not file.startswith(EDITED) or not (crate / file).is_file():
-                raise Unusable(f"there is no source {file}")
-            texts.setdefault(file, (crate / file).read_text(encoding="utf-8"))
-        elif line.startswith("old: "):
-            old = line.removeprefix("old: ")
-        elif line.startswith("new:"):
-            if not file or not old:
-                raise Unusable("a line 'new:' has no 'file:' or no 'old:' above it")
-            before, *others = texts[file].split(old)
-            if len(others) != 1:
-                raise Unusable(f"an 'old:' text is in {file} {len(others)} times, and not once")
-            places.add((file, before.count("\n") + 1))
-            texts[file] = before + line.removeprefix("new:").removeprefix(" ") + others[0]
-            old = ""
-        elif line:
-            raise Unusable(f"a line begins with none of 'file:', 'old:' and 'new:': {line.strip()[:60]}")
-    if not places:
-        raise Unusable("it has no pair of 'old:' and 'new:'")
-    # no text has the end of a line in it, so lines keep their numbers
-    lines = {(file, at): texts[file].split("\n")[at - 1] for file, at in places}
-    owners = {it for it in functions for place in between(places) if it.holds(*place)}
-    return Edit(path.stem, lines, owners, all(any(it.holds(*place) for it in functions) for place in places), whole)
-
-
-def between(places: set[tuple[str, int]]) -> Iterable[tuple[str, int]]:
-    """Returns each line from a file's first place to its last."""
-    for file in {file for file, _ in places}:
-        lines = [at for it, at in places if it == file]
-        yield from ((file, at) for at in range(min(lines), max(lines) + 1))
 
 
 def batches_of(edits: Iterable[Edit]) -> list[list[Edit]]:
@@ -220,7 +96,7 @@ class Refusals:
         cache_home = os.environ.get("XDG_CACHE_HOME") or Path.home() / ".cache"
         self.folder = Path(cache_home) / "scramotp" / "refusals"
         self.sum = hashlib.sha256(kit_version().encode())
-        files = [Path(__file__), TOP / "crates.txt", TOP / "HANDLES"]
+        files = [Path(__file__), Path(__file__).with_name("edit_sources.py"), TOP / "crates.txt", TOP / "HANDLES"]
         crates = [TOP / "crates" / it for it in [*below(crate, uses), crate]]
         files += [it for at in crates for part in PARTS for it in sorted((at / part).rglob("*")) if it.is_file()]
         for it in files:
@@ -285,7 +161,7 @@ class Room:
             if ran.returncode != FITS_NOTHING:
                 return self.report(ran)
             print(f"{self.crate}: all of it is checked: {ran.stdout.rstrip()[-200:]}", file=sys.stderr, flush=True)
-        # a build checks as a check does, but for a function that is not proved it offers no files, which takes a third of the time
+        # A build proves what a check does. It does not make the files to start a failed proof from, which take a check a third of its time.
         return self.report(run([f"{kit()}/bin/rattle", "build", *self.words, "-o", f"{self.crate}.rlib"], self.folder))
 
     def report(self, ran: subprocess.CompletedProcess[str]) -> Report:
@@ -360,10 +236,25 @@ class Count:
     failed: int = 0
 
 
+def read_all(room: Room) -> tuple[list[Edit], dict[str, str]]:
+    """Reads the edits of a crate, and returns those that can be tried, and why each other can't."""
+    usable: dict[tuple[tuple[tuple[str, int], str], ...], Edit] = {}
+    unusable: dict[str, str] = {}
+    for path in edits_of(room.source):
+        try:
+            edit = read_edit(path, room.source, room.functions)
+        except Unusable as fault:
+            unusable[path.stem] = f"DOES NOT APPLY: {fault}"
+            continue
+        earlier = usable.setdefault(tuple(sorted(edit.lines.items())), edit)
+        if earlier is not edit:
+            unusable[edit.name] = f"THE SAME CHANGE AS {earlier.name}"
+    return [*usable.values()], unusable
+
+
 def try_crate(room: Room, is_first: bool, options: argparse.Namespace) -> Count:
     """Tries the edits of a crate, and counts how that ends; the first crate begins with the script's test."""
-    began, edits, tried, count = time.monotonic(), [], set(), Count()
-    changes: dict[tuple[tuple[tuple[str, int], str], ...], str] = {}
+    began, tried, count = time.monotonic(), set(), Count()
 
     def tell(name: str, outcome: Outcome, when: str = "") -> None:
         print(f"{room.crate}/{name}: {outcome.text}{when}", flush=True)
@@ -372,17 +263,9 @@ def try_crate(room: Room, is_first: bool, options: argparse.Namespace) -> Count:
         count.failed += not outcome.is_refused
         tried.add(name)
 
-    for path in edits_of(room.source):
-        try:
-            edit = read_edit(path, room.source, room.functions)
-        except Unusable as fault:
-            tell(path.stem, Outcome(False, f"DOES NOT APPLY: {fault}"))
-            continue
-        earlier = changes.setdefault(tuple(sorted(edit.lines.items())), edit.name)
-        if earlier == edit.name:
-            edits.append(edit)
-        else:
-            tell(edit.name, Outcome(False, f"THE SAME CHANGE AS {earlier}"))
+    edits, unusable = read_all(room)
+    for name, why in unusable.items():
+        tell(name, Outcome(False, why))
     if is_first:
         self_test(room, edits)
     if options.self_test:
@@ -415,6 +298,7 @@ def self_test(room: Room, edits: list[Edit]) -> None:
     # a method of a type has a body, and a trait's need not
     other = next((it for it in room.functions if wrong and it.of and it not in wrong.owners), None)
     if not (wrong and other):
+        print(f"{room.crate}: nothing here can test the script itself", file=sys.stderr, flush=True)
         return
     nothing = Edit("nothing", {}, {other}, True)
     together, alone = try_together(room, [wrong, nothing]), try_alone(room, nothing)
@@ -429,11 +313,6 @@ def self_test(room: Room, edits: list[Edit]) -> None:
         except Unusable:
             continue
         sys.exit(f"edits.py: its own test fails: an edit applies {what}")
-
-
-def edits_of(crate: Path) -> list[Path]:
-    """Returns the files of a crate's edits."""
-    return [it for folder in FOLDERS for it in sorted((crate / folder).glob("*.edit"))]
 
 
 def read_uses() -> Uses:
@@ -521,7 +400,9 @@ def main() -> int:
     uses = read_uses()
     listed = options.crates or [it for it in uses if (TOP / "crates" / it / "edits").is_dir()]
     edits = {it: len(edits_of(TOP / "crates" / it)) for it in listed}
-    functions = {it: len(functions_of(TOP / "crates" / it)) for it in edits if edits[it]}
+    if without := [it for it in listed if not edits[it]]:
+        parser.error(f"no edits of {', '.join(without)}")
+    functions = {it: len(functions_of(TOP / "crates" / it)) for it in listed}
     first = min(functions, key=lambda it: (len(below(it, uses)), functions[it]))
     # the longest work begins first: a check of a crate that stands on many others takes the longest
     names = [first] if options.self_test else sorted(functions, key=lambda it: (-len(below(it, uses)), -functions[it] * edits[it]))

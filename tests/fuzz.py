@@ -1,5 +1,5 @@
 #!/usr/bin/env python3
-"""Gives the built program random input: words, messages in lines, logs and books that are a few edits from right ones.
+"""Gives the built program random input: words of `code` and `keys`; and books, logs and events of a hall, a few edits from right ones.
 
 Usage: fuzz.py PROGRAM [SEED [COUNT]]
 

@@ -65,6 +65,14 @@ def with_codes(look_ahead=3, limit=3, sync_ahead=None):
     return KEYS + hotp(look_ahead, limit, sync_ahead)
 
 
+def waiting(words, text):
+    """A run that waits for more input than this."""
+    running = subprocess.Popen(words, stdin=subprocess.PIPE, stdout=subprocess.PIPE, stderr=subprocess.PIPE, text=True)
+    running.stdin.write(text)
+    running.stdin.flush()
+    return running
+
+
 def published_logins(folder):
     """RFC 5802's login and RFC 7677's, each exactly as it is recorded."""
     here = Login(folder)
@@ -183,7 +191,7 @@ def lines_that_are_no_code(folder):
 def replies_at_once(folder):
     """Each line stands in the log while the input is still open, and the socket's file is there until it ends."""
     here = Login(folder, with_codes())
-    running = start(here, here.words(*SHA1, "--moment", "5"), "pencil\n")
+    running = waiting(here.words(*SHA1, "--moment", "5"), "pencil\n")
     equal(next_lines(running, 6), ACCEPTED)
     holds(here.socket.is_socket(), "there is no socket while the login goes on")
     for code, lines in [("755224", "C CODE 755224\nS PASS 5 0\n"), ("000000", "C CODE 000000\nS FAIL 5\n")]:
@@ -197,7 +205,7 @@ def replies_at_once(folder):
 def another_at_the_path(folder):
     """A file that takes the socket's name while the login runs stays there."""
     here = Login(folder, with_codes())
-    running = start(here, here.words(*SHA1), "pencil\n")
+    running = waiting(here.words(*SHA1), "pencil\n")
     equal(next_lines(running, 6), ACCEPTED)
     here.socket.unlink()
     here.socket.write_text("another")
@@ -206,20 +214,12 @@ def another_at_the_path(folder):
     equal(here.socket.read_text(), "another")
 
 
-def start(here, words, text):
-    """A run that waits for more input than this."""
-    running = subprocess.Popen(words, stdin=subprocess.PIPE, stdout=subprocess.PIPE, stderr=subprocess.PIPE, text=True)
-    running.stdin.write(text)
-    running.stdin.flush()
-    return running
-
-
 def failed_saves(folder):
     """A save that fails halts the desk: the log says so, the book is as before, and its clean front is clean."""
     here = Login(folder, with_codes(sync_ahead=8))
     for line, sent in [("755224", "C CODE 755224\n"), ("000000", "C CODE 000000\n"), ("SYNC 755224 287082", "C SYNC 755224 287082\n")]:
         here.put(with_codes(sync_ahead=8))
-        running = start(here, here.words(*SHA1, "--moment", "5"), "pencil\n")
+        running = waiting(here.words(*SHA1, "--moment", "5"), "pencil\n")
         equal(next_lines(running, 6), ACCEPTED)
         book = here.book.read_bytes()
         os.mkdir(f"{here.book}.new")

@@ -25,8 +25,9 @@ from pathlib import Path
 
 import expected
 import suite
+from book_cases import cases
 from checks import equal, holds
-from expected import AUDITS, BOOK_FAULTS, VECTORS, keys_of
+from expected import AUDITS, VECTORS, keys_of
 from suite import BOOK_OF_USER, CODES, LIMIT, NOBODY, ROOT, code, hotp, is_locked, is_root, program_on_path, read_book, seen, until
 from tool_runs import TOOLS, book_of, does, ran, start, with_tools
 
@@ -508,11 +509,6 @@ def a_code_of_a_service(folder):
         holds(fnmatch.fnmatchcase(asked, allowed), asked, allowed)
 
 
-def faulty(row):
-    """The book of a row of data/book_faults/cases.csv."""
-    return expected.edited((BOOK_FAULTS / row["base"]).with_suffix(".toml").read_bytes(), row)
-
-
 def keys_at_fault(folder):
     """Something is told of each book that is refused with 62, and nothing of a book that is read."""
     [script] = blocks("`bad book: 62`")
@@ -529,15 +525,14 @@ def keys_at_fault(folder):
         status, output, faults = ran(folder, f"tools/find-key none{number}.toml")
         equal((status, output), (1, ""), faults)
         holds(re.fullmatch(r"find-key: no TOML: [^\n]*\n", faults), faults)
-    with open(BOOK_FAULTS / "cases.csv", newline="", encoding="ascii") as table:
-        rows = [row for row in csv.DictReader(table) if row["answer"] == "62" or not row["answer"].isdigit()]
-    for number, row in enumerate(rows):
-        Path(folder, str(number)).write_bytes(faulty(row))
+    faulty = [case for case in cases() if case.answer == "62" or not case.answer.isdigit()]
+    for number, case in enumerate(faulty):
+        Path(folder, str(number)).write_bytes(case.book)
     with ThreadPoolExecutor(4) as pool:
-        found = list(pool.map(lambda number: ran(folder, f"tools/find-key {number}"), range(len(rows))))
-    for (status, output, faults), row in zip(found, rows):
-        equal((status, faults, output != ""), (0, "", row["answer"] == "62"), row, output)
-    holds({row["answer"] for row in rows} > {"62"}, rows)
+        found = list(pool.map(lambda number: ran(folder, f"tools/find-key {number}"), range(len(faulty))))
+    for (status, output, faults), case in zip(found, faulty):
+        equal((status, faults, output != ""), (0, "", case.answer == "62"), case, output)
+    holds({case.answer for case in faulty} > {"62"}, faulty)
 
 
 def a_backup(folder):

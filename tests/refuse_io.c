@@ -12,7 +12,6 @@
 #include <dlfcn.h>
 #include <errno.h>
 #include <fcntl.h>
-#include <poll.h>
 #include <stdarg.h>
 #include <stdio.h>
 #include <stdlib.h>
@@ -20,7 +19,6 @@
 #include <sys/socket.h>
 #include <sys/stat.h>
 #include <sys/syscall.h>
-#include <sys/uio.h>
 #include <time.h>
 #include <unistd.h>
 
@@ -50,8 +48,10 @@ static enum turn next_turn(const char *name)
     if (!is_named(name) || ++calls != (number ? strtoul(number, NULL, 10) : 0))
         return GOES_ON;
     wrong = name;
-    errno = how && !strcmp(how, "interrupted") ? EINTR : EIO;
-    return !how ? REFUSED : !strcmp(how, "late") ? LATE : !strcmp(how, "short") ? SHORT : REFUSED;
+    if (!how)
+        how = "refused";
+    errno = strcmp(how, "interrupted") ? EIO : EINTR;
+    return !strcmp(how, "late") ? LATE : !strcmp(how, "short") ? SHORT : REFUSED;
 }
 
 static void *next(const char *name)

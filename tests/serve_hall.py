@@ -10,6 +10,7 @@ import os
 import re
 import signal
 import socket
+import time
 from pathlib import Path
 
 import clients
@@ -174,7 +175,7 @@ def a_slow_client(folder):
     quick = Path(folder, "quick")
     quick.write_text(text.replace("\nPATIENCE = 60\n", "\nPATIENCE = 3\n"), encoding="utf-8")
     quick.chmod(0o755)
-    serving = serving_hall(folder, BOOK_OF_USER, "./quick")
+    serving, began = serving_hall(folder, BOOK_OF_USER, "./quick"), time.monotonic()
     slow = greeted(folder)
     slow.settimeout(0.02)
 
@@ -188,6 +189,8 @@ def a_slow_client(folder):
             return True
 
     until(is_cut_off)
+    waited = time.monotonic() - began
+    holds(waited >= 3, "the seconds until the client was cut off, which should be at least 3", waited)
     serves_until(serving, signal.SIGINT, folder, "clean sessions=1 accepted=0 codes=0")
 
 

@@ -16,7 +16,7 @@ import tomllib
 import traceback
 
 import expected
-from checks import equal
+from checks import equal, fail
 
 if len(sys.argv) < 2:
     sys.exit(f"usage: {os.path.basename(sys.argv[0])} PROGRAM")
@@ -156,13 +156,13 @@ def is_locked(path):
     return False
 
 
-def until(is_so):
-    """Waits until this is so, for at least ten seconds."""
+def until(is_so, *about):
+    """Waits until this is so, for at least ten seconds, and fails with what is said of it."""
     for _ in range(1000):
         if is_so():
             return
         time.sleep(0.01)
-    raise AssertionError("it does not come to be so")
+    fail(about, ["it does not come to be so in ten seconds"])
 
 
 def sleeps(process):
@@ -192,7 +192,7 @@ def ran(words, data=b"", **how):
 
 def prints(words, data, status, output="", fault="", *about):
     """Runs a command with this input, and compares its status, its output and its fault, which is given without its beginning."""
-    equal(ran(words, data), (status, output, fault_text(fault)), *(about or (words, data[:200])))
+    equal(ran(words, data), (status, output, fault_text(fault)), *(about or (words, data)))
 
 
 def begins_clean(book, log):

@@ -16,7 +16,7 @@ import suite
 from audit_cases import cases
 from checks import equal, holds
 from expected import AUDITS, SESSION_LEFT, numbered
-from suite import PROGRAM, processor_time
+from suite import PROGRAM, processor_time, ran
 
 LOGIN = (AUDITS / "sha1.log").read_bytes()
 
@@ -68,12 +68,9 @@ def faults(folder):
         ("1000000 lines and a byte", b"SCRAMLOG 1\n" + b"E\n" * 999999 + b"S", 1, "too many lines"),
     ]:
         equal(run(["upgrade"], log), (status, b"", fault.encode() + b"\n"), what)
-    words = [PROGRAM, "upgrade", "--log", folder]
-    done = subprocess.run(words, capture_output=True, text=True, timeout=60)
-    equal((done.returncode, done.stdout, done.stderr), (3, "", "read fault\n"), "a folder")
-    missing = pathlib.Path(folder, "missing")
-    done = subprocess.run([*words[:3], missing], capture_output=True, text=True, timeout=60)
-    equal((done.returncode, done.stdout, done.stderr), (3, "", f"scramotp: cannot read {missing}\n"), "no log")
+    upgrade, missing = [PROGRAM, "upgrade", "--log"], pathlib.Path(folder, "missing")
+    equal(ran([*upgrade, folder]), (3, "", "read fault\n"), "a folder")
+    equal(ran([*upgrade, missing]), (3, "", f"scramotp: cannot read {missing}\n"), "no log")
 
 
 def long_logs(folder):

@@ -4,8 +4,8 @@ use Rattle.std.specs.declared.result.Result.{Result}
 use Rattle.std.specs.declared.result.Result.TheVariants.{Ok, Err}
 use Rattle.account_book.specs.declared.store.StoreFault.{StoreFault}
 
--- what is known of a store: the text that it holds, the text that the last save was given, whether it has
--- failed, and how many saves it has begun
+-- what is known of a store: `saved`, the text that it holds; where it has failed, it holds this one or `asked`, the text that the
+-- last save was given; whether it has failed; and how many saves it has begun
 pub record StoreFacts : Type 0 where
   pub saved : List ℕ
   pub asked : List ℕ

@@ -1,11 +1,9 @@
 -- The tokens of a book's accounts.
-use Rattle.std.specs.Prelude.{ℕ, ◌≡◌, List, ◌∷◌, option_and_then, Option, MatchOption}
+use Rattle.std.specs.Prelude.{ℕ, ◌≡◌, List, option_and_then, Option, MatchOption}
 use Rattle.std.specs.declared.option.Option.TheVariants.{None, Some}
-use Rattle.otp_core.specs.Attempt.{Attempt, CodeTexts, attempt_of}
-use Rattle.otp_core.specs.History.{IsAfter}
-use Rattle.otp_core.specs.Reply.{IsDueReply}
-use Rattle.otp_core.specs.Settings.{unlocked}
-use Rattle.otp_core.specs.State.{advanced}
+use Rattle.otp_core.specs.Attempt.{CodeTexts}
+use Rattle.otp_core.specs.State.{unlocked}
+use Rattle.otp_core.specs.TokenAttempt.{IsTokenAttempt}
 use Rattle.otp_core.specs.declared.token.answer.Reply.{Reply}
 use Rattle.otp_core.specs.declared.token.kinds.TokenFields.{TokenFields}
 use Rattle.book_format.specs.Account.{AccountFields}
@@ -20,15 +18,13 @@ token_at book name = option_and_then (λ account. account.token) (account_at boo
 abbrev pub with_token : TokenFields → AccountFields → AccountFields
 with_token token account = record account { token = Some token }
 
--- what an attempt on the token of the account of this name does: for every start and history that lead to the
--- token, the reply is the one due after them, and with this attempt added they lead to the token that the
--- account has afterwards
+-- what an attempt on the token of the account of this name does: `next` is the token after it, and it is all that changes in
+-- the book
 pub record IsAttempt (old : BookFields) (name : List ℕ) (token : TokenFields) (moment : ℕ) (sent : CodeTexts) (reply : Reply)
     (new : BookFields) : Type 0 where
-  pub due : (start : TokenFields) (history : List Attempt) → IsAfter start history token → IsDueReply start history moment sent reply
-  pub after : (start : TokenFields) (history : List Attempt) → IsAfter start history token
-      → IsAfter start (attempt_of moment sent reply ∷ history) (advanced token moment reply)
-  pub kept : IsChanged old name (with_token (advanced token moment reply)) new
+  pub next : TokenFields
+  pub judged : IsTokenAttempt token moment sent reply next
+  pub kept : IsChanged old name (with_token next) new
 
 -- what comes of an attempt on the account of this name: a reply, where it has a token; where there is no account of the
 -- name or it has no token, no reply and no change

@@ -16,6 +16,7 @@ use scram_text::PlainName;
 use std::alloc::Global;
 use std::collections::BTreeMap;
 use std::marker::Model;
+pub use view::SALT_LEN;
 
 /// An account book. Contracts see its accounts by their names, in byte order of the names, and also as a map
 /// from names.

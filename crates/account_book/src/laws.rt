@@ -15,8 +15,8 @@ pub fn books_are_in_range(book: &Book)
     book.is_in_range();
 }
 
-/// Each book reads what it writes as itself; the only fault is that memory runs out, which no clause says.
-/// Returns the book that it read.
+/// What a book writes is read as that book. Returns the book that was read. `AllocError` comes only where memory runs out, which no
+/// clause says.
 pub fn written_is_read(alloc: Global, book: &Book) -> Result<Book, AllocError>
     ensures { IfOk result (λ read. read ≡ book.now) }
 {

@@ -23,7 +23,7 @@ mod book;
 pub mod laws;
 mod store;
 
-pub use book::{Book, EnrolFault};
+pub use book::{Book, EnrolFault, SALT_LEN};
 pub use book_format::{Account, BookFault, BookWhy, MechKeys};
 pub use mac_core::Mechanism;
 pub use otp_core::{Reply, Sent, Token};

@@ -11,10 +11,12 @@ pub struct StoreFault;
 
 /// A store of one text, that of a book.
 ///
-/// Contracts know four facts of it: `saved`, the text that it holds; `asked`, the text that the last save
-/// was given; `failed`, whether it has failed; `saves`, how many saves it has begun. `IsStored` is what else holds of
-/// a text that was saved. Each type of store defines it: a store of a file has written the text to a file; a store in memory
-/// says nothing more.
+/// Contracts know four facts of it: `saved`, the text that it holds, where it has not failed; `asked`, the text that the last
+/// save was given, which a store that has failed may hold in place of `saved`; `failed`, whether it has failed; `saves`, how many
+/// saves it has begun.
+///
+/// `IsStored` is what else holds of a text that was saved. Each type of store defines it: a store of a file has written the text to
+/// a file; a store in memory says nothing more.
 ///
 /// No contract says what a stop in the middle of a save leaves: a store that outlives its process is then to have the
 /// text from before, or the new one, and never another.

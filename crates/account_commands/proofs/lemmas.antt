@@ -1,3 +1,2 @@
 -- Lemmas: what the proofs of this crate cite.
 pub mod EnrolFaults
-pub mod Results

@@ -7,6 +7,7 @@ use Rattle.scram_text.specs.Class.{IsPassword}
 use Rattle.book_format.specs.Book.{BookFields}
 use Rattle.account_book.specs.Accounts.{account_at}
 use Rattle.account_book.specs.SavedBooks.{HasStoredText}
+use Rattle.account_book.specs.declared.book.view.TheConstants.{SALT_LEN}
 use Rattle.book_file.specs.Text.{IsWritten}
 use Rattle.clap.specs.declared.parser.matches.ArgMatches.{ArgMatches}
 use Rattle.command_line.specs.Fault.{IsUnwritten}
@@ -15,8 +16,8 @@ use Rattle.command_line.specs.declared.fault.Fault.TheVariants.{NameTaken, Canno
 use Rattle.command_line.specs.declared.option_name.OptionName.TheVariants as option
 use Rattle.command_io.specs.BadValues.{HasBadPassword, HasBadValue}
 use Rattle.command_io.specs.File.{IsFileUnread}
-use Rattle.command_io.specs.HeldBook.{IsEnrolled, IsReadBook, IsStoredShort, IsUnheld}
-use Rattle.command_io.specs.Input.{IsFirstLine, IsUnread}
+use Rattle.command_io.specs.HeldBook.{IsEnrolled, IsReadBook, IsStoredShort, CannotOpenBook}
+use Rattle.command_io.specs.Input.{IsFirstLine, IsInputUnread}
 use Rattle.command_words.specs.Values.{given_value}
 use Rattle.command_io.specs.declared.new_account.NewAccount.{NewAccount}
 use Rattle.command_io.specs.declared.new_account.Salts.{Salts}
@@ -32,10 +33,10 @@ IsReadOrNew bytes_of old new book =
     ((text : List ℕ) × IsReadBook bytes_of text book × (new ≡ old))
     ⊎ ((decoy_key : List ℕ) × (length decoy_key ≡ 32) × Consumes old new decoy_key × (book ≡ new_book decoy_key))
 
--- a source of random bytes gives two salts of 16 bytes, one after the other: no byte is in both
+-- a source of random bytes gives two salts, each as long as a decoy's, one after the other: no byte is in both
 pub record TakesSalts (old : Option (List ℕ)) (salts : Salts) (new : Option (List ℕ)) : Type 0 where
-  pub length_sha1 : length salts.sha1 ≡ 16
-  pub length_sha256 : length salts.sha256 ≡ 16
+  pub length_sha1 : length salts.sha1 ≡ SALT_LEN
+  pub length_sha256 : length salts.sha256 ≡ SALT_LEN
   pub taken : Consumes old new (salts.sha1 ++ salts.sha256)
 
 -- a book is this one, or was read from a file since
@@ -74,7 +75,7 @@ pub record EnrolsAsked {File : Type 0} (bytes_of written_to : File → Option (L
 -- the words and the input describe no account: an option refuses its value, or the first line is no password or can't be read
 abbrev pub DescribesNoAccount : ArgMatches → (input : Option (List ℕ)) → Fault → Type 0
 DescribesNoAccount words input fault =
-    HasBadValue (option.Name ∷ option.Count ∷ []) words fault ⊎ (HasBadPassword input fault ⊎ IsUnread fault)
+    HasBadValue (option.Name ∷ option.Count ∷ []) words fault ⊎ (HasBadPassword input fault ⊎ IsInputUnread fault)
 
 -- the name is taken in a book, which is this one or was read from a file since
 abbrev pub IsNameTakenIn : {File : Type 0} → (bytes_of : File → Option (List ℕ)) → BookFields → (name : List ℕ) → Fault → Type 0
@@ -88,7 +89,7 @@ IsNameTaken bytes_of name fault =
 
 -- the book at this path can't be held or read, or can't be saved
 abbrev pub CannotBeChanged : {File : Type 0} → (bytes_of : File → Option (List ℕ)) → (path : List ℕ) → Fault → Type 0
-CannotBeChanged bytes_of path fault = IsUnheld bytes_of path fault ⊎ IsUnwritten path fault
+CannotBeChanged bytes_of path fault = CannotOpenBook bytes_of path fault ⊎ IsUnwritten path fault
 
 -- the fault that ends `enrol`: no account is described, the name is taken, the book can't be held, read or saved, the file of random
 -- bytes can't be read, the output can't be written, or memory ran out

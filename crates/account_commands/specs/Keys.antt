@@ -6,21 +6,21 @@ use Rattle.std.specs.Io.KnownBytes.{Appends}
 use Rattle.hex.specs.Hex.{encode_lower, decode_of}
 use Rattle.clap.specs.declared.parser.matches.ArgMatches.{ArgMatches}
 use Rattle.mac_core.specs.declared.mechanism.Mechanism.{Mechanism}
-use Rattle.mac_core.specs.Mechanism.{name_of, password_stored_key, password_server_key}
+use Rattle.mac_core.specs.Mechanism.{name_of, password_stored_key_by, password_server_key_by}
 use Rattle.scram_text.specs.Class.{IsPassword}
 use Rattle.command_line.specs.declared.fault.Fault.{Fault}
 use Rattle.command_line.specs.declared.fault.Fault.TheVariants.{CannotWriteOutput}
 use Rattle.command_line.specs.declared.option_name.OptionName.TheVariants as option
 use Rattle.command_io.specs.BadValues.{HasBadPassword, HasBadValue}
-use Rattle.command_io.specs.Input.{IsFirstLine, IsUnread}
+use Rattle.command_io.specs.Input.{IsFirstLine, IsInputUnread}
 use Rattle.command_words.specs.Values.{given_value}
 
 -- the two lines of `keys`: StoredKey and ServerKey of a password (RFC 5802, section 3) in lower-case
 -- hexadecimal, each after its name and an equals sign
 abbrev pub printed_keys : Mechanism → (password salt : List ℕ) → (count : ℕ) → List ℕ
 printed_keys mechanism password salt count =
-    codes "stored=" ++ (encode_lower (password_stored_key mechanism password salt count)
-    ++ (byte "\n" ∷ codes "server=" ++ (encode_lower (password_server_key mechanism password salt count) ++ byte "\n" ∷ [])))
+    codes "stored=" ++ (encode_lower (password_stored_key_by mechanism password salt count)
+    ++ (byte "\n" ∷ codes "server=" ++ (encode_lower (password_server_key_by mechanism password salt count) ++ byte "\n" ∷ [])))
 
 -- the keys of the password that is the first line of the input are printed, by the mechanism, salt and count that the words give
 pub record PrintsKeysAsked (words : ArgMatches) (input old new : Option (List ℕ)) : Type 0 where
@@ -40,4 +40,4 @@ pub record PrintsKeysAsked (words : ArgMatches) (input old new : Option (List �
 abbrev pub CannotPrintKeys : ArgMatches → (input : Option (List ℕ)) → Fault → Type 0
 CannotPrintKeys words input fault =
     HasBadValue (option.Mechanism ∷ option.Salt ∷ option.Count ∷ []) words fault
-    ⊎ (HasBadPassword input fault ⊎ (IsUnread fault ⊎ (fault ≡ CannotWriteOutput)))
+    ⊎ (HasBadPassword input fault ⊎ (IsInputUnread fault ⊎ (fault ≡ CannotWriteOutput)))

@@ -12,7 +12,7 @@ use Rattle.command_line.specs.declared.fault.Fault.{Fault}
 use Rattle.command_line.specs.declared.fault.Fault.TheVariants.{CannotWriteOutput}
 use Rattle.command_line.specs.declared.option_name.OptionName.TheVariants as option
 use Rattle.command_io.specs.BadValues.{HasBadValue}
-use Rattle.command_io.specs.HeldBook.{IsReadBook, IsStoredShort, IsTokenUnlocked, IsUnheld}
+use Rattle.command_io.specs.HeldBook.{IsReadBook, IsStoredShort, IsTokenUnlocked, CannotOpenBook}
 use Rattle.command_words.specs.Values.{given_value}
 
 -- a book is read from a file, the token of the name that the words give is unlocked, and the text of the book as it is then is
@@ -32,10 +32,10 @@ abbrev pub CannotUnlockToken : {File : Type 0} → (bytes_of : File → Option (
 CannotUnlockToken bytes_of path name fault =
     (text : List ℕ) × (book : BookFields) × IsReadBook bytes_of text book × IsTokenFault path (account_at book name) fault
 
--- the fault that ends `unlock`: the name is none, the book can't be held or read, it has no token for the name or can't be saved, the
--- output can't be written, or memory ran out
+-- the fault that ends `unlock`: an option refuses its value, the book can't be held or read, it has no token for the name or can't be
+-- saved, the output can't be written, or memory ran out
 abbrev pub CannotUnlock : {File : Type 0} → (bytes_of : File → Option (List ℕ)) → ArgMatches → Fault → Type 0
 CannotUnlock bytes_of words fault =
     HasBadValue (option.Name ∷ []) words fault
-    ⊎ (IsUnheld bytes_of (given_value words option.Book) fault
+    ⊎ (CannotOpenBook bytes_of (given_value words option.Book) fault
     ⊎ (CannotUnlockToken bytes_of (given_value words option.Book) (given_value words option.Name) fault ⊎ (fault ≡ CannotWriteOutput)))

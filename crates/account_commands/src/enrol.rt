@@ -10,7 +10,7 @@ ghost use Rattle.command_io.specs.Input.{IsFirstLine};
 ghost use Rattle.command_words.specs.Values.{given_value};
 ghost use Rattle.command_io.specs.Printed.{PrintsNothing};
 
-use account_book::Book;
+use account_book::{Book, SALT_LEN};
 use book_file::{BookFile, BookFileExt, FileStore};
 use clap::ArgMatches;
 use command_io::held_book::HeldBook;
@@ -159,7 +159,7 @@ where
 }
 
 // The salt of these bytes.
-fn salt(bytes: [u8; 16]) -> Salt
+fn salt(bytes: [u8; SALT_LEN]) -> Salt
     ensures { result ≡ bytes }
 {
     let Some(salt) = Salt::new(&bytes) else {

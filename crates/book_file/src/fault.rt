@@ -10,7 +10,8 @@ use std::io;
 #[derive(Debug, Drop)]
 pub enum HoldFault {
     /// The file is no plain file, has a second name, or belongs to others in a folder that others may write; it or its folder
-    /// can't be opened or locked; the clock can't be read; or memory ran out.
+    /// can't be opened or locked, or the folder does not exist; no file is there and the path ends in no name or is a link to
+    /// nothing; the clock can't be read; or memory ran out.
     Unreadable(io::Error),
 
     /// There is no file.
@@ -25,7 +26,7 @@ pub enum HoldFault {
     /// Other runs held the book for 30 seconds.
     HeldByOthers,
 
-    /// What has this path, where the next text of the book would be written, is no folder and can't be removed.
+    /// What has this path, where the next text of the book would be written, is no folder and can't be opened or removed.
     InTheWay(String),
 }
 

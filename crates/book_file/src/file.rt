@@ -93,9 +93,11 @@ where
 {
     /// Takes hold of the book at `path`. Waits up to 30 seconds for other runs, then answers HeldByOthers. Missing where
     /// there is no file. Unreadable where the file is no plain file, where it has another name too (a save would
-    /// leave the old text there), where it belongs to others in a folder that others may write, and where it or its
-    /// folder can't be opened or locked. OwnedByAnother where a save could not keep the book's owner. InTheWay where what has the path
-    /// of the next text is no folder and can't be removed. A folder there makes only a save fail.
+    /// leave the old text there), where it belongs to others in a folder that others may write, where it or its folder can't be
+    /// opened or locked, or the folder does not exist, where no file is there and the path ends in no name or is a link to nothing,
+    /// where the clock can't be read, and where memory runs out.
+    /// OwnedByAnother where a save could not keep the book's owner. InTheWay where what has the path
+    /// of the next text is no folder and can't be opened or removed. A folder there makes only a save fail.
     pub fn hold(rt: &'a R, path: &str) -> Result<BookFile<'a, R>, HoldFault>
         ensures { IfErr result (IsHoldFault false) }
     {
@@ -134,7 +136,8 @@ where
         })
     }
 
-    /// The file's bytes, or None where there is no file. FileTooLarge where there are more than 16777216.
+    /// The file's bytes, or None where there is no file. FileTooLarge where there are more than 16777216; else the error of the
+    /// call to the file system that failed, or that memory ran out.
     pub fn read(&mut self) -> io::Result<Option<Vec<u8>>>
         ensures most { IfOk result (λ found. IfSome found (λ bytes. vec_len bytes ≤ MOST_BOOK)) }
         ensures all { IfOk result (λ found. IfSome found (λ bytes. IsRead R.File.remaining bytes.items)) }
@@ -152,8 +155,8 @@ where
     /// old text or the new one. The new file keeps the book's owner, its group where the user who runs may give it, and the owner's
     /// bits of its mode; that of a new book has the mode 0600. NotFound where the file at the path is not the one that this run has
     /// read or put there last, or has changed since; AlreadyExists where there was none and there now is one; ResourceBusy where
-    /// another run holds the next file for 30 seconds, or what has its name can't be removed; FileTooLarge where the text has more
-    /// bytes than `read` takes; else the error of the call to the file system that failed.
+    /// another run holds the next file for 30 seconds, or what has its name can't be opened or removed; FileTooLarge where the text
+    /// has more bytes than `read` takes; else the error of the call to the file system that failed.
     pub fn replace(&mut self, text: &str) -> io::Result<()>
         ensures written { OnOk result (IsWritten R.File.contents text.now) }
         ensures long { MOST_BOOK < length text.now → IsErrAnd result (λ error. error_kind error ≡ ErrorKind.FileTooLarge) }

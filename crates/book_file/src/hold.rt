@@ -217,7 +217,7 @@ where
     Ok(claimed?.then_some(file))
 }
 
-// Locks a file, and returns whether this run now holds it, and whether it still has its name.
+// Locks a file. Returns true where this run now holds it and it still has its name.
 fn claim<R>(rt: &R, file: &R::File, path: &str) -> io::Result<bool>
 where
     R: Files,
@@ -228,7 +228,8 @@ where
 
 // Removes what has the path of the next text: at once where it is no plain file of a trusted owner, or is the book under a second
 // name, of which `book` is the metadata; else a killed run left it, and it goes where its lock is free. Returns false where another
-// run holds it, or where it has been replaced or removed meanwhile.
+// run holds it, or where it has been replaced or removed meanwhile. A folder stays, and the answer is true. InTheWay where it can't
+// be removed, or where it can't be opened, so that nobody can tell whether another run holds it.
 fn clear_next<R>(
     rt: &R,
     paths: &BookPaths,

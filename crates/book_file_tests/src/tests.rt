@@ -2,7 +2,7 @@
 mod folder;
 
 use account_book::{BookStore, StoreFault};
-use book_file::{BookFile, BookFileExt, FileStore, HoldFault};
+use book_file::{BookFile, BookFileExt, FileStore, HoldFault, is_same_file};
 use faulty_files::{Calls, Faulty};
 use folder::has;
 use std::fs;
@@ -165,25 +165,35 @@ fn no_book(rt: HostRuntime) -> Result<(), Fail> {
     Ok(fs::remove_dir_all(&rt, folder.as_str())?)
 }
 
-// While one run holds a book, or the place of a new one, another waits for 30 seconds, here by a clock of its own.
-// A run that saves nothing leaves nothing.
+// While one run holds the place of a new book, another waits for 30 seconds, here by a clock of its own.
 #[test]
-fn one_run_at_a_time(rt: HostRuntime) -> Result<(), Fail> {
-    let folder = folder::make(&rt, "lock")?;
+fn the_place_of_a_new_book_is_held(rt: HostRuntime) -> Result<(), Fail> {
+    let folder = folder::make(&rt, "new-lock")?;
     let book = format!(in rt.alloc(); "{folder}/book")?;
     let calls = Calls::new(rt.alloc(), 0);
     let hasty = Faulty {
         rt: &rt,
         calls: &calls,
     };
-    let first = BookFile::hold_or_make(&rt, book.as_str());
-    assert!(rt; first.is_ok());
+    let first = made(&rt, book.as_str())?;
     let second = BookFile::hold_or_make(&hasty, book.as_str());
     assert!(rt; matches!(second, Err(HoldFault::HeldByOthers)));
     assert_eq!(rt; hasty.monotonic()?, Duration::from_secs(30));
     drop(first);
-    assert_eq!(rt; fs::read_dir(&rt, folder.as_str())?.count(), 0);
+    Ok(fs::remove_dir_all(&rt, folder.as_str())?)
+}
+
+// While one run holds a book, no other does, also after a save; and then another may.
+#[test]
+fn a_book_is_held(rt: HostRuntime) -> Result<(), Fail> {
+    let folder = folder::make(&rt, "lock")?;
+    let book = format!(in rt.alloc(); "{folder}/book")?;
     fs::write(&rt, book.as_str(), "old")?;
+    let calls = Calls::new(rt.alloc(), 0);
+    let hasty = Faulty {
+        rt: &rt,
+        calls: &calls,
+    };
     let mut first = held(&rt, book.as_str())?;
     for _ in 0..2 {
         let second = BookFile::hold(&hasty, book.as_str());
@@ -192,6 +202,15 @@ fn one_run_at_a_time(rt: HostRuntime) -> Result<(), Fail> {
     }
     drop(first);
     assert!(rt; BookFile::hold(&hasty, book.as_str()).is_ok());
+    Ok(fs::remove_dir_all(&rt, folder.as_str())?)
+}
+
+#[test]
+fn a_run_that_saves_nothing_leaves_nothing(rt: HostRuntime) -> Result<(), Fail> {
+    let folder = folder::make(&rt, "nothing")?;
+    let book = format!(in rt.alloc(); "{folder}/book")?;
+    drop(made(&rt, book.as_str())?);
+    assert_eq!(rt; fs::read_dir(&rt, folder.as_str())?.count(), 0);
     Ok(fs::remove_dir_all(&rt, folder.as_str())?)
 }
 
@@ -212,11 +231,10 @@ fn the_next_text_of_a_killed_run(rt: HostRuntime) -> Result<(), Fail> {
     Ok(fs::remove_dir_all(&rt, folder.as_str())?)
 }
 
-// No save is made where the file at the path is not the one that was read, or has changed since, or where there was
-// none and there now is one.
+// No save is made where the book was moved away, also where a link there leads to it.
 #[test]
-fn another_file_in_its_place(rt: HostRuntime) -> Result<(), Fail> {
-    let folder = folder::make(&rt, "place")?;
+fn a_book_that_was_moved(rt: HostRuntime) -> Result<(), Fail> {
+    let folder = folder::make(&rt, "moved")?;
     let book = format!(in rt.alloc(); "{folder}/book")?;
     let away = format!(in rt.alloc(); "{folder}/away")?;
     fs::write(&rt, book.as_str(), "old")?;
@@ -226,23 +244,65 @@ fn another_file_in_its_place(rt: HostRuntime) -> Result<(), Fail> {
     symlink(&rt, "away", book.as_str())?;
     assert!(rt; file.replace("new").is_err());
     assert!(rt; fs::symlink_metadata(&rt, book.as_str())?.is_symlink());
-    fs::remove_file(&rt, book.as_str())?;
+    assert!(rt; has(&rt, away.as_str(), "old"));
+    Ok(fs::remove_dir_all(&rt, folder.as_str())?)
+}
+
+// No save is made where another file has the book's name.
+#[test]
+fn a_book_that_was_replaced(rt: HostRuntime) -> Result<(), Fail> {
+    let folder = folder::make(&rt, "replaced")?;
+    let book = format!(in rt.alloc(); "{folder}/book")?;
+    let away = format!(in rt.alloc(); "{folder}/away")?;
+    fs::write(&rt, book.as_str(), "old")?;
+    let mut file = held(&rt, book.as_str())?;
+    fs::rename(&rt, book.as_str(), away.as_str())?;
     fs::write(&rt, book.as_str(), "new")?;
     assert!(rt; file.replace("newer").is_err());
     assert!(rt; has(&rt, book.as_str(), "new"));
-    assert!(rt; has(&rt, away.as_str(), "old"));
-    fs::rename(&rt, away.as_str(), book.as_str())?;
+    Ok(fs::remove_dir_all(&rt, folder.as_str())?)
+}
+
+// No save is made where the book has changed since it was read.
+#[test]
+fn a_book_that_was_changed(rt: HostRuntime) -> Result<(), Fail> {
+    let folder = folder::make(&rt, "changed")?;
+    let book = format!(in rt.alloc(); "{folder}/book")?;
+    fs::write(&rt, book.as_str(), "old")?;
+    let mut file = held(&rt, book.as_str())?;
     fs::write(&rt, book.as_str(), "longer")?;
     assert!(rt; file.replace("newer").is_err());
     assert!(rt; has(&rt, book.as_str(), "longer"));
+    Ok(fs::remove_dir_all(&rt, folder.as_str())?)
+}
+
+// No save is made where there was no book, and now there is one.
+#[test]
+fn a_book_that_others_made(rt: HostRuntime) -> Result<(), Fail> {
+    let folder = folder::make(&rt, "others")?;
+    let book = format!(in rt.alloc(); "{folder}/book")?;
+    let mut file = made(&rt, book.as_str())?;
+    fs::write(&rt, book.as_str(), "another")?;
+    assert!(rt; file.replace("newer").is_err());
     drop(file);
-    fs::remove_file(&rt, book.as_str())?;
-    if let Ok(mut made) = BookFile::hold_or_make(&rt, book.as_str()) {
-        fs::write(&rt, book.as_str(), "another")?;
-        assert!(rt; made.replace("newer").is_err());
-    }
     assert!(rt; has(&rt, book.as_str(), "another"));
     assert_eq!(rt; fs::read_dir(&rt, folder.as_str())?.count(), 1);
+    Ok(fs::remove_dir_all(&rt, folder.as_str())?)
+}
+
+// A file is the same under a second name, and a copy of it is another.
+#[test]
+fn one_file_of_two_names(rt: HostRuntime) -> Result<(), Fail> {
+    let folder = folder::make(&rt, "names")?;
+    let first = format!(in rt.alloc(); "{folder}/first")?;
+    let second = format!(in rt.alloc(); "{folder}/second")?;
+    let copy = format!(in rt.alloc(); "{folder}/copy")?;
+    fs::write(&rt, first.as_str(), "text")?;
+    fs::hard_link(&rt, first.as_str(), second.as_str())?;
+    fs::write(&rt, copy.as_str(), "text")?;
+    let file = fs::metadata(&rt, first.as_str())?;
+    assert!(rt; is_same_file(&file, &fs::metadata(&rt, second.as_str())?));
+    assert!(rt; !is_same_file(&file, &fs::metadata(&rt, copy.as_str())?));
     Ok(fs::remove_dir_all(&rt, folder.as_str())?)
 }
 

@@ -1,8 +1,10 @@
 -- Lemmas: what the proofs of this crate cite.
 pub mod BookTexts
+pub mod Demands
 pub mod Depths
 pub mod HexTexts
 pub mod InOrder
+pub mod Laws
 pub mod Lists
 pub mod Put
 pub mod Rows

@@ -3,9 +3,15 @@ pub mod Book
 pub mod Faults
 pub mod Keys
 pub mod Put
+pub mod Demands
 pub mod Rows
+pub mod Names
 pub mod ValueTypes
+pub mod RowKinds
+pub mod Tokens
 pub mod Tables
-pub mod Reading
+pub mod FirstFault
 pub mod Trees
+pub mod Laws
 pub mod Written
+pub mod reading

@@ -1,127 +1,99 @@
--- The types of values of the format, each with its range: texts, whole numbers, bytes, names. The fault of a value of
--- another TOML type comes before that of a value out of its range.
-use Rattle.std.specs.Prelude.{ℕ, ◌≡◌, ◌≤◌, ◌&&◌, ◌+◌, nat_le, ℤ, pos, negsuc, nat_abs, Bool, true, if◌then◌else◌, List, [], ◌∷◌, length}
-use Rattle.std.specs.Prelude.{map, is_some, ok_or, Result, Ok, Err}
-use Rattle.std.specs.List.{AllByRecursion, list_all}
+-- The types of values of the format, each with its range: whole numbers, bytes, hash functions, names, tables. The fault of a
+-- value of another TOML type comes before that of a value out of its range.
+use Rattle.std.specs.Prelude.{ℕ, ◌≡◌, ◌≤◌, ◌&&◌, nat_le, ℤ, pos, negsuc, nat_abs, Bool, false, List, [], ◌∷◌, length, is_some}
+use Rattle.std.specs.Prelude.{Result, Ok, Err}
 use Rattle.hex.specs.Hex.{decode_of, encode_lower}
-use Rattle.toml.specs.Data.{Data, string, integer, array, table, Items, no_items, item, Members, as_str}
-use Rattle.toml.specs.View.{items_of}
-use Rattle.scram_text.specs.Limits.{longest_name}
-use Rattle.scram_text.specs.Class.{is_plain, IsPlainName}
+use Rattle.toml.specs.Data.{Data, string, integer, table, Members, as_array, as_integer, as_str, as_table}
 use Rattle.otp_core.specs.Hash.{hash_name, hash_named}
 use Rattle.otp_core.specs.declared.hash.OtpHash.{OtpHash}
 use Rattle.book_format.specs.Account.{most_names}
-use Rattle.book_format.specs.Rows.{◌>>=◌, demand, table_of, ValueType}
+use Rattle.book_format.specs.Names.{IsNameList, names_tree, are_texts, item_count, are_names}
+use Rattle.book_format.specs.Demands.{must, required}
+use Rattle.book_format.specs.Rows.{ValueType}
+use Rattle.book_format.specs.reading.Values.{number_in, signed_in, bytes_in, hash_in, name_list_in, table_of}
 use Rattle.book_format.specs.declared.fault.BookWhy.{BookWhy}
 use Rattle.book_format.specs.declared.fault.BookWhy.TheVariants.{Key, Name, Token}
 
--- a type of values, by its reader: a TOML value is that of the V that is read of it
-abbrev pub value_type : {V : Type 0} → (Data → Result V BookWhy) → (V → Data) → ValueType V
-value_type read write = record { Is = λ d v. read d ≡ Ok v; read = read; write = write }
+-- the value is the whole number n, which is from `least` to `most`
+pub record IsNumber (least most : ℕ) (d : Data) (n : ℕ) : Type 0 where
+  pub there : d ≡ integer (pos n)
+  pub at_least : least ≤ n
+  pub at_most : n ≤ most
 
--- the value where it passes a test, else the fault
-abbrev pub such : {V : Type 0} → (fits : Bool) → V → BookWhy → Result V BookWhy
-such fits v why = if fits then Ok v else Err why
+-- a whole number is from `least` to `most`
+abbrev pub is_within : (least most : ℕ) → ℤ → Bool
+is_within least most (pos n) = nat_le least n && nat_le n most
+is_within least most (negsuc n) = false
 
--- a whole number from `least` to `most`
-unfoldable pub number_of : (why : BookWhy) → (least most : ℕ) → Data → Result ℕ BookWhy
-number_of why least most (integer (pos n)) = such (nat_le least n && nat_le n most) n why
-number_of why least most (integer (negsuc n)) = Err why
-number_of why least most d = Err Key
-
--- whole numbers from `least` to `most`
+-- whole numbers from `least` to `most`; `why` is the fault of another one
 abbrev pub number : (why : BookWhy) → (least most : ℕ) → ValueType ℕ
-number why least most = value_type (number_of why least most) (λ n. integer (pos n))
+number why least most = record {
+  Is = IsNumber least most;
+  demands = λ d. required Key (λ z. must (is_within least most z) why ∷ []) (as_integer d);
+  read = number_in why least most;
+  write = λ n. integer (pos n);
+}
 
--- a whole number of at most `most` to either side of 0
-unfoldable pub signed_in : (why : BookWhy) → (most : ℕ) → Data → Result ℤ BookWhy
-signed_in why most (integer z) = such (nat_le (nat_abs z) most) z why
-signed_in why most d = Err Key
+-- the value is the whole number z, which is at most `most` to either side of 0
+pub record IsSigned (most : ℕ) (d : Data) (z : ℤ) : Type 0 where
+  pub there : d ≡ integer z
+  pub at_most : nat_abs z ≤ most
 
--- whole numbers of at most `most` to either side of 0
+-- whole numbers of at most `most` to either side of 0; `why` is the fault of another one
 abbrev pub signed : (why : BookWhy) → (most : ℕ) → ValueType ℤ
-signed why most = value_type (signed_in why most) integer
+signed why most = record {
+  Is = IsSigned most;
+  demands = λ d. required Key (λ z. must (nat_le (nat_abs z) most) why ∷ []) (as_integer d);
+  read = signed_in why most;
+  write = integer;
+}
 
--- bytes that were decoded, `least` to `most` of them
-abbrev pub decoded : {E : Type 0} → (why : BookWhy) → (least most : ℕ) → Result (List ℕ) E → Result (List ℕ) BookWhy
-decoded why least most (Ok bytes) = such (nat_le least (length bytes) && nat_le (length bytes) most) bytes why
-decoded why least most (Err e) = Err why
+-- the value is the hexadecimal text, in either case, of the bytes, which are `least` to `most`
+pub record IsHexText (least most : ℕ) (d : Data) (bytes : List ℕ) : Type 0 where
+  pub text : List ℕ
+  pub there : d ≡ string text
+  pub spelled : decode_of text ≡ Ok bytes
+  pub at_least : least ≤ length bytes
+  pub at_most : length bytes ≤ most
 
--- the hexadecimal text, in either case, of `least` to `most` bytes
-unfoldable pub bytes_in : (why : BookWhy) → (least most : ℕ) → Data → Result (List ℕ) BookWhy
-bytes_in why least most (string text) = decoded why least most (decode_of text)
-bytes_in why least most d = Err Key
+-- a text was decoded, to `least` to `most` bytes
+abbrev pub are_decoded : {E : Type 0} → (least most : ℕ) → Result (List ℕ) E → Bool
+are_decoded least most (Ok bytes) = nat_le least (length bytes) && nat_le (length bytes) most
+are_decoded least most (Err e) = false
 
--- `least` to `most` bytes, in lower-case hexadecimal
+-- `least` to `most` bytes, in lower-case hexadecimal; `why` is the fault of another text
 abbrev pub bytes : (why : BookWhy) → (least most : ℕ) → ValueType (List ℕ)
-bytes why least most = value_type (bytes_in why least most) (λ bs. string (encode_lower bs))
-
--- any text
-unfoldable pub text_in : Data → Result (List ℕ) BookWhy
-text_in d = ok_or (as_str d) Key
-
--- the hash function of this name
-unfoldable pub hash_in : Data → Result OtpHash BookWhy
-hash_in d = text_in d >>= λ name. ok_or (hash_named name) Token
+bytes why least most = record {
+  Is = IsHexText least most;
+  demands = λ d. required Key (λ text. must (are_decoded least most (decode_of text)) why ∷ []) (as_str d);
+  read = bytes_in why least most;
+  write = λ bs. string (encode_lower bs);
+}
 
 -- hash functions, by their names
 abbrev pub hash : ValueType OtpHash
-hash = value_type hash_in (λ h. string (hash_name h))
+hash = record {
+  Is = λ d h. d ≡ string (hash_name h);
+  demands = λ d. required Key (λ name. must (is_some (hash_named name)) Token ∷ []) (as_str d);
+  read = hash_in;
+  write = λ h. string (hash_name h);
+}
 
--- each value of a list is a text
-abbrev pub are_texts : Items → Bool
-are_texts no_items = true
-are_texts (item d ds) = is_some (as_str d) && are_texts ds
-
--- the number of values of a list
-abbrev pub item_count : Items → ℕ
-item_count no_items = 0
-item_count (item d ds) = item_count ds + 1
-
--- the name, where it is plain
-abbrev pub plain_name_of : List ℕ → Result (List ℕ) BookWhy
-plain_name_of name = such (nat_le 1 (length name) && nat_le (length name) longest_name && list_all is_plain name) name Name
-
--- the names in a list of texts
-unfoldable pub names_in : Items → Result (List (List ℕ)) BookWhy
-names_in no_items = Ok []
-names_in (item d ds) = do
-  text ← text_in d
-  name ← plain_name_of text
-  names ← names_in ds
-  Ok (name ∷ names)
-
--- the names of a list. First each item has to be a text, then there may be at most most_names, then each has to be a plain
--- name.
-unfoldable pub names_of : Items → Result (List (List ℕ)) BookWhy
-names_of list = do
-  typed ← demand (are_texts list) Key
-  few ← demand (nat_le (item_count list) most_names) Name
-  names_in list
-
--- the list of the names that an account may act as
-unfoldable pub name_list_in : Data → Result (List (List ℕ)) BookWhy
-name_list_in (array list) = names_of list
-name_list_in d = Err Key
-
--- each is a plain name
-abbrev pub AreNames : List (List ℕ) → Type 0
-AreNames names = AllByRecursion IsPlainName names
-
--- names, as in `["root"]`
-abbrev pub names_tree : List (List ℕ) → Data
-names_tree names = array (items_of (map string names))
-
--- a list of names that an account may act as
-pub record IsNameList (d : Data) (names : List (List ℕ)) : Type 0 where
-  pub there : d ≡ names_tree names
-  pub plain : AreNames names
-  pub few : length names ≤ most_names
-
--- lists of names that an account may act as
+-- lists of names that an account may act as: texts, not more than there may be, each a plain name
 abbrev pub name_list : ValueType (List (List ℕ))
-name_list = record { Is = IsNameList; read = name_list_in; write = names_tree }
+name_list = record {
+  Is = IsNameList;
+  demands = λ d. required Key
+      (λ list. must (are_texts list) Key ∷ must (nat_le (item_count list) most_names && are_names list) Name ∷ []) (as_array d);
+  read = name_list_in;
+  write = names_tree;
+}
 
 -- tables of any keys
 abbrev pub any_table : ValueType Members
-any_table = value_type table_of table
+any_table = record {
+  Is = λ d ms. d ≡ table ms;
+  demands = λ d. must (is_some (as_table d)) Key ∷ [];
+  read = table_of;
+  write = table;
+}

@@ -7,11 +7,11 @@ use Rattle.book_format.specs.Book.{BookFields}
 use Rattle.book_format.specs.Rows.{written}
 use Rattle.book_format.specs.Tables.{account, document}
 
--- accounts, each at its name
+-- the table that accounts are written as, each at its name
 unfoldable pub accounts_tree : List (List ℕ × AccountFields) → Members
 accounts_tree [] = no_members
 accounts_tree (entry ∷ entries) = member entry.0 (table (written account entry.1)) (accounts_tree entries)
 
--- a book
+-- the document that a book is written as
 unfoldable pub book_tree : BookFields → Members
 book_tree b = written document (record { decoy_key = b.decoy_key; decoy_count = b.decoy_count; accounts = Some (accounts_tree b.accounts) })

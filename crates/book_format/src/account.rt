@@ -10,9 +10,6 @@ pub(crate) const SHA1_KEY_LEN: usize = 20;
 /// The length in bytes of a key of SCRAM-SHA-256.
 pub(crate) const SHA256_KEY_LEN: usize = 32;
 
-/// The greatest iteration count.
-pub(crate) const MOST_COUNT: u64 = u32::MAX as u64;
-
 /// What is kept of a password for one mechanism (RFC 5802, section 3).
 #[derive(Drop)]
 pub struct MechKeys {

@@ -2,8 +2,9 @@
 //!
 //! `Contents::read` takes a text exactly where it is that of a book, and else answers its first fault: of the
 //! document, of its own keys, then of account after account in byte order of names. In each table unknown keys come
-//! first, then its keys in the order below; except that `format`, and the `kind` of a token, come before the
-//! unknown keys. `Contents::write` makes a text that is that of the book.
+//! first, then its keys in the order below; except that `format`, the name of an account and the `kind` of a token
+//! come before the unknown keys. `Contents::write` makes a text that is that of the book. `laws` says that each text
+//! is that of one book or has one first fault.
 //!
 //! | Table | Keys |
 //! |---|---|
@@ -28,6 +29,7 @@
 mod account;
 mod contents;
 mod fault;
+pub mod laws;
 mod read;
 mod write;
 

@@ -4,10 +4,12 @@ ghost use Rattle.toml.specs.Data.{get_member, as_integer};
 ghost use Rattle.toml.specs.View.{table_view};
 ghost use Rattle.book_format.specs.Book.{BookFields};
 ghost use Rattle.book_format.specs.Trees.{IsBookText};
-ghost use Rattle.book_format.specs.Reading.{IsReadAs, IsReadOrFault, seen, at_top, tree_in, top_of, accounts_of_table, book_in, is_one};
-ghost use Rattle.book_format.specs.Reading.{IsFirstFault};
+ghost use Rattle.book_format.specs.reading.Steps.{IsReadAs, IsReadOrFault, seen};
+ghost use Rattle.book_format.specs.reading.Books.{at_top, tree_in, top_of, accounts_of_table, book_in};
+ghost use Rattle.book_format.specs.FirstFault.{is_one, IsFirstFault};
 ghost use Rattle.book_format.specs.ValueTypes.{any_table};
-ghost use Rattle.book_format.specs.Rows.{read_some};
+ghost use Rattle.book_format.specs.reading.Rows.{read_some};
+ghost use Rattle.book_format.specs.declared.fault.BookFault.{BookFault};
 ghost use Rattle.book_format.specs.declared.fault.BookWhy.TheVariants.{NoMemory};
 ghost use Rattle.book_format.specs.declared.read.Top.{Top};
 
@@ -16,13 +18,13 @@ mod field;
 mod mech;
 mod token;
 
-use crate::account::{Account, MOST_COUNT};
+use crate::account::Account;
 use crate::contents::Contents;
 use crate::fault::{BookFault, BookWhy};
 use accounts::accounts_from;
 use field::{at, bytes_at, check_keys, number_at, table_of};
 use mac_core::Tag;
-use scram_text::PlainName;
+use scram_text::{MOST_COUNT, PlainName};
 use std::alloc::Global;
 use std::collections::BTreeMap;
 use toml::Table;
@@ -39,12 +41,13 @@ impl Contents {
     /// Reads the contents that `bytes` are the text of, or answers the first fault (60 to 67): of the
     /// document, of `format`, of the document's keys, then of account after account in byte order of
     /// names. In each table unknown keys come first, and then its keys in the order of the format; of
-    /// a token, `kind` comes before both. 99 NoMemory may come at any place;
+    /// an account its name, and of a token `kind`, come before both. 99 NoMemory may come at any place;
     /// no clause says that it comes only where memory runs out.
     pub fn read(alloc: Global, bytes: &[u8]) -> Result<Contents, BookFault>
         ensures found { IfOk result (λ c. IsBookText bytes.now c) }
         ensures only { (c : BookFields) → IsBookText bytes.now c → (result ≡ Ok c) ⊎ IsErrAnd result (λ f. f.why ≡ NoMemory) }
         ensures first_fault { IfErr result (λ f. (f.why ≡ NoMemory) ⊎ IsFirstFault bytes.now f) }
+        ensures only_fault { (f : BookFault) → IsFirstFault bytes.now f → IsErrAnd result (λ e. (e.why ≡ NoMemory) ⊎ (e ≡ f)) }
     {
         contents_of(alloc, bytes)
     }
@@ -80,7 +83,7 @@ fn at_top(why: BookWhy) -> BookFault
 }
 
 // The TOML document of the bytes. `Toml` where they are not UTF-8 or no document, and `NoMemory` where memory runs out.
-#[tactic(auto, unfolding(crate::specs::Reading::tree_in))]
+#[tactic(auto, unfolding(crate::specs::reading::Books::tree_in))]
 fn document_of(alloc: Global, bytes: &[u8]) -> Result<Table, BookWhy>
     ensures { IsReadAs table_view result (tree_in bytes.now) }
 {
@@ -98,7 +101,7 @@ fn document_of(alloc: Global, bytes: &[u8]) -> Result<Table, BookWhy>
 
 // The keys of the document itself. `Format` where `format` is missing or not 1; `Key` where a key is unknown; then of the first
 // key at fault: `Key` where it is missing or its value has another type, else `KeyLength` or `Count`.
-#[tactic(auto, unfolding(crate::specs::Reading::top_of, crate::specs::Rows::read_table))]
+#[tactic(auto, unfolding(crate::specs::reading::Books::top_of, crate::specs::reading::Rows::read_table))]
 fn top_of(table: &Table) -> Result<Top<'_>, BookWhy>
     ensures { seen (λ t. record {
       decoy_key = t.decoy_key;
@@ -111,7 +114,8 @@ fn top_of(table: &Table) -> Result<Top<'_>, BookWhy>
     }
     check_keys(table, &["format", "decoy_key", "decoy_count", "accounts"])?;
     let decoy_key = bytes_at(table, "decoy_key", 32, 32, BookWhy::KeyLength)?;
-    let decoy_count = number_at(table, "decoy_count", 1, MOST_COUNT, BookWhy::Count)?;
+    let most = u64::from(MOST_COUNT);
+    let decoy_count = number_at(table, "decoy_count", 1, most, BookWhy::Count)?;
     let accounts = table_if_any(table, "accounts")?;
     Ok(Top {
         decoy_key: key_of(&decoy_key),

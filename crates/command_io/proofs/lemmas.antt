@@ -2,3 +2,4 @@
 pub mod HeldFaults
 pub mod InputLines
 pub mod LinesInTurn
+pub mod Results

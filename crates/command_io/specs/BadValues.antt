@@ -1,14 +1,14 @@
 -- What can be wrong with the words of a command and with the first line of its input.
-use Rattle.std.specs.Prelude.{ℕ, ◌≡◌, ◌≢◌, ◌≤◌, ◌<◌, ◌^◌, ◌⊎◌, List, [], ◌∷◌, length, Option, Some, Ok}
+use Rattle.std.specs.Prelude.{ℕ, ◌≡◌, ◌≢◌, ◌≤◌, ◌⊎◌, List, [], ◌∷◌, length, Option, Some, Ok}
 use Rattle.std.specs.Fmt.{decimal}
 use Rattle.hex.specs.Hex.{decode_of}
 use Rattle.clap.specs.declared.parser.matches.ArgMatches.{ArgMatches}
 use Rattle.mac_core.specs.Mechanism.{name_of}
 use Rattle.mac_core.specs.declared.mechanism.Mechanism.{Mechanism}
 use Rattle.scram_text.specs.Class.{IsNoncePart, IsPassword, IsPlainName, IsSalt}
+use Rattle.scram_text.specs.Parts.{IsCount}
 use Rattle.otp_core.specs.Hash.{hash_name}
-use Rattle.otp_core.specs.Ranges.{least_digits, longest_step, most_counter, most_digits, IsMoment}
-use Rattle.otp_core.specs.Ranges.{IsSecretLength}
+use Rattle.otp_core.specs.Ranges.{longest_step, most_counter, IsDigitCount, IsMoment, IsSecretLength}
 use Rattle.otp_core.specs.declared.hash.OtpHash.{OtpHash}
 use Rattle.command_line.specs.declared.fault.Fault.{Fault}
 use Rattle.command_line.specs.declared.fault.Fault.TheVariants.{BadValue, BadPassword}
@@ -22,9 +22,9 @@ abbrev pub Refuses : OptionName → (text : List ℕ) → Type 0
 Refuses option.Name text = IsPlainName text → ⊥
 Refuses option.Mechanism text = (mechanism : Mechanism) → text ≢ name_of mechanism
 Refuses option.Salt text = (salt : List ℕ) → decode_of text ≡ Ok salt → IsSalt salt → ⊥
-Refuses option.Count text = (n : ℕ) → 1 ≤ n → n < 2 ^ 32 → text ≢ decimal n
+Refuses option.Count text = (n : ℕ) → IsCount n → text ≢ decimal n
 Refuses option.Secret text = (secret : List ℕ) → decode_of text ≡ Ok secret → IsSecretLength (length secret) → ⊥
-Refuses option.Digits text = (n : ℕ) → least_digits ≤ n → n ≤ most_digits → text ≢ decimal n
+Refuses option.Digits text = (n : ℕ) → IsDigitCount n → text ≢ decimal n
 Refuses option.Counter text = (n : ℕ) → n ≤ most_counter → text ≢ decimal n
 Refuses option.Moment text = (n : ℕ) → IsMoment n → text ≢ decimal n
 Refuses option.Hash text = (hash : OtpHash) → text ≢ hash_name hash

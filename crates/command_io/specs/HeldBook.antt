@@ -5,7 +5,7 @@ use Rattle.otp_core.specs.Attempt.{CodeTexts}
 use Rattle.otp_core.specs.declared.token.answer.Reply.{Reply}
 use Rattle.book_format.specs.Account.{AccountFields}
 use Rattle.book_format.specs.Book.{BookFields}
-use Rattle.book_format.specs.Reading.{IsFirstFault}
+use Rattle.book_format.specs.FirstFault.{IsFirstFault}
 use Rattle.book_format.specs.Trees.{IsBookText}
 use Rattle.book_format.specs.declared.fault.BookFault.{BookFault}
 use Rattle.account_book.specs.Accounts.{IsAdded}
@@ -65,8 +65,8 @@ CannotHold path (CannotWrite file) = Unit {0}
 CannotHold path fault = fault ≡ NoMemory
 
 -- the fault of a book that can't be held or read: it can't be held, the bytes that were read from a file are no book, or memory ran out
-abbrev pub IsUnheld : {File : Type 0} → (bytes_of : File → Option (List ℕ)) → (path : List ℕ) → Fault → Type 0
-IsUnheld bytes_of path fault = CannotHold path fault ⊎ IsFaultOfText bytes_of fault
+abbrev pub CannotOpenBook : {File : Type 0} → (bytes_of : File → Option (List ℕ)) → (path : List ℕ) → Fault → Type 0
+CannotOpenBook bytes_of path fault = CannotHold path fault ⊎ IsFaultOfText bytes_of fault
 
 -- the account that was looked up is not there, or has no token: the fault says which
 abbrev pub LacksToken : Option AccountFields → Fault → Type 0

@@ -8,8 +8,8 @@ use Rattle.command_line.specs.declared.fault.Fault.TheVariants.{CannotReadInput,
 use Rattle.log_grammar.specs.Bytes.{LacksLf, IsSplit}
 
 -- a line can't be read: the input failed, or has more bytes than a command reads; or memory ran out
-abbrev pub IsUnread : Fault → Type 0
-IsUnread fault = (fault ≡ CannotReadInput) ⊎ (fault ≡ NoMemory)
+abbrev pub IsInputUnread : Fault → Type 0
+IsInputUnread fault = (fault ≡ CannotReadInput) ⊎ (fault ≡ NoMemory)
 
 -- the bytes of a line in its input: its own, and its LF where it has one
 abbrev pub line_bytes : (line : List ℕ) → (has_lf : Bool) → List ℕ

@@ -1,7 +1,7 @@
 //! Standard input, as lines.
 ghost use Rattle.std.specs.Prelude.{◌≡◌, ◌≤◌, ◌+◌, Bool, [], ◌∷◌, length, IfErr, IfOk, IfSome, IfNone};
 ghost use Rattle.std.specs.Io.KnownBytes.{Consumes, IsAtEnd};
-ghost use Rattle.command_io.specs.Input.{line_bytes, TakesLine, IsFirstLine, IsUnread};
+ghost use Rattle.command_io.specs.Input.{line_bytes, TakesLine, IsFirstLine, IsInputUnread};
 ghost use Rattle.command_io.specs.declared.input.TheConstants.{MOST_INPUT};
 
 use command_line::Fault;
@@ -17,7 +17,7 @@ fn next_byte<I: Read>(input: &mut I) -> Result<Option<u8>, Fault>
     ensures some { IfOk result (λ found. IfSome found (λ byte. Consumes (I.remaining input.old) (I.remaining input.new) (byte ∷ []))) }
     ensures none { IfOk result (λ found. IfNone found (Consumes (I.remaining input.old) (I.remaining input.new) []
         × IsAtEnd (I.remaining input.new))) }
-    ensures err { IfErr result IsUnread }
+    ensures err { IfErr result IsInputUnread }
 {
     let mut byte = [0];
     // Bounded only because every function has to return; what ends it is in its body.
@@ -38,7 +38,7 @@ fn next_byte<I: Read>(input: &mut I) -> Result<Option<u8>, Fault>
 fn read_line<I: Read>(alloc: Global, input: &mut I, most: usize) -> Result<(Vec<u8>, bool), Fault>
     ensures line { IfOk result (λ line. TakesLine (I.remaining input.old) line.0.items line.1 (I.remaining input.new)) }
     ensures most { IfOk result (λ line. length (line_bytes line.0.items line.1) ≤ most) }
-    ensures err { IfErr result IsUnread }
+    ensures err { IfErr result IsInputUnread }
 {
     let mut line = Vec::new(alloc);
     while let Some(byte) = next_byte(input)? {
@@ -61,7 +61,7 @@ pub fn first_line<I: BufRead>(alloc: Global, input: &mut I) -> Result<Vec<u8>, F
     ensures first { IfOk result (λ line. IsFirstLine (I.remaining input.old) line.items) }
     ensures taken { IfOk result (λ line. (has_lf : Bool) × TakesLine (I.remaining input.old) line.items has_lf (I.remaining input.new)) }
     ensures most { IfOk result (λ line. length line.items ≤ MOST_INPUT) }
-    ensures err { IfErr result IsUnread }
+    ensures err { IfErr result IsInputUnread }
 {
     let (line, _) = read_line(alloc, input, MOST_INPUT)?;
     Ok(line)
@@ -101,7 +101,7 @@ impl<'a, I: BufRead> Lines<'a, I> {
             × (self.new.left + length (line_bytes line.items has_lf) ≡ self.old.left))) }
         ensures end { IfOk result (λ found. IfNone found (IsAtEnd (I.remaining self.old.input.now))) }
         ensures ended { IfOk result (λ found. IfNone found (IsAtEnd (I.remaining self.new.input.now))) }
-        ensures err { IfErr result IsUnread }
+        ensures err { IfErr result IsInputUnread }
     {
         let (line, has_lf) = read_line(alloc, self.input, self.left)?;
         let taken = if has_lf { line.len() + 1 } else { line.len() };

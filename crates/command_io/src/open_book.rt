@@ -1,11 +1,11 @@
 //! Opens the file of a book: takes hold of it and reads it.
 ghost use Rattle.std.specs.Prelude.{◌≡◌, ◌⊎◌, IfErr, IfOk, IfSome, string_bytes};
-ghost use Rattle.book_format.specs.Reading.{IsFirstFault};
+ghost use Rattle.book_format.specs.FirstFault.{IsFirstFault};
 ghost use Rattle.book_format.specs.Trees.{IsBookText};
 ghost use Rattle.book_format.specs.declared.fault.BookFault.{BookFault};
 ghost use Rattle.book_file.specs.Text.{IsRead};
 ghost use Rattle.command_line.specs.Fault.{fault_of_book};
-ghost use Rattle.command_io.specs.HeldBook.{CannotHold, IsReadBook, IsUnheld};
+ghost use Rattle.command_io.specs.HeldBook.{CannotHold, IsReadBook, CannotOpenBook};
 
 use crate::file::read_fault;
 use crate::held_book::HeldBook;
@@ -29,7 +29,7 @@ pub struct ReadBook {
 
 /// Takes hold of the book at `path`, reads it and lets it go; None where there is no file. Faults: CannotRead where
 /// the file can't be read or other runs hold it for 30 seconds; CannotWrite where a save could not keep the file's owner, or
-/// where what stands at the path of the next text can't be removed; BadBook where the text is no book; and NoMemory.
+/// where what stands at the path of the next text can't be opened or removed; BadBook where the text is no book; and NoMemory.
 #[tactic(auto, using(crate::proofs::lemmas::HeldFaults::no_book))]
 pub fn read_and_release<R, E>(rt: &R, path: &str, faults: &mut E) -> Result<Option<ReadBook>, Fault>
 where
@@ -37,7 +37,7 @@ where
     R::File: BookFileExt,
     E: Write,
     ensures read { IfOk result (λ found. IfSome found (λ seen. IsReadBook R.File.remaining (string_bytes seen.text) seen.book)) }
-    ensures err { IfErr result (IsUnheld R.File.remaining path.now) }
+    ensures err { IfErr result (CannotOpenBook R.File.remaining path.now) }
 {
     let mut file = match BookFile::hold(rt, path) {
         Ok(file) => file,
@@ -66,7 +66,7 @@ where
     E: Write,
     ensures read { IfOk result (λ held. IsReadBook R.File.remaining (⟦<FileStore<'r, R> as BookStore>⟧.facts held.store).saved held.book) }
     ensures path { IfOk result (λ held. held.path.now ≡ path.now) }
-    ensures err { IfErr result (IsUnheld R.File.remaining path.now) }
+    ensures err { IfErr result (CannotOpenBook R.File.remaining path.now) }
 {
     let (file, text) = file_and_text(rt, path, BookFile::hold(rt, path), faults)?;
     match text {
@@ -91,7 +91,7 @@ where
     R::File: BookFileExt,
     E: Write,
     ensures read { IfOk result (λ found. IfSome found.1 (λ text. IsRead R.File.remaining (string_bytes text))) }
-    ensures err { IfErr result (IsUnheld R.File.remaining path.now) }
+    ensures err { IfErr result (CannotOpenBook R.File.remaining path.now) }
 {
     let mut file = match held {
         Ok(file) => file,
@@ -147,7 +147,7 @@ where
     R: Files + Clock + AllocGlobal,
     R::File: BookFileExt,
     ensures read { IfOk result (λ found. IfSome found (λ text. IsRead R.File.remaining (string_bytes text))) }
-    ensures err { IfErr result (IsUnheld R.File.remaining path.now) }
+    ensures err { IfErr result (CannotOpenBook R.File.remaining path.now) }
 {
     let bytes = match file.read() {
         Ok(Some(bytes)) => bytes,

@@ -46,11 +46,11 @@ pub enum Fault {
     #[error("bad book: {0}")]
     BadBook(u16),
 
-    /// The file of this name can't be read, has more bytes than a command reads, or is held by another run.
+    /// The file at this path can't be read, has more bytes than a command reads, or is held by another run.
     #[error("cannot read {0}")]
     CannotRead(String),
 
-    /// The file of this name can't be written.
+    /// The file at this path can't be written.
     #[error("cannot write {0}")]
     CannotWrite(String),
 
@@ -76,7 +76,7 @@ pub enum Fault {
 }
 
 impl Fault {
-    /// The fault of a read from the file of this name that failed: NoMemory where memory ran out, else CannotRead.
+    /// The fault of a read that failed, from the file at the path `file`: NoMemory where memory ran out, else CannotRead.
     pub fn of_reading(file: String, error: &io::Error) -> Fault
         ensures memory { error_kind error.now ≡ ErrorKind.OutOfMemory → result ≡ Fault.NoMemory }
         ensures unread { error_kind error.now ≢ ErrorKind.OutOfMemory → result ≡ Fault.CannotRead file }

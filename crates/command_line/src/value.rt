@@ -1,37 +1,28 @@
 //! Judges the values of options.
-ghost use Rattle.std.specs.Prelude.{◌≡◌, ◌≢◌, ◌≤◌, ◌<◌, ◌^◌, ◌⊎◌, ℕ, List, Ok, length, IfSome, IfNone, IfOk, IfErr};
+ghost use Rattle.std.specs.Prelude.{◌≡◌, ◌≢◌, ◌≤◌, ◌<◌, ◌^◌, ◌⊎◌, ℕ, List, Ok, length, IfOk, IfErr};
 ghost use Rattle.std.specs.Fmt.{decimal};
 ghost use Rattle.hex.specs.Hex.{decode_of};
 ghost use Rattle.mac_core.specs.Mechanism.{name_of};
 ghost use Rattle.scram_text.specs.Class.{IsNoncePart, IsPlainName, IsSalt};
-ghost use Rattle.otp_core.specs.Ranges.{IsSecretLength};
-ghost use Rattle.otp_core.specs.Ranges.{IsMoment, least_digits, most_digits};
+ghost use Rattle.scram_text.specs.Parts.{IsCount};
+ghost use Rattle.otp_core.specs.Ranges.{IsSecretLength, IsDigitCount, IsMoment};
 ghost use Rattle.otp_core.specs.Hash.{hash_name};
 
 use crate::fault::Fault;
 use crate::option_name::OptionName;
 use mac_core::Mechanism;
 use otp_core::{Digits, LAST_MOMENT, LEAST_DIGITS, MOST_DIGITS, Moment, OtpHash, Secret};
-use scram_text::{NoncePart, PlainName, Salt};
+use scram_text::{MOST_COUNT, NoncePart, PlainName, Salt};
 use std::alloc::Global;
 
-/// The number that `text` spells in decimal: `0`, or a digit 1 to 9 and any digits. None where it
-/// spells no number below 2^64 in this form.
-pub fn number(text: &str) -> Option<u64>
-    ensures some { IfSome result (λ n. (text.now ≡ decimal n) × (n < 2 ^ 64)) }
-    ensures none { IfNone result ((n : ℕ) → n < 2 ^ 64 → text.now ≢ decimal n) }
-{
-    scram_text::decimal(text.as_bytes())
-}
-
-/// The number from `least` to `most` that `text` spells in decimal. Answers BadValue of the option
-/// for any other text.
+/// The number from `least` to `most` that `text` spells in decimal: `0`, or a digit 1 to 9 and any digits. Answers BadValue of the
+/// option for any other text.
 pub fn within(option: OptionName, text: &str, least: u64, most: u64) -> Result<u64, Fault>
     ensures ok { IfOk result (λ n. (text.now ≡ decimal n) × (least ≤ n) × (n ≤ most)) }
     ensures err { IfErr result (λ fault. (fault ≡ Fault.BadValue option)
         × ((n : ℕ) → least ≤ n → n ≤ most → text.now ≢ decimal n)) }
 {
-    match number(text) {
+    match scram_text::decimal(text.as_bytes()) {
         Some(n) if least <= n && n <= most => Ok(n),
         _ => Err(Fault::BadValue(option)),
     }
@@ -39,11 +30,11 @@ pub fn within(option: OptionName, text: &str, least: u64, most: u64) -> Result<u
 
 /// The iteration count that `text` spells in decimal, 1 to 4294967295. Answers BadValue for any other text.
 pub fn count(text: &str) -> Result<u32, Fault>
-    ensures ok { IfOk result (λ n. (text.now ≡ decimal n) × (1 ≤ n)) }
+    ensures ok { IfOk result (λ n. (text.now ≡ decimal n) × IsCount n) }
     ensures err { IfErr result (λ fault. (fault ≡ Fault.BadValue OptionName.Count)
-        × ((n : ℕ) → 1 ≤ n → n < 2 ^ 32 → text.now ≢ decimal n)) }
+        × ((n : ℕ) → IsCount n → text.now ≢ decimal n)) }
 {
-    let n = within(OptionName::Count, text, 1, u64::from(u32::MAX))?;
+    let n = within(OptionName::Count, text, 1, u64::from(MOST_COUNT))?;
     Ok(n as u32)
 }
 
@@ -51,7 +42,7 @@ pub fn count(text: &str) -> Result<u32, Fault>
 pub fn digits(text: &str) -> Result<Digits, Fault>
     ensures ok { IfOk result (λ digits. text.now ≡ decimal digits) }
     ensures err { IfErr result (λ fault. (fault ≡ Fault.BadValue OptionName.Digits)
-        × ((n : ℕ) → least_digits ≤ n → n ≤ most_digits → text.now ≢ decimal n)) }
+        × ((n : ℕ) → IsDigitCount n → text.now ≢ decimal n)) }
 {
     let (least, most) = (u64::from(LEAST_DIGITS), u64::from(MOST_DIGITS));
     let n = within(OptionName::Digits, text, least, most)?;

@@ -38,16 +38,16 @@ word_of Audit = codes "audit"
 word_of Upgrade = codes "upgrade"
 
 -- an option that takes one value, and may be left out
-abbrev pub option : OptionName → Rule
-option name = record (new_rule (option_name name)) { long = Some (option_name name); value_names = 1; action = Some Set }
+abbrev pub one_value : OptionName → Rule
+one_value name = record (new_rule (option_name name)) { long = Some (option_name name); value_names = 1; action = Some Set }
 
 -- an option that has to be given
 abbrev pub required : OptionName → Rule
-required name = record (option name) { required = true }
+required name = record (one_value name) { required = true }
 
 -- an option that has a default
 abbrev pub with_default : OptionName → (default : List ℕ) → Rule
-with_default name default = record (option name) { defaults = default ∷ [] }
+with_default name default = record (one_value name) { defaults = default ∷ [] }
 
 -- a command of this name, with these options
 abbrev pub command : (name : List ℕ) → List Rule → Shape
@@ -64,8 +64,8 @@ enrol_options = required Book ∷ required Name ∷ with_default Count (codes "4
 
 -- the options of `code`
 abbrev pub code_options : List Rule
-code_options = required Secret ∷ with_default Digits (codes "6") ∷ option Counter
-    ∷ option Moment ∷ with_default Hash (codes "sha1") ∷ with_default T0 (codes "0")
+code_options = required Secret ∷ with_default Digits (codes "6") ∷ one_value Counter
+    ∷ one_value Moment ∷ with_default Hash (codes "sha1") ∷ with_default T0 (codes "0")
     ∷ with_default Step (codes "30") ∷ []
 
 -- the options of `verify`
@@ -78,9 +78,9 @@ unlock_options = required Book ∷ required Name ∷ []
 
 -- the options of `login`
 abbrev pub login_options : List Rule
-login_options = required Book ∷ required Name ∷ option Mechanism ∷ option As
-    ∷ required Socket ∷ with_default Random (codes "/dev/urandom") ∷ option ClientNonce
-    ∷ option ServerNonce ∷ option Moment ∷ []
+login_options = required Book ∷ required Name ∷ one_value Mechanism ∷ one_value As
+    ∷ required Socket ∷ with_default Random (codes "/dev/urandom") ∷ one_value ClientNonce
+    ∷ one_value ServerNonce ∷ one_value Moment ∷ []
 
 -- the options of `hall`
 abbrev pub hall_options : List Rule

@@ -6,6 +6,6 @@ mod commands;
 mod usage;
 mod values;
 
-pub use commands::scramotp;
+pub use commands::program_commands;
 pub use usage::usage_text;
 pub use values::{given, optional};

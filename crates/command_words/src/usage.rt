@@ -1,5 +1,5 @@
 //! The fault of words that the program does not understand.
-use crate::commands::scramotp;
+use crate::commands::program_commands;
 use command_line::TerminalText;
 use std::alloc::{AllocError, Global};
 use std::convert::AsStr;
@@ -8,7 +8,7 @@ use std::convert::AsStr;
 /// where memory runs out.
 pub fn usage_text<S: AsStr>(alloc: Global, words: &[S]) -> Result<String, AllocError> {
     let shown = shown_words(alloc, words)?;
-    match scramotp(alloc)?.try_get_matches_from(shown.as_slice()) {
+    match program_commands(alloc)?.try_get_matches_from(shown.as_slice()) {
         Err(error) => format!(in alloc; "{error}"),
         Ok(_) => format!(in alloc; "error: an argument has a control character\n"),
     }

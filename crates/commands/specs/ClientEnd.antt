@@ -84,14 +84,15 @@ ShowsKeys (Proved client) line = (message : List ℕ) × IsLine line (from_serve
     × ((l : Answered) (x : IsExpecting client l) → IsAuthentic message x.signature)
 ShowsKeys stage line = ⊥
 
--- the client has begun no login, or waits for the challenge of one or for the signature, or is done
+-- there is a login for which the client stands, where it waits for the challenge or for the signature
 abbrev pub HasItsLogin : Stage → Type 0
 HasItsLogin Silent = Unit {0}
 HasItsLogin (Begun client) = (login : Started) × IsStarted client login
 HasItsLogin (Proved client) = (login : Answered) × IsExpecting client login
 HasItsLogin Over = Unit {0}
 
--- such a client has to leave at a line: there is nothing that it may say, and the line does not show the account's keys
+-- a client has to leave at a line: where it has its login, there is nothing that it may say, and the line does not show the account's
+-- keys
 abbrev pub HasToLeave : ClientEnd → (told : List ℕ) → Type 0
 HasToLeave client told = HasItsLogin client.stage
     → ((said : List ℕ) (new : Stage) → MaySay client client.stage told said new → ⊥) × (ShowsKeys client.stage told → ⊥)

@@ -28,50 +28,41 @@ use Rattle.sasl_desk.specs.Halls.{HallFields, hall_shown, hall_lines, hall_bytes
 use Rattle.sasl_desk.specs.Runs.{greets, hears, Call}
 use Rattle.sasl_desk.specs.Saved.{AreLinesSaved}
 use Rattle.sasl_desk.specs.declared.hall.Hall.{Hall}
-use Rattle.command_io.specs.HeldBook.{IsReadBook, IsUnheld}
-use Rattle.command_io.specs.Input.{AreLinesOf, IsUnread}
+use Rattle.command_io.specs.HeldBook.{IsReadBook, CannotOpenBook}
+use Rattle.command_io.specs.Input.{AreLinesOf, IsInputUnread}
 use Rattle.commands.specs.PrintedLog.{IsLogFault}
 
 -- what happens to a hall: a client comes, and this is the server's part of its nonce; or the client of the session of this number
--- says a line at this moment; or it goes away
+-- does this at this moment
 pub data InputEvent : Type 0 where
   opens : (server_nonce : List ℕ) → InputEvent
-  says : (session moment : ℕ) (text : List ℕ) → InputEvent
-  goes : (session moment : ℕ) → InputEvent
+  does_at : (session : ℕ) (event : ClientEvent) (moment : ℕ) → InputEvent
 
 -- the input line for it
 abbrev pub event_text : InputEvent → List ℕ
 event_text (opens server_nonce) = codes "open " ++ server_nonce
-event_text (says session moment text) = codes "line " ++ (decimal session ++ (byte " " ∷ (decimal moment ++ (byte " " ∷ text))))
-event_text (goes session moment) = codes "gone " ++ (decimal session ++ (byte " " ∷ decimal moment))
+event_text (does_at session (sends text) moment) = codes "line " ++ (decimal session ++ (byte " " ∷ (decimal moment ++ (byte " " ∷ text))))
+event_text (does_at session goes_away moment) = codes "gone " ++ (decimal session ++ (byte " " ∷ decimal moment))
 
 -- its nonce, its number and its moment are in their ranges
 abbrev pub IsEventInRange : InputEvent → Type 0
 IsEventInRange (opens server_nonce) = IsNoncePart server_nonce
-IsEventInRange (says session moment text) = IsSessionNumber session × IsMoment moment
-IsEventInRange (goes session moment) = IsSessionNumber session × IsMoment moment
+IsEventInRange (does_at session event moment) = IsSessionNumber session × IsMoment moment
 
 -- an input line says this
 pub record SaysEvent (line : List ℕ) (event : InputEvent) : Type 0 where
   pub spelled : line ≡ event_text event
   pub ranges : IsEventInRange event
 
--- what the client of a session does at a moment, as an event
-abbrev pub does_at : (session : ℕ) → ClientEvent → (moment : ℕ) → InputEvent
-does_at session (sends text) moment = says session moment text
-does_at session goes_away moment = goes session moment
-
 -- the event is that of a session that is not open
-abbrev pub IsOfNobody : {S : Type 0} → HallFields S → InputEvent → Type 0
-IsOfNobody hall (opens server_nonce) = ⊥
-IsOfNobody hall (says session moment text) = phase_in hall session ≡ None
-IsOfNobody hall (goes session moment) = phase_in hall session ≡ None
+abbrev pub IsOfClosedSession : {S : Type 0} → HallFields S → InputEvent → Type 0
+IsOfClosedSession hall (opens server_nonce) = ⊥
+IsOfClosedSession hall (does_at session event moment) = phase_in hall session ≡ None
 
 -- by these calls of a hall the event is that of a session that is not open: the session stands where none has begun, or where it is over
-abbrev pub IsOfNoSession : Accounts → List (Numbered Call) → InputEvent → Type 0
-IsOfNoSession accounts calls (opens server_nonce) = ⊥
-IsOfNoSession accounts calls (says session moment text) = IsSessionRun accounts (of_number session calls) between
-IsOfNoSession accounts calls (goes session moment) = IsSessionRun accounts (of_number session calls) between
+abbrev pub IsOfClosedSessionAfter : Accounts → List (Numbered Call) → InputEvent → Type 0
+IsOfClosedSessionAfter accounts calls (opens server_nonce) = ⊥
+IsOfClosedSessionAfter accounts calls (does_at session event moment) = IsSessionRun accounts (of_number session calls) between
 
 -- an input line says no event
 abbrev pub SaysNothing : List ℕ → Type 0
@@ -79,13 +70,12 @@ SaysNothing line = (event : InputEvent) → SaysEvent line event → ⊥
 
 -- an input line says no event, or one of a session that is not open
 abbrev pub IsBadEvent : {S : Type 0} → List ℕ → HallFields S → Type 0
-IsBadEvent line hall = SaysNothing line ⊎ ((event : InputEvent) × SaysEvent line event × IsOfNobody hall event)
+IsBadEvent line hall = SaysNothing line ⊎ ((event : InputEvent) × SaysEvent line event × IsOfClosedSession hall event)
 
 -- the call of a hall by which it hears an event: a greeting, or one of the session of its number
 abbrev pub IsCallFor : InputEvent → Numbered Call → Type 0
-IsCallFor (opens server_nonce) c = c.value.asked ≡ greets server_nonce
-IsCallFor (says session moment text) c = (c.number ≡ session) × (c.value.asked ≡ hears (sends text) moment)
-IsCallFor (goes session moment) c = (c.number ≡ session) × (c.value.asked ≡ hears goes_away moment)
+IsCallFor (opens server_nonce) c = c.value.request ≡ greets server_nonce
+IsCallFor (does_at session event moment) c = (c.number ≡ session) × (c.value.request ≡ hears event moment)
 
 -- calls by which a hall heard these events, the latest of which comes first
 abbrev pub AreCallsFor : List InputEvent → List (Numbered Call) → Type 0
@@ -152,7 +142,7 @@ pub record PrintsHallLog (IsStored : List ℕ → Type 0) (book : BookFields) (i
 
 -- after these calls of a hall the line says no event, or one of a session that is not open
 abbrev pub IsBadAfter : Accounts → List (Numbered Call) → (line : List ℕ) → Type 0
-IsBadAfter accounts calls line = SaysNothing line ⊎ ((event : InputEvent) × SaysEvent line event × IsOfNoSession accounts calls event)
+IsBadAfter accounts calls line = SaysNothing line ⊎ ((event : InputEvent) × SaysEvent line event × IsOfClosedSessionAfter accounts calls event)
 
 -- `PrintsHallLog`, and the next line is bad after it
 abbrev pub PrintsToBadEvent : (IsStored : List ℕ → Type 0) → BookFields → (input old new : Option (List ℕ)) → Type 0
@@ -176,9 +166,9 @@ RunsToBadEvent bytes_of written_to input old new =
 -- the fault at which a hall stops hearing: a line of its input can't be read, says no event, or one of a session that is not open; the
 -- book, whose file has this path, can't be saved; the output can't be written; or memory ran out
 abbrev pub StopsHearing : (path : List ℕ) → Fault → Type 0
-StopsHearing path fault = IsUnread fault ⊎ ((fault ≡ BadEvent) ⊎ (IsUnwritten path fault ⊎ (fault ≡ CannotWriteOutput)))
+StopsHearing path fault = IsInputUnread fault ⊎ ((fault ≡ BadEvent) ⊎ (IsUnwritten path fault ⊎ (fault ≡ CannotWriteOutput)))
 
 -- the fault that ends `hall`: the book can't be held or read, or the hall stops hearing
 abbrev pub CannotRunHall : {File : Type 0} → (bytes_of : File → Option (List ℕ)) → ArgMatches → Fault → Type 0
 CannotRunHall bytes_of words fault =
-    IsUnheld bytes_of (given_value words option.Book) fault ⊎ StopsHearing (given_value words option.Book) fault
+    CannotOpenBook bytes_of (given_value words option.Book) fault ⊎ StopsHearing (given_value words option.Book) fault

@@ -23,11 +23,15 @@ abbrev pub TakesNonces : (old : Option (List ℕ)) → (given_client given_serve
 TakesNonces old given_client given_server client server new =
     (middle : Option (List ℕ)) × TakesNonce old given_client client middle × TakesNonce middle given_server server new
 
--- the client's nonce and the server's part of it are those that the words give; or each that they do not give is the base64 text of the
--- next 18 bytes of a file
+-- the client's nonce and the server's part of it are both given; or each that is not is the base64 text of the next 18 bytes of a
+-- file, the client's first
+abbrev pub AreGivenOrFresh : {File : Type 0} → (bytes_of : File → Option (List ℕ)) → (given_client given_server : Option (List ℕ))
+    → (client server : List ℕ) → Type 0
+AreGivenOrFresh {File} bytes_of given_client given_server client server =
+    ((given_client ≡ Some client) × (given_server ≡ Some server))
+    ⊎ ((file : File) × (after : File) × TakesNonces (bytes_of file) given_client given_server client server (bytes_of after))
+
+-- the nonces are those that the words give, or fresh ones
 abbrev pub AreNonces : {File : Type 0} → (bytes_of : File → Option (List ℕ)) → ArgMatches → (nonce server_nonce : List ℕ) → Type 0
-AreNonces {File} bytes_of words nonce server_nonce =
-    ((value_of words option.ClientNonce ≡ Some nonce) × (value_of words option.ServerNonce ≡ Some server_nonce))
-    ⊎ ((file : File) × (after : File)
-    × TakesNonces (bytes_of file) (value_of words option.ClientNonce) (value_of words option.ServerNonce) nonce server_nonce
-    (bytes_of after))
+AreNonces bytes_of words nonce server_nonce =
+    AreGivenOrFresh bytes_of (value_of words option.ClientNonce) (value_of words option.ServerNonce) nonce server_nonce

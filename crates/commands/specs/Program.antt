@@ -20,9 +20,11 @@ use Rattle.account_commands.specs.Keys.{CannotPrintKeys, PrintsKeysAsked}
 use Rattle.account_commands.specs.Unlock.{CannotUnlock, UnlocksAsked}
 use Rattle.command_io.specs.Printed.{PrintsNothing}
 use Rattle.log_grammar.specs.Versions.{IsClean, IsFront}
-use Rattle.commands.specs.Audit.{CannotAudit, CannotUpgrade, PrintsAudit, PrintsUpgrade}
+use Rattle.commands.specs.Audit.{CannotAudit, PrintsAudit}
+use Rattle.commands.specs.Upgrade.{CannotUpgrade, PrintsUpgrade}
 use Rattle.commands.specs.Hall.{CannotRunHall, RunsHall, RunsToBadEvent}
-use Rattle.commands.specs.Login.{CannotLogIn, PrintsLogin, PrintsPassesAsked}
+use Rattle.commands.specs.LoginFaults.{CannotLogIn}
+use Rattle.commands.specs.Login.{PrintsLogin, PrintsPassesAsked}
 use Rattle.commands.specs.PrintedLog.{StopsAfter}
 use Rattle.commands.specs.Verify.{CannotBegin, VerifiesAllLines, VerifiesFirstLines}
 
@@ -57,15 +59,16 @@ Explains other status old new = ((status ≡ 2) ⊎ (status ≡ 3)) × (new ≡ 
 abbrev pub found_in : (line : List Text) → Option (Text × List Row)
 found_in line = subcommand_of program line
 
--- what is wrong with a command line, as clap reads it: memory runs out, or it has one of these kinds
+-- the kind of an error that clap may give for a command line: that memory ran out, or one that `fault_of` finds in the line
 abbrev pub IsWordsError : (line : List Text) → ErrorKind → Type 0
 IsWordsError line error = (error ≡ kind.OutOfMemory) ⊎ IsAmong error (fault_of program line)
 
 -- what a run does, where files have these bytes, and this was written to them
 module _ {File : Type 0} (bytes_of written_to : File → Option (List ℕ)) where
-  -- a log of a server is printed; and where the answer is yes, it is one of a login that the words ask for, in which each code passes
-  abbrev pub LogsIn : ArgMatches → (input old : Option (List ℕ)) → (passed : Bool) → (new : Option (List ℕ)) → Type 0
-  LogsIn words input old passed new =
+  -- a clean log of a server is printed. Where the answer is yes, it is of a login that the words ask for, which is accepted, and in
+  -- which each code passes
+  abbrev pub RunsLogin : ArgMatches → (input old : Option (List ℕ)) → (passed : Bool) → (new : Option (List ℕ)) → Type 0
+  RunsLogin words input old passed new =
       PrintsLogin bytes_of written_to words IsClean old new × (passed ≡ true → PrintsPassesAsked bytes_of words input old new)
 
   -- what a command has done by its words where it ends with this status: `verify` and `login` with that of their answer, `audit` and
@@ -77,7 +80,7 @@ module _ {File : Type 0} (bytes_of written_to : File → Option (List ℕ)) wher
   HasDone Verify words status input old new =
       (passed : Bool) × (status ≡ answer_status passed) × VerifiesAllLines bytes_of written_to words input old passed new
   HasDone Unlock words status input old new = (status ≡ 0) × UnlocksAsked bytes_of written_to words old new
-  HasDone Login words status input old new = (passed : Bool) × (status ≡ answer_status passed) × LogsIn words input old passed new
+  HasDone Login words status input old new = (passed : Bool) × (status ≡ answer_status passed) × RunsLogin words input old passed new
   HasDone Hall words status input old new = (status ≡ 0) × RunsHall bytes_of written_to input [] old new
   HasDone Audit words status input old new = PrintsAudit bytes_of status old new
   HasDone Upgrade words status input old new = PrintsUpgrade bytes_of status old new

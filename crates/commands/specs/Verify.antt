@@ -19,14 +19,14 @@ use Rattle.command_line.specs.declared.fault.Fault.{Fault}
 use Rattle.command_line.specs.declared.fault.Fault.TheVariants.{CannotWriteOutput, NoMemory}
 use Rattle.command_line.specs.declared.option_name.OptionName.TheVariants as option
 use Rattle.command_io.specs.BadValues.{HasBadValue}
-use Rattle.command_io.specs.HeldBook.{HeldFacts, held_shown, IsReadBook, IsReplySaved, IsReplyUnsaved, IsUnheld}
+use Rattle.command_io.specs.HeldBook.{HeldFacts, held_shown, IsReadBook, IsReplySaved, IsReplyUnsaved, CannotOpenBook}
 use Rattle.command_io.specs.HeldBook.{LacksToken}
-use Rattle.command_io.specs.Input.{LinesInTurn, IsUnread}
-use Rattle.commands.specs.Sent.{SaysCodes}
+use Rattle.command_io.specs.Input.{LinesInTurn, IsInputUnread}
+use Rattle.commands.specs.SentCodes.{SaysCodes}
 use Rattle.command_words.specs.Values.{given_value}
 use Rattle.command_io.specs.declared.held_book.HeldBook.{HeldBook}
 
--- the reply says that the code is right
+-- the reply says that the code, or both codes in a row, passed
 abbrev pub is_passed : Reply → Bool
 is_passed (Pass counter) = true
 is_passed Fail = false
@@ -88,7 +88,7 @@ module _ (IsStored : List ℕ → Type 0) where
   abbrev pub AnswersFirstLines : (path name : List ℕ) → (moment : ℕ) → Option (List ℕ) → (old : VerifyRun) → Fault
       → (new : VerifyRun) → Type 0
   AnswersFirstLines path name moment input old fault new =
-      ((last : List (List ℕ)) × (all_passed : Bool) × LinesInTurn (AnswersLine name moment) input last old all_passed new × IsUnread fault)
+      ((last : List (List ℕ)) × (all_passed : Bool) × LinesInTurn (AnswersLine name moment) input last old all_passed new × IsInputUnread fault)
       ⊎ ((line : List ℕ) × (last : List (List ℕ)) × (all_passed : Bool) × (middle : VerifyRun)
       × LinesInTurn (AnswersLine name moment) input (line ∷ last) old all_passed middle
       × FailsAtLine path name moment line middle fault new)
@@ -98,7 +98,7 @@ module _ (IsStored : List ℕ → Type 0) where
 abbrev pub CannotBegin : {File : Type 0} → (bytes_of : File → Option (List ℕ)) → ArgMatches → Fault → Type 0
 CannotBegin bytes_of words fault =
     HasBadValue (option.Name ∷ option.Moment ∷ []) words fault
-    ⊎ (IsUnheld bytes_of (given_value words option.Book) fault
+    ⊎ (CannotOpenBook bytes_of (given_value words option.Book) fault
     ⊎ ((text : List ℕ) × (book : BookFields) × IsReadBook bytes_of text book
     × LacksToken (account_at book (given_value words option.Name)) fault))
 

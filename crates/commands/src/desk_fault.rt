@@ -1,13 +1,13 @@
 //! Why a desk or a hall can't go on, as a command says it.
 ghost use Rattle.std.specs.Prelude.{◌≡◌, ◌≢◌};
 ghost use Rattle.command_line.specs.Fault.{IsUnwritten};
-ghost use Rattle.commands.specs.Login.{IsFaultOfServing};
+ghost use Rattle.commands.specs.LoginFaults.{IsFaultOfServing};
 
 use command_line::Fault;
 use sasl_desk::{DeskFault, ServeFault};
 use std::alloc::Global;
 
-/// The fault of a book that can't be saved to the file of this path: CannotWrite, or NoMemory.
+/// The fault of a book that can't be saved to the file of this path: CannotWrite, or NoMemory where there is none for the path.
 pub fn save_fault(alloc: Global, path: &str) -> Fault
     ensures { IsUnwritten path.now result }
 {
@@ -32,8 +32,8 @@ pub fn fault_of_desk(alloc: Global, path: &str, fault: DeskFault) -> Fault
     }
 }
 
-/// The fault of a command whose desk does not serve a turn. WriteFault is NoMemory: the desk writes to a `MemorySink`, which fails only
-/// where memory runs out.
+/// The fault of a command whose desk does not serve a turn. WriteFault is NoMemory: the desk writes to an `OverWrite<Vec<u8>>`, which
+/// fails only where memory runs out.
 pub fn fault_of_serving(alloc: Global, path: &str, fault: ServeFault) -> Fault
     requires { fault ≢ ServeFault.Unwritable }
     ensures { IsFaultOfServing path.now fault result }

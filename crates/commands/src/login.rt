@@ -7,11 +7,12 @@ ghost use Rattle.sasl_desk.specs.declared.session.phase.Phase.TheVariants as Pha
 ghost use Rattle.commands.specs.declared.login.client_end.Stage.{Stage};
 ghost use Rattle.command_io.specs.HeldBook.{IsReadBook};
 ghost use Rattle.command_io.specs.BadValues.{HasBadPassword};
-ghost use Rattle.command_io.specs.Input.{IsUnread, TakesLine};
+ghost use Rattle.command_io.specs.Input.{IsInputUnread, TakesLine};
 ghost use Rattle.command_words.specs.Values.{given_value, value_of};
-ghost use Rattle.commands.specs.Login.{IsDeskLog, StaysItsLog, StaysItsLogWith, IsLogAfterFault, IsLogAfterFaultWith, TalkPasses};
-ghost use Rattle.commands.specs.Login.{PrintsPasses, PrintsPassesAsked, IsGiven, IsUserAsked, HasSavedLog, PrintsLogin};
-ghost use Rattle.commands.specs.Login.{CannotLogIn, CannotPrepare, StopsTalking};
+ghost use Rattle.commands.specs.DeskLog.{IsDeskLog, StaysItsLog, StaysItsLogWith, IsLogAfterFault, IsLogAfterFaultWith, HasSavedLog};
+ghost use Rattle.commands.specs.DeskLog.{IsGiven};
+ghost use Rattle.commands.specs.Login.{TalkPasses, PrintsPasses, PrintsPassesAsked, IsUserAsked, PrintsLogin};
+ghost use Rattle.commands.specs.LoginFaults.{CannotLogIn, CannotPrepare, StopsTalking};
 ghost use Rattle.commands.specs.Nonces.{AreNonces};
 ghost use Rattle.commands.specs.Talked.{LogSays, talked_in};
 ghost use Rattle.commands.specs.PrintedLog.{StopsAfter};
@@ -19,7 +20,6 @@ ghost use Rattle.commands.specs.PrintedLog.{StopsAfter};
 mod client_end;
 mod clock;
 mod code_line;
-mod memory_sink;
 mod nonces;
 mod options;
 mod socket;
@@ -281,7 +281,7 @@ where
 fn read_password<I: BufRead>(alloc: Global, lines: &mut Lines<'_, I>) -> Result<Password, Fault>
     ensures ok { IfOk result (λ password. (has_lf : Bool)
         × TakesLine (I.remaining lines.old.input.now) password has_lf (I.remaining lines.new.input.now)) }
-    ensures err { IfErr result (λ fault. IsUnread fault ⊎ HasBadPassword (I.remaining lines.old.input.now) fault) }
+    ensures err { IfErr result (λ fault. IsInputUnread fault ⊎ HasBadPassword (I.remaining lines.old.input.now) fault) }
 {
     let Some(line) = lines.next(alloc)? else {
         return Err(Fault::BadPassword);

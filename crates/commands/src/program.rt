@@ -22,7 +22,7 @@ use command_io::output::print_and_flush;
 use command_io::terminal::{TerminalInput, TerminalOutput};
 use command_line::status::{DONE, REFUSED, USAGE};
 use command_line::{Fault, TerminalText};
-use command_words::{scramotp, usage_text};
+use command_words::{program_commands, usage_text};
 use std::alloc::Global;
 use std::convert::AsStr;
 use std::fs::Files;
@@ -30,10 +30,10 @@ use std::io::Write;
 use std::net::Net;
 use std::time::Clock;
 
-/// Runs the command that `words` name, the program's own name first, and returns the exit status: 0 done, 1 a
-/// code, a login, a log or another request is refused, 2 usage, 3 files, sockets, input, output or memory. The answer, help and version
-/// go to `output`, which is handed back, everything else to `faults`; both are flushed. No clause says what goes to `faults`, or that
-/// they are flushed.
+/// Runs the command that `words` name, the program's own name first, and returns the exit status: 0 done, passed or clean; 1 refused
+/// or at fault; 2 wrong usage, or a value or password that is not in its form; 3 a file, a socket, the input or the output failed, or
+/// memory ran out. The answer, help and version go to `output`, which is handed back, everything else to `faults`; both are flushed.
+/// No clause says what goes to `faults`, or that they are flushed.
 pub fn run<R, S, I, O, E>(rt: &R, words: &[S], input: &mut I, output: O, faults: &mut E) -> (u8, O)
 where
     R: Files + Net + Clock + AllocGlobal,
@@ -48,7 +48,7 @@ where
         (O.contents result.1) }
 {
     let alloc = rt.alloc();
-    let Ok(commands) = scramotp(alloc) else {
+    let Ok(commands) = program_commands(alloc) else {
         return (report(alloc, faults, Fault::NoMemory), output);
     };
     match commands.try_get_matches_from(words) {
@@ -65,7 +65,13 @@ where
 
 // Says why there is nothing to run: the words are not understood, or help or the version is asked for. Returns the status, and
 // hands back the output.
-fn explain<S, O, E>(alloc: Global, words: &[S], error: &Error, output: O, faults: &mut E) -> (u8, O)
+fn explain<S, O, E>(
+    alloc: Global,
+    words: &[S],
+    error: &Error,
+    mut output: O,
+    faults: &mut E,
+) -> (u8, O)
 where
     S: AsStr,
     O: Write + Drop,
@@ -78,7 +84,6 @@ where
     if error.use_stderr() {
         return (report_usage(alloc, words, faults), output);
     }
-    let mut output = output;
     match print_help(alloc, error, &mut output) {
         Ok(()) => (DONE, output),
         Err(fault) => (report(alloc, faults, fault), output),
@@ -140,7 +145,7 @@ fn run_command<R, I: TerminalInput, O: Write + Drop, E: TerminalOutput>(
     rt: &R,
     matches: &ArgMatches<'_>,
     input: &mut I,
-    output: O,
+    mut output: O,
     faults: &mut E,
 ) -> (Result<u8, Fault>, O)
 where
@@ -152,7 +157,6 @@ where
         (O.contents output) (O.contents result.1) }
 {
     let alloc = rt.alloc();
-    let mut output = output;
     match matches.subcommand() {
         Some(("keys", inner)) => (done(keys(alloc, inner, input, &mut output, faults)), output),
         Some(("enrol", inner)) => (done(enrol(rt, inner, input, &mut output, faults)), output),
@@ -180,21 +184,15 @@ where
 fn done(ended: Result<(), Fault>) -> Result<u8, Fault>
     ensures { MatchResult ended (λ _. result ≡ Ok 0) (λ fault. result ≡ Err fault) }
 {
-    match ended {
-        Ok(()) => Ok(DONE),
-        Err(fault) => Err(fault),
-    }
+    ended?;
+    Ok(DONE)
 }
 
 // The status of a command that answers whether each code, or the login too, was right.
 fn answered(passed: Result<bool, Fault>) -> Result<u8, Fault>
     ensures { MatchResult passed (λ yes. result ≡ Ok (answer_status yes)) (λ fault. result ≡ Err fault) }
 {
-    match passed {
-        Ok(true) => Ok(DONE),
-        Ok(false) => Ok(REFUSED),
-        Err(fault) => Err(fault),
-    }
+    if passed? { Ok(DONE) } else { Ok(REFUSED) }
 }
 
 // Prints a fault and returns its status.

@@ -1,6 +1,6 @@
 //! What an input line of `verify` and of `login` says: one code, or two in a row.
 ghost use Rattle.otp_core.specs.Sent.{texts_of};
-ghost use Rattle.commands.specs.Sent.{SaysCodes};
+ghost use Rattle.commands.specs.SentCodes.{SaysCodes};
 
 use otp_core::Sent;
 use sasl_log::{ClientLine, Line, read_line};

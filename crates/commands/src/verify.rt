@@ -4,7 +4,6 @@ ghost use Rattle.std.specs.Io.KnownBytes.{Appends};
 ghost use Rattle.commands.specs.Verify.{is_passed, printed_reply, run_of, IsLineAnswered, IsUnprinted, CannotBegin, FailsAtLine};
 ghost use Rattle.commands.specs.Verify.{AnswersAllLines, AnswersFirstLines, VerifiesAllLines, VerifiesFirstLines};
 
-use crate::reply_line;
 use crate::sent_codes::sent_by;
 use account_book::{BookStore, Reply};
 use book_file::BookFileExt;
@@ -18,6 +17,7 @@ use command_io::terminal::{TerminalInput, TerminalOutput};
 use command_line::{Fault, OptionName, value};
 use command_words::given;
 use otp_core::Moment;
+use sasl_log::write_reply;
 use scram_text::PlainName;
 use std::alloc::Global;
 use std::fs::Files;
@@ -116,7 +116,8 @@ fn print_reply<O: Write>(
     ensures printed { OnOk result (Appends (O.contents output.old) (O.contents output.new) (printed_reply reply moment)) }
     ensures err { IfErr result (λ fault. IsUnprinted fault (O.contents output.old) (O.contents output.new)) }
 {
-    let line = reply_line::text_of(alloc, moment, Some(reply))?;
-    let text = format!(in alloc; "{line}\n")?;
-    print_and_flush(text.as_bytes(), output)
+    let mut line = Vec::new(alloc);
+    write_reply(moment, Some(reply), &mut line).map_err(|_| Fault::NoMemory)?;
+    line.extend_from_slice(b"\n")?;
+    print_and_flush(line.as_slice(), output)
 }

@@ -7,6 +7,6 @@ mod memory;
 mod service;
 
 pub use client::{AMPLE, Room, Ticking};
-pub use login::{ANSWERS, BOOK, LOGGED, LOGIN, login_and};
+pub use login::{ACCEPTANCE, ANSWERS, BOOK, CHALLENGE, LOGGED, LOGIN, OPENS, PROVES, login_and};
 pub use memory::Memory;
-pub use service::{Service, book_text};
+pub use service::{Service, book_at, book_text};

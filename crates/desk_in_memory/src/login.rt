@@ -18,13 +18,24 @@ server = \"0fe09258b3ac852ba502cc62ba903eaacdbf7d31\"
 stored = \"e9d94660c39d65c38fbad91c358f14da0eef2bd6\"
 ";
 
-/// What its client sends, line by line.
-pub const LOGIN: [&str; 2] = [
-    "AUTH SCRAM-SHA-1 :n,,n=user,r=fyko+d2lbbFgONRv9qkxdawL",
-    "RESP :c=biws,r=fyko+d2lbbFgONRv9qkxdawL3rfcNHYJY1ZVvWVs7j,p=v0X8v3Bz2T0CJGbJQyF0X+HI4Ts=",
-];
+/// The line by which its client opens the login.
+pub const OPENS: &str = "AUTH SCRAM-SHA-1 :n,,n=user,r=fyko+d2lbbFgONRv9qkxdawL";
 
-/// What its client is sent.
+/// The line by which its client proves that it has the password.
+pub const PROVES: &str =
+    "RESP :c=biws,r=fyko+d2lbbFgONRv9qkxdawL3rfcNHYJY1ZVvWVs7j,p=v0X8v3Bz2T0CJGbJQyF0X+HI4Ts=";
+
+/// What its client sends, line by line.
+pub const LOGIN: [&str; 2] = [OPENS, PROVES];
+
+/// The challenge that its client is sent.
+pub const CHALLENGE: &str =
+    "CONT :r=fyko+d2lbbFgONRv9qkxdawL3rfcNHYJY1ZVvWVs7j,s=QSXCR+Q6sek8bf92,i=4096\n";
+
+/// The acceptance that its client is sent.
+pub const ACCEPTANCE: &str = "OK :v=rmF9pqV8S7suAoZWja4dJRkFsKQ=\n";
+
+/// All that its client is sent.
 pub const ANSWERS: &str = "MECHS SCRAM-SHA-256 SCRAM-SHA-1
 CONT :r=fyko+d2lbbFgONRv9qkxdawL3rfcNHYJY1ZVvWVs7j,s=QSXCR+Q6sek8bf92,i=4096
 OK :v=rmF9pqV8S7suAoZWja4dJRkFsKQ=
@@ -41,6 +52,5 @@ S OK :v=rmF9pqV8S7suAoZWja4dJRkFsKQ=
 
 /// What its client sends, and then this; an error where memory runs out.
 pub fn login_and(alloc: Global, rest: &str) -> Result<String, Fail> {
-    let [opens, proves] = LOGIN;
-    Ok(format!(in alloc; "{opens}\n{proves}\n{rest}")?)
+    Ok(format!(in alloc; "{OPENS}\n{PROVES}\n{rest}")?)
 }

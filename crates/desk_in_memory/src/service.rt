@@ -8,19 +8,6 @@ use scram_text::NoncePart;
 use std::alloc::Global;
 use std::test::Fail;
 
-// The token of RFC 4226, appendix D.
-const TOKEN: &str = "
-[accounts.user.token]
-digits = 6
-failures = 0
-kind = \"hotp\"
-limit = 3
-look_ahead = 3
-next = 0
-secret = \"3132333435363738393031323334353637383930\"
-sync_ahead = 8
-";
-
 /// A desk, and all that it has written.
 #[derive(Drop)]
 pub struct Service {
@@ -34,10 +21,36 @@ pub struct Service {
     pub log: Vec<u8>,
 }
 
-/// The text of the book that each service begins with: its user has the token of RFC 4226, appendix D. An error where memory
-/// runs out.
+/// The text of a book whose user has a token with the secret of RFC 4226, appendix D, after so many failures and with this counter
+/// next: three failures lock it; it looks three counters ahead, and eight for two codes in a row. An error where memory runs out.
+pub fn book_at(alloc: Global, failures: u64, next: u64) -> Result<String, Fail> {
+    Ok(format!(in alloc;
+        "{BOOK}
+[accounts.user.token]
+digits = 6
+failures = {failures}
+kind = \"hotp\"
+limit = 3
+look_ahead = 3
+next = {next}
+secret = \"3132333435363738393031323334353637383930\"
+sync_ahead = 8
+"
+    )?)
+}
+
+/// The text of the book that each service begins with: no code of its user's token was tried. An error where memory runs out.
 pub fn book_text(alloc: Global) -> Result<String, Fail> {
-    Ok(format!(in alloc; "{BOOK}{TOKEN}")?)
+    book_at(alloc, 0, 0)
+}
+
+// An error that shows both, unless the bytes are this text.
+fn check_text(alloc: Global, what: &str, bytes: &[u8], wanted: &str) -> Result<(), Fail> {
+    if bytes == wanted.as_bytes() {
+        return Ok(());
+    }
+    let found = std::str::from_utf8(bytes)?;
+    Err(format!(in alloc; "{what} is\n{found}and not\n{wanted}")?.into())
 }
 
 impl Service {
@@ -82,14 +95,13 @@ impl Service {
 
     /// An error unless the log is this, and an audit of it finds it clean, with these counts.
     pub fn check_log(&self, alloc: Global, log: &str, counts: Clean) -> Result<(), Fail> {
-        if self.log.as_slice() != log.as_bytes() {
-            return Err("the log is another".into());
-        }
+        check_text(alloc, "the log", self.log.as_slice(), log)?;
         let book = Book::read(alloc, book_text(alloc)?.as_bytes())?;
-        if audit(alloc, book, &mut OverRead::new(self.log.as_slice()))? != counts {
-            return Err("the audit of the log counts otherwise".into());
+        let found = audit(alloc, book, &mut OverRead::new(self.log.as_slice()))?;
+        if found == counts {
+            return Ok(());
         }
-        Ok(())
+        Err(format!(in alloc; "the audit counts {found:?}, and not {counts:?}")?.into())
     }
 
     /// An error unless, after the published login, its client was told this and the log has that; an audit finds the log clean,
@@ -102,9 +114,12 @@ impl Service {
         codes_passed: u64,
     ) -> Result<(), Fail> {
         let wire = format!(in alloc; "{ANSWERS}{told}")?;
-        if self.wire.as_slice() != wire.as_bytes() {
-            return Err("the client was told something else".into());
-        }
+        check_text(
+            alloc,
+            "what the client was sent",
+            self.wire.as_slice(),
+            wire.as_str(),
+        )?;
         let log = format!(in alloc; "{LOGGED}{logged}")?;
         let counts = Clean {
             sessions: 1,

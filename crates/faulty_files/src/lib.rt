@@ -1,5 +1,5 @@
-//! For tests of what works on files: a runtime that notes each call to the file system and fails at one of them.
-//! Its clock advances only by the pauses, which take no time.
+//! For tests of what works on files and sockets: a runtime that notes each call for one, and fails at one of these calls.
+//! Its monotonic clock advances only by the pauses, which take no time; the time of day is the host's.
 #![tactic(auto)]
 
 mod calls;

@@ -11,7 +11,7 @@ use std::os::unix::net::UnixStream;
 use std::path::PathBuf;
 use std::time::{Clock, Duration};
 
-/// The runtime itself, except for one call.
+/// A runtime that does what `rt` does, notes each call, and fails at one.
 #[derive(Drop)]
 pub struct Faulty<'a> {
     /// The runtime that does the work.

@@ -11,7 +11,7 @@ use crate::by_sessions::{fault_lines_begin_no_clean_log, fronts_are_what_begins_
 use crate::laws::fronts_begin_clean;
 
 /// A challenge can be written for each account of a book, and for each decoy.
-pub fn books_are_fit()
+pub fn books_can_be_challenged()
     ensures { (book : BookFields) → IsBook book → AllCanBeChallenged (accounts_in book) }
 {}
 
@@ -21,7 +21,7 @@ pub fn fronts_of_books_begin_clean()
         → BeginsClean (accounts_in book) bytes }
 {
     fronts_begin_clean();
-    books_are_fit();
+    books_can_be_challenged();
 }
 
 /// Whole lines are a front exactly where they begin a clean log, for every account book.
@@ -30,7 +30,7 @@ pub fn fronts_of_books_are_what_begins_clean_logs()
         → IsFront (accounts_in book) bytes ↔ BeginsClean (accounts_in book) bytes }
 {
     fronts_are_what_begins_clean_logs();
-    books_are_fit();
+    books_can_be_challenged();
 }
 
 /// The fault line is the first line that begins no clean log, for every account book.
@@ -40,5 +40,5 @@ pub fn fault_lines_of_books_begin_no_clean_log()
         → IsFaultLine (accounts_in book) bytes k ↔ IsFirstOutsideCleanLogs (accounts_in book) bytes texts k }
 {
     fault_lines_begin_no_clean_log();
-    books_are_fit();
+    books_can_be_challenged();
 }

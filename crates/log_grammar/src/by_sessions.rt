@@ -32,8 +32,9 @@ pub fn fronts_are_what_begins_clean_logs()
     fronts_begin_clean();
 }
 
-/// The fault line is the first that begins no clean log: the lines before it begin one, and with it they do not. Where
-/// all lines begin one, and the bytes are not clean, it is the line after the last.
+/// Where a challenge can be written for each account and decoy, the fault line is the first that begins no clean log: the lines
+/// before it begin one, and with it they do not. Where all lines begin one, and the bytes are not clean, it is the line after the
+/// last.
 pub fn fault_lines_begin_no_clean_log()
     ensures { FaultLinesBeginNoCleanLog }
 {

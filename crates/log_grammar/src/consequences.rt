@@ -33,8 +33,8 @@ pub fn each_text_is_one_line_or_none()
     log_line_is_decided();
 }
 
-/// All bytes are cut into lines in exactly one way.
-pub fn bytes_are_cut_in_one_way()
+/// All bytes are split into lines in exactly one way.
+pub fn bytes_are_split_in_exactly_one_way()
     ensures { (bytes : List ℕ) → (texts : List (List ℕ)) × (rest : List ℕ) × IsSplit bytes texts rest
         × ((others : List (List ℕ)) (other : List ℕ) → IsSplit bytes others other → (others ≡ texts) × (other ≡ rest)) }
 {

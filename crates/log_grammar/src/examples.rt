@@ -19,7 +19,7 @@ ghost use Rattle.log_grammar.specs.Begins.{Begins};
 ghost use Rattle.log_grammar.specs.Versions.{IsClean, IsWhy};
 ghost use Rattle.log_grammar.specs.Why.{LineClass, IsClassDue, is_cut, no_line, out_of_order, other_mechs, other_challenge, other_outcome};
 ghost use Rattle.log_grammar.specs.Why.{other_reply, refused_with};
-ghost use Rattle.log_grammar.specs.Upgrades.{original_text};
+ghost use Rattle.log_grammar.specs.Upgrades.{original_bytes};
 ghost use Rattle.log_grammar.specs.laws.Logins.{Exchange, IsLoginTo, login_session};
 ghost use Rattle.log_grammar.specs.laws.Replies.{passes, next_two};
 ghost use Rattle.log_grammar.specs.laws.Examples.{header_one_text, offer_text, first_alone, one_session, bare_no, AreWhole};
@@ -122,7 +122,7 @@ pub fn lines_end_with_lf()
     ensures long { (accounts : Accounts) (rest : List ℕ) → LacksLf rest → 6203 ≤ length rest → IsWhy accounts rest 1 no_line }
 {}
 
-/// After whole lines that a log may begin with, bytes without an LF are a log that is cut, up to 6202 bytes, and
+/// After whole lines that a log of version 1 may begin with, bytes without an LF are a log that is cut, up to 6202 bytes, and
 /// then no line; and a whole line of more bytes is none. A part of a line after a halt is such a cut too.
 pub fn lines_have_6202_bytes_at_most()
     ensures part { (accounts : Accounts) (texts : List (List ℕ)) (log : List LogLine) (place : Place) (told : List LoggedReply)
@@ -169,17 +169,17 @@ pub fn logs_of_two_codes()
     ensures passes { (accounts : Accounts) (mechanism name : List ℕ) (exchange : Exchange) (moment : ℕ) (t : HotpFields)
         → IsLoginTo accounts mechanism name exchange → IsMoment moment → accounts.token name ≡ Some (Hotp t)
         → t.failures < t.limit → IsDigitCount t.digits → IsCounter (t.next + 1) → IsClean accounts
-        (original_text (login_session mechanism exchange ++ next_two t ∷ passes moment (t.next + 1) ∷ gone ∷ ended ∷ [])) }
+        (original_bytes (login_session mechanism exchange ++ next_two t ∷ passes moment (t.next + 1) ∷ gone ∷ ended ∷ [])) }
     ensures first_counter { (accounts : Accounts) (mechanism name : List ℕ) (exchange : Exchange) (moment : ℕ) (t : HotpFields)
         → IsLoginTo accounts mechanism name exchange → IsMoment moment → accounts.token name ≡ Some (Hotp t)
         → t.failures < t.limit → IsDigitCount t.digits → IsCounter (t.next + 1) → IsWhy accounts
-        (original_text (login_session mechanism exchange ++ next_two t ∷ passes moment t.next ∷ [])) 8
+        (original_bytes (login_session mechanism exchange ++ next_two t ∷ passes moment t.next ∷ [])) 8
         (other_reply moment (Some (Pass (t.next + 1)))) }
     ensures of_totp { (accounts : Accounts) (mechanism name : List ℕ) (exchange : Exchange) (first second : List ℕ) (moment counter : ℕ)
         (t : TotpFields)
         → IsLoginTo accounts mechanism name exchange → IsMoment moment → accounts.token name ≡ Some (Totp t)
         → t.failures < t.limit → IsCodeWord first → IsCodeWord second → IsCounter counter → IsWhy accounts
-        (original_text (login_session mechanism exchange ++ heard (sync first second) ∷ passes moment counter ∷ [])) 8
+        (original_bytes (login_session mechanism exchange ++ heard (sync first second) ∷ passes moment counter ∷ [])) 8
         (other_reply moment (Some Fail)) }
 {
     next_two_hotp_codes_pass();

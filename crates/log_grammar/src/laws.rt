@@ -56,7 +56,7 @@ pub fn bytes_are_split()
     ensures { BytesAreSplit }
 {}
 
-/// Bytes are cut into lines in one way.
+/// Bytes are split into lines in one way.
 pub fn bytes_are_split_one_way()
     ensures { BytesAreSplitOneWay }
 {}

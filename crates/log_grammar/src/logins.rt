@@ -5,13 +5,13 @@ ghost use Rattle.scram_text.specs.Class.{IsPlainName};
 ghost use Rattle.log_grammar.specs.Lines.{LogLine, said, halt, log_bytes};
 ghost use Rattle.log_grammar.specs.Demands.{Accounts, CanBeChallenged};
 ghost use Rattle.log_grammar.specs.Versions.{IsClean};
-ghost use Rattle.log_grammar.specs.Upgrades.{original_text};
+ghost use Rattle.log_grammar.specs.Upgrades.{original_bytes};
 ghost use Rattle.log_grammar.specs.laws.Logins.{EachOkEndsALogin, LoginsAreClean, LoginsMayHalt, LoginsAreAnswered, HasPassword};
 ghost use Rattle.log_grammar.specs.laws.Logins.{PasswordsLogIn, RefusedLoginsAreAtFault, OtherRepliesAreAtFault};
 
 use otp_core::laws::only_one_reply_is_due;
 use scram_ends::honest_login;
-use scram_ends::laws::{acceptance_is_due_to_valid_logins, at_most_one_verdict_is_due};
+use scram_ends::laws::{accepts_exactly_valid, at_most_one_verdict_is_due};
 use scram_text::laws::{has_one_client_first, spells_one_name};
 
 /// An `S OK` may stand in a log exactly where the messages of its session before it, and its own, are a valid login
@@ -19,7 +19,7 @@ use scram_text::laws::{has_one_client_first, spells_one_name};
 pub fn each_ok_ends_a_login()
     ensures { EachOkEndsALogin }
 {
-    acceptance_is_due_to_valid_logins();
+    accepts_exactly_valid();
     has_one_client_first();
     spells_one_name();
 }
@@ -27,20 +27,20 @@ pub fn each_ok_ends_a_login()
 /// A log of a valid login is clean where the client then goes away, where a code, or two in a row, is answered by a
 /// halt, and where it is answered by the reply that is due to it, or, where the account has no token, that it has none.
 pub fn logins_are_clean()
-    ensures gone { LoginsAreClean original_text }
-    ensures halted { LoginsMayHalt original_text }
-    ensures answered { LoginsAreAnswered original_text }
+    ensures gone { LoginsAreClean original_bytes }
+    ensures halted { LoginsMayHalt original_bytes }
+    ensures answered { LoginsAreAnswered original_bytes }
 {
-    acceptance_is_due_to_valid_logins();
+    accepts_exactly_valid();
 }
 
 /// A log that has a valid login as refused is at fault there, and so is one that has a code, or two in a row, after it
 /// answered by a reply other than the one due. The reason names the acceptance, by its signature, and the reply that is due.
 pub fn other_answers_to_logins_are_at_fault()
-    ensures refused { RefusedLoginsAreAtFault original_text }
-    ensures answered { OtherRepliesAreAtFault original_text }
+    ensures refused { RefusedLoginsAreAtFault original_bytes }
+    ensures answered { OtherRepliesAreAtFault original_bytes }
 {
-    acceptance_is_due_to_valid_logins();
+    accepts_exactly_valid();
     at_most_one_verdict_is_due();
     has_one_client_first();
     only_one_reply_is_due();

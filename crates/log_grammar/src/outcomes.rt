@@ -1,9 +1,9 @@
-//! The server's lines one by one: where each may stand in a log. They are what the demands make due at its place,
+//! The server's lines one by one: where each may stand in a log of version 1. They are what the demands make due at its place,
 //! stated line by line.
 ghost use Rattle.log_grammar.specs.laws.Outcomes.{FirstLinesBeginLogs, PlacesHaveTheirMessages, EachOfferIsDue, EachChallengeIsDue};
 ghost use Rattle.log_grammar.specs.laws.Outcomes.{EachRefusalIsDue, EachReplyIsDue, EachHaltEndsACode};
 
-use scram_ends::laws::{acceptance_is_due_to_valid_logins, at_most_one_verdict_is_due};
+use scram_ends::laws::{accepts_exactly_valid, at_most_one_verdict_is_due};
 
 /// The first lines of what a log may begin with are such lines too, and what was told in them comes first: so what
 /// is said here of a log's last line holds for every line of it.
@@ -32,7 +32,7 @@ pub fn each_challenge_is_due()
 pub fn each_refusal_is_due()
     ensures { EachRefusalIsDue }
 {
-    acceptance_is_due_to_valid_logins();
+    accepts_exactly_valid();
     at_most_one_verdict_is_due();
 }
 

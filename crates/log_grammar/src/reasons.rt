@@ -5,9 +5,9 @@ ghost use Rattle.log_grammar.specs.laws.Reasons.{FaultsHoldWhateverFollows};
 
 use crate::laws::fronts_begin_clean;
 
-/// What a reason names as due may stand, in a log of version 1: where it names the mechanisms, a challenge, an outcome or
-/// a reply, a line that says so, in the place of the line at fault, makes the lines up to it begin a clean log. Each line
-/// that says so does, except a challenge, since a reason names no text of one.
+/// What a reason names as due may stand, in a log of version 1 and where a challenge can be written for each account and decoy:
+/// where it names the mechanisms, a challenge, an outcome or a reply, a line that says so, in the place of the line at fault,
+/// makes the lines up to it begin a clean log. Each line that says so does, except a challenge, since a reason names no text of one.
 pub fn what_is_due_may_stand()
     ensures some { WhatIsDueMayStand }
     ensures each { EachLineThatIsDueMayStand }

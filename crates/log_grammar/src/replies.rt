@@ -1,4 +1,4 @@
-//! Codes that passed in a log.
+//! Codes that passed in a log of version 1.
 ghost use Rattle.log_grammar.specs.laws.Replies.{EachPassIsACode, CountersRise, NoCounterIsUsedTwice, NextHotpCodePasses};
 ghost use Rattle.log_grammar.specs.laws.Replies.{NextTwoHotpCodesPass};
 

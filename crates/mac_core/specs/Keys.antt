@@ -45,3 +45,12 @@ stored_key hash client = hash client
 -- ServerKey = HMAC(SaltedPassword, "Server Key")
 abbrev pub server_key : (hash : List ℕ → List ℕ) → (block : ℕ) → (salted : List ℕ) → List ℕ
 server_key hash block salted = hmac hash block salted (codes "Server Key")
+
+-- StoredKey of a password: that of the ClientKey of its SaltedPassword
+abbrev pub password_stored_key : (hash : List ℕ → List ℕ) → (block : ℕ) → (password salt : List ℕ) → (i : ℕ) → List ℕ
+password_stored_key hash block password salt i =
+    stored_key hash (client_key hash block (salted_password hash block password salt i))
+
+-- ServerKey of a password: that of its SaltedPassword
+abbrev pub password_server_key : (hash : List ℕ → List ℕ) → (block : ℕ) → (password salt : List ℕ) → (i : ℕ) → List ℕ
+password_server_key hash block password salt i = server_key hash block (salted_password hash block password salt i)

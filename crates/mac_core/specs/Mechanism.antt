@@ -1,5 +1,4 @@
--- The formulas by SCRAM mechanism: SHA-1 for SCRAM-SHA-1 (RFC 5802), SHA-256 for SCRAM-SHA-256
--- (RFC 7677). Both hash functions have blocks of 64 bytes.
+-- The formulas by SCRAM mechanism: SHA-1 for SCRAM-SHA-1 (RFC 5802), SHA-256 for SCRAM-SHA-256 (RFC 7677).
 use Rattle.std.specs.Prelude.{ℕ, ◌==◌, List, codes}
 use Rattle.std.specs.List.{slice_split, Contains}
 use Rattle.std.specs.Str.{byte}
@@ -7,7 +6,7 @@ use Rattle.sha1.specs.Sha1.{Holds, sha1}
 use Rattle.sha2.specs.Sha256.{sha256}
 use Rattle.sha2.specs.Hashers.{Holds256}
 use Rattle.mac_core.specs.Hmac.{hmac, IsMacOf}
-use Rattle.mac_core.specs.Keys.{hi, client_key, stored_key, server_key}
+use Rattle.mac_core.specs.Keys.{hi, client_key, stored_key, server_key, password_stored_key, password_server_key}
 use Rattle.mac_core.specs.declared.digest.HSha1.{HSha1}
 use Rattle.mac_core.specs.declared.digest.HSha256.{HSha256}
 use Rattle.mac_core.specs.declared.mechanism.Mechanism.{Mechanism}
@@ -20,7 +19,7 @@ abbrev pub name_of : Mechanism → List ℕ
 name_of ScramSha1 = codes "SCRAM-SHA-1"
 name_of ScramSha256 = codes "SCRAM-SHA-256"
 
--- the text is a list of names with one space between each two, and the mechanism's name is one of them
+-- the mechanism's name is one of the pieces into which its spaces cut the text, as in "SCRAM-SHA-1 SCRAM-SHA-256"
 abbrev pub IsOffered : Mechanism → (names : List ℕ) → Type 0
 IsOffered mechanism names = Contains (slice_split (λ c. c == byte " ") names) (name_of mechanism)
 
@@ -29,6 +28,11 @@ abbrev pub hash_by : Mechanism → (text : List ℕ) → List ℕ
 hash_by ScramSha1 = sha1
 hash_by ScramSha256 = sha256
 
+-- the length in bytes of a block of the mechanism's hash function
+abbrev pub block_by : Mechanism → ℕ
+block_by ScramSha1 = 64
+block_by ScramSha256 = 64
+
 -- the length in bytes of a digest, a MAC and a key of the mechanism
 abbrev pub length_by : Mechanism → ℕ
 length_by ScramSha1 = 20
@@ -36,15 +40,15 @@ length_by ScramSha256 = 32
 
 -- HMAC of the mechanism
 abbrev pub hmac_by : Mechanism → (key text : List ℕ) → List ℕ
-hmac_by mechanism = hmac (hash_by mechanism) 64
+hmac_by mechanism = hmac (hash_by mechanism) (block_by mechanism)
 
 -- Hi of the mechanism; that of a password is its SaltedPassword
 abbrev pub hi_by : Mechanism → (str salt : List ℕ) → (i : ℕ) → List ℕ
-hi_by mechanism = hi (hash_by mechanism) 64
+hi_by mechanism = hi (hash_by mechanism) (block_by mechanism)
 
 -- ClientKey of a SaltedPassword
 abbrev pub client_key_by : Mechanism → (salted : List ℕ) → List ℕ
-client_key_by mechanism = client_key (hash_by mechanism) 64
+client_key_by mechanism = client_key (hash_by mechanism) (block_by mechanism)
 
 -- StoredKey of a ClientKey
 abbrev pub stored_key_by : Mechanism → (client_key : List ℕ) → List ℕ
@@ -52,22 +56,21 @@ stored_key_by mechanism = stored_key (hash_by mechanism)
 
 -- ServerKey of a SaltedPassword
 abbrev pub server_key_by : Mechanism → (salted : List ℕ) → List ℕ
-server_key_by mechanism = server_key (hash_by mechanism) 64
+server_key_by mechanism = server_key (hash_by mechanism) (block_by mechanism)
 
--- StoredKey of a password (RFC 5802, section 3)
-abbrev pub password_stored_key : Mechanism → (password salt : List ℕ) → (count : ℕ) → List ℕ
-password_stored_key mechanism password salt count =
-    stored_key_by mechanism (client_key_by mechanism (hi_by mechanism password salt count))
+-- StoredKey of a password
+abbrev pub password_stored_key_by : Mechanism → (password salt : List ℕ) → (count : ℕ) → List ℕ
+password_stored_key_by mechanism = password_stored_key (hash_by mechanism) (block_by mechanism)
 
 -- ServerKey of a password
-abbrev pub password_server_key : Mechanism → (password salt : List ℕ) → (count : ℕ) → List ℕ
-password_server_key mechanism password salt count = server_key_by mechanism (hi_by mechanism password salt count)
+abbrev pub password_server_key_by : Mechanism → (password salt : List ℕ) → (count : ℕ) → List ℕ
+password_server_key_by mechanism = password_server_key (hash_by mechanism) (block_by mechanism)
 
 -- the running MAC stands for this key and text under the mechanism
 abbrev pub IsScramMac : Mechanism → ScramMac → (key text : List ℕ) → Type 0
 IsScramMac ScramSha1 (BySha1 mac) key text =
-    IsMacOf (λ (h : HSha1) (m : List ℕ). Holds h.hasher m) sha1 64 mac key text
+    IsMacOf (λ (h : HSha1) (m : List ℕ). Holds h.hasher m) sha1 (block_by ScramSha1) mac key text
 IsScramMac ScramSha256 (BySha256 mac) key text =
-    IsMacOf (λ (h : HSha256) (m : List ℕ). Holds256 h.hasher m) sha256 64 mac key text
+    IsMacOf (λ (h : HSha256) (m : List ℕ). Holds256 h.hasher m) sha256 (block_by ScramSha256) mac key text
 IsScramMac ScramSha1 (BySha256 mac) key text = ⊥
 IsScramMac ScramSha256 (BySha1 mac) key text = ⊥

@@ -1,7 +1,8 @@
 //! Hi and the keys of SCRAM (RFC 5802, sections 2.2 and 3).
 ghost use Rattle.std.specs.Prelude.{◌≡◌, ◌≤◌, ℕ, List, ◌++◌, length};
 ghost use Rattle.mac_core.specs.Hmac.{hmac, IsPreparedFor};
-ghost use Rattle.mac_core.specs.Keys.{xor_bytes, int_one, iterated, hi, salted_password, client_key, stored_key, server_key};
+ghost use Rattle.mac_core.specs.Keys.{xor_bytes, int_one, iterated, hi, client_key, stored_key, server_key};
+ghost use Rattle.mac_core.specs.Keys.{password_stored_key, password_server_key};
 
 use crate::bytes::copy_of;
 use crate::digest::{HashFn, Tag};
@@ -103,10 +104,8 @@ impl ScramKeys {
 /// takes time in proportion to `count`, which is at least 1.
 pub fn scram_keys<H: HashFn>(password: &[u8], salt: &[u8], count: u32) -> ScramKeys
     requires { 1 ≤ count }
-    ensures stored { let salted = salted_password H.digest_of H.BLOCK password.now salt.now count in
-        result.stored.items ≡ stored_key H.digest_of (client_key H.digest_of H.BLOCK salted) }
-    ensures server { let salted = salted_password H.digest_of H.BLOCK password.now salt.now count in
-        result.server.items ≡ server_key H.digest_of H.BLOCK salted }
+    ensures stored { result.stored.items ≡ password_stored_key H.digest_of H.BLOCK password.now salt.now count }
+    ensures server { result.server.items ≡ password_server_key H.digest_of H.BLOCK password.now salt.now count }
     ensures stored_len { length result.stored.items ≡ H.LEN }
     ensures server_len { length result.server.items ≡ H.LEN }
 {

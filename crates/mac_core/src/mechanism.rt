@@ -2,7 +2,7 @@
 //! a SCRAM mechanism.
 ghost use Rattle.std.specs.Prelude.{◌≡◌, ◌≢◌, ◌≤◌, ◌↔◌, IsTrue, ℕ, List, [], ◌++◌, length, IfSome, IfNone};
 ghost use Rattle.mac_core.specs.Mechanism.{name_of, IsOffered, length_by, hmac_by, hi_by, client_key_by, stored_key_by, server_key_by};
-ghost use Rattle.mac_core.specs.Mechanism.{IsScramMac, password_stored_key, password_server_key};
+ghost use Rattle.mac_core.specs.Mechanism.{IsScramMac, password_stored_key_by, password_server_key_by};
 
 use crate::digest::{HSha1, HSha256, Tag};
 use crate::hmac::Mac;
@@ -118,8 +118,8 @@ impl Mechanism {
     /// is at least 1.
     pub fn scram_keys(self, password: &[u8], salt: &[u8], count: u32) -> ScramKeys
         requires { 1 ≤ count }
-        ensures stored { result.stored.items ≡ password_stored_key self password.now salt.now count }
-        ensures server { result.server.items ≡ password_server_key self password.now salt.now count }
+        ensures stored { result.stored.items ≡ password_stored_key_by self password.now salt.now count }
+        ensures server { result.server.items ≡ password_server_key_by self password.now salt.now count }
         ensures stored_len { length result.stored.items ≡ length_by self }
         ensures server_len { length result.server.items ≡ length_by self }
     {

@@ -3,13 +3,8 @@ use Rattle.std.specs.Prelude.{ℕ, zero, suc, ◌+◌, ◌-◌, ◌/◌, ◌%◌
 use Rattle.std.specs.Int.{w32, w64, from_be_bytes, to_be_bytes}
 use Rattle.std.specs.Char.{IsAsciiDigit}
 use Rattle.std.specs.Str.{byte}
-use Rattle.sha1.specs.Sha1.{sha1}
-use Rattle.sha2.specs.Sha256.{sha256}
-use Rattle.sha2.specs.Sha512.{sha512}
 use Rattle.mac_core.specs.Hmac.{hmac}
 use Rattle.otp_core.specs.Ranges.{IsDigitCount}
-use Rattle.otp_core.specs.declared.hash.OtpHash.{OtpHash}
-use Rattle.otp_core.specs.declared.hash.OtpHash.TheVariants.{Sha1, Sha256, Sha512}
 
 -- the offset: the low four bits of the last byte
 abbrev pub offset : List ℕ → ℕ
@@ -39,22 +34,6 @@ hotp_text hash block digits key counter = code_of digits (hmac hash block key (t
 pub record IsCodeText (text : List ℕ) : Type 0 where
   pub count : IsDigitCount (length text)
   pub digits : All IsAsciiDigit text
-
--- the digest of a hash function
-abbrev pub otp_hash_by : OtpHash → List ℕ → List ℕ
-otp_hash_by Sha1 = sha1
-otp_hash_by Sha256 = sha256
-otp_hash_by Sha512 = sha512
-
--- the length of the hash function's blocks in bytes
-abbrev pub otp_block_by : OtpHash → ℕ
-otp_block_by Sha1 = 64
-otp_block_by Sha256 = 64
-otp_block_by Sha512 = 128
-
--- HOTP with this hash function, as RFC 6238, section 1.2, allows for TOTP
-abbrev pub hotp_text_by : OtpHash → (digits : ℕ) → (key : List ℕ) → (counter : ℕ) → List ℕ
-hotp_text_by hash = hotp_text (otp_hash_by hash) (otp_block_by hash)
 
 -- T, the number of whole steps of x seconds from t0 to a moment
 abbrev pub steps_from : (t0 x moment : ℕ) → ℕ

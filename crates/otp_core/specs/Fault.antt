@@ -7,10 +7,10 @@ use Rattle.otp_core.specs.declared.fault.Setting.TheVariants.{Failures}
 use Rattle.otp_core.specs.declared.fault.Setting as setting
 
 -- the number of a refusal
-abbrev pub fault_number : OtpFault → ℕ
-fault_number SecretLength = 40
-fault_number DigitCount = 41
-fault_number (Setting setting) = 42
+abbrev pub otp_fault_number : OtpFault → ℕ
+otp_fault_number SecretLength = 40
+otp_fault_number DigitCount = 41
+otp_fault_number (Setting setting) = 42
 
 -- the name of a setting, that of its field
 abbrev pub setting_name : setting.Setting → List ℕ

@@ -13,18 +13,18 @@ use Rattle.otp_core.specs.declared.token.kinds.TokenFields.TheVariants.{Hotp, To
 abbrev pub BeginsWithItself : Type 0
 BeginsWithItself = (token : TokenFields) → IsAfter token [] token
 
--- a counter that can pass, alone or as the first of a pair, is above each that has passed, so no counter passes twice
+-- a counter that can pass, alone or as the first of a pair, is above each that the history has used, so none is used twice
 abbrev pub CandidatesAreNew : Type 0
 CandidatesAreNew = (start : TokenFields) (history : List Attempt) (moment c : ℕ)
     → (IsCandidate start history moment c ⊎ IsPairCandidate start history c) → IsAbove (used_in history) c
 
--- a counter that a token has not used: HOTP's next or one after it, or a step after TOTP's last
+-- a counter that a token has not used: HOTP's next or one after it; a step after TOTP's last, or any step where it has no last
 abbrev pub IsNotUsed : TokenFields → ℕ → Type 0
 IsNotUsed (Hotp t) c = t.next ≤ c
 IsNotUsed (Totp t) c = ForSome t.last (λ l. l < c)
 
--- a counter that a start has used can pass after no legal history, alone or in a pair. Failures have no part in this,
--- so it holds across an unlock too.
+-- a counter that a start has used can pass after no legal history, alone or in a pair. Failures have no part in IsNotUsed,
+-- so the law holds of the start after an unlock too.
 abbrev pub UsedStaysUsed : Type 0
 UsedStaysUsed = (start : TokenFields) (history : List Attempt) (moment c : ℕ)
     → IsLegal start history → (IsCandidate start history moment c ⊎ IsPairCandidate start history c) → IsNotUsed start c

@@ -7,7 +7,8 @@ pub mod Laws
 pub mod Passes
 pub mod Ranges
 pub mod Reply
-pub mod Settings
 pub mod State
+pub mod TokenAttempt
+pub mod TokenRanges
 pub mod Window
 pub mod Sent

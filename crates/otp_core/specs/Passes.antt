@@ -8,12 +8,13 @@ use Rattle.otp_core.specs.declared.token.answer.Reply.TheVariants.{Pass, Fail}
 use Rattle.otp_core.specs.declared.token.kinds.TokenFields.{TokenFields}
 use Rattle.otp_core.specs.declared.token.kinds.TokenFields.TheVariants.{Hotp, Totp}
 
--- a pass of this counter at a moment leaves the token in its ranges
+-- the counter may pass at a moment, as far as the token's ranges ask: of HOTP, it is at most the greatest that can pass; of TOTP, it
+-- is a step that can pass now
 abbrev pub CanMoveTo : TokenFields → (moment c : ℕ) → Type 0
 CanMoveTo (Hotp t) moment c = c ≤ most_counter
 CanMoveTo (Totp t) moment w = IsCandidate (Totp t) [] moment w
 
--- the reply, where this is the counter that fits, or none
+-- the reply: Pass of the counter that was found to fit, or Fail where none was
 abbrev pub reply_of : Option ℕ → Reply
 reply_of None = Fail
 reply_of (Some c) = Pass c

@@ -50,8 +50,8 @@ abbrev pub longest_step : ℕ
 longest_step = 3600
 
 -- the most steps that TOTP looks back, and the most that it looks ahead
-abbrev pub most_steps : ℕ
-most_steps = 10
+abbrev pub most_steps_aside : ℕ
+most_steps_aside = 10
 
 -- the greatest max_drift of TOTP, in steps
 abbrev pub most_drift : ℕ

@@ -1,6 +1,6 @@
 -- The reply due to an attempt, given the start of a token and the history since.
 use Rattle.std.specs.Prelude.{ℕ, ◌+◌, ◌≤◌, ◌<◌, ◌≡◌, List, [], ◌∷◌}
-use Rattle.otp_core.specs.Code.{hotp_text_by}
+use Rattle.otp_core.specs.Hash.{hotp_text_by}
 use Rattle.otp_core.specs.Attempt.{Attempt, CodeTexts}
 use Rattle.otp_core.specs.Window.{IsCandidate, IsPairCandidate}
 use Rattle.otp_core.specs.declared.hash.OtpHash.TheVariants.{Sha1}

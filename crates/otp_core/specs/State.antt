@@ -1,4 +1,4 @@
--- How a reply changes a token's state.
+-- How a reply and an unlock change a token's state.
 use Rattle.std.specs.Prelude.{ℕ, ◌+◌, pos, ◌-ℤ◌, Some}
 use Rattle.otp_core.specs.Window.{step_at}
 use Rattle.otp_core.specs.declared.token.answer.Reply.{Reply}
@@ -17,7 +17,12 @@ after_fail (Hotp t) = Hotp (record t { failures = t.failures + 1 })
 after_fail (Totp t) = Totp (record t { failures = t.failures + 1 })
 
 -- the token after a reply at a moment
-abbrev pub advanced : TokenFields → (moment : ℕ) → Reply → TokenFields
-advanced t moment (Pass c) = after_pass t moment c
-advanced t moment Fail = after_fail t
-advanced t moment Locked = t
+abbrev pub after_reply : TokenFields → (moment : ℕ) → Reply → TokenFields
+after_reply t moment (Pass c) = after_pass t moment c
+after_reply t moment Fail = after_fail t
+after_reply t moment Locked = t
+
+-- the token with no failures, as an unlock leaves it
+abbrev pub unlocked : TokenFields → TokenFields
+unlocked (Hotp t) = Hotp (record t { failures = 0 })
+unlocked (Totp t) = Totp (record t { failures = 0 })

@@ -1,6 +1,6 @@
 //! Refusals of this crate, each with its number.
 ghost use Rattle.std.specs.Prelude.{◌≡◌};
-ghost use Rattle.otp_core.specs.Fault.{fault_number, setting_name};
+ghost use Rattle.otp_core.specs.Fault.{otp_fault_number, setting_name};
 
 use std::fmt;
 use thiserror::Error;
@@ -25,7 +25,7 @@ impl OtpFault {
     /// The number of the refusal: 40 for a secret's length, 41 for a number of digits, 42 for a
     /// token's setting.
     pub fn number(&self) -> u16
-        ensures { result ≡ fault_number self.now }
+        ensures { result ≡ otp_fault_number self.now }
     {
         match self {
             OtpFault::SecretLength => 40,
@@ -60,10 +60,10 @@ pub enum Setting {
     /// How far, in steps, a step that passes may be from the present one.
     MaxDrift,
 
-    /// TOTP's last accepted step.
+    /// The greatest TOTP step that has passed.
     Last,
 
-    /// By how many steps TOTP's last accepted code was ahead of the step that was then present.
+    /// By how many steps the clock of a TOTP token is ahead, as the last pass showed.
     Drift,
 
     /// The number of failures that locks the token.

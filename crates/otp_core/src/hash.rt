@@ -1,7 +1,6 @@
 //! The hash function of a token, chosen at run time.
 ghost use Rattle.std.specs.Prelude.{◌≡◌, ◌≢◌, IfSome, IfNone};
-ghost use Rattle.otp_core.specs.Code.{hotp_text_by};
-ghost use Rattle.otp_core.specs.Hash.{hash_name, hash_named};
+ghost use Rattle.otp_core.specs.Hash.{hash_name, hash_named, hotp_text_by};
 
 use crate::code::{Code, hotp};
 use crate::digits::Digits;

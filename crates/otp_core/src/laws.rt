@@ -8,14 +8,14 @@ pub fn begins_with_itself()
     ensures { BeginsWithItself }
 {}
 
-/// A counter that can pass is above each that has passed in the history before it, so none passes
+/// A counter that can pass, alone or as the first of a pair, is above each that the history before it has used, so none is used
 /// twice.
 pub fn candidates_are_new()
     ensures { CandidatesAreNew }
 {}
 
-/// A counter that a token has used can pass after no legal history from it, even where failures are
-/// set back to 0 in between.
+/// A counter that a token has used can pass after no legal history from it, alone or in a pair. Which counters are used does not
+/// depend on the failures, so the law holds of the token after an unlock too.
 pub fn used_stays_used()
     ensures { UsedStaysUsed }
 {}

@@ -1,14 +1,10 @@
 //! Tokens of either kind, each setting within its range.
-ghost use Rattle.std.specs.Prelude.{ℕ, ◌≡◌, ◌≤◌, ◌∷◌, List, None, MatchResult};
-ghost use Rattle.otp_core.specs.Ranges.{most_counter};
-ghost use Rattle.otp_core.specs.Settings.{IsHotpInRange, IsTotpInRange, IsInRange, IsRefusalOf, hotp_ranges, totp_ranges, unlocked};
-ghost use Rattle.otp_core.specs.Attempt.{Attempt, attempt_of};
+ghost use Rattle.std.specs.Prelude.{◌≡◌, MatchResult};
+ghost use Rattle.otp_core.specs.TokenRanges.{IsHotpInRange, IsTotpInRange, IsInRange, IsRefusalOf, hotp_ranges, totp_ranges};
 ghost use Rattle.otp_core.specs.Attempt.CodeTexts.{OneText, TwoTexts};
-ghost use Rattle.otp_core.specs.Reply.{IsDueReply};
-ghost use Rattle.otp_core.specs.History.{IsAfter};
 ghost use Rattle.otp_core.specs.Sent.{texts_of};
-ghost use Rattle.otp_core.specs.State.{advanced};
-ghost use Rattle.otp_core.specs.declared.token.kinds.TokenFields.{TokenFields as TheTokenFields};
+ghost use Rattle.otp_core.specs.State.{unlocked};
+ghost use Rattle.otp_core.specs.TokenAttempt.{IsTokenAttempt};
 ghost use Rattle.otp_core.specs.declared.token.kinds.TokenFields.TheVariants.{Hotp, Totp};
 
 mod answer;
@@ -38,7 +34,7 @@ impl Model for Token {
 
     ghost Value = { TokenFields };
 
-    ghost use Rattle.otp_core.specs.Settings.{IsInRange};
+    ghost use Rattle.otp_core.specs.TokenRanges.{IsInRange};
 
     ghost view = { λ t. t.fields };
 
@@ -106,13 +102,7 @@ impl Token {
     /// present one; both set the failures to 0. `Fail` adds one to the failures; `Locked` changes
     /// nothing. A counter that passes is at most 2^63 - 2.
     pub fn attempt(&mut self, moment: Moment, text: &[u8]) -> Reply
-        ensures due { (start : TheTokenFields) (history : List Attempt)
-            → IsAfter start history self.old → IsDueReply start history moment (OneText text.now) result }
-        ensures after { (start : TheTokenFields) (history : List Attempt)
-            → IsAfter start history self.old
-            → IsAfter start (attempt_of moment (OneText text.now) result ∷ history) self.new }
-        ensures state { self.new ≡ advanced self.old moment result }
-        ensures counter { (c : ℕ) → result ≡ Reply.Pass c → c ≤ most_counter }
+        ensures { IsTokenAttempt self.old moment (OneText text.now) result self.new }
     {
         self.judge(moment, Sent::One(text))
     }
@@ -127,25 +117,14 @@ impl Token {
     /// The fields change as by `attempt`, and a counter that passes is at most 2^63 - 2. At most two codes more than
     /// `sync_ahead` are made, which no clause says.
     pub fn sync(&mut self, moment: Moment, first: &[u8], second: &[u8]) -> Reply
-        ensures due { (start : TheTokenFields) (history : List Attempt) → IsAfter start history self.old
-            → IsDueReply start history moment (TwoTexts first.now second.now) result }
-        ensures after { (start : TheTokenFields) (history : List Attempt) → IsAfter start history self.old
-            → IsAfter start (attempt_of moment (TwoTexts first.now second.now) result ∷ history) self.new }
-        ensures state { self.new ≡ advanced self.old moment result }
-        ensures counter { (c : ℕ) → result ≡ Reply.Pass c → c ≤ most_counter }
+        ensures { IsTokenAttempt self.old moment (TwoTexts first.now second.now) result self.new }
     {
         self.judge(moment, Sent::Two(first, second))
     }
 
     /// Judges what was sent at `moment`: one text as `attempt` does, and two as `sync` does.
     pub fn judge(&mut self, moment: Moment, sent: Sent<'_>) -> Reply
-        ensures due { (start : TheTokenFields) (history : List Attempt)
-            → IsAfter start history self.old → IsDueReply start history moment (texts_of sent.entry) result }
-        ensures after { (start : TheTokenFields) (history : List Attempt)
-            → IsAfter start history self.old
-            → IsAfter start (attempt_of moment (texts_of sent.entry) result ∷ history) self.new }
-        ensures state { self.new ≡ advanced self.old moment result }
-        ensures counter { (c : ℕ) → result ≡ Reply.Pass c → c ≤ most_counter }
+        ensures { IsTokenAttempt self.old moment (texts_of sent.entry) result self.new }
     {
         prove!(moment.seconds() <= LAST_MOMENT);
         match sent {

@@ -4,10 +4,10 @@ use Rattle.std.specs.Prelude.{ℕ, ◌≡◌, List, [], ◌∷◌}
 use Rattle.mac_core.specs.declared.mechanism.Mechanism.{Mechanism}
 use Rattle.log_grammar.specs.Lines.{LogLine, said, accepts}
 use Rattle.log_grammar.specs.Demands.{Accounts}
-use Rattle.sasl_desk.specs.Runs.{Asked, greets, hears, Call}
+use Rattle.sasl_desk.specs.Runs.{Request, greets, hears, Call}
 
 -- two requests are the same, at whichever moments: greetings with one part of the nonce, or clients that do the same
-abbrev pub IsSameRequest : Asked → Asked → Type 0
+abbrev pub IsSameRequest : Request → Request → Type 0
 IsSameRequest (greets server_nonce) (greets other) = server_nonce ≡ other
 IsSameRequest (hears event moment) (hears other later) = event ≡ other
 IsSameRequest one other = ⊥
@@ -15,7 +15,7 @@ IsSameRequest one other = ⊥
 -- the calls of two sessions have the same requests, one after another
 abbrev pub HaveSameRequests : List Call → List Call → Type 0
 HaveSameRequests [] [] = Unit {0}
-HaveSameRequests (c ∷ calls) (d ∷ others) = IsSameRequest c.asked d.asked × HaveSameRequests calls others
+HaveSameRequests (c ∷ calls) (d ∷ others) = IsSameRequest c.request d.request × HaveSameRequests calls others
 HaveSameRequests calls others = ⊥
 
 -- the lines up to the first `S OK`, the outcome of a login that is accepted. A login that is refused is over with its outcome.

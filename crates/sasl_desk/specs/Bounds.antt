@@ -10,7 +10,7 @@ most_line_bytes = longest_log_line + 1
 abbrev pub most_call_lines : ℕ
 most_call_lines = 3
 
--- the most bytes that a call sends, and that a call of a desk adds to its log
+-- the most bytes that a call of a desk adds to its log. Each call asks for as much room for what it sends, which is one line at most
 abbrev pub most_bytes_of_call : ℕ
 most_bytes_of_call = most_call_lines * most_line_bytes
 
@@ -19,12 +19,12 @@ abbrev pub most_u64_digits : ℕ
 most_u64_digits = 20
 
 -- the most bytes of a number below 2^64 and the space after it: one more than a session's number needs
-abbrev pub most_prefix : ℕ
-most_prefix = most_u64_digits + 1
+abbrev pub most_prefix_bytes : ℕ
+most_prefix_bytes = most_u64_digits + 1
 
 -- the most bytes that a call of a hall adds to its log
 abbrev pub most_numbered_bytes_of_call : ℕ
-most_numbered_bytes_of_call = most_call_lines * (most_line_bytes + most_prefix)
+most_numbered_bytes_of_call = most_call_lines * (most_line_bytes + most_prefix_bytes)
 
 -- the vector has no room reserved for so many bytes more
 abbrev pub LacksRoomFor : {Z : Type 0} → Vec ℕ Z → (bytes : ℕ) → Type 0

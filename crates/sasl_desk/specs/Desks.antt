@@ -1,18 +1,18 @@
 -- What a desk stands for: the book with which it began, and the run since.
-use Rattle.std.specs.Prelude.{ℕ, ◌≡◌, ◌+◌, ◌⊎◌, true, false, Bool, List, [], ◌∷◌, ◌++◌, reverse, length, filter}
+use Rattle.std.specs.Prelude.{ℕ, ◌≡◌, ◌⊎◌, true, false, List, [], ◌∷◌, ◌++◌, reverse}
 use Rattle.book_format.specs.Book.{BookFields}
 use Rattle.book_format.specs.Trees.{IsBookText}
-use Rattle.account_book.specs.SavedBooks.{needs_save, HasStoredText}
+use Rattle.account_book.specs.SavedBooks.{HasStoredText}
 use Rattle.account_book.specs.Store.{StoreFacts}
 use Rattle.log_grammar.specs.Books.{accounts_in}
-use Rattle.log_grammar.specs.Lines.{LogLine, said, heard, replies, halt, asking, log_bytes}
+use Rattle.log_grammar.specs.Lines.{LogLine, log_bytes}
 use Rattle.log_grammar.specs.LoggedReply.{LoggedReply}
-use Rattle.log_grammar.specs.Places.{Place, between, waits_code, halted}
+use Rattle.log_grammar.specs.Places.{Place, between, halted}
 use Rattle.log_grammar.specs.Demands.{Accounts, demands}
 use Rattle.log_grammar.specs.Begins.{Begins}
-use Rattle.sasl_desk.specs.Events.{ClientEvent}
 use Rattle.sasl_desk.specs.Keeper.{IsAttemptJudged}
-use Rattle.sasl_desk.specs.Runs.{Asked, hears, Call, call_of, run_lines, server_nonce_of, wire_bytes, IsRun}
+use Rattle.sasl_desk.specs.Runs.{Request, Call, call_of, run_lines, server_nonce_of, wire_bytes, IsRun}
+use Rattle.sasl_desk.specs.SavedCalls.{IsAttemptOf, CountsSaves, AsksForSave, IsQuiet, FailsInSave}
 use Rattle.sasl_desk.specs.Sessions.{IsSessionAt, CanBeWritten}
 use Rattle.sasl_desk.specs.Spent.{AreSpent, spent_by}
 use Rattle.sasl_desk.specs.declared.session.Session.{Session}
@@ -46,26 +46,16 @@ IsStateAt accounts server_nonce place Closed = place ≡ between
 IsStateAt accounts server_nonce place (Open going kept) = IsSessionAt accounts place going × (kept ≡ server_nonce)
 IsStateAt accounts server_nonce place Halted = Unit {0}
 
--- the store has not failed, and holds the text of the book, of which this holds
+-- the store has not failed, and holds the text of the book, and `IsStored` holds of that text
 pub record HoldsBook (IsStored : List ℕ → Type 0) (book : BookFields) (store : StoreFacts) : Type 0 where
   pub working : store.failed ≡ false
   pub saved : IsBookText store.saved book
   pub stored : IsStored store.saved
 
--- the attempt of a call: of the account whose client may send a code at this place, at the moment that was handed in, with
--- what the client sent
-pub record IsAttemptOf (asked : Asked) (at : Place) (lines : List LogLine) (t : LoggedReply) : Type 0 where
-  pub event : ClientEvent
-  pub answer : LogLine
-  pub is_asked : asked ≡ hears event t.moment
-  pub place : at ≡ waits_code t.account
-  pub lines_are : lines ≡ heard (asking t.sent) ∷ answer ∷ []
-  pub to_save : needs_save t.reply ≡ true
-
 -- the latest call judged this attempt
 abbrev pub IsLatestAttempt : Accounts → List Call → LoggedReply → Type 0
 IsLatestAttempt accounts [] t = ⊥
-IsLatestAttempt accounts (c ∷ before) t = (place : Place) × IsRun accounts before place × IsAttemptOf c.asked place c.lines t
+IsLatestAttempt accounts (c ∷ before) t = (place : Place) × IsRun accounts before place × IsAttemptOf c.request place c.lines t
 
 -- the store has failed as it saved the book with the attempt of the latest call: it holds the text of the book from before
 -- it, which was saved, or that of the book with it
@@ -75,7 +65,7 @@ pub record IsLostAfter (IsStored : List ℕ → Type 0) (accounts : Accounts) (c
   pub t : LoggedReply
   pub next : BookFields
   pub is_latest : IsLatestAttempt accounts calls t
-  pub is_told : IsAttemptJudged book t next
+  pub is_judged : IsAttemptJudged book t next
   pub saved : (IsBookText store.saved book × IsStored store.saved) ⊎ IsBookText store.saved next
   pub before : HasStoredText IsStored book
 
@@ -95,25 +85,6 @@ abbrev pub spent_by_all : List LoggedReply → List (List ℕ × ℕ)
 spent_by_all [] = []
 spent_by_all (t ∷ before) = spent_by t ++ spent_by_all before
 
--- a desk that began with a book has answered these calls, the latest of which comes first
-pub record IsDeskAfter {S : Type 0} (facts : S → StoreFacts) (IsStored : List ℕ → Type 0) (start : BookFields) (calls : List Call)
-    (desk : Desk S) : Type 0 where
-  -- where the log stands, and the replies that were told
-  pub place : Place
-  pub told : List LoggedReply
-  -- what was asked is recorded and answered
-  pub is_run : IsRun (accounts_in start) calls place
-  -- a clean log may begin with the log's lines, and they can be written
-  pub begins : Begins (demands (accounts_in start)) (run_lines calls) place told
-  pub writable : CanBeWritten (run_lines calls)
-  -- the session waits for what is due there, or the desk has halted
-  pub is_state : IsStateAt (accounts_in start) (server_nonce_of calls) place desk.state
-  -- the book has each attempt in it, and the store holds its text, except after a save in which the store failed
-  pub is_book : IsBookWith start (reverse told) desk.keeper.book
-  pub is_stored : IsStoredAt IsStored (accounts_in start) calls place desk.keeper.book (facts desk.keeper.store)
-  -- what was spent before is spent, and each counter that a reply used
-  pub spent : (ps : List (List ℕ × ℕ)) → AreSpent ps start → AreSpent (spent_by_all (reverse told) ++ ps) desk.keeper.book
-
 -- the desk of this keeper, in this state
 abbrev pub desk_of : {S : Type 0} → Keeper S → State → Desk S
 desk_of keeper state = record { keeper = keeper; state = state }
@@ -130,28 +101,37 @@ state_after (Going going) server_nonce = Open going server_nonce
 state_after Over server_nonce = Closed
 state_after (after.Halted going) server_nonce = Halted
 
--- a line for which the store was asked to save: a reply that needs it, or HALT
-abbrev pub is_saving : LogLine → Bool
-is_saving (said (replies moment reply)) = needs_save reply
-is_saving (said halt) = true
-is_saving line = false
+-- what a desk stands for, and what its calls do: `facts` are those of its store, and `IsStored` holds of each text that is stored
+module _ {S : Type 0} (facts : S → StoreFacts) (IsStored : List ℕ → Type 0) where
+  -- a desk that began with a book has answered these calls, the latest of which comes first
+  pub record IsDeskAfter (start : BookFields) (calls : List Call) (desk : Desk S) : Type 0 where
+    -- where the log stands, and the replies that were told
+    pub place : Place
+    pub told : List LoggedReply
+    -- what was asked is recorded and answered
+    pub is_run : IsRun (accounts_in start) calls place
+    -- a clean log may begin with the log's lines, and they can be written
+    pub begins : Begins (demands (accounts_in start)) (run_lines calls) place told
+    pub writable : CanBeWritten (run_lines calls)
+    -- the session waits for what is due there, or the desk has halted
+    pub is_state : IsStateAt (accounts_in start) (server_nonce_of calls) place desk.state
+    -- the book has each attempt in it, and the store holds its text, except after a save in which the store failed
+    pub is_book : IsBookWith start (reverse told) desk.keeper.book
+    pub is_stored : IsStoredAt IsStored (accounts_in start) calls place desk.keeper.book (facts desk.keeper.store)
+    -- what was spent before is spent, and each counter that a reply used
+    pub spent : (ps : List (List ℕ × ℕ)) → AreSpent ps start → AreSpent (spent_by_all (reverse told) ++ ps) desk.keeper.book
 
--- what a call did: it added lines, and the desk that had answered some calls has answered this one, too
-pub record Answers {S : Type 0} (facts : S → StoreFacts) (IsStored : List ℕ → Type 0) (old : Desk S) (asked : Asked)
-    (wire wire' log log' : List ℕ) (new : Desk S) : Type 0 where
-  pub lines : List LogLine
-  pub logged : log' ≡ log ++ log_bytes lines
-  pub sent : wire' ≡ wire ++ wire_bytes lines
-  pub stands : (start : BookFields) (calls : List Call) → IsDeskAfter facts IsStored start calls old
-      → IsDeskAfter facts IsStored start (call_of asked lines ∷ calls) new
-  -- the store was asked for one save for each such line: a reply that needs one, or HALT
-  pub saves : (start : BookFields) (calls : List Call) → IsDeskAfter facts IsStored start calls old
-      → (facts new.keeper.store).saves ≡ (facts old.keeper.store).saves + length (filter is_saving lines)
-  -- where the store was asked to save, it was given the text of the book with the attempt of this call
-  pub asks : (start : BookFields) (calls : List Call) (s : IsDeskAfter facts IsStored start calls old) → (filter is_saving lines ≡ [] → ⊥)
-      → (t : LoggedReply) × (next : BookFields) × IsAttemptOf asked s.place lines t × IsAttemptJudged old.keeper.book t next
-      × IsBookText (facts new.keeper.store).asked next
-  -- a call without a reply that needs a save, and without HALT, leaves the book and the store as they are
-  pub quiet : filter is_saving lines ≡ [] → (new.keeper.book ≡ old.keeper.book) × (facts new.keeper.store ≡ facts old.keeper.store)
-  -- a call halts the desk only by a save in which the store failed, and the book is then as before
-  pub halts : phase_of new.state ≡ phase.Halted → ((facts new.keeper.store).failed ≡ true) × (new.keeper.book ≡ old.keeper.book)
+  -- what a call did: it added lines, and the desk that had answered some calls has answered this one, too
+  pub record Answers (old : Desk S) (request : Request) (wire wire' log log' : List ℕ) (new : Desk S) : Type 0 where
+    pub lines : List LogLine
+    pub logged : log' ≡ log ++ log_bytes lines
+    pub sent : wire' ≡ wire ++ wire_bytes lines
+    pub stands : (start : BookFields) (calls : List Call) → IsDeskAfter start calls old
+        → IsDeskAfter start (call_of request lines ∷ calls) new
+    -- the call saved what its lines tell
+    pub saves : (start : BookFields) (calls : List Call) → IsDeskAfter start calls old → CountsSaves facts lines old.keeper new.keeper
+    pub asks : (start : BookFields) (calls : List Call) (s : IsDeskAfter start calls old)
+        → AsksForSave facts request s.place lines old.keeper new.keeper
+    pub quiet : IsQuiet facts lines old.keeper new.keeper
+    -- a call halts the desk only by a save in which the store failed
+    pub halts : phase_of new.state ≡ phase.Halted → FailsInSave facts old.keeper new.keeper

@@ -1,12 +1,11 @@
 -- What a hall stands for: the book with which it began, and the run since, of all its sessions.
 use Rattle.std.specs.Prelude.{ℕ, ◌≡◌, ◌≢◌, ◌⊎◌, ◌↔◌, ◌+◌, ◌<◌, ◌≤◌, true, false, Bool, List, [], ◌∷◌, ◌++◌}
-use Rattle.std.specs.Prelude.{map, reverse, length, filter, count_by}
+use Rattle.std.specs.Prelude.{map, reverse, length, count_by}
 use Rattle.std.specs.List.{AllByRecursion, find}
 use Rattle.std.specs.List.Sorted.{IsPermutation}
 use Rattle.std.specs.declared.option.Option.{Option}
 use Rattle.std.specs.declared.option.Option.TheVariants.{None, Some}
 use Rattle.book_format.specs.Book.{BookFields}
-use Rattle.book_format.specs.Trees.{IsBookText}
 use Rattle.account_book.specs.Store.{StoreFacts}
 use Rattle.log_grammar.specs.Books.{accounts_in}
 use Rattle.log_grammar.specs.Bytes.{ended_by_lf}
@@ -14,13 +13,13 @@ use Rattle.log_grammar.specs.Lines.{LogLine, header_two, said, ended, busy, log_
 use Rattle.log_grammar.specs.LoggedReply.{LoggedReply}
 use Rattle.log_grammar.specs.Places.{Place, between, offered, waits_first, waits_final, waits_code, open_at}
 use Rattle.log_grammar.specs.Demands.{Accounts, demands}
-use Rattle.log_grammar.specs.Numbered.{Numbered, numbered, of_number, begun, closed_in, SpellsNumbered}
+use Rattle.log_grammar.specs.Numbered.{Numbered, numbered, of_number, given_in, closed_in, SpellsNumbered}
 use Rattle.log_grammar.specs.Versions.{most_open}
 use Rattle.log_grammar.specs.NumberedLines.{numbered_text, IsNumberedWritable, last_session_number}
-use Rattle.sasl_desk.specs.Desks.{session_phase, IsStoredAt, HoldsBook, IsBookWith, IsAttemptOf, spent_by_all, is_saving}
+use Rattle.sasl_desk.specs.Desks.{session_phase, IsStoredAt, HoldsBook, IsBookWith, spent_by_all}
 use Rattle.sasl_desk.specs.Guests.{is_of}
-use Rattle.sasl_desk.specs.Keeper.{IsAttemptJudged}
-use Rattle.sasl_desk.specs.Runs.{Asked, greets, Call, call_of, server_nonce_of, wire_bytes, IsRun}
+use Rattle.sasl_desk.specs.Runs.{Request, greets, Call, call_of, server_nonce_of, wire_bytes, IsRun}
+use Rattle.sasl_desk.specs.SavedCalls.{CountsSaves, AsksForSave, IsQuiet, FailsInSave}
 use Rattle.sasl_desk.specs.Sessions.{IsSessionAt}
 use Rattle.sasl_desk.specs.Spent.{AreSpent}
 use Rattle.sasl_desk.specs.declared.keeper.Keeper.{Keeper}
@@ -33,16 +32,16 @@ use Rattle.sasl_desk.specs.declared.session.phase.Phase.TheVariants as phase
 pub record HallFields (S : Type 0) : Type 0 where
   pub keeper : Keeper S
   pub guests : List Guest
-  pub begun : ℕ
+  pub given : ℕ
   pub is_halted : Bool
 
 -- a hall of these parts
-abbrev pub hall_of : {S : Type 0} → Keeper S → (guests : List Guest) → (begun : ℕ) → (is_halted : Bool) → HallFields S
-hall_of keeper guests begun is_halted = record { keeper = keeper; guests = guests; begun = begun; is_halted = is_halted }
+abbrev pub hall_of : {S : Type 0} → Keeper S → (guests : List Guest) → (given : ℕ) → (is_halted : Bool) → HallFields S
+hall_of keeper guests given is_halted = record { keeper = keeper; guests = guests; given = given; is_halted = is_halted }
 
--- what a hall is
+-- the fields of a hall: its guests are those in its seats
 abbrev pub hall_shown : {S : Type 0} → Hall S → HallFields S
-hall_shown hall = hall_of hall.keeper hall.seats hall.begun hall.is_halted
+hall_shown hall = hall_of hall.keeper hall.seats hall.given hall.is_halted
 
 -- the lines of a log after its first, after these calls, the latest of which comes first: each call's lines have the number of
 -- its session
@@ -62,11 +61,14 @@ hall_bytes calls = log_bytes (header_two ∷ []) ++ numbered_bytes (hall_lines c
 abbrev pub busy_lines : List LogLine
 busy_lines = said busy ∷ ended ∷ []
 
--- the calls of one session, the latest first, each with the lines by which it is answered, as at a desk; or its one greeting,
--- where it was turned away. The session then stands at this place.
+-- a session was turned away: its greeting was answered by BUSY, and nothing more was asked of it
+abbrev pub IsTurnedAway : List Call → Type 0
+IsTurnedAway calls = (server_nonce : List ℕ) × (calls ≡ call_of (greets server_nonce) busy_lines ∷ [])
+
+-- the calls of one session, the latest first, each with the lines by which it is answered, as at a desk; or it was turned away.
+-- The session then stands at this place.
 abbrev pub IsSessionRun : Accounts → List Call → Place → Type 0
-IsSessionRun accounts calls place =
-    IsRun accounts calls place ⊎ ((server_nonce : List ℕ) × (calls ≡ call_of (greets server_nonce) busy_lines ∷ []) × (place ≡ between))
+IsSessionRun accounts calls place = IsRun accounts calls place ⊎ (IsTurnedAway calls × (place ≡ between))
 
 -- a guest's session stands at the place of its number, with the server's part of the nonce with which it was greeted
 abbrev pub IsSeated : Accounts → List (Numbered Call) → (ℕ → Place) → Guest → Type 0
@@ -78,33 +80,6 @@ abbrev pub IsStoredAfter : (IsStored : List ℕ → Type 0) → Accounts → Lis
 IsStoredAfter IsStored accounts [] places book store = HoldsBook IsStored book store
 IsStoredAfter IsStored accounts (c ∷ before) places book store =
     IsStoredAt IsStored accounts (of_number c.number (c ∷ before)) (places c.number) book store
-
--- a hall that began with a book has answered these calls, the latest of which comes first, each of the session of its number
-pub record IsHallAfter {S : Type 0} (facts : S → StoreFacts) (IsStored : List ℕ → Type 0) (start : BookFields)
-    (calls : List (Numbered Call))
-    (hall : HallFields S) : Type 0 where
-  -- where the session of each number stands, and the replies that were told, in the order of the whole log
-  pub places : ℕ → Place
-  pub told : List LoggedReply
-  -- what each session was asked is recorded and answered; nothing was asked of a number that was not given
-  pub session_runs : (n : ℕ) → IsSessionRun (accounts_in start) (of_number n calls) (places n)
-  pub fresh : (n : ℕ) → begun (hall_lines calls) < n → of_number n calls ≡ []
-  -- the lines are those of a log of version 2, at most 64 of whose sessions are open at once, and they can be written
-  pub spelled : SpellsNumbered most_open (demands (accounts_in start)) (hall_lines calls) places told
-  pub writable : AllByRecursion IsNumberedWritable (hall_lines calls)
-  -- the numbers that were given are 1, 2, and so on
-  pub given : hall.begun ≡ begun (hall_lines calls)
-  pub last_number : hall.begun ≤ last_session_number
-  -- each open session has one guest, and no other number has any
-  pub guests : (n : ℕ) → count_by (is_of n) hall.guests ≡ open_at (places n)
-  pub open_are : length hall.guests + closed_in (hall_lines calls) ≡ begun (hall_lines calls)
-  -- each waits for what is due to it, or the hall has halted
-  pub seated : hall.is_halted ≡ false → AllByRecursion (IsSeated (accounts_in start) calls places) hall.guests
-  -- the book has each attempt in it, and the store holds its text, except after a save in which the store failed
-  pub is_book : IsBookWith start (reverse told) hall.keeper.book
-  pub is_stored : IsStoredAfter IsStored (accounts_in start) calls places hall.keeper.book (facts hall.keeper.store)
-  -- what was spent before is spent, and each counter that a reply used
-  pub spent : (ps : List (List ℕ × ℕ)) → AreSpent ps start → AreSpent (spent_by_all (reverse told) ++ ps) hall.keeper.book
 
 -- the phase is that of this place: what the client may do there, and where no session is open, Closed. Of Halted nothing is said, since
 -- a halt may come at any place.
@@ -134,34 +109,57 @@ pub record IsSameHall {S : Type 0} (old new : HallFields S) : Type 0 where
   pub book : new.keeper.book ≡ old.keeper.book
   pub store : new.keeper.store ≡ old.keeper.store
   pub guests : IsPermutation old.guests new.guests
-  pub begun : new.begun ≡ old.begun
+  pub given : new.given ≡ old.given
   pub halted : new.is_halted ≡ old.is_halted
-
--- what a call of a session did: it added lines, and the hall that had answered some calls has answered this one, too
-pub record AnswersIn {S : Type 0} (facts : S → StoreFacts) (IsStored : List ℕ → Type 0) (old : HallFields S) (n : ℕ) (asked : Asked)
-    (phase_after : Phase) (wire wire' log log' : List ℕ) (new : HallFields S) : Type 0 where
-  pub lines : List LogLine
-  pub logged : log' ≡ log ++ numbered_bytes (map (numbered n) lines)
-  pub sent : wire' ≡ wire ++ wire_bytes lines
-  -- the hall has answered one call more, and the phase that is answered is that of the place where the session then stands
-  pub stands : (start : BookFields) (calls : List (Numbered Call)) → IsHallAfter facts IsStored start calls old
-      → (after : IsHallAfter facts IsStored start (numbered n (call_of asked lines) ∷ calls) new) × IsPhaseOf (after.places n) phase_after
-  -- the phase that is answered is Halted exactly where the hall has halted
-  pub tells : (phase_after ≡ phase.Halted) ↔ (new.is_halted ≡ true)
-  -- the store was asked for one save for each such line: a reply that needs one, or HALT
-  pub saves : (start : BookFields) (calls : List (Numbered Call)) → IsHallAfter facts IsStored start calls old
-      → (facts new.keeper.store).saves ≡ (facts old.keeper.store).saves + length (filter is_saving lines)
-  -- where the store was asked to save, it was given the text of the book with the attempt of this call
-  pub asks : (start : BookFields) (calls : List (Numbered Call)) (s : IsHallAfter facts IsStored start calls old)
-      → (filter is_saving lines ≡ [] → ⊥)
-      → (t : LoggedReply) × (next : BookFields) × IsAttemptOf asked (s.places n) lines t × IsAttemptJudged old.keeper.book t next
-      × IsBookText (facts new.keeper.store).asked next
-  -- a call without a reply that needs a save, and without HALT, leaves the book and the store as they are
-  pub quiet : filter is_saving lines ≡ [] → (new.keeper.book ≡ old.keeper.book) × (facts new.keeper.store ≡ facts old.keeper.store)
-  -- a call halts the hall only by a save in which the store failed, and the book is then as before
-  pub halts : new.is_halted ≡ true → ((facts new.keeper.store).failed ≡ true) × (new.keeper.book ≡ old.keeper.book)
 
 -- the phase of the session of a number is that of its place, and there is none exactly where no session is open
 abbrev pub IsPhaseIn : Place → Option Phase → Type 0
 IsPhaseIn place None = place ≡ between
 IsPhaseIn place (Some phase) = (place ≢ between) × IsPhaseOf place phase
+
+-- what a hall stands for, and what its calls do: `facts` are those of its store, and `IsStored` holds of each text that is stored
+module _ {S : Type 0} (facts : S → StoreFacts) (IsStored : List ℕ → Type 0) where
+  -- a hall that began with a book has answered these calls, the latest of which comes first, each of the session of its number
+  pub record IsHallAfter (start : BookFields) (calls : List (Numbered Call)) (hall : HallFields S) : Type 0 where
+    -- where the session of each number stands, and the replies that were told, in the order of the whole log
+    pub places : ℕ → Place
+    pub told : List LoggedReply
+    -- what each session was asked is recorded and answered; nothing was asked of a number that was not given
+    pub session_runs : (n : ℕ) → IsSessionRun (accounts_in start) (of_number n calls) (places n)
+    pub fresh : (n : ℕ) → given_in (hall_lines calls) < n → of_number n calls ≡ []
+    -- the lines are those of a log of version 2, at most 64 of whose sessions are open at once, and they can be written
+    pub spelled : SpellsNumbered most_open (demands (accounts_in start)) (hall_lines calls) places told
+    pub writable : AllByRecursion IsNumberedWritable (hall_lines calls)
+    -- the numbers that were given are 1, 2, and so on
+    pub given : hall.given ≡ given_in (hall_lines calls)
+    pub last_number : hall.given ≤ last_session_number
+    -- each open session has one guest, and no other number has any
+    pub guests : (n : ℕ) → count_by (is_of n) hall.guests ≡ open_at (places n)
+    pub open_are : length hall.guests + closed_in (hall_lines calls) ≡ given_in (hall_lines calls)
+    -- each waits for what is due to it, or the hall has halted
+    pub seated : hall.is_halted ≡ false → AllByRecursion (IsSeated (accounts_in start) calls places) hall.guests
+    -- the book has each attempt in it, and the store holds its text, except after a save in which the store failed
+    pub is_book : IsBookWith start (reverse told) hall.keeper.book
+    pub is_stored : IsStoredAfter IsStored (accounts_in start) calls places hall.keeper.book (facts hall.keeper.store)
+    -- what was spent before is spent, and each counter that a reply used
+    pub spent : (ps : List (List ℕ × ℕ)) → AreSpent ps start → AreSpent (spent_by_all (reverse told) ++ ps) hall.keeper.book
+
+  -- what a call of a session did: it added lines, and the hall that had answered some calls has answered this one, too
+  pub record AnswersIn (old : HallFields S) (n : ℕ) (request : Request) (phase_after : Phase) (wire wire' log log' : List ℕ)
+      (new : HallFields S) : Type 0 where
+    pub lines : List LogLine
+    pub logged : log' ≡ log ++ numbered_bytes (map (numbered n) lines)
+    pub sent : wire' ≡ wire ++ wire_bytes lines
+    -- the hall has answered one call more, and the phase that is answered is that of the place where the session then stands
+    pub stands : (start : BookFields) (calls : List (Numbered Call)) → IsHallAfter start calls old
+        → (after : IsHallAfter start (numbered n (call_of request lines) ∷ calls) new) × IsPhaseOf (after.places n) phase_after
+    -- the phase that is answered is Halted exactly where the hall has halted
+    pub tells : (phase_after ≡ phase.Halted) ↔ (new.is_halted ≡ true)
+    -- the call saved what its lines tell
+    pub saves : (start : BookFields) (calls : List (Numbered Call)) → IsHallAfter start calls old
+        → CountsSaves facts lines old.keeper new.keeper
+    pub asks : (start : BookFields) (calls : List (Numbered Call)) (s : IsHallAfter start calls old)
+        → AsksForSave facts request (s.places n) lines old.keeper new.keeper
+    pub quiet : IsQuiet facts lines old.keeper new.keeper
+    -- a call halts the hall only by a save in which the store failed
+    pub halts : new.is_halted ≡ true → FailsInSave facts old.keeper new.keeper

@@ -1,4 +1,4 @@
--- What is read of a client in a turn.
+-- What is read from a client in a turn.
 use Rattle.std.specs.Prelude.{ℕ, ◌≡◌, List, [], ◌∷◌}
 use Rattle.sasl_log.specs.Source.{SourceFacts}
 use Rattle.sasl_log.specs.ReadsLineBytes.{ReadsLineBytes}
@@ -17,8 +17,8 @@ pub record LineRead : Type 0 where
 abbrev pub line_read : List ℕ → LineEnd → LineRead
 line_read text ended = record { text = text; ended = ended }
 
--- this was read of a source, and nothing after it: a line that is not too long, and its LF; one byte more than a line may have,
--- without an LF; or no more bytes than a line may have, without an LF, after which the input ended or a read failed
+-- this was read from a source, and nothing after it. It is one of three: a line that is not too long, and its LF; one byte more than a
+-- line may have, without an LF; or at most as many bytes as a line may have, without an LF, after which the input ended or a read failed
 pub record ReadsLine (old : SourceFacts) (read : LineRead) (new : SourceFacts) : Type 0 where
   pub text_read : ReadsLineBytes longest_line old read.text read.ended new
 
@@ -29,7 +29,7 @@ event_by text TooLong = sends text
 event_by text ByTheEnd = goes_away
 event_by text ByFault = goes_away
 
--- what the client did, by what was read of it
+-- what the client did, by what was read from it
 abbrev pub event_read : LineRead → ClientEvent
 event_read read = event_by read.text read.ended
 

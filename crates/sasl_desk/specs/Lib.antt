@@ -1,23 +1,24 @@
 -- What a desk and a hall do, in the order in which to read it: what a client does, a turn, a session, the runs of a desk and of a
--- hall, and what holds over all runs.
+-- hall, what holds over all runs, and how a client is served.
 pub mod Events
-pub mod Turns
+pub mod DueLines
 pub mod ChallengedLogin
 pub mod Sessions
 pub mod Bounds
 pub mod Prefix
-pub mod Outputs
-pub mod Inputs
-pub mod Faults
 pub mod Keeper
-pub mod TurnResults
 pub mod Runs
+pub mod TurnResults
 pub mod Spent
+pub mod SavedCalls
 pub mod Desks
-pub mod Records
-pub mod Alone
 pub mod Guests
 pub mod Halls
-pub mod Serves
+pub mod Records
+pub mod Alone
 pub mod Saved
 pub mod Restarts
+pub mod Faults
+pub mod Inputs
+pub mod Outputs
+pub mod Serves

@@ -6,8 +6,8 @@ use Rattle.log_grammar.specs.Counts.{is_offer}
 use Rattle.log_grammar.specs.Places.{Place}
 use Rattle.log_grammar.specs.Demands.{Accounts}
 use Rattle.sasl_desk.specs.Sessions.{IsRecord}
-use Rattle.sasl_desk.specs.Halls.{busy_lines}
-use Rattle.sasl_desk.specs.Runs.{Asked, greets, hears, Call, call_of, run_lines, IsRun}
+use Rattle.sasl_desk.specs.Halls.{IsTurnedAway}
+use Rattle.sasl_desk.specs.Runs.{Request, greets, hears, Call, run_lines, IsRun}
 
 -- the line records what a client did: one of its lines, `C BAD` or `C GONE`
 abbrev pub is_record : LogLine → Bool
@@ -17,27 +17,27 @@ is_record gone = true
 is_record line = false
 
 -- the server's parts of nonces, with that of a greeting put before them
-abbrev pub nonces_with : Asked → List (List ℕ) → List (List ℕ)
+abbrev pub nonces_with : Request → List (List ℕ) → List (List ℕ)
 nonces_with (greets server_nonce) before = server_nonce ∷ before
 nonces_with (hears event moment) before = before
 
 -- the server's parts of the nonces with which clients were greeted, the latest first
 abbrev pub nonces_in : List Call → List (List ℕ)
 nonces_in [] = []
-nonces_in (c ∷ before) = nonces_with c.asked (nonces_in before)
+nonces_in (c ∷ before) = nonces_with c.request (nonces_in before)
 
 -- the records after a request: a greeting adds none; what a client did adds its record, at the place where the log stood
-abbrev pub HasRecordOf : Accounts → Asked → (before : List Call) → (Earlier : List LogLine → Type 0) → List LogLine → Type 0
+abbrev pub HasRecordOf : Accounts → Request → (before : List Call) → (Earlier : List LogLine → Type 0) → List LogLine → Type 0
 HasRecordOf accounts (greets server_nonce) before Earlier records = Earlier records
 HasRecordOf accounts (hears event moment) before Earlier records =
     (place : Place) × (earlier : List LogLine) × (kept : LogLine)
     × IsRun accounts before place × IsRecord event place kept × Earlier earlier × (records ≡ earlier ++ kept ∷ [])
 
--- the lines are the records of what clients did in these calls, in its order: the latest call, which comes first, has the
--- last record
+-- the lines are the records of what clients did in these calls, in the order in which it was done: the latest call, which comes
+-- first, has the last record
 abbrev pub AreRecords : Accounts → List Call → List LogLine → Type 0
 AreRecords accounts [] records = records ≡ []
-AreRecords accounts (c ∷ before) records = HasRecordOf accounts c.asked before (AreRecords accounts before) records
+AreRecords accounts (c ∷ before) records = HasRecordOf accounts c.request before (AreRecords accounts before) records
 
 -- the log of these calls has one offer for each nonce, and its records are those of what clients did: nothing that a client
 -- did is left out, and nothing is invented
@@ -45,7 +45,6 @@ pub record HasItsRecords (accounts : Accounts) (calls : List Call) : Type 0 wher
   pub offers : length (filter is_offer (run_lines calls)) ≡ length (nonces_in calls)
   pub records : AreRecords accounts calls (filter is_record (run_lines calls))
 
--- the records of a session of a hall: as at a desk; or it was turned away, when it was greeted, and nothing more was asked of it
+-- the records of a session of a hall: as at a desk; or it was turned away
 abbrev pub HasSessionRecords : Accounts → List Call → Type 0
-HasSessionRecords accounts calls =
-    HasItsRecords accounts calls ⊎ ((server_nonce : List ℕ) × (calls ≡ call_of (greets server_nonce) busy_lines ∷ []))
+HasSessionRecords accounts calls = HasItsRecords accounts calls ⊎ IsTurnedAway calls

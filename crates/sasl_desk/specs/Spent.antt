@@ -33,19 +33,19 @@ pub record AreSpent (ps : List (List ℕ × ℕ)) (book : BookFields) : Type 0 w
   pub different : AreDifferent ps
   pub spent : AllByRecursion (λ p. IsCounterSpent book p.0 p.1) ps
 
--- the counters that an answer to a code uses: of two codes in a row both, and none where there is no reply
-abbrev pub used_by_answer : CodeTexts → Option Reply → List ℕ
-used_by_answer sent None = []
-used_by_answer sent (Some reply) = used_in_reply sent reply
+-- the counters that the reply to a code uses: of two codes in a row both, and none where the account has no token
+abbrev pub used_by_reply : CodeTexts → Option Reply → List ℕ
+used_by_reply sent None = []
+used_by_reply sent (Some reply) = used_in_reply sent reply
 
 -- counters, each with this account
 abbrev pub of_account : (name : List ℕ) → (counters : List ℕ) → List (List ℕ × ℕ)
 of_account name [] = []
 of_account name (c ∷ counters) = (name, c) ∷ of_account name counters
 
--- the counters that what was told uses, with the account
+-- the counters that a reply uses, each with its account
 abbrev pub spent_by : LoggedReply → List (List ℕ × ℕ)
-spent_by t = of_account t.account (used_by_answer t.sent t.reply)
+spent_by t = of_account t.account (used_by_reply t.sent t.reply)
 
 -- what was spent stays spent, and the counters that a reply uses are others and are spent then, too: so over any number
 -- of replies, of any number of runs that go on from one another's books, no counter of an account passes twice

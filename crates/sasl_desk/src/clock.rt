@@ -5,8 +5,8 @@ use otp_core::Moment;
 
 /// A clock, by which codes are judged.
 ///
-/// Contracts know one fact of it: `last`, the moment that it gave last, in seconds since 1970-01-01 00:00 UTC. What holds of each
-/// moment that it gives is `IsNow`, which each type of clock defines.
+/// Contracts know two things. `last` is the moment that the clock gave last, in seconds since 1970-01-01 00:00 UTC. `IsNow` is what
+/// holds of each moment that a clock of this type gives; each type defines its own.
 pub trait Clock {
     ghost last: { Self → ℕ };
 

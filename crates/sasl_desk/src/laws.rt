@@ -12,11 +12,11 @@ ghost use Rattle.sasl_desk.specs.Records.{HasItsRecords};
 ghost use Rattle.sasl_desk.specs.Restarts.{IsDeskRunLeaving, Change, AreChanges, spent_by_changes};
 ghost use Rattle.sasl_desk.specs.Runs.{Call, run_lines, wire_bytes};
 ghost use Rattle.sasl_desk.specs.Saved.{IsLogSaved};
-ghost use Rattle.sasl_desk.specs.Serves.{LongTextsAreBad};
+ghost use Rattle.sasl_desk.specs.Sessions.{LongTextsAreBad};
 ghost use Rattle.sasl_desk.specs.Spent.{SpentStaysSpent, AreSpent};
 ghost use Rattle.sasl_desk.specs.declared.desk.Desk.{Desk};
 ghost use Rattle.sasl_desk.specs.declared.session.phase.Phase.TheVariants as phase;
-ghost use Rattle.sasl_desk.specs.Turns.{DueLinesStand, BadLinesStand, GoneClientsStand};
+ghost use Rattle.sasl_desk.specs.DueLines.{DueLinesStand, BadLinesStand, GoneClientsStand};
 
 pub mod hall;
 
@@ -58,8 +58,8 @@ pub fn log_is_clean<S: BookStore>()
     goes_on_by_no_other();
 }
 
-/// A desk's log offers mechanisms once for each client that was greeted, and records what its clients did, in its order, each thing as
-/// is due at the place where the log then stood: nothing is left out, and nothing is invented.
+/// A desk's log offers mechanisms once for each client that was greeted, and records all that its clients did, in the order in which
+/// it was done, and each act as is due at the place where the log then stood: nothing is left out, and nothing is invented.
 pub fn log_has_its_records<S: BookStore>()
     ensures { (start : BookFields) (calls : List Call) (desk : Desk S) → IsDeskAfter S.facts S.IsStored start calls desk
         → HasItsRecords (accounts_in start) calls }

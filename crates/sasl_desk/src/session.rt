@@ -1,7 +1,7 @@
 //! The session of one client: what it is told, line by line.
 //!
 //! A session hears what its client does and answers it. It reads the book's accounts and keeps what it needs of the login;
-//! it knows nothing of the store, of other sessions and of what a log holds. A code it hands on to be judged.
+//! it knows nothing of the store, of other sessions and of what a log holds. It hands each code on to be judged.
 ghost use Rattle.std.specs.Prelude.{◌≡◌, [], IfOk, IfErr, OnErr};
 ghost use Rattle.log_grammar.specs.Lines as grammar;
 ghost use Rattle.log_grammar.specs.Lines.{from_client};
@@ -9,11 +9,11 @@ ghost use Rattle.log_grammar.specs.Places.{Place};
 ghost use Rattle.log_grammar.specs.Demands.{Accounts};
 ghost use Rattle.sasl_log.specs.Logins.{KeepsEntries};
 ghost use Rattle.sasl_log.specs.Shown.{client_shown};
-ghost use Rattle.sasl_log.specs.Texts.{CanBeLine};
+ghost use Rattle.sasl_log.specs.Texts.{IsLineWritable};
 ghost use Rattle.sasl_desk.specs.Events.{event_shown};
-ghost use Rattle.sasl_desk.specs.Turns.{BearsMessage};
+ghost use Rattle.sasl_desk.specs.DueLines.{BearsMessage};
 ghost use Rattle.sasl_desk.specs.Sessions.{IsSessionAt, IsLineOf, heard_lines, CanBeWritten};
-ghost use Rattle.sasl_desk.specs.Sessions.{ComesOfEvent, ComesOfLine, IsOfCode, AsksFor, AsksForEvent};
+ghost use Rattle.sasl_desk.specs.Sessions.{ComesOfEvent, ComesOfLine, JudgesOnlyWhereCodeIsDue, JudgesOnlyLine, JudgesOnlyWhatWasSent};
 
 mod answer;
 mod challenged_login;
@@ -71,9 +71,9 @@ impl Session {
         // All lines of it can be written.
         ensures lines { IfOk result (λ heard. CanBeWritten (heard_lines heard message.new.items)) }
         // A code is to be judged only where the session waits for one.
-        ensures asks { IfOk result (λ heard. IsOfCode heard self) }
+        ensures waits { IfOk result (λ heard. JudgesOnlyWhereCodeIsDue heard self) }
         // A code is to be judged only where the client sent it.
-        ensures asked { IfOk result (λ heard. AsksForEvent heard (event_shown event.entry)) }
+        ensures sent { IfOk result (λ heard. JudgesOnlyWhatWasSent heard (event_shown event.entry)) }
         ensures err { IfErr result (λ session. (session ≡ self) × (message.new.items ≡ [])) }
         ensures memory { OnErr result ((line : grammar.ClientLine) × IsLineOf (event_shown event.entry) line × BearsMessage line) }
     {
@@ -97,12 +97,12 @@ impl Session {
         message: &mut Vec<u8, A>,
     ) -> Result<HearResult<'a>, Session>
         requires empty { message.old.items ≡ [] }
-        requires line { CanBeLine (from_client (client_shown line)) }
+        requires line { IsLineWritable (from_client (client_shown line)) }
         ensures heard { (accounts : Accounts) (place : Place) → KeepsEntries accounts book.now → IsSessionAt accounts place self
             → IfOk result (λ heard. ComesOfLine accounts server_nonce.now (client_shown line.entry) place heard message.new.items) }
         ensures lines { IfOk result (λ heard. CanBeWritten (heard_lines heard message.new.items)) }
-        ensures asks { IfOk result (λ heard. IsOfCode heard self) }
-        ensures asked { IfOk result (λ heard. AsksFor heard (client_shown line.entry)) }
+        ensures waits { IfOk result (λ heard. JudgesOnlyWhereCodeIsDue heard self) }
+        ensures sent { IfOk result (λ heard. JudgesOnlyLine heard (client_shown line.entry)) }
         ensures err { IfErr result (λ session. (session ≡ self) × (message.new.items ≡ [])) }
         ensures memory { OnErr result (BearsMessage (client_shown line.entry)) }
     {

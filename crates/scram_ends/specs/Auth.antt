@@ -10,11 +10,11 @@ use Rattle.scram_ends.specs.Entry.{Keys, password_keys}
 -- AuthMessage as far as the challenge: client-first-bare, comma, server-first, comma. The bare_text of client-first's parts is
 -- the text that was sent.
 abbrev pub auth_to_challenge : ClientFirstParts → (server_first : List ℕ) → List ℕ
-auth_to_challenge first challenge = bare_text first ++ byte "," ∷ [] ++ challenge ++ byte "," ∷ []
+auth_to_challenge first server_first = bare_text first ++ byte "," ∷ [] ++ server_first ++ byte "," ∷ []
 
 -- AuthMessage = client-first-message-bare "," server-first-message "," client-final-message-without-proof
 abbrev pub auth_message : ClientFirstParts → (server_first : List ℕ) → ClientFinalParts → List ℕ
-auth_message first challenge final = auth_to_challenge first challenge ++ client_final_without_proof final
+auth_message first server_first final = auth_to_challenge first server_first ++ client_final_without_proof final
 
 -- ClientSignature = HMAC(StoredKey, AuthMessage)
 abbrev pub client_signature : Mechanism → Keys → (auth : List ℕ) → List ℕ

@@ -1,13 +1,14 @@
 -- What a client stands for at each of its steps, and why it ends a login.
-use Rattle.std.specs.Prelude.{ℕ, ◌≡◌, ◌≢◌, ◌≤◌, ◌<◌, ◌⊎◌, true, false, List, ◌++◌}
+use Rattle.std.specs.Prelude.{ℕ, ◌≡◌, ◌≤◌, ◌<◌, false, List, [], ◌∷◌, ◌++◌, length}
+use Rattle.std.specs.List.{AllByRecursion}
 use Rattle.std.specs.declared.result.Result.{Result}
 use Rattle.std.specs.declared.result.Result.TheVariants.{Ok, Err}
 use Rattle.scram_text.specs.Messages.{ClientFirstParts, header_text, bare_text, ServerFirstParts, IsServerFirst, server_first_mandatory}
-use Rattle.scram_text.specs.Messages.{verified, failed, ServerFinalParts, IsServerFinal, server_final_mandatory}
+use Rattle.scram_text.specs.Messages.{verifier, ServerFinalParts, IsServerFinal, server_final_mandatory}
+use Rattle.scram_text.specs.FirstUnmet.{IsFirstUnmet}
 use Rattle.scram_text.specs.Faults.{IsServerFirstFault, IsServerFinalFault}
 use Rattle.scram_text.specs.declared.fault.WriteFault.{WriteFault}
 use Rattle.scram_ends.specs.Stages.{Started, Answered}
-use Rattle.scram_ends.specs.Opening.{ExtendsNonce}
 use Rattle.scram_ends.specs.Honest.{IsHonestFirst, IsHonest, honest_signature}
 use Rattle.scram_ends.specs.declared.client.Limits.{Limits}
 use Rattle.scram_ends.specs.declared.client.ClientOne.{ClientOne}
@@ -18,7 +19,7 @@ use Rattle.scram_ends.specs.declared.client.ClientFault.{ClientFault}
 use Rattle.scram_ends.specs.declared.client.ClientFault.TheVariants.{Text, Mandatory, NonceNotMine, NonceNotLonger, CountOutside}
 use Rattle.scram_ends.specs.declared.client.ClientFault.TheVariants.{ServerRefused, WrongSignature}
 
--- the least iteration count that a client usually accepts, which the RFC asks for (section 5.1)
+-- the least iteration count that a client usually accepts: what RFC 5802, section 5.1, asks servers for at least
 abbrev pub usual_least : ℕ
 usual_least = 4096
 
@@ -40,49 +41,46 @@ pub record IsStarted (w : ClientOne) (l : Started) : Type 0 where
   pub header : w.header.items ≡ header_text first
   pub nonce : w.nonce.items ≡ l.nonce
 
--- the client has sent the last message of this login, honestly, and expects the server's signature
+-- the client has sent client-final of this login, honestly, and expects this signature of the server
 pub record IsExpecting (w : ClientTwo) (l : Answered) : Type 0 where
   pub honest : IsHonest l
   pub signature : List ℕ
   pub signed : signature ≡ honest_signature l honest
   pub expected : w.expected.items ≡ signature
 
--- a client within these limits, with this nonce of its own, answers the challenge
+-- the faults of a server-first message that asks a client for its proof, in the order in which they are judged. Text is none of
+-- them: it is the fault of a text that is no server-first message.
+abbrev pub challenge_faults_in_order : List ClientFault
+challenge_faults_in_order = Mandatory ∷ NonceNotMine ∷ NonceNotLonger ∷ CountOutside ∷ []
+
+-- what each of these rows asks of the parts of a challenge, for a client within these limits, with this nonce of its own: no
+-- mandatory extension; a nonce that begins with the client's; one that is longer than it; a count within the limits. Another
+-- fault is no row, and asks nothing.
+abbrev pub AsksOfChallenge : ClientFault → Limits → (client_nonce : List ℕ) → ServerFirstParts → Type 0
+AsksOfChallenge Mandatory limits client_nonce challenge = server_first_mandatory challenge ≡ false
+AsksOfChallenge NonceNotMine limits client_nonce challenge = (more : List ℕ) × (challenge.nonce ≡ client_nonce ++ more)
+AsksOfChallenge NonceNotLonger limits client_nonce challenge = length client_nonce < length challenge.nonce
+AsksOfChallenge CountOutside limits client_nonce challenge = (limits.least ≤ challenge.count) × (challenge.count ≤ limits.most)
+AsksOfChallenge other limits client_nonce challenge = Unit {0}
+
+-- a client within these limits, with this nonce of its own, answers the challenge: its parts meet every row
 pub record IsAnswerable (limits : Limits) (client_nonce server_first : List ℕ) (challenge : ServerFirstParts) : Type 0 where
   pub is_challenge : IsServerFirst server_first challenge
-  pub not_mandatory : server_first_mandatory challenge ≡ false
-  pub longer : ExtendsNonce client_nonce challenge.nonce
-  pub at_least : limits.least ≤ challenge.count
-  pub at_most : challenge.count ≤ limits.most
+  pub asked : AllByRecursion (λ row. AsksOfChallenge row limits client_nonce challenge) challenge_faults_in_order
 
--- the count is outside the client's limits
-abbrev pub IsOutside : Limits → (count : ℕ) → Type 0
-IsOutside limits count = (count < limits.least) ⊎ (limits.most < count)
-
--- why a client with this nonce of its own does not answer a challenge, the first reason that holds: the
--- text is no server-first message, with its first fault; it asks for a mandatory extension; its nonce does not begin with
--- the client's; its nonce is the client's own, with nothing added; its count is outside the limits
+-- why a client with this nonce of its own does not answer a challenge: the text is no server-first message, with its first fault,
+-- or the fault is the first row that its parts do not meet
 abbrev pub IsChallengeFault : Limits → (client_nonce server_first : List ℕ) → ClientFault → Type 0
 IsChallengeFault limits client_nonce server_first (Text fault) = ((p : ServerFirstParts) → IsServerFirst server_first p → ⊥)
     × IsServerFirstFault server_first fault
-IsChallengeFault limits client_nonce server_first Mandatory = (p : ServerFirstParts) × IsServerFirst server_first p
-    × (server_first_mandatory p ≡ true)
-IsChallengeFault limits client_nonce server_first NonceNotMine =
-    (p : ServerFirstParts) × IsServerFirst server_first p × (server_first_mandatory p ≡ false)
-    × ((more : List ℕ) → p.nonce ≢ client_nonce ++ more)
-IsChallengeFault limits client_nonce server_first NonceNotLonger =
-    (p : ServerFirstParts) × IsServerFirst server_first p × (server_first_mandatory p ≡ false) × (p.nonce ≡ client_nonce)
-IsChallengeFault limits client_nonce server_first CountOutside =
-    (p : ServerFirstParts) × IsServerFirst server_first p × (server_first_mandatory p ≡ false)
-    × ExtendsNonce client_nonce p.nonce × IsOutside limits p.count
-IsChallengeFault limits client_nonce server_first ServerRefused = ⊥
-IsChallengeFault limits client_nonce server_first WrongSignature = ⊥
+IsChallengeFault limits client_nonce server_first fault = (p : ServerFirstParts) × IsServerFirst server_first p
+    × IsFirstUnmet (λ row. AsksOfChallenge row limits client_nonce p) challenge_faults_in_order fault
 
--- the client has answered the challenge, or would have: its answer was not written
-abbrev pub HasAnswered : Result ClientTwo OneRefused → Type 0
-HasAnswered (Ok two) = Unit {0}
-HasAnswered (Err (Back client fault)) = Unit {0}
-HasAnswered (Err (Spent fault)) = ⊥
+-- the client has not ended the login: it has answered the challenge, or comes back since its answer was not written
+abbrev pub IsUnspent : Result ClientTwo OneRefused → Type 0
+IsUnspent (Ok two) = Unit {0}
+IsUnspent (Err (Back client fault)) = Unit {0}
+IsUnspent (Err (Spent fault)) = ⊥
 
 -- a fact of the fault, where the client has ended the login
 abbrev pub IfSpent : Result ClientTwo OneRefused → (ClientFault → Type 0) → Type 0
@@ -96,19 +94,23 @@ IfBack (Ok two) fact = Unit {0}
 IfBack (Err (Back client fault)) fact = fact client fault
 IfBack (Err (Spent fault)) fact = Unit {0}
 
--- why a client that expects this signature does not take the server for authentic, the first reason that
--- holds: the text is no server-final message, with its first fault; it asks for a mandatory extension; it says `e=`; its
--- verifier is not this signature
+-- the faults of a server-final message, in the order in which they are judged. Text is none of them: it is the fault of a text
+-- that is no server-final message.
+abbrev pub last_faults_in_order : List ClientFault
+last_faults_in_order = Mandatory ∷ ServerRefused ∷ WrongSignature ∷ []
+
+-- what each of these rows asks of the parts of server-final, for a client that expects this signature: no mandatory extension;
+-- a verifier, and no `e=`; this signature as verifier. Another fault is no row, and asks nothing.
+abbrev pub AsksOfLast : ClientFault → (signature : List ℕ) → ServerFinalParts → Type 0
+AsksOfLast Mandatory signature last = server_final_mandatory last ≡ false
+AsksOfLast ServerRefused signature last = (sent : List ℕ) × (last.outcome ≡ verifier sent)
+AsksOfLast WrongSignature signature last = last.outcome ≡ verifier signature
+AsksOfLast other signature last = Unit {0}
+
+-- why a client that expects this signature does not take the server for authentic: the text is no server-final message, with its
+-- first fault, or the fault is the first row that its parts do not meet
 abbrev pub IsLastFault : (signature server_final : List ℕ) → ClientFault → Type 0
 IsLastFault signature server_final (Text fault) = ((p : ServerFinalParts) → IsServerFinal server_final p → ⊥)
     × IsServerFinalFault server_final fault
-IsLastFault signature server_final Mandatory = (p : ServerFinalParts) × IsServerFinal server_final p × (server_final_mandatory p ≡ true)
-IsLastFault signature server_final ServerRefused =
-    (p : ServerFinalParts) × IsServerFinal server_final p × (server_final_mandatory p ≡ false)
-    × ((value : List ℕ) × (p.outcome ≡ failed value))
-IsLastFault signature server_final WrongSignature =
-    (p : ServerFinalParts) × IsServerFinal server_final p × (server_final_mandatory p ≡ false)
-    × ((other : List ℕ) × (p.outcome ≡ verified other) × (other ≢ signature))
-IsLastFault signature server_final NonceNotMine = ⊥
-IsLastFault signature server_final NonceNotLonger = ⊥
-IsLastFault signature server_final CountOutside = ⊥
+IsLastFault signature server_final fault = (p : ServerFinalParts) × IsServerFinal server_final p
+    × IsFirstUnmet (λ row. AsksOfLast row signature p) last_faults_in_order fault

@@ -1,7 +1,7 @@
 -- What a server keeps of an account for one mechanism, and what both ends make of a password.
 use Rattle.std.specs.Prelude.{ℕ, List, option_map}
 use Rattle.std.specs.declared.option.Option.{Option}
-use Rattle.mac_core.specs.Mechanism.{password_stored_key, password_server_key}
+use Rattle.mac_core.specs.Mechanism.{password_stored_key_by, password_server_key_by}
 use Rattle.mac_core.specs.declared.mechanism.Mechanism.{Mechanism}
 use Rattle.mac_core.specs.declared.keys.ScramKeys.{ScramKeys}
 use Rattle.scram_ends.specs.declared.keys_view.KeysView.{KeysView}
@@ -11,8 +11,8 @@ pub record Keys : Type 0 where
   pub stored : List ℕ
   pub server : List ℕ
 
--- an account for one mechanism: its salt, its iteration count, its keys, and the other names that it
--- may act as. A decoy, which stands in for a name without keys, has no keys.
+-- what a server keeps of a name for one mechanism: a salt, an iteration count, the keys of the account, and the other names that
+-- it may act as; or a decoy, which stands in for a name without keys and has no keys. The other definitions call it the account.
 pub record Entry : Type 0 where
   pub salt : List ℕ
   pub count : ℕ
@@ -30,4 +30,4 @@ entry_of view = record { salt = view.salt; count = view.count; keys = option_map
 -- the keys of a password (RFC 5802, section 3)
 abbrev pub password_keys : Mechanism → (password salt : List ℕ) → (count : ℕ) → Keys
 password_keys m password salt count =
-    record { stored = password_stored_key m password salt count; server = password_server_key m password salt count }
+    record { stored = password_stored_key_by m password salt count; server = password_server_key_by m password salt count }

@@ -14,13 +14,13 @@ use Rattle.scram_ends.specs.declared.first.FirstFault.{FirstFault}
 use Rattle.scram_ends.specs.Honest.{IsHonest, honest_signature}
 
 -- at most one verdict is due to a text
-abbrev pub AtMostOneIsDue : Type 0
-AtMostOneIsDue = (l : Challenged) (client_final : List ℕ) (d other : Due)
+abbrev pub AtMostOneVerdictIsDue : Type 0
+AtMostOneVerdictIsDue = (l : Challenged) (client_final : List ℕ) (d other : Due)
     → IsDue l client_final d → IsDue l client_final other → d ≡ other
 
 -- after an opening, some verdict is due to every text
-abbrev pub SomeIsDue : Type 0
-SomeIsDue = (l : Challenged) (client_final : List ℕ) (o : Opening) → IsOpening l.entry l.client_first l.server_first o
+abbrev pub SomeVerdictIsDue : Type 0
+SomeVerdictIsDue = (l : Challenged) (client_final : List ℕ) (o : Opening) → IsOpening l.entry l.client_first l.server_first o
     → (d : Due) × IsDue l client_final d
 
 -- a client-first message that is refused is not taken up, whatever its parts

@@ -6,6 +6,7 @@ pub mod Verdict
 pub mod Login
 pub mod Standing
 pub mod First
+pub mod TakenFirst
 pub mod Honest
 pub mod Client
 pub mod Faults

@@ -1,7 +1,7 @@
 -- A valid login (RFC 5802, sections 3 and 5), as conditions on its four whole messages.
 use Rattle.std.specs.Prelude.{ℕ, ◌≡◌, false, List}
 use Rattle.std.specs.declared.option.Option.TheVariants.{Some}
-use Rattle.scram_text.specs.Messages.{header_text, ClientFinalParts, IsClientFinal, client_final_mandatory, verified, ServerFinalParts}
+use Rattle.scram_text.specs.Messages.{header_text, ClientFinalParts, IsClientFinal, client_final_mandatory, verifier, ServerFinalParts}
 use Rattle.scram_text.specs.Messages.{IsServerFinal, server_final_mandatory}
 use Rattle.scram_ends.specs.Entry.{Keys}
 use Rattle.scram_ends.specs.Stages.{Challenged}
@@ -14,7 +14,7 @@ pub record IsAuthentic (text signature : List ℕ) : Type 0 where
   pub last : ServerFinalParts
   pub is_last : IsServerFinal text last
   pub not_mandatory : server_final_mandatory last ≡ false
-  pub verifier : last.outcome ≡ verified signature
+  pub is_verifier : last.outcome ≡ verifier signature
 
 -- the login is valid, with these two last messages
 pub record IsValidLogin (l : Challenged) (client_final server_final : List ℕ) : Type 0 where

@@ -3,8 +3,8 @@
 use Rattle.std.specs.Prelude.{ℕ, ◌≡◌, ◌⊎◌, false, List, [], ◌∷◌, codes}
 use Rattle.std.specs.List.{AllByRecursion}
 use Rattle.std.specs.declared.option.Option.TheVariants.{Some}
-use Rattle.scram_text.specs.Messages.{header_text, ClientFinalParts, IsClientFinal, client_final_mandatory, VerifierOrError, verified}
-use Rattle.scram_text.specs.Messages.{failed, ServerFinalParts, server_final_text}
+use Rattle.scram_text.specs.Messages.{header_text, ClientFinalParts, IsClientFinal, client_final_mandatory, VerifierOrError, verifier}
+use Rattle.scram_text.specs.Messages.{server_error, ServerFinalParts, server_final_text}
 use Rattle.scram_text.specs.FirstUnmet.{IsFirstUnmet}
 use Rattle.scram_ends.specs.Entry.{Keys}
 use Rattle.scram_ends.specs.Stages.{Challenged}
@@ -55,7 +55,7 @@ pub record IsDueToParts (l : Challenged) (client_final : List ℕ) (d : Due) : T
   pub final : ClientFinalParts
   pub is_opening : IsOpening l.entry l.client_first l.server_first opening
   pub is_final : IsClientFinal client_final final
-  pub weighed : IsVerdictOn l opening final d
+  pub is_verdict : IsVerdictOn l opening final d
 
 -- what is due to a text that comes as client-final: InvalidEncoding where it is no client-final message, else the verdict on
 -- its parts
@@ -75,8 +75,8 @@ error_value NotAuthorised = codes "other-error"
 
 -- the outcome that server-final bears
 abbrev pub outcome_due : Due → VerifierOrError
-outcome_due (accept signature) = verified signature
-outcome_due (refuse r) = failed (error_value r)
+outcome_due (accept signature) = verifier signature
+outcome_due (refuse r) = server_error (error_value r)
 
 -- server-final with no extensions
 abbrev pub final_due : Due → ServerFinalParts
@@ -86,7 +86,7 @@ final_due d = record { outcome = outcome_due d; extensions = [] }
 abbrev pub due_text : Due → List ℕ
 due_text d = server_final_text (final_due d)
 
--- the verdict that the client is sent
+-- the verdict that the server's caller is told: what is due, without the signature
 abbrev pub verdict_of : Due → Verdict
 verdict_of (accept signature) = verdict.Accepted
 verdict_of (refuse r) = verdict.Refused r

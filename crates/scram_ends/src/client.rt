@@ -6,7 +6,7 @@
 //! it busy (RFC 5802, section 9, and RFC 7677, section 4).
 ghost use Rattle.std.specs.Prelude.{◌≡◌};
 ghost use Rattle.scram_ends.specs.Client.{AreUsual};
-ghost use Rattle.scram_ends.specs.Faults.{client_number};
+ghost use Rattle.scram_ends.specs.Faults.{client_fault_number};
 ghost use Rattle.scram_ends.specs.declared.client.ClientFault.TheVariants.{Text};
 
 mod answer;
@@ -34,7 +34,7 @@ pub struct Limits {
     /// The least count that it accepts, at least 1.
     pub least: u32,
 
-    /// The most.
+    /// The greatest count that it accepts.
     pub most: u32,
 }
 
@@ -85,7 +85,7 @@ pub enum ClientFault {
 impl ClientFault {
     /// The number of the fault, 24 to 30.
     pub fn number(&self) -> u16
-        ensures { result ≡ client_number self.now }
+        ensures { result ≡ client_fault_number self.now }
     {
         match self {
             ClientFault::Text(_) => 24,

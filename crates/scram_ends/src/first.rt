@@ -10,8 +10,9 @@ ghost use Rattle.scram_text.specs.Limits.{longest_message, longest_nonce_part};
 ghost use Rattle.scram_text.specs.Messages.{ClientFirstParts, IsClientFirst};
 ghost use Rattle.scram_text.specs.Shown.{flag_text};
 ghost use Rattle.scram_ends.specs.Opening.{IsNameOf, IsAuthzidOf, IsUnbound, IsTakenUp};
-ghost use Rattle.scram_ends.specs.First.{IsRefusedWith, ShowsAcceptedFirst};
-ghost use Rattle.scram_ends.specs.Faults.{first_number};
+ghost use Rattle.scram_ends.specs.First.{IsRefusedWith};
+ghost use Rattle.scram_ends.specs.TakenFirst.{ShowsAcceptedFirst};
+ghost use Rattle.scram_ends.specs.Faults.{first_fault_number};
 ghost use Rattle.scram_ends.specs.declared.first.FirstFault.TheVariants.{Text};
 
 use scram_text::{Flag, PlainName, SaslText, TextFault, read_client_first};
@@ -40,7 +41,7 @@ pub enum FirstFault {
 impl FirstFault {
     /// The number of the refusal, 20 to 23.
     pub fn number(&self) -> u16
-        ensures { result ≡ first_number self.now }
+        ensures { result ≡ first_fault_number self.now }
     {
         match self {
             FirstFault::Text(_) => 20,
@@ -81,6 +82,7 @@ pub(crate) struct AcceptedFirst<'a> {
 }
 
 /// Reads the message, and refuses it as `first_name` does.
+#[tactic(auto, using(scram_text::proofs::lemmas::FirstUnmet::first_found))]
 pub(crate) fn take_up(client_first: &[u8]) -> Result<AcceptedFirst<'_>, FirstFault>
     ensures ok { IfOk result (λ taken. (first : ClientFirstParts) × IsClientFirst client_first.now first
         × ShowsAcceptedFirst taken first) }

@@ -1,5 +1,5 @@
-//! Two byte strings joined in a fixed buffer, and compared.
-ghost use Rattle.std.specs.Prelude.{◌≡◌, ◌≤◌, ◌+◌, ◌↔◌, ◌++◌, length, IsTrue};
+//! Byte strings: two joined in a fixed buffer, two compared, and that a slice is one.
+ghost use Rattle.std.specs.Prelude.{◌≡◌, ◌≤◌, ◌<◌, ◌+◌, ◌↔◌, ◌++◌, ℕ, length, slice_index, IsTrue};
 
 use arrayvec::ArrayVec;
 use mac_core::copy_of;
@@ -16,9 +16,14 @@ pub(crate) fn concatenated<const N: usize>(front: &[u8], back: &[u8]) -> ArrayVe
     bytes
 }
 
-/// Whether the bytes are the same. `==` says so too, but a proof can't use that. Its time is not constant.
+/// Whether the bytes are the same: `==`, with a clause that a caller's proof can cite. Its time is not constant.
 pub(crate) fn are_same(one: &[u8], other: &[u8]) -> bool
     ensures { IsTrue result ↔ (one.now ≡ other.now) }
 {
     one == other
 }
+
+/// Does nothing: the elements of a slice are bytes by their type, which a caller's proof alone needs.
+pub(crate) fn are_bytes(bytes: &[u8])
+    ensures { (i : ℕ) → slice_index bytes.now i < 256 }
+{}

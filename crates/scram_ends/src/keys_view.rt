@@ -1,4 +1,4 @@
-//! What a server keeps of one account for one mechanism.
+//! What a server keeps of a name for one mechanism.
 use mac_core::ScramKeys;
 use scram_text::{PlainName, Salt};
 

@@ -1,20 +1,20 @@
 //! Laws of logins, for proofs that rest on this crate: the promises of functions that do
 //! nothing.
-ghost use Rattle.scram_ends.specs.Laws.{AtMostOneIsDue, SomeIsDue, AcceptsExactlyValid, RefusedIsNotTakenUp};
+ghost use Rattle.scram_ends.specs.Laws.{AtMostOneVerdictIsDue, SomeVerdictIsDue, AcceptsExactlyValid, RefusedIsNotTakenUp};
 
 /// At most one verdict is due to a text that comes as client-final.
 pub fn at_most_one_verdict_is_due()
-    ensures { AtMostOneIsDue }
+    ensures { AtMostOneVerdictIsDue }
 {}
 
 /// Where the first two messages open a login, some verdict is due to every text that comes as client-final.
 pub fn some_verdict_is_due()
-    ensures { SomeIsDue }
+    ensures { SomeVerdictIsDue }
 {}
 
 /// A login is valid exactly where acceptance is due to its client-final message and its server-final message bears the
 /// signature.
-pub fn acceptance_is_due_to_valid_logins()
+pub fn accepts_exactly_valid()
     ensures { AcceptsExactlyValid }
 {}
 

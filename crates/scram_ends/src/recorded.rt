@@ -9,7 +9,7 @@ ghost use Rattle.scram_ends.specs.Stages.{challenged_login};
 ghost use Rattle.scram_ends.specs.Opening.{IsTakenUp, ExtendsNonce, Opening, IsOpening};
 ghost use Rattle.scram_ends.specs.First.{IsRecordedFault};
 ghost use Rattle.scram_ends.specs.Standing.{StandsFor};
-ghost use Rattle.scram_ends.specs.Faults.{recorded_number};
+ghost use Rattle.scram_ends.specs.Faults.{recorded_fault_number};
 ghost use Rattle.scram_ends.specs.declared.recorded.RecordedFault.TheVariants.{First};
 
 use crate::first::{FirstFault, take_up};
@@ -35,7 +35,7 @@ pub enum RecordedFault {
 impl RecordedFault {
     /// The number of the refusal: 20 to 23 for the client-first message, 31 for the challenge.
     pub fn number(&self) -> u16
-        ensures { result ≡ recorded_number self.now }
+        ensures { result ≡ recorded_fault_number self.now }
     {
         match self {
             RecordedFault::First(fault) => fault.number(),

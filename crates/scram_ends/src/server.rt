@@ -15,7 +15,7 @@ ghost use Rattle.std.specs.declared.option.Option.{Option};
 ghost use Rattle.scram_text.specs.Limits.{longest_message, longest_nonce};
 ghost use Rattle.scram_text.specs.Messages.{ClientFirstParts, bare_text, IsClientFirst, ClientFinalParts, IsServerFinal};
 ghost use Rattle.scram_text.specs.Shown.{ShowsClientFinal};
-ghost use Rattle.scram_text.specs.Appended.{UnchangedOnErr, LacksRoom};
+ghost use Rattle.scram_text.specs.Appended.{UnchangedOnErr, KeepsRoom, LacksRoom};
 ghost use Rattle.scram_ends.specs.Entry.{entry_of};
 ghost use Rattle.scram_ends.specs.Stages.{Challenged, challenged_login};
 ghost use Rattle.scram_ends.specs.Auth.{auth_to_challenge};
@@ -23,7 +23,8 @@ ghost use Rattle.scram_ends.specs.Opening.{IsTakenUp, IsAllowed, Opening, IsOpen
 ghost use Rattle.scram_ends.specs.Verdict.{Due, refuse, IsDue, IsVerdictOn, due_of, due_text, final_due, verdict_of};
 ghost use Rattle.scram_ends.specs.Login.{IsValidLogin};
 ghost use Rattle.scram_ends.specs.Standing.{IsSigningFor, StandsFor, IsSpentBy};
-ghost use Rattle.scram_ends.specs.First.{IsRefusedWith, IsChallengeTo, ShowsOpening};
+ghost use Rattle.scram_ends.specs.First.{IsRefusedWith, IsChallengeTo};
+ghost use Rattle.scram_ends.specs.TakenFirst.{ShowsOpening};
 ghost use Rattle.scram_ends.specs.Faults.{first_refused_number};
 
 use crate::first::{AcceptedFirst, FirstFault, take_up};
@@ -95,6 +96,7 @@ pub fn server_first<A: Allocator>(
         × IsChallengeTo (entry_of view.now) client_first.now own.now server_first
         × StandsFor wait (challenged_login (entry_of view.now) mechanism client_first.now server_first)) }
     ensures unchanged { UnchangedOnErr result out.old out.new }
+    ensures room { KeepsRoom out.old out.new }
     ensures first { IfErr result (λ r. (f : FirstFault) → r ≡ FirstRefused.First f
         → IsRefusedWith client_first.now f) }
     // A fault of writing comes only after a client-first message that is taken up, and is only that memory ran out.
@@ -195,14 +197,14 @@ impl ServerWait {
         ensures { (l : Challenged) → StandsFor self.now l → IsDue l client_final.now (due_of result) }
     {
         match read_client_final(client_final) {
-            Ok(last) => self.weigh(&last),
+            Ok(last) => self.judge_final(&last),
             Err(_) => Judged::Refused(Refusal::InvalidEncoding),
         }
     }
 
     // The verdict on the parts.
     #[tactic(auto, using(scram_text::proofs::lemmas::FirstUnmet::first_found))]
-    fn weigh(&self, last: &ClientFinal<'_>) -> Judged
+    fn judge_final(&self, last: &ClientFinal<'_>) -> Judged
         ensures { (l : Challenged) (s : StandsFor self.now l) (p : ClientFinalParts)
             → ShowsClientFinal last.now p → IsVerdictOn l s.opening p (due_of result) }
     {
@@ -243,11 +245,12 @@ impl ServerWait {
             → (d : Due) × IsDue l client_final.now d × (v ≡ verdict_of d)
             × (out.new.items ≡ out.old.items ++ due_text d) × IsServerFinal (due_text d) (final_due d)) }
         // A login is accepted exactly where it is valid: this follows from `ok` and the law
-        // `acceptance_is_due_to_valid_logins`.
+        // `accepts_exactly_valid`.
         ensures valid { IfOk result (λ v. (l : Challenged) → StandsFor self l
             → (server_final : List ℕ) × (out.new.items ≡ out.old.items ++ server_final)
             × ((v ≡ Verdict.Accepted) ↔ IsValidLogin l client_final.now server_final)) }
         ensures unchanged { UnchangedOnErr result out.old out.new }
+        ensures room { KeepsRoom out.old out.new }
         ensures back { IfErr result (λ r. r.1 ≡ WriteFault.NoMemory → r.0 ≡ self) }
         ensures spent { IfErr result (λ r. r.1 ≢ WriteFault.NoMemory → IsSpentBy r.0 r.1) }
         ensures again { (fault : WriteFault) → IsSpentBy self fault

@@ -1,14 +1,14 @@
-//! The server's two messages as they are written. Their fields are within the limits and base64 has its
-//! usual form, so the only fault is that memory runs out.
+//! The server's two messages as they are written. Their fields are within the limits, so the only
+//! fault is that memory runs out.
 ghost use Rattle.std.specs.Prelude.{◌≡◌, ◌≤◌, ◌<◌, ℕ, List, [], length, OnOk, IsErrOf};
 ghost use Rattle.scram_text.specs.Limits.{longest_message, longest_nonce};
 ghost use Rattle.scram_text.specs.Class.{IsNonce};
-ghost use Rattle.scram_text.specs.Base64Field.{IsField};
 ghost use Rattle.scram_text.specs.Messages.{server_first_text, IsServerFirst, IsServerFinal};
 ghost use Rattle.scram_text.specs.Written.{server_first_of};
 ghost use Rattle.scram_text.specs.Appended.{IsAppended, LacksRoom};
 ghost use Rattle.scram_ends.specs.Verdict.{accept, refuse, due_of, final_due, due_text};
 
+use crate::fixed::are_bytes;
 use crate::verdict::{Judged, Refusal};
 use mac_core::copy_of;
 use scram_text::{FinalResult, Salt, WriteFault, write_server_final, write_server_first};
@@ -32,16 +32,10 @@ pub(crate) fn write_challenge<A: Allocator>(
         IsErrOf result WriteFault.NoMemory → IsServerFirst (server_first_text p) p
         × LacksRoom out.old (server_first_text p) }
 {
-    fits_a_field(salt.bytes());
+    // So a salt fits a field, and the writer has no other fault.
+    are_bytes(salt.bytes());
     write_server_first(nonce, salt, count, b"", out)
 }
-
-// 1 to 64 bytes fit a field, so the writer has no other fault; the proof alone needs this.
-fn fits_a_field(bytes: &[u8])
-    requires some { 1 ≤ length bytes.now }
-    requires most { length bytes.now ≤ 64 }
-    ensures { IsField 64 bytes.now }
-{}
 
 /// Appends the server's final message of this judgement.
 pub(crate) fn write_judgement<A: Allocator>(

@@ -56,8 +56,8 @@ pub record IsSalt (salt : List ℕ) : Type 0 where
   pub at_least : 1 ≤ length salt
   pub at_most : length salt ≤ longest_salt
 
--- a text: UTF-8, with no NUL in it. The value-chars of a message are the characters of such a text
--- except the comma, and its value-safe-chars those except `=` too.
-pub record IsText (bytes : List ℕ) : Type 0 where
+-- UTF-8 with no NUL in it. The value-chars of a message are the characters of such a text except the comma, and its
+-- value-safe-chars those except `=` too.
+pub record IsUtf8Text (bytes : List ℕ) : Type 0 where
   pub utf8 : IsUtf8 bytes
   pub no_nul : IsTrue (list_all (λ c. not (c == byte "\0")) bytes)

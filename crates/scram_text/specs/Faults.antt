@@ -6,7 +6,7 @@ use Rattle.std.specs.Str.{byte}
 use Rattle.std.specs.declared.option.Option.{Option}
 use Rattle.scram_text.specs.Limits.{longest_channel, longest_message, longest_nonce, longest_nonce_part, longest_salt, longest_tag}
 use Rattle.scram_text.specs.FirstUnmet.{IsFirstUnmet}
-use Rattle.scram_text.specs.Class.{IsNonce, IsText}
+use Rattle.scram_text.specs.Class.{IsNonce, IsUtf8Text}
 use Rattle.scram_text.specs.Name.{IsSaslName}
 use Rattle.scram_text.specs.Parts.{parts, is_named, is_flag, authzid_text, IsAttrVal, IsValue, IsExtension, SpellsCount, SpellsField}
 use Rattle.scram_text.specs.declared.fault.TextFault.{TextFault}
@@ -35,10 +35,10 @@ text_why_number Verifier = 14
 text_why_number ErrorValue = 15
 
 -- the number of a writer's fault
-abbrev pub write_number : WriteFault → ℕ
-write_number Unwritable = 16
-write_number OverLimit = 17
-write_number NoMemory = 99
+abbrev pub write_fault_number : WriteFault → ℕ
+write_fault_number Unwritable = 16
+write_fault_number OverLimit = 17
+write_fault_number NoMemory = 99
 
 -- a fault of this part, for this reason
 abbrev pub fault : (part : ℕ) → TextWhy → TextFault
@@ -88,13 +88,13 @@ IsPartFault most front back pieces f =
 abbrev pub IsWholeFault : List ℕ → TextFault → Type 0
 IsWholeFault text f =
     ((longest_message < length text) × (f ≡ fault 0 TooLong))
-    ⊎ ((length text ≤ longest_message) × (IsText text → ⊥) × (f ≡ fault 0 NotText))
+    ⊎ ((length text ≤ longest_message) × (IsUtf8Text text → ⊥) × (f ≡ fault 0 NotText))
 
 -- the first fault of a text that is no message with these fixed places
 abbrev pub IsFault : (most : ℕ) → (front back : List TextWhy) → (text : List ℕ) → TextFault → Type 0
 IsFault most front back text f =
     IsWholeFault text f
-    ⊎ ((length text ≤ longest_message) × IsText text × IsPartFault most front back (parts text) f)
+    ⊎ ((length text ≤ longest_message) × IsUtf8Text text × IsPartFault most front back (parts text) f)
 
 -- the first part, or nothing
 abbrev pub first_of : List (List ℕ) → List ℕ

@@ -1,27 +1,27 @@
--- The laws of the grammar: that base64 has its usual form, that its fields hold all bytes within the limits, that parts are
--- UTF-8, that a text is a message in at most one way, and that it is decided whether it is one.
+-- The laws of the grammar: that base64 has its usual form, that parts are UTF-8, that a text is a message in at most one way,
+-- and that it is decided whether it is one.
 use Rattle.std.specs.Prelude.{ℕ, ◌≡◌, ◌≤◌, ◌⊎◌, ◌+◌, ◌*◌, ◌/◌, List, length}
 use Rattle.std.specs.List.{AllByRecursion}
 use Rattle.std.specs.Str.{IsUtf8}
+use Rattle.std.specs.declared.result.Result.TheVariants.{Ok}
 use Rattle.base64.specs.GeneralPurpose.{IsBytes}
 use Rattle.scram_text.specs.Limits.{longest_channel}
 use Rattle.scram_text.specs.Class.{IsPlainName}
-use Rattle.scram_text.specs.Name.{SpellsName}
-use Rattle.scram_text.specs.Base64Field.{base64, IsBase64Of, IsField}
+use Rattle.scram_text.specs.Name.{LacksComma, SpellsName}
+use Rattle.scram_text.specs.Base64Field.{base64, base64_decoded}
 use Rattle.scram_text.specs.Parts.{parts}
 use Rattle.scram_text.specs.Messages.{ClientFirstParts, IsClientFirst, ServerFirstParts, IsServerFirst, ClientFinalParts, IsClientFinal}
 use Rattle.scram_text.specs.Messages.{ServerFinalParts, IsServerFinal}
 
--- base64 has its usual form: the text of 1 to 1536 bytes has no comma, is decoded to them, and has
--- four bytes for each three begun
-abbrev pub HasUsualBase64 : Type 0
-HasUsualBase64 = (bytes : List ℕ) → IsBytes bytes → 1 ≤ length bytes → length bytes ≤ longest_channel
-    → IsBase64Of (base64 bytes) bytes × (length (base64 bytes) ≡ 4 * ((length bytes + 2) / 3))
+-- the base64 of these bytes is decoded to them, has no comma, and has four bytes for each three begun
+pub record IsUsualBase64 (bytes : List ℕ) : Type 0 where
+  pub decoded : base64_decoded (base64 bytes) ≡ Ok bytes
+  pub no_comma : LacksComma (base64 bytes)
+  pub len : length (base64 bytes) ≡ 4 * ((length bytes + 2) / 3)
 
--- bytes within the limits fit a field
-abbrev pub FieldsHoldBytes : Type 0
-FieldsHoldBytes = (most : ℕ) (bytes : List ℕ) → most ≤ longest_channel → IsBytes bytes → 1 ≤ length bytes → length bytes ≤ most
-    → IsField most bytes
+-- base64 has its usual form, for 1 to 1536 bytes
+abbrev pub HasUsualBase64 : Type 0
+HasUsualBase64 = (bytes : List ℕ) → IsBytes bytes → 1 ≤ length bytes → length bytes ≤ longest_channel → IsUsualBase64 bytes
 
 -- the parts of a UTF-8 text are UTF-8
 abbrev pub PartsAreUtf8 : Type 0

@@ -1,6 +1,6 @@
 -- How long the texts of a login and their parts may be, and how great an iteration count. RFC 5802 sets no limits: these are this
 -- library's.
-use Rattle.std.specs.Prelude.{ℕ, ◌+◌}
+use Rattle.std.specs.Prelude.{ℕ}
 
 -- the most bytes of a message
 abbrev pub longest_message : ℕ

@@ -5,7 +5,7 @@ use Rattle.std.specs.Prelude.{ℕ, ◌≡◌, ◌≤◌, Bool, ◌||◌, IsTrue,
 use Rattle.std.specs.Str.{byte}
 use Rattle.std.specs.declared.option.Option.{Option}
 use Rattle.scram_text.specs.Limits.{longest_channel, longest_message, longest_nonce, longest_nonce_part, longest_salt, longest_tag}
-use Rattle.scram_text.specs.Class.{IsNonce, IsText}
+use Rattle.scram_text.specs.Class.{IsNonce, IsUtf8Text}
 use Rattle.scram_text.specs.Name.{IsSaslName}
 use Rattle.scram_text.specs.Base64Field.{base64, IsField}
 use Rattle.scram_text.specs.Parts.{joined, is_flag, authzid_text, mext_parts, IsValue, IsCount, AreExtensions, have_mandatory}
@@ -48,7 +48,7 @@ pub record IsClientFirst (text : List ℕ) (p : ClientFirstParts) : Type 0 where
   pub name : IsSaslName p.name
   pub nonce : IsNonce longest_nonce_part p.nonce
   pub extensions : AreExtensions p.extensions
-  pub is_text : IsText text
+  pub utf8_text : IsUtf8Text text
   pub short : length text ≤ longest_message
 
 -- the parts of server-first
@@ -78,7 +78,7 @@ pub record IsServerFirst (text : List ℕ) (p : ServerFirstParts) : Type 0 where
   pub salt : IsField longest_salt p.salt
   pub count : IsCount p.count
   pub extensions : AreExtensions p.extensions
-  pub is_text : IsText text
+  pub utf8_text : IsUtf8Text text
   pub short : length text ≤ longest_message
 
 -- the parts of client-final
@@ -108,13 +108,13 @@ pub record IsClientFinal (text : List ℕ) (p : ClientFinalParts) : Type 0 where
   pub nonce : IsNonce longest_nonce p.nonce
   pub extensions : AreExtensions p.extensions
   pub proof : IsField longest_tag p.proof
-  pub is_text : IsText text
+  pub utf8_text : IsUtf8Text text
   pub short : length text ≤ longest_message
 
 -- what server-final says: the server's signature, or why the login failed
 pub data VerifierOrError : Type 0 where
-  verified : (signature : List ℕ) → VerifierOrError
-  failed : (value : List ℕ) → VerifierOrError
+  verifier : (signature : List ℕ) → VerifierOrError
+  server_error : (value : List ℕ) → VerifierOrError
 
 -- the parts of server-final
 pub record ServerFinalParts : Type 0 where
@@ -123,13 +123,13 @@ pub record ServerFinalParts : Type 0 where
 
 -- verifier = "v=" base64, server-error = "e=" server-error-value
 abbrev pub verifier_or_error_text : VerifierOrError → List ℕ
-verifier_or_error_text (verified signature) = codes "v=" ++ base64 signature
-verifier_or_error_text (failed value) = codes "e=" ++ value
+verifier_or_error_text (verifier signature) = codes "v=" ++ base64 signature
+verifier_or_error_text (server_error value) = codes "e=" ++ value
 
 -- a signature of 1 to 64 bytes, or an error value of one or more value-chars
 abbrev pub IsVerifierOrError : VerifierOrError → Type 0
-IsVerifierOrError (verified signature) = IsField longest_tag signature
-IsVerifierOrError (failed value) = IsValue value
+IsVerifierOrError (verifier signature) = IsField longest_tag signature
+IsVerifierOrError (server_error value) = IsValue value
 
 -- server-final-message = (server-error / verifier) ["," extensions], as "v=rmF9pqV8S7suAoZWja4dJRkFsKQ="
 -- or "e=invalid-proof"
@@ -145,5 +145,5 @@ pub record IsServerFinal (text : List ℕ) (p : ServerFinalParts) : Type 0 where
   pub spelled : text ≡ server_final_text p
   pub outcome : IsVerifierOrError p.outcome
   pub extensions : AreExtensions p.extensions
-  pub is_text : IsText text
+  pub utf8_text : IsUtf8Text text
   pub short : length text ≤ longest_message

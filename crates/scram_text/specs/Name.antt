@@ -9,18 +9,18 @@ use Rattle.scram_text.specs.Class.{is_comma}
 abbrev pub LacksComma : List ℕ → Type 0
 LacksComma bytes = IsTrue (list_all (λ c. not (is_comma c)) bytes)
 
--- the text begins with "2C" or "3D", as what follows `=` in a saslname does
-abbrev pub ends_escape : List ℕ → Bool
-ends_escape [] = false
-ends_escape (a ∷ []) = false
-ends_escape (a ∷ b ∷ rest) = (a == byte "2") && (b == byte "C") || (a == byte "3") && (b == byte "D")
+-- the text begins with "2C" or "3D", the codes that may follow `=` in a saslname
+abbrev pub begins_with_code : List ℕ → Bool
+begins_with_code [] = false
+begins_with_code (a ∷ []) = false
+begins_with_code (a ∷ b ∷ rest) = (a == byte "2") && (b == byte "C") || (a == byte "3") && (b == byte "D")
 
 -- each `=` begins "=2C" or "=3D"
 abbrev pub is_escaped : List ℕ → Bool
 is_escaped [] = true
-is_escaped (c ∷ rest) = (not (c == byte "=") || ends_escape rest) && is_escaped rest
+is_escaped (c ∷ rest) = (not (c == byte "=") || begins_with_code rest) && is_escaped rest
 
--- saslname = 1*(value-safe-char / "=2C" / "=3D"), as "a=2Cb", in a message that is a text
+-- saslname = 1*(value-safe-char / "=2C" / "=3D"), as "a=2Cb", in UTF-8 without NUL
 pub record IsSaslName (spelled : List ℕ) : Type 0 where
   pub at_least : 1 ≤ length spelled
   pub no_comma : LacksComma spelled

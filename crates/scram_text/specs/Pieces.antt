@@ -2,7 +2,7 @@
 use Rattle.std.specs.Prelude.{◌≡◌, ◌≤◌, ◌+◌, [], ◌∷◌, ◌++◌, List, ℕ, length, replicate, IfSome, is_some, Bool, false, ◌&&◌, ◌==◌}
 use Rattle.std.specs.Str.{byte}
 use Rattle.std.specs.Option.{option_copied}
-use Rattle.scram_text.specs.Class.{IsText, IsNonce, is_letter}
+use Rattle.scram_text.specs.Class.{IsUtf8Text, IsNonce, is_letter}
 use Rattle.scram_text.specs.Name.{IsSaslName}
 use Rattle.scram_text.specs.Messages.{ClientFirstParts, bare_parts, client_first_mandatory}
 use Rattle.std.specs.declared.option.Option.{Option}
@@ -37,7 +37,7 @@ is_attribute (a ∷ b ∷ c ∷ value) = is_letter a && (b == byte "=")
 -- the parts of a text that may be client-final
 pub record IsCutClientFinal (message : List ℕ) (pieces : Pieces) : Type 0 where
   pub short : length message ≤ longest_message
-  pub is_text : IsText message
+  pub utf8_text : IsUtf8Text message
   pub whole : message ≡ pieces.without_proof.now ++ byte "," ∷ pieces.proof.now
   pub cut : parts pieces.without_proof.now ≡ pieces.channel.now ∷ pieces.nonce.now ∷ parts_of_some (option_copied pieces.rest)
   pub cut_whole : parts message ≡ pieces.channel.now ∷ pieces.nonce.now
@@ -60,7 +60,7 @@ IsMextMisfit k pieces f =
 -- the parts of a text that may be server-first
 pub record IsCutServerFirst (message : List ℕ) (pieces : ServerPieces) : Type 0 where
   pub short : length message ≤ longest_message
-  pub is_text : IsText message
+  pub utf8_text : IsUtf8Text message
   pub mext : Option (List ℕ)
   pub marked : IsMarked (parts message) (pieces.nonce.now ∷ pieces.salt.now ∷ pieces.count.now
       ∷ parts_of_some (option_copied pieces.rest)) mext
@@ -71,7 +71,7 @@ pub record IsCutServerFirst (message : List ℕ) (pieces : ServerPieces) : Type 
 -- the parts of a text that may be client-first
 pub record IsCutClientFirst (message : List ℕ) (pieces : FirstPieces) : Type 0 where
   pub short : length message ≤ longest_message
-  pub is_text : IsText message
+  pub utf8_text : IsUtf8Text message
   pub header : message ≡ pieces.header.now ++ pieces.bare.now
   pub header_parts : pieces.header.now ≡ pieces.flag.now ++ byte "," ∷ (pieces.authzid.now ++ byte "," ∷ [])
   pub cut : parts message ≡ pieces.flag.now ∷ pieces.authzid.now ∷ parts pieces.bare.now

@@ -3,7 +3,7 @@ use Rattle.std.specs.Prelude.{◌≡◌, ℕ, List, ◌++◌, codes}
 use Rattle.scram_text.specs.Parts.{joined}
 use Rattle.scram_text.specs.Messages.{ClientFirstParts, header_text, bare_text, client_first_mandatory, ServerFirstParts}
 use Rattle.scram_text.specs.Messages.{server_first_mandatory, ClientFinalParts, client_final_without_proof, client_final_mandatory}
-use Rattle.scram_text.specs.Messages.{VerifierOrError, verified, failed, ServerFinalParts, server_final_mandatory}
+use Rattle.scram_text.specs.Messages.{VerifierOrError, verifier, server_error, ServerFinalParts, server_final_mandatory}
 use Rattle.scram_text.specs.declared.client_first.Flag.{Flag}
 use Rattle.scram_text.specs.declared.client_first.Flag.TheVariants.{NoBinding, NotOffered, Binding}
 use Rattle.scram_text.specs.declared.client_first.ClientFirst.{ClientFirst}
@@ -49,8 +49,8 @@ pub record ShowsClientFinal (m : ClientFinal) (p : ClientFinalParts) : Type 0 wh
 
 -- the verifier or the error value that a result holds
 abbrev pub verifier_or_error_of : FinalResult → VerifierOrError
-verifier_or_error_of (Verifier signature) = verified signature.items
-verifier_or_error_of (ErrorValue value) = failed value.now
+verifier_or_error_of (Verifier signature) = verifier signature.items
+verifier_or_error_of (ErrorValue value) = server_error value.now
 
 -- the message shows these parts of server-final
 pub record ShowsServerFinal (m : ServerFinal) (p : ServerFinalParts) : Type 0 where

@@ -4,12 +4,12 @@ use Rattle.std.specs.Prelude.{ℕ, ◌≡◌, List, [], ◌∷◌, IsTrue, optio
 use Rattle.std.specs.declared.option.Option.{Option}
 use Rattle.std.specs.declared.option.Option.TheVariants.{None}
 use Rattle.scram_text.specs.Limits.{longest_channel, longest_nonce, longest_salt, longest_tag}
-use Rattle.scram_text.specs.Class.{IsNonce, IsText}
+use Rattle.scram_text.specs.Class.{IsNonce, IsUtf8Text}
 use Rattle.scram_text.specs.Name.{name_spelling}
 use Rattle.scram_text.specs.Base64Field.{IsField}
-use Rattle.scram_text.specs.Parts.{parts, is_flag, IsValue, IsCount, AreExtensions}
+use Rattle.scram_text.specs.Parts.{parts, is_flag, IsCount, AreExtensions}
 use Rattle.scram_text.specs.Messages.{ClientFirstParts, ServerFirstParts, ClientFinalParts, client_final_without_proof, VerifierOrError}
-use Rattle.scram_text.specs.Messages.{verified, failed, IsVerifierOrError, ServerFinalParts}
+use Rattle.scram_text.specs.Messages.{verifier, server_error, IsVerifierOrError, ServerFinalParts}
 use Rattle.scram_text.specs.Shown.{flag_text}
 use Rattle.scram_text.specs.declared.client_first.Flag.{Flag}
 use Rattle.scram_text.specs.declared.client_final.ClientFinalWithoutProof.{ClientFinalWithoutProof}
@@ -21,7 +21,7 @@ extension_parts (c ∷ text) = parts (c ∷ text)
 
 -- the text is empty, or attr-vals with commas between them
 pub record IsExtensionText (extensions : List ℕ) : Type 0 where
-  pub is_text : IsText extensions
+  pub utf8_text : IsUtf8Text extensions
   pub each : AreExtensions (extension_parts extensions)
 
 -- the parts of the client-first message that is written; names are given in plain bytes
@@ -83,7 +83,7 @@ pub record IsClientFinalWithoutProof (w : ClientFinalWithoutProof) (p : ClientFi
   pub channel : IsField longest_channel p.channel
   pub nonce : IsNonce longest_nonce p.nonce
   pub extensions : AreExtensions p.extensions
-  pub is_text : IsText (client_final_without_proof p)
+  pub utf8_text : IsUtf8Text (client_final_without_proof p)
 
 -- the parts of the server-final message that is written
 abbrev pub server_final_of : VerifierOrError → (extensions : List ℕ) → ServerFinalParts
@@ -91,8 +91,8 @@ server_final_of outcome extensions = record { outcome = outcome; extensions = ex
 
 -- an outcome is in its class: an error value is a text as well
 abbrev pub CanBeVerifierOrError : VerifierOrError → Type 0
-CanBeVerifierOrError (verified signature) = IsVerifierOrError (verified signature)
-CanBeVerifierOrError (failed value) = IsVerifierOrError (failed value) × IsText value
+CanBeVerifierOrError (verifier signature) = IsVerifierOrError (verifier signature)
+CanBeVerifierOrError (server_error value) = IsVerifierOrError (server_error value) × IsUtf8Text value
 
 -- the arguments for server-final are in their classes
 pub record CanBeServerFinal (outcome : VerifierOrError) (extensions : List ℕ) : Type 0 where

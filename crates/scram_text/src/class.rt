@@ -2,7 +2,7 @@
 ghost use Rattle.std.specs.Prelude.{◌≡◌, ◌==◌, ◌↔◌, IsTrue, not};
 ghost use Rattle.std.specs.List.{list_all};
 ghost use Rattle.std.specs.Str.{byte};
-ghost use Rattle.scram_text.specs.Class.{is_comma, is_printable, is_plain, is_letter, is_cb_char, IsNonce, IsRunOf, IsText};
+ghost use Rattle.scram_text.specs.Class.{is_comma, is_printable, is_plain, is_letter, is_cb_char, IsNonce, IsRunOf, IsUtf8Text};
 ghost use Rattle.scram_text.specs.Parts.{is_cb_name};
 
 /// Whether the byte is printable = %x21-2B / %x2D-7E.
@@ -79,8 +79,8 @@ fn is_cb_char(byte: u8) -> bool
 }
 
 /// Whether this is UTF-8 with no NUL.
-pub(crate) fn is_text(bytes: &[u8]) -> bool
-    ensures { IsTrue result ↔ IsText bytes.now }
+pub(crate) fn is_utf8_text(bytes: &[u8]) -> bool
+    ensures { IsTrue result ↔ IsUtf8Text bytes.now }
 {
     str::from_utf8(bytes).is_ok() && lacks_nul(bytes)
 }

@@ -9,7 +9,7 @@
 //! extension is named `p`.
 ghost use Rattle.std.specs.Prelude.{◌≡◌, ◌≤◌, ◌<◌, ◌+◌, ◌↔◌, ℕ, List, [], ◌++◌, length, IsTrue, IfOk, IfErr, OnOk, IsOkAnd, IsErrOf};
 ghost use Rattle.scram_text.specs.Limits.{longest_message, longest_tag};
-ghost use Rattle.scram_text.specs.Class.{IsText};
+ghost use Rattle.scram_text.specs.Class.{IsUtf8Text};
 ghost use Rattle.scram_text.specs.Base64Field.{IsField};
 ghost use Rattle.scram_text.specs.Messages.{ClientFinalParts, client_final_without_proof, client_final_text, IsClientFinal};
 ghost use Rattle.scram_text.specs.Draft.{IsDraftOf};
@@ -17,7 +17,7 @@ ghost use Rattle.scram_text.specs.Written.{client_final_of, CanBeClientFinal, Ca
 ghost use Rattle.scram_text.specs.Faults.{IsClientFinalFault};
 ghost use Rattle.scram_text.specs.Shown.{ShowsClientFinal};
 ghost use Rattle.scram_text.specs.Pieces.{IsCutClientFinal};
-ghost use Rattle.scram_text.specs.Appended.{UnchangedOnErr, IsAppended, LacksRoom};
+ghost use Rattle.scram_text.specs.Appended.{UnchangedOnErr, KeepsRoom, IsAppended, LacksRoom};
 
 use crate::draft::MessageDraft;
 use crate::fault::{TextFault, TextWhy, WriteFault};
@@ -49,8 +49,8 @@ pub struct ClientFinal<'a> {
 }
 
 /// Reads a client-final message (RFC 5802, section 7), or answers the first fault of the text: 1
-/// TooLong, 2 NotText or 3 Missing for the whole text, else the first part from the left that is not
-/// as it has to be: 11 Channel, 8 Nonce, 12 Extension or 13 Proof. It takes no memory.
+/// TooLong or 2 NotText for the whole text, else 3 Missing where it has too few parts, else the first part
+/// from the left that is not as it has to be: 11 Channel, 8 Nonce, 12 Extension or 13 Proof. It takes no memory.
 pub fn read_client_final(message: &[u8]) -> Result<ClientFinal<'_>, TextFault>
     // The text is a message with the parts that are returned.
     ensures found { IfOk result (λ m. (p : ClientFinalParts) × IsClientFinal message.now p
@@ -195,6 +195,7 @@ impl ClientFinalWithoutProof {
         ensures is_message { (p : ClientFinalParts) → IsClientFinalWithoutProof self p → p.proof ≡ proof.now.items
             → OnOk result (IsClientFinal (client_final_text p) p) }
         ensures unchanged { UnchangedOnErr result out.old out.new }
+        ensures room { KeepsRoom out.old out.new }
         ensures unwritable { IsErrOf result WriteFault.Unwritable → IsField longest_tag proof.now.items → ⊥ }
         ensures over_limit { IsErrOf result WriteFault.OverLimit → IsField longest_tag proof.now.items
             × ((p : ClientFinalParts) → IsClientFinalWithoutProof self p → p.proof ≡ proof.now.items
@@ -237,8 +238,8 @@ fn draft_of(channel: &[u8], nonce: &[u8], extensions: &[u8]) -> MessageDraft
     requires { CanBeClientFinalWithoutProof channel.now nonce.now extensions.now }
     ensures draft { (proof : List ℕ) → IsDraftOf result
         (client_final_without_proof (client_final_of channel.now nonce.now extensions.now proof)) }
-    ensures is_text { (proof : List ℕ)
-        → IsText (client_final_without_proof (client_final_of channel.now nonce.now extensions.now proof)) }
+    ensures utf8_text { (proof : List ℕ)
+        → IsUtf8Text (client_final_without_proof (client_final_of channel.now nonce.now extensions.now proof)) }
 {
     let mut draft = MessageDraft::new();
     draft.add(b"c=");

@@ -72,8 +72,9 @@ pub struct ClientFirst<'a> {
 }
 
 /// Reads a client-first message (RFC 5802, section 7), or answers the first fault of the text: 1
-/// TooLong, 2 NotText or 3 Missing for the whole text, else the first part from the left that is not as
-/// it has to be: 4 Flag, 5 Authzid, 6 Mandatory, 7 Name, 8 Nonce or 12 Extension. It takes no memory.
+/// TooLong or 2 NotText for the whole text, else 3 Missing where it has too few parts, else the first part
+/// from the left that is not as it has to be: 4 Flag, 5 Authzid, 6 Mandatory, 7 Name, 8 Nonce or 12
+/// Extension. It takes no memory.
 pub fn read_client_first(message: &[u8]) -> Result<ClientFirst<'_>, TextFault>
     // The text is a message with the parts that are returned.
     ensures found { IfOk result (λ m. (p : ClientFirstParts) × IsClientFirst message.now p

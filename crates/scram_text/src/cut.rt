@@ -5,7 +5,7 @@ ghost use Rattle.std.specs.Str.{byte};
 ghost use Rattle.std.specs.Option.{option_copied};
 ghost use Rattle.std.specs.declared.option.Option.{Option};
 ghost use Rattle.scram_text.specs.Limits.{longest_message};
-ghost use Rattle.scram_text.specs.Class.{is_comma, IsText};
+ghost use Rattle.scram_text.specs.Class.{is_comma, IsUtf8Text};
 ghost use Rattle.scram_text.specs.Name.{LacksComma};
 ghost use Rattle.scram_text.specs.Parts.{parts, parts_of_some, joined, is_named, IsExtension, AreExtensions, have_mandatory};
 ghost use Rattle.scram_text.specs.Parts.{mext_parts};
@@ -19,7 +19,7 @@ use crate::{LONGEST_MESSAGE, class, field};
 /// The number of parts of a message. TooLong where it has over 2048 bytes, NotText where it is no text.
 pub(crate) fn checked_part_count(message: &[u8]) -> Result<usize, TextFault>
     ensures short { IfOk result (λ _. length message.now ≤ longest_message) }
-    ensures is_text { IfOk result (λ _. IsText message.now) }
+    ensures utf8_text { IfOk result (λ _. IsUtf8Text message.now) }
     ensures count { IfOk result (λ count. count ≡ length (parts message.now)) }
     ensures few { OnOk result (length (parts message.now) ≤ most_parts) }
     ensures fault { IfErr result (λ f. IsWholeFault message.now f) }
@@ -30,7 +30,7 @@ pub(crate) fn checked_part_count(message: &[u8]) -> Result<usize, TextFault>
             why: TextWhy::TooLong,
         });
     }
-    if !class::is_text(message) {
+    if !class::is_utf8_text(message) {
         return Err(TextFault {
             part: 0,
             why: TextWhy::NotText,
@@ -104,13 +104,13 @@ pub(crate) fn headed(part: &[u8], letter: u8) -> Option<&[u8]>
 }
 
 /// Whether the part is named `m`.
-pub(crate) fn is_mandatory(part: &[u8]) -> bool
+pub(crate) fn is_mext(part: &[u8]) -> bool
     ensures { result ≡ is_named (byte "m") part.now }
 {
     matches!(part, [b'm', b'=', ..])
 }
 
-// Whether the part, which has no comma, is attr-val = ALPHA "=" value.
+// Whether the part, which has no comma, is attr-val = ALPHA "=" value: as `is_attribute`, but the clause speaks of the grammar.
 fn is_extension(part: &[u8]) -> bool
     requires { LacksComma part.now }
     ensures { IsTrue result ↔ IsExtension part.now }
@@ -173,7 +173,7 @@ fn attributes(text: &[u8], first: usize) -> Result<bool, TextFault>
                 why: TextWhy::Extension,
             });
         }
-        mandatory |= is_mandatory(part);
+        mandatory |= is_mext(part);
         index += 1;
         left = more;
     }
@@ -195,11 +195,11 @@ pub(crate) fn two_of(text: &[u8]) -> (&[u8], &[u8], Option<&[u8]>)
     (first, second, rest)
 }
 
-/// Whether the text begins with `m=`: as `is_mandatory`, but the clause speaks of the first part of the text.
+/// Whether the text begins with `m=`: as `is_mext`, but the clause speaks of the first part of the text.
 pub(crate) fn begins_with_mext(text: &[u8]) -> bool
     ensures { result ≡ is_named (byte "m") (first_of (parts text.now)) }
 {
-    is_mandatory(text)
+    is_mext(text)
 }
 
 /// The least number of parts of a message that needs `fixed` parts besides reserved-mext: one more where it has a reserved-mext. `text`
@@ -265,7 +265,7 @@ pub(crate) fn mext_of(text: &[u8], index: usize) -> Result<AfterMext<'_>, TextFa
 pub(crate) fn are_extensions(text: &[u8]) -> bool
     ensures { IsTrue result ↔ IsExtensionText text.now }
 {
-    text.is_empty() || (class::is_text(text) && are_attributes(text))
+    text.is_empty() || (class::is_utf8_text(text) && are_attributes(text))
 }
 
 fn are_attributes(text: &[u8]) -> bool

@@ -1,6 +1,6 @@
 //! Why a text is no message, and why a message is not written.
 ghost use Rattle.std.specs.Prelude.{◌≡◌};
-ghost use Rattle.scram_text.specs.Faults.{text_why_number, write_number};
+ghost use Rattle.scram_text.specs.Faults.{text_why_number, write_fault_number};
 
 use thiserror::Error;
 
@@ -77,7 +77,8 @@ impl TextWhy {
     }
 }
 
-/// Why a text is no message: the first fault from the left.
+/// Why a text is no message: the fault of the whole text, else that a part is missing, else the first part from the left that
+/// is not as it has to be.
 #[derive(Clone, Copy, Debug, PartialEq, Eq, Error)]
 #[error("part {part}: {why}")]
 pub struct TextFault {
@@ -117,7 +118,7 @@ pub enum WriteFault {
 impl WriteFault {
     /// The fault's number: 16, 17 or 99.
     pub fn number(&self) -> u16
-        ensures { result ≡ write_number self.now }
+        ensures { result ≡ write_fault_number self.now }
     {
         *self as u16
     }

@@ -11,7 +11,7 @@ ghost use Rattle.scram_text.specs.Parts.{IsAttrVal, IsValue, IsCount, SpellsCoun
 use crate::name::SaslText;
 use crate::number::decimal;
 use crate::secret::Salt;
-use crate::{LONGEST_CHANNEL, class, cut};
+use crate::{LONGEST_CHANNEL, MOST_COUNT, class, cut};
 use arrayvec::ArrayVec;
 use base64::engine::general_purpose::STANDARD;
 use mac_core::{Tag, copy_of};
@@ -83,7 +83,7 @@ fn count(digits: &[u8]) -> Option<u32>
     let Some(number) = decimal(digits) else {
         return None;
     };
-    if number < 1 || 4_294_967_295 < number {
+    if number < 1 || u64::from(MOST_COUNT) < number {
         return None;
     }
     Some(number as u32)

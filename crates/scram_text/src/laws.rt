@@ -1,7 +1,7 @@
 //! Laws of the grammar, for proofs that rest on this crate: each is the promise of a function that
 //! does nothing.
 ghost use Rattle.scram_text.specs.Laws.{HasUsualBase64};
-ghost use Rattle.scram_text.specs.Laws.{FieldsHoldBytes, PartsAreUtf8, SpellsOneName, NameIsDecided, HasOneClientFirst};
+ghost use Rattle.scram_text.specs.Laws.{PartsAreUtf8, SpellsOneName, NameIsDecided, HasOneClientFirst};
 ghost use Rattle.scram_text.specs.Laws.{ClientFirstIsDecided, HasOneServerFirst, ServerFirstIsDecided, HasOneClientFinal};
 ghost use Rattle.scram_text.specs.Laws.{ClientFinalIsDecided, HasOneServerFinal, ServerFinalIsDecided};
 
@@ -9,11 +9,6 @@ ghost use Rattle.scram_text.specs.Laws.{ClientFinalIsDecided, HasOneServerFinal,
 /// decoded to them, and has four bytes for each three begun.
 pub fn base64_is_usual()
     ensures { HasUsualBase64 }
-{}
-
-/// A field may hold any bytes within its limits: a writer refuses an argument only where it is outside its class.
-pub fn fields_hold_bytes()
-    ensures { FieldsHoldBytes }
 {}
 
 /// The parts of a UTF-8 text are UTF-8, so their values are made of whole characters.

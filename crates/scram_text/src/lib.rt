@@ -68,5 +68,8 @@ pub const LONGEST_PASSWORD: usize = 1024;
 /// The most bytes of a salt.
 pub const LONGEST_SALT: usize = 64;
 
+/// The greatest iteration count.
+pub const MOST_COUNT: u32 = 4_294_967_295;
+
 /// The most bytes of a proof or a signature.
 pub const LONGEST_TAG: usize = 64;

@@ -8,7 +8,7 @@
 ghost use Rattle.std.specs.Prelude.{◌≡◌, ◌≤◌, ◌<◌, ◌+◌, ◌↔◌, ◌++◌, length, codes, IsTrue, IfOk, IfErr, OnOk, IsOkAnd, IsErrOf};
 ghost use Rattle.std.specs.Str.{byte};
 ghost use Rattle.scram_text.specs.Limits.{longest_message, longest_nonce, longest_tag};
-ghost use Rattle.scram_text.specs.Class.{IsText};
+ghost use Rattle.scram_text.specs.Class.{IsUtf8Text};
 ghost use Rattle.scram_text.specs.Name.{LacksComma};
 ghost use Rattle.scram_text.specs.Base64Field.{base64};
 ghost use Rattle.scram_text.specs.Parts.{is_named};
@@ -148,7 +148,7 @@ fn is_tellable(outcome: &FinalResult<'_>) -> bool
 {
     match outcome {
         FinalResult::Verifier(signature) => field::is_field(signature.as_slice(), LONGEST_TAG),
-        FinalResult::ErrorValue(value) => field::is_value(value) && class::is_text(value),
+        FinalResult::ErrorValue(value) => field::is_value(value) && class::is_utf8_text(value),
     }
 }
 
@@ -166,7 +166,7 @@ fn draft_of(outcome: &FinalResult<'_>, extensions: &[u8]) -> MessageDraft
 fn outcome_draft(outcome: &FinalResult<'_>) -> MessageDraft
     requires { CanBeVerifierOrError (verifier_or_error_of outcome.now) }
     ensures draft { IsDraftOf result (verifier_or_error_text (verifier_or_error_of outcome.now)) }
-    ensures is_text { IsText (verifier_or_error_text (verifier_or_error_of outcome.now)) }
+    ensures utf8_text { IsUtf8Text (verifier_or_error_text (verifier_or_error_of outcome.now)) }
 {
     match outcome {
         FinalResult::Verifier(signature) => verifier(signature.as_slice()),
@@ -178,7 +178,7 @@ fn outcome_draft(outcome: &FinalResult<'_>) -> MessageDraft
 fn verifier(signature: &[u8]) -> MessageDraft
     requires { length signature.now ≤ longest_tag }
     ensures draft { IsDraftOf result (codes "v=" ++ base64 signature.now) }
-    ensures is_text { IsText (codes "v=" ++ base64 signature.now) }
+    ensures utf8_text { IsUtf8Text (codes "v=" ++ base64 signature.now) }
 {
     let mut draft = MessageDraft::new();
     draft.add(b"v=");
@@ -188,9 +188,9 @@ fn verifier(signature: &[u8]) -> MessageDraft
 
 // "e=" server-error-value
 fn error(value: &[u8]) -> MessageDraft
-    requires { IsText value.now }
+    requires { IsUtf8Text value.now }
     ensures draft { IsDraftOf result (codes "e=" ++ value.now) }
-    ensures is_text { IsText (codes "e=" ++ value.now) }
+    ensures utf8_text { IsUtf8Text (codes "e=" ++ value.now) }
 {
     let mut draft = MessageDraft::new();
     draft.add(b"e=");

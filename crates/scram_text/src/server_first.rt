@@ -41,8 +41,9 @@ pub struct ServerFirst<'a> {
 }
 
 /// Reads a server-first message (RFC 5802, section 7), or answers the first fault of the text: 1
-/// TooLong, 2 NotText or 3 Missing for the whole text, else the first part from the left that is not
-/// as it has to be: 6 Mandatory, 8 Nonce, 9 Salt, 10 Count or 12 Extension. It takes no memory.
+/// TooLong or 2 NotText for the whole text, else 3 Missing where it has too few parts, else the first part
+/// from the left that is not as it has to be: 6 Mandatory, 8 Nonce, 9 Salt, 10 Count or 12 Extension. It
+/// takes no memory.
 pub fn read_server_first(message: &[u8]) -> Result<ServerFirst<'_>, TextFault>
     // The text is a message with the parts that are returned.
     ensures found { IfOk result (λ m. (p : ServerFirstParts) × IsServerFirst message.now p

@@ -239,6 +239,10 @@ fn faults_of_server_first(rt: HostRuntime) {
         let fault = read_server_first(text.as_bytes()).err();
         check(&rt, &fault, &Some(TextFault { part, why }), text);
     }
+}
+
+#[test]
+fn the_greatest_count(rt: HostRuntime) {
     let Ok(message) = read_server_first(b"r=ab,s=QQ==,i=4294967295") else {
         panic!(rt; "the greatest count");
     };
@@ -268,6 +272,10 @@ fn faults_of_client_final(rt: HostRuntime) {
         let fault = read_client_final(text.as_bytes()).err();
         check(&rt, &fault, &Some(TextFault { part, why }), text);
     }
+}
+
+#[test]
+fn an_extension_may_be_named_p(rt: HostRuntime) {
     let Ok(message) = read_client_final(b"c=biws,r=abc,p=AA==,p=AA==") else {
         panic!(rt; "a proof after an extension that is named p");
     };
@@ -473,7 +481,10 @@ fn limits_of_messages(rt: HostRuntime) -> Result<(), Fail> {
     ];
     for (kind, front, letters, back, is_read) in rows {
         let fault = fault_of_long(rt.alloc(), kind, front, letters, back)?;
-        assert!(rt; fault.is_none() == is_read, "{letters} letters");
+        assert!(rt;
+            fault.is_none() == is_read,
+            "{letters} letters after {front:?}"
+        );
     }
     let fault = fault_of_long(
         rt.alloc(),
@@ -528,8 +539,8 @@ fn longest_write(rt: HostRuntime) -> Result<(), Fail> {
     ] {
         let extensions = long(alloc, b"x=", letters, b"")?;
         let written = write_server_first(b"a", &salt, 1, extensions.as_slice(), &mut out);
-        check(&rt, &written, &want, "what is written");
-        check(&rt, &out.len(), &length, "the length");
+        assert_eq!(rt; written, want, "{letters} letters");
+        assert_eq!(rt; out.len(), length, "{letters} letters");
     }
     assert!(rt; out.starts_with(b"before"));
     Ok(())

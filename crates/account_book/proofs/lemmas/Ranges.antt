@@ -15,7 +15,7 @@ use Rattle.book_format.specs.Book.{AreAccounts}
 use Rattle.account_book.specs.Accounts.{with_act_as}
 use Rattle.account_book.specs.Tokens.{with_token}
 
--- of two lists of accounts in their ranges, whichever a test chooses is in them:
+-- of accounts in their ranges, whichever a test or an ordering chooses are in them: of two lists, of three, and of two optional ones:
 either : (b : Bool) (es fs : List (List ℕ × AccountFields)) → AreAccounts es → AreAccounts fs → AreAccounts (cond b es fs)
 either true es fs h k = h
 either false es fs h k = k
@@ -78,6 +78,6 @@ pub act_as_set : (names : List (List ℕ)) (account : AccountFields) → length 
     → IsAccount (with_act_as names account)
 act_as_set names account few h = record { sha1 = h.sha1; sha256 = h.sha256; names = few }
 
--- a fact of a value is one of the value that an option holds
+-- what holds of a value holds of what the option of that value holds
 pub for_some : {X : Type 0} (P : X → Type 0) (x : X) → P x → ForSome (Some x) P
 for_some P x h y e = subst P (ap (λ o. unwrap_or o x) e) h

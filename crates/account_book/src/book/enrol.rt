@@ -5,7 +5,7 @@ ghost use Rattle.mac_core.specs.Mechanism.{length_by};
 ghost use Rattle.book_format.specs.Account.{AreKeys};
 ghost use Rattle.account_book.specs.Accounts.{account_at, IsAdded};
 ghost use Rattle.account_book.specs.Enrolled.{enrolled, keys_from};
-ghost use Rattle.account_book.specs.Faults.{enrol_number};
+ghost use Rattle.account_book.specs.Faults.{enrol_fault_number};
 
 use crate::book::Book;
 use book_format::{Account, MechKeys};
@@ -29,7 +29,7 @@ pub enum EnrolFault {
 impl EnrolFault {
     /// The fault's number: 50 or 99.
     pub fn number(&self) -> u16
-        ensures { result ≡ enrol_number self.now }
+        ensures { result ≡ enrol_fault_number self.now }
     {
         *self as u16
     }

@@ -2,9 +2,10 @@
 ghost use Rattle.std.specs.Prelude.{◌≡◌, ◌⊎◌, false, Ok, IfOk, IfErr, IsErrAnd, string_bytes};
 ghost use Rattle.toml.specs.Text.{IsDocumentText};
 ghost use Rattle.book_format.specs.Book.{BookFields};
-ghost use Rattle.book_format.specs.Reading.{IsFirstFault};
+ghost use Rattle.book_format.specs.FirstFault.{IsFirstFault};
 ghost use Rattle.book_format.specs.Trees.{IsBookText};
 ghost use Rattle.book_format.specs.Written.{book_tree};
+ghost use Rattle.book_format.specs.declared.fault.BookFault.{BookFault};
 ghost use Rattle.book_format.specs.declared.fault.BookWhy.TheVariants.{NoMemory};
 
 use crate::book::Book;
@@ -19,6 +20,8 @@ impl Book {
         ensures only { (book : BookFields) → IsBookText bytes.now book
             → (result ≡ Ok book) ⊎ IsErrAnd result (λ fault. fault.why ≡ NoMemory) }
         ensures first_fault { IfErr result (λ fault. (fault.why ≡ NoMemory) ⊎ IsFirstFault bytes.now fault) }
+        ensures only_fault { (first : BookFault) → IsFirstFault bytes.now first
+            → IsErrAnd result (λ fault. (fault.why ≡ NoMemory) ⊎ (fault ≡ first)) }
     {
         match Contents::read(alloc, bytes) {
             Ok(contents) => Ok(Book { contents }),

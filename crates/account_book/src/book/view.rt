@@ -12,6 +12,9 @@ use mac_core::{HSha256, Mechanism};
 use scram_ends::KeysView;
 use scram_text::{PlainName, Salt};
 
+/// The bytes of a decoy's salt, and so of each salt that is made for an account: by another length clients could tell the two apart.
+pub const SALT_LEN: usize = 16;
+
 impl Book {
     /// What a server keeps of this name for this mechanism: the account of the name where it has keys for
     /// the mechanism, else a decoy. A decoy's salt is the first 16 bytes of the HMAC-SHA-256, under the
@@ -57,7 +60,7 @@ impl Book {
         mac.add(&[0]);
         mac.add(name.bytes());
         let tag = mac.done();
-        let Some(salt) = Salt::new(&tag.as_slice()[..16]) else {
+        let Some(salt) = Salt::new(&tag.as_slice()[..SALT_LEN]) else {
             unreachable!()
         };
         salt

@@ -50,8 +50,12 @@ fn attempts_are_kept(rt: HostRuntime) -> Result<(), Fail> {
         (b"338314", Reply::Pass(4), (5, 0)),
         (b"287922", Reply::Pass(6), (7, 0)),
     ] {
-        assert_eq!(rt; book.attempt(&user, moment(&rt), text), Some(reply));
-        assert_eq!(rt; state(&book, &user), Some(after));
+        assert_eq!(rt;
+            book.attempt(&user, moment(&rt), text),
+            Some(reply),
+            "{text:?}"
+        );
+        assert_eq!(rt; state(&book, &user), Some(after), "{text:?}");
     }
     assert_eq!(rt; state(&book, &name(&rt, b"user2")), Some((0, 0)));
     Ok(())

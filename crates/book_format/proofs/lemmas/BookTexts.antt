@@ -1,5 +1,5 @@
 -- The text of a whole book, from its parts.
-use Rattle.std.proofs.Common.{◌≡◌, ℕ, List, Some, None, Ok, Err, refl, inl, inr}
+use Rattle.std.proofs.Common.{◌≡◌, ℕ, Bool, true, false, if◌then◌else◌, List, ◌∷◌, Option, Some, None, ok_or, Ok, Err, refl, inl, inr}
 use Rattle.std.proofs.lemmas.Str.{IsUtf8-from_is_utf8, is_utf8-from_IsUtf8}
 use Rattle.std.proofs.lemmas.Bool.{cases_Bool}
 use Rattle.std.specs.Str.{IsUtf8, is_utf8}
@@ -8,12 +8,16 @@ use Rattle.toml.specs.Parse.{parse_document}
 use Rattle.book_format.specs.Account.{AccountFields}
 use Rattle.book_format.specs.Book.{BookFields, IsBook}
 use Rattle.book_format.specs.Tables.{TopFields}
-use Rattle.book_format.specs.Reading.{tree_in, top_of, accounts_of_table, book_of, book_in}
+use Rattle.book_format.specs.reading.Books.{at_top, tree_in, top_of, accounts_of_table, book_of, book_in}
+use Rattle.book_format.specs.reading.Steps.{◌>>=◌}
+use Rattle.book_format.specs.Demands.{must, required}
+use Rattle.book_format.specs.FirstFault.{document_demands, book_demands, IsFirstFault}
 use Rattle.book_format.specs.Trees.{IsBookText}
 use Rattle.book_format.specs.declared.fault.BookFault.{BookFault}
 use Rattle.book_format.specs.declared.fault.BookWhy.{BookWhy}
 use Rattle.book_format.specs.declared.fault.BookWhy.TheVariants.{Toml}
-use Rattle.book_format.proofs.lemmas.Tables.{book_held, book_found, in_range, at_top_ok}
+use Rattle.book_format.proofs.lemmas.Tables.{book_held, book_found, book_follows, in_range, at_top_ok}
+use Rattle.book_format.proofs.lemmas.Demands.{Follows, first_fault, fault_read}
 use Rattle.book_format.proofs.lemmas.Steps.{bind_ok, ok_or_ok}
 
 -- a text that has no tree is read as no book, for the tree's reason and with no account named
@@ -61,6 +65,28 @@ text_found bytes book h =
 pub text_held : (bytes : List ℕ) (book : BookFields) → IsBookText bytes book → book_in bytes ≡ Ok book
 unfolding book_in tree_in
 text_held bytes book h = rw (is_utf8-from_IsUtf8 bytes h.utf8, h.parsed) (book_held h.tree book h.of_book)
+
+-- a text is read as the demands on it are met
+text_follows : (bytes : List ℕ) → Follows (book_demands bytes) (book_in bytes)
+unfolding book_demands book_in tree_in
+text_follows bytes = follows (is_utf8 bytes) (parse_document bytes)
+  where
+    no_toml : BookFault
+    no_toml = record { why = Toml; account = None }
+
+    follows : (utf8 : Bool) (parsed : Option Members) → Follows (must utf8 no_toml ∷ required no_toml document_demands parsed)
+        (at_top (if utf8 then ok_or parsed Toml else Err Toml) >>= book_of)
+    follows true None = refl
+    follows true (Some ms) = book_follows ms
+    follows false parsed = refl
+
+-- the fault that a text is read with is its first
+pub first_of_text : (bytes : List ℕ) (fault : BookFault) → book_in bytes ≡ Err fault → IsFirstFault bytes fault
+first_of_text bytes fault h = first_fault (book_demands bytes) fault (book_in bytes) (text_follows bytes) h
+
+-- a text is read with its first fault
+pub text_refused : (bytes : List ℕ) (fault : BookFault) → IsFirstFault bytes fault → book_in bytes ≡ Err fault
+text_refused bytes fault first = fault_read (book_demands bytes) fault (book_in bytes) (text_follows bytes) first
 
 -- a book that is read from a text is in its ranges
 pub text_in_range : (bytes : List ℕ) (book : BookFields) → book_in bytes ≡ Ok book → IsBook book

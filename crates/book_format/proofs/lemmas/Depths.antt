@@ -15,8 +15,10 @@ use Rattle.otp_core.specs.declared.token.kinds.TotpFields.{TotpFields}
 use Rattle.book_format.specs.Account.{AccountFields}
 use Rattle.book_format.specs.Book.{BookFields}
 use Rattle.book_format.specs.Put.{put_member, put_some, put_all}
-use Rattle.book_format.specs.Rows.{entries, in_table, written}
-use Rattle.book_format.specs.Tables.{mech, sha1_keys, sha256_keys, totp, token_tree, token, account}
+use Rattle.book_format.specs.Rows.{entries, written}
+use Rattle.book_format.specs.RowKinds.{in_table}
+use Rattle.book_format.specs.Tables.{mech, sha1_keys, sha256_keys, token, account}
+use Rattle.book_format.specs.Tokens.{totp, token_tree}
 use Rattle.book_format.specs.Written.{accounts_tree, book_tree}
 use Rattle.book_format.specs.declared.account.MechKeys.{MechKeys}
 use Rattle.book_format.proofs.lemmas.Put.{Entries}

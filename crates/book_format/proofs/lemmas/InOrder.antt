@@ -1,8 +1,7 @@
 -- A map that is filled in the order of its keys.
-use Rattle.std.proofs.Common.{◌≡◌, ℕ, List, [], ◌∷◌, ◌++◌, Less, Greater, nat_cmp, string_bytes, refl, sym, ap, ◌∙◌}
+use Rattle.std.proofs.Common.{◌≡◌, ℕ, List, [], ◌∷◌, ◌++◌, Greater, nat_cmp, string_bytes, refl, sym, ap, ◌∙◌}
 use Rattle.std.proofs.lemmas.Cmp.{nat_list_cmp_total}
 use Rattle.std.specs.Cmp.Lexicographic.{slice_cmp}
-use Rattle.std.specs.List.{AllByRecursion}
 use Rattle.std.specs.List.Sorted.{IsStrictlySortedBy}
 use Rattle.std.specs.Map.{keys_of}
 use Rattle.std.specs.String.{string_cmp}
@@ -10,6 +9,7 @@ use Rattle.std.specs.Ordering.{ordering_reverse}
 use Rattle.std.specs.BTreeMap.{insert_entry}
 use Rattle.toml.proofs.Views.{Entry}
 use Rattle.book_format.specs.Account.{AccountFields}
+use Rattle.book_format.proofs.lemmas.Put.{below_middle}
 
 -- an account with its name
 abbrev pub Named : Type 0
@@ -30,12 +30,6 @@ HaveKeys-last [] (d ∷ done) a e h same = absurd h
 HaveKeys-last (x ∷ accounts) [] a e h same = absurd h
 HaveKeys-last (x ∷ accounts) (d ∷ done) a e h same = (h.0, HaveKeys-last accounts done a e h.1 same)
 
--- a key that is below all keys of a list is below the one in its middle
-below_middle : (first : Entry) (es : List Entry) (e : Entry) (more : List Entry)
-    → AllByRecursion (λ y. string_cmp first.0 y ≡ Less) (keys_of (es ++ e ∷ more)) → string_cmp first.0 e.0 ≡ Less
-below_middle first [] e more h = h.0
-below_middle first (x ∷ es) e more h = below_middle first es e more h.1
-
 -- an account whose key is above those before it is inserted last
 pub inserted_last : (accounts : List Named) (done : List Entry) (e : Entry) (more : List Entry) (account : AccountFields)
     → IsStrictlySortedBy string_cmp (keys_of (done ++ e ∷ more)) → HaveKeys accounts done
@@ -46,6 +40,6 @@ inserted_last [] (d ∷ done) e more account h same = absurd same
 inserted_last (a ∷ accounts) [] e more account h same = absurd same
 inserted_last (a ∷ accounts) (d ∷ done) e more account h same =
     let above : slice_cmp nat_cmp (string_bytes e.0) (string_bytes d.0) ≡ Greater =
-    nat_list_cmp_total.antisymm (string_bytes e.0) (string_bytes d.0) ∙ ap ordering_reverse (below_middle d done e more h.0) in
+    nat_list_cmp_total.antisymm (string_bytes e.0) (string_bytes d.0) ∙ ap ordering_reverse (below_middle string_cmp d.0 done e more h.0) in
     rw (same.0, above) (ap (λ rest. (string_bytes d.0, a.1) ∷ rest) (inserted_last accounts done e more account h.1 same.1)) ∙ ap
     (λ key. (key, a.1) ∷ (accounts ++ (string_bytes e.0, account) ∷ [])) (sym same.0)

@@ -6,8 +6,9 @@ use Rattle.toml.specs.Data.{Items}
 use Rattle.toml.specs.View.{items_view}
 use Rattle.toml.specs.declared.value.Value.{Value}
 use Rattle.book_format.specs.Account.{most_names}
-use Rattle.book_format.specs.ValueTypes.{are_texts, item_count, names_in, names_of}
-use Rattle.book_format.specs.Rows.{◌>>=◌}
+use Rattle.book_format.specs.Names.{are_texts, item_count}
+use Rattle.book_format.specs.reading.Values.{names_in, names_of}
+use Rattle.book_format.specs.reading.Steps.{◌>>=◌}
 use Rattle.book_format.specs.declared.fault.BookWhy.TheVariants.{Key, Name}
 
 -- as many items are counted in the view of a list of values as it has

@@ -34,12 +34,11 @@ pub members_view-insert_entry : (es : List Entry) (k : String Global) (v : Value
 members_view-insert_entry [] k v = refl
 members_view-insert_entry (e ∷ es) k v = members_view-match_ordering (string_cmp k e.0) _ _ _ ∙ rw (members_view-insert_entry es k v)
 
--- a name that is below all names of a list is below the one in its middle
-below_middle : (first : List ℕ × AccountFields) (done : List (List ℕ × AccountFields)) (e : List ℕ × AccountFields)
-    (more : List (List ℕ × AccountFields))
-    → AllByRecursion (λ y. slice_cmp nat_cmp first.0 y ≡ Less) (keys_of (done ++ e ∷ more)) → slice_cmp nat_cmp first.0 e.0 ≡ Less
-below_middle first [] e more h = h.0
-below_middle first (x ∷ done) e more h = below_middle first done e more h.1
+-- a key that is below all keys of a list is below the one in its middle
+pub below_middle : {K X : Type 0} (cmp : K → K → Ordering) (key : K) (front : List (K × X)) (e : K × X) (more : List (K × X))
+    → AllByRecursion (λ y. cmp key y ≡ Less) (keys_of (front ++ e ∷ more)) → cmp key e.0 ≡ Less
+below_middle cmp key [] e more h = h.0
+below_middle cmp key (x ∷ front) e more h = below_middle cmp key front e more h.1
 
 -- an account whose name is above those before it goes last
 pub put_above : (done : List (List ℕ × AccountFields)) (e : List ℕ × AccountFields) (more : List (List ℕ × AccountFields))
@@ -49,12 +48,12 @@ unfolding IsStrictlySortedBy accounts_tree
 put_above [] e more h = refl
 put_above (first ∷ done) e more h =
     let above : slice_cmp nat_cmp e.0 first.0
-    ≡ Greater = nat_list_cmp_total.antisymm e.0 first.0 ∙ ap ordering_reverse (below_middle first done e more h.0) in
+    ≡ Greater = nat_list_cmp_total.antisymm e.0 first.0 ∙ ap ordering_reverse (below_middle (slice_cmp nat_cmp) first.0 done e more h.0) in
     rw above (ap (member first.0 (table (written account first.1))) (put_above done e more h.1))
 
 -- Look-ups.
 
--- an ordering that is not Equal chooses the same, whatever stands in its middle
+-- where both sides are the same, an ordering that is not Equal chooses that side, whatever stands in the middle
 pub same_sides : {X : Type 0} (o : Ordering) (side middle : X) → is_eq o ≡ false → match_ordering o side middle side ≡ side
 same_sides Less side middle h = refl
 same_sides Equal side middle h = absurd (false≢true (sym h))

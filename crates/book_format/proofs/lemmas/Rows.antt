@@ -1,14 +1,19 @@
--- Of any table: what is read of it is what it is the table of.
+-- Of any table: what is read of it is what it is the table of, and else the fault of the first demand that it does not meet.
 use Rattle.std.proofs.Common.{◌≡◌, ◌⊎◌, ℕ, List, [], ◌∷◌, codes, Option, Some, None, Result, Ok, Err, refl, sym, ap, subst, ◌∙◌, inl, inr}
 use Prim.Native.String.{String}
-use Rattle.toml.specs.Data.{Data, table, Members, get_member}
+use Rattle.toml.specs.Data.{Data, table, Members, get_member, as_table}
 use Rattle.book_format.specs.Keys.{is_among, has_only}
-use Rattle.book_format.specs.Rows.{◌>>=◌, demand, ValueType, Row, Table, Maker, table_keys, HasMarks, HasRows, IsTable, read_rows}
-use Rattle.book_format.specs.Rows.{read_table, table_of, table_in, in_table, HasAt, HasSome, read_or, read_some, row, row_to, row_or}
-use Rattle.book_format.specs.Rows.{optional, number_at}
+use Rattle.book_format.specs.reading.Steps.{◌>>=◌, pass_or}
+use Rattle.book_format.specs.Rows.{ValueType, Row, Table, Maker, table_keys, HasMarks, HasRows, IsTable, row_demands}
+use Rattle.book_format.specs.Rows.{table_demands}
+use Rattle.book_format.specs.Demands.{required, if_there}
+use Rattle.book_format.specs.reading.Rows.{read_rows, read_table, table_in, read_or, read_some}
+use Rattle.book_format.specs.reading.Values.{table_of}
+use Rattle.book_format.specs.RowKinds.{in_table, HasAt, HasSome, row, row_to, row_or, optional, bound_at}
 use Rattle.book_format.specs.declared.fault.BookWhy.{BookWhy}
 use Rattle.book_format.specs.declared.fault.BookWhy.TheVariants.{Key}
-use Rattle.book_format.proofs.lemmas.Steps.{bind_ok, demand_ok, ok_same}
+use Rattle.book_format.proofs.lemmas.Demands.{Follows, both_follow, test_follows, required_follows, bare_made}
+use Rattle.book_format.proofs.lemmas.Steps.{bind_ok, pass_or_ok, ok_same}
 
 -- the values of all rows
 abbrev pub Values : {T : Type 0} → List (Row T) → Type 0
@@ -30,10 +35,11 @@ abbrev pub HasValues : {T : Type 0} (rows : List (Row T)) → Members → Values
 HasValues [] ms vs = Unit {0}
 HasValues (r ∷ rows) ms vs = r.Has ms vs.0 × HasValues rows ms vs.1
 
--- a row reads exactly the values that it has
+-- a row reads exactly the values that it has, and else the fault of its first demand that is not met
 pub record IsSoundRow {T : Type 0} (r : Row T) : Type 0 where
   pub found : (ms : Members) (v : r.V) → r.read ms ≡ Ok v → r.Has ms v
   pub held : (ms : Members) (v : r.V) → r.Has ms v → r.read ms ≡ Ok v
+  pub follows : (ms : Members) → Follows (r.demands ms) (r.read ms)
 
 -- each row of the list reads exactly the values that it has
 abbrev pub AreSound : {T : Type 0} → List (Row T) → Type 0
@@ -77,10 +83,14 @@ pub table_found : {T : Type 0} (t : Table T) → IsSound t → (ms : Members) (x
     → IsTable t ms x
 unfolding read_table
 table_found t sound ms x marks h =
-    let (u, known, rest) = bind_ok (demand (has_only (is_among (table_keys t)) ms) Key) (λ u. read_rows t.rows t.make ms) x h in
+    let (u, known, rest) = bind_ok (pass_or (has_only (is_among (table_keys t)) ms) Key) (λ u. read_rows t.rows t.make ms) x h in
     let (vs, has, same) = read_found t.rows t.make ms x sound.rows rest in
     let fields = sym (sound.gives vs) ∙ ap (fields_of t.rows) same in
-    record { marks = marks; known = demand_ok _ Key u known; rows = has_rows t.rows ms x (subst (λ vs. HasValues t.rows ms vs) fields has) }
+    record {
+      marks = marks;
+      known = pass_or_ok _ Key u known;
+      rows = has_rows t.rows ms x (subst (λ vs. HasValues t.rows ms vs) fields has);
+    }
 
 -- a table is read as what it is the table of
 pub table_held : {T : Type 0} (t : Table T) → IsSound t → (ms : Members) (x : T) → IsTable t ms x → read_table t ms ≡ Ok x
@@ -88,12 +98,26 @@ unfolding read_table
 table_held t sound ms x h =
     rw h.known (read_held t.rows t.make ms (fields_of t.rows x) sound.rows (has_fields t.rows ms x h.rows) ∙ ap Ok (sound.keeps x))
 
+-- rows are read as their demands are met
+rows_follow : {T : Type 0} (X : Type 0) (rows : List (Row T)) (make : Maker rows X) (ms : Members) → AreSound rows
+    → Follows (row_demands rows ms) (read_rows rows make ms)
+rows_follow X [] make ms sound = refl
+rows_follow X (r ∷ rows) make ms sound = both_follow (r.demands ms) (row_demands rows ms) (r.read ms) (λ v. read_rows rows (make v) ms)
+    (sound.0.follows ms) (λ v is. rows_follow X rows (make v) ms sound.1)
+
+-- a table is read as its demands are met
+pub table_follows : {T : Type 0} (t : Table T) → IsSound t → (ms : Members) → Follows (table_demands t ms) (read_table t ms)
+unfolding read_table table_demands
+table_follows t sound ms = test_follows (has_only (is_among (table_keys t)) ms) Key (row_demands t.rows ms)
+    (λ known. read_rows t.rows t.make ms) (λ is. rows_follow _ t.rows t.make ms sound.rows)
+
 -- Types of values.
 
--- a type reads exactly the values that it is of
-pub record IsSoundType {V : Type 0} (k : ValueType V) : Type 0 where
-  pub found : (d : Data) (v : V) → k.read d ≡ Ok v → k.Is d v
-  pub held : (d : Data) (v : V) → k.Is d v → k.read d ≡ Ok v
+-- a type reads exactly the values that it is of, and else the fault of its first demand that is not met
+pub record IsSoundType {V : Type 0} (values : ValueType V) : Type 0 where
+  pub found : (d : Data) (v : V) → values.read d ≡ Ok v → values.Is d v
+  pub held : (d : Data) (v : V) → values.Is d v → values.read d ≡ Ok v
+  pub follows : (d : Data) → Follows (values.demands d) (values.read d)
 
 -- a value that is read as a table is that table
 pub table_said : (d : Data) (ms : Members) → table_of d ≡ Ok ms → d ≡ table ms
@@ -108,74 +132,97 @@ in_table_sound t sound marks = record {
       let (ms, is_table, rest) = bind_ok (table_of d) (read_table t) x h in
       (ms, table_said d ms is_table, table_found t sound ms x (marks ms) rest);
   held = λ d x h. rw h.1 (table_held t sound h.0 x h.2);
+  follows = λ d. required_follows Key (table_demands t) (as_table d) (read_table t) (table_follows t sound);
 }
 
 -- Rows of each sort.
 
 -- a value that was read at a key that must be there stands there
-pub at_found : {V : Type 0} (k : ValueType V) → IsSoundType k → (v : V) (o : Option Data) → read_or (Err Key) k.read o ≡ Ok v → (d : Data)
-    × (o ≡ Some d) × k.Is d v
-at_found k sound v None h = absurd (cc h)
-at_found k sound v (Some d) h = (d, refl, sound.found d v h)
+pub at_found : {V : Type 0} (values : ValueType V) → IsSoundType values → (v : V) (o : Option Data) → read_or (Err Key) values.read o ≡ Ok v
+    → (d : Data) × (o ≡ Some d) × values.Is d v
+at_found values sound v None h = absurd (cc h)
+at_found values sound v (Some d) h = (d, refl, sound.found d v h)
 
 -- where a key has a value of the type, it is read, whatever a missing key would give
-pub at_held : {V : Type 0} (k : ValueType V) (missing : Result V BookWhy) → IsSoundType k → (key : List ℕ) (ms : Members) (v : V)
-    → HasAt key k ms v
-    → read_or missing k.read (get_member key ms) ≡ Ok v
-at_held k missing sound key ms v h = rw h.1 (sound.held h.0 v h.2)
+pub at_held : {V : Type 0} (values : ValueType V) (missing : Result V BookWhy) → IsSoundType values → (key : List ℕ) (ms : Members) (v : V)
+    → HasAt key values ms v
+    → read_or missing values.read (get_member key ms) ≡ Ok v
+at_held values missing sound key ms v h = rw h.1 (sound.held h.0 v h.2)
 
 -- where a key was read that may be missing, it is missing and the default was read, or its value was
-pub or_found : {V : Type 0} (k : ValueType V) → IsSoundType k → (other v : V) (o : Option Data) → read_or (Ok other) k.read o ≡ Ok v
-    → ((o ≡ None) × (v ≡ other)) ⊎ ((d : Data) × (o ≡ Some d) × k.Is d v)
-or_found k sound other v None h = inl (refl, sym (ok_same other v h))
-or_found k sound other v (Some d) h = inr (d, refl, sound.found d v h)
+pub or_found : {V : Type 0} (values : ValueType V) → IsSoundType values
+    → (other v : V) (o : Option Data) → read_or (Ok other) values.read o ≡ Ok v
+    → ((o ≡ None) × (v ≡ other)) ⊎ ((d : Data) × (o ≡ Some d) × values.Is d v)
+or_found values sound other v None h = inl (refl, sym (ok_same other v h))
+or_found values sound other v (Some d) h = inr (d, refl, sound.found d v h)
 
 -- an optional value that was read is what the key has
-some_found : {V : Type 0} (k : ValueType V) → IsSoundType k → (key : List ℕ) (ms : Members) (v : Option V) (o : Option Data)
+some_found : {V : Type 0} (values : ValueType V) → IsSoundType values → (key : List ℕ) (ms : Members) (v : Option V) (o : Option Data)
     → get_member key ms ≡ o
-    → read_or (Ok None) (λ d. k.read d >>= λ v. Ok (Some v)) o ≡ Ok v → HasSome key k ms v
-some_found k sound key ms None None at h = at
-some_found k sound key ms (Some v) None at h = absurd (cc h)
-some_found k sound key ms v (Some d) at h =
-    let (x, said, same) = bind_ok (k.read d) (λ v. Ok (Some v)) v h in
-    subst (λ o. HasSome key k ms o) (ok_same (Some x) v same) (d, at, sound.found d x said)
+    → read_or (Ok None) (λ d. values.read d >>= λ v. Ok (Some v)) o ≡ Ok v → HasSome key values ms v
+some_found values sound key ms None None at h = at
+some_found values sound key ms (Some v) None at h = absurd (cc h)
+some_found values sound key ms v (Some d) at h =
+    let (x, said, same) = bind_ok (values.read d) (λ v. Ok (Some v)) v h in
+    subst (λ o. HasSome key values ms o) (ok_same (Some x) v same) (d, at, sound.found d x said)
 
 -- where a key has an optional value, it is read
-some_held : {V : Type 0} (k : ValueType V) → IsSoundType k → (key : List ℕ) (ms : Members) (v : Option V) → HasSome key k ms v
-    → read_some key k ms ≡ Ok v
-some_held k sound key ms None h = rw h refl
-some_held k sound key ms (Some v) h = rw (h.1, sound.held h.0 v h.2) refl
+some_held : {V : Type 0} (values : ValueType V) → IsSoundType values → (key : List ℕ) (ms : Members) (v : Option V)
+    → HasSome key values ms v → read_some key values ms ≡ Ok v
+some_held values sound key ms None h = rw h refl
+some_held values sound key ms (Some v) h = rw (h.1, sound.held h.0 v h.2) refl
+
+-- what is read at a key follows the demands there: where the key has to be there, where it has a default, and where it is optional:
+at_follows : {V : Type 0} (values : ValueType V) → IsSoundType values → (o : Option Data)
+    → Follows (required Key values.demands o) (read_or (Err Key) values.read o)
+at_follows values sound None = refl
+at_follows values sound (Some d) = sound.follows d
+
+or_follows : {V : Type 0} (values : ValueType V) → IsSoundType values → (other : V) (o : Option Data)
+    → Follows (if_there values.demands o) (read_or (Ok other) values.read o)
+or_follows values sound other None = refl
+or_follows values sound other (Some d) = sound.follows d
+
+some_follows : {V : Type 0} (values : ValueType V) → IsSoundType values → (o : Option Data)
+    → Follows (if_there values.demands o) (read_or (Ok None) (λ d. values.read d >>= λ v. Ok (Some v)) o)
+some_follows values sound None = refl
+some_follows values sound (Some d) = sound.follows d ∙ bare_made (values.read d) Some
 
 -- a row of a sound type reads exactly the value that the table has at its key
-pub row_sound : {T V : Type 0} (name : String) (k : ValueType V) (field : T → V) → IsSoundType k → IsSoundRow (row name k field)
-row_sound name k field sound = record {
-  found = λ ms v h. at_found k sound v (get_member (codes name) ms) h;
-  held = λ ms v h. at_held k (Err Key) sound (codes name) ms v h;
+pub row_sound : {T V : Type 0} (name : String) (values : ValueType V) (field : T → V) → IsSoundType values
+    → IsSoundRow (row name values field)
+row_sound name values field sound = record {
+  found = λ ms v h. at_found values sound v (get_member (codes name) ms) h;
+  held = λ ms v h. at_held values (Err Key) sound (codes name) ms v h;
+  follows = λ ms. at_follows values sound (get_member (codes name) ms);
 }
 
 -- a row whose type depends on the number at another key reads exactly its value, where the type is sound for each number
-pub row_to_sound : {T V : Type 0} (name : String) (k : ℕ → ValueType V) (bound : String) (field : T → V) → ((n : ℕ) → IsSoundType (k n))
-    → IsSoundRow (row_to name k bound field)
-row_to_sound name k bound field sound = record {
-  found = λ ms v h. at_found (k (number_at (codes bound) ms)) (sound (number_at (codes bound) ms)) v (get_member (codes name) ms) h;
-  held = λ ms v h. at_held (k (number_at (codes bound) ms)) (Err Key) (sound (number_at (codes bound) ms)) (codes name) ms v h;
+pub row_to_sound : {T V : Type 0} (name : String) (values : ℕ → ValueType V) (bound : String) (field : T → V)
+    → ((n : ℕ) → IsSoundType (values n)) → IsSoundRow (row_to name values bound field)
+row_to_sound name values bound field sound = record {
+  found = λ ms v h. at_found (values (bound_at (codes bound) ms)) (sound (bound_at (codes bound) ms)) v (get_member (codes name) ms) h;
+  held = λ ms v h. at_held (values (bound_at (codes bound) ms)) (Err Key) (sound (bound_at (codes bound) ms)) (codes name) ms v h;
+  follows = λ ms. at_follows (values (bound_at (codes bound) ms)) (sound (bound_at (codes bound) ms)) (get_member (codes name) ms);
 }
 
 -- a row with a default reads exactly its value, where its type is sound
-pub row_or_sound : {T V : Type 0} (other : V) (name : String) (k : ValueType V) (field : T → V) → IsSoundType k
-    → IsSoundRow (row_or other name k field)
-row_or_sound other name k field sound = record {
-  found = λ ms v h. or_found k sound other v (get_member (codes name) ms) h;
+pub row_or_sound : {T V : Type 0} (other : V) (name : String) (values : ValueType V) (field : T → V) → IsSoundType values
+    → IsSoundRow (row_or other name values field)
+row_or_sound other name values field sound = record {
+  found = λ ms v h. or_found values sound other v (get_member (codes name) ms) h;
   held = λ ms v h. elim h [
     | inl missing ↦ rw (missing.0, missing.1) refl
-    | inr has ↦ at_held k (Ok other) sound (codes name) ms v has
+    | inr has ↦ at_held values (Ok other) sound (codes name) ms v has
   ];
+  follows = λ ms. or_follows values sound other (get_member (codes name) ms);
 }
 
 -- a row that may be missing reads exactly its optional value, where its type is sound
-pub optional_sound : {T V : Type 0} (name : String) (k : ValueType V) (field : T → Option V) → IsSoundType k
-    → IsSoundRow (optional name k field)
-optional_sound name k field sound = record {
-  found = λ ms v h. some_found k sound (codes name) ms v (get_member (codes name) ms) refl h;
-  held = λ ms v h. some_held k sound (codes name) ms v h;
+pub optional_sound : {T V : Type 0} (name : String) (values : ValueType V) (field : T → Option V) → IsSoundType values
+    → IsSoundRow (optional name values field)
+optional_sound name values field sound = record {
+  found = λ ms v h. some_found values sound (codes name) ms v (get_member (codes name) ms) refl h;
+  held = λ ms v h. some_held values sound (codes name) ms v h;
+  follows = λ ms. some_follows values sound (get_member (codes name) ms);
 }

@@ -1,28 +1,30 @@
--- What the types of values read: exactly what they are of, in its range.
+-- What the types of values read: exactly what they are of, in its range, and else the fault of the first demand that is not met.
 use Rattle.std.proofs.Common.{◌≡◌, ◌≤◌, ◌&&◌, nat_le, le-leb, ℤ, pos, negsuc, nat_abs, ℕ, List, [], ◌∷◌, length, map, Bool, true, false}
-use Rattle.std.proofs.Common.{ok_or, Result, Ok, Err, refl, ap, subst, ◌∙◌, arith}
-use Rattle.std.proofs.lemmas.Bool.{and_parts}
+use Rattle.std.proofs.Common.{Some, is_some, ok_or, Result, Ok, Err, refl, ap, subst, ◌∙◌, arith, inl, inr}
+use Rattle.std.proofs.lemmas.Bool.{and_parts, cases_Bool}
 use Rattle.std.proofs.lemmas.Bool.Decides.{nat_tests}
+use Rattle.std.proofs.lemmas.Slice.Eq.{bytes_eq-Decides}
 use Rattle.std.specs.List.{list_all}
+use Rattle.std.specs.Str.{bytes_eq}
 use Rattle.hex.specs.Hex.{decode_of, encode_lower}
-use Rattle.toml.specs.Data.{Data, string, integer, array, Items, no_items, item, as_str}
+use Rattle.toml.specs.Data.{Data, string, integer, array, Items, no_items, item, as_str, as_table}
 use Rattle.toml.specs.View.{items_of}
 use Rattle.scram_text.specs.Class.{IsPlainName, is_plain}
-use Rattle.otp_core.specs.Hash.{hash_name}
+use Rattle.otp_core.specs.Hash.{hash_name, hash_named}
 use Rattle.otp_core.specs.declared.hash.OtpHash.{OtpHash}
 use Rattle.otp_core.specs.declared.hash.OtpHash.TheVariants.{Sha1, Sha256, Sha512}
 use Rattle.book_format.specs.Account.{most_names}
-use Rattle.book_format.specs.ValueTypes.{value_type, such, number_of, signed_in, decoded, bytes_in, text_in, hash_in, are_texts, item_count}
-use Rattle.book_format.specs.ValueTypes.{plain_name_of, names_in, names_of, name_list_in, AreNames, IsNameList, name_list}
-use Rattle.book_format.specs.Rows.{demand}
+use Rattle.book_format.specs.reading.Values.{such, number_in, signed_in, decoded, bytes_in, text_in, hash_in, plain_name_of, names_in}
+use Rattle.book_format.specs.reading.Values.{names_of, name_list_in}
+use Rattle.book_format.specs.Names.{is_plain_name, are_names, are_texts, item_count, AreNames, IsNameList}
+use Rattle.book_format.specs.ValueTypes.{IsNumber, number, IsSigned, signed, IsHexText, are_decoded, bytes, hash, name_list, any_table}
+use Rattle.book_format.specs.Demands.{must}
+use Rattle.book_format.specs.reading.Steps.{◌>>=◌, pass_or}
 use Rattle.book_format.specs.declared.fault.BookWhy.{BookWhy}
-use Rattle.book_format.specs.declared.fault.BookWhy.TheVariants.{Key, Name}
-use Rattle.book_format.proofs.lemmas.Steps.{bind_ok, demand_ok, ok_same}
-use Rattle.book_format.proofs.lemmas.Rows.{IsSoundType}
-
--- a type that writes what it reads and reads what it is of is sound
-pub value_type_sound : {V : Type 0} (read : Data → Result V BookWhy) (write : V → Data) → IsSoundType (value_type read write)
-value_type_sound read write = record { found = λ d v h. h; held = λ d v h. h }
+use Rattle.book_format.specs.declared.fault.BookWhy.TheVariants.{Key, Name, Token}
+use Rattle.book_format.proofs.lemmas.Demands.{Follows, test_follows, required_follows, there_follows, bare_made}
+use Rattle.book_format.proofs.lemmas.Steps.{bind_ok, ok_or_ok, pass_or_ok, ok_same}
+use Rattle.book_format.proofs.lemmas.Rows.{IsSoundType, table_said}
 
 -- a value that was let through by a test passed it
 such_ok : {V : Type 0} (fits : Bool) (v x : V) (why : BookWhy) → such fits v why ≡ Ok x → (fits ≡ true) × (v ≡ x)
@@ -42,32 +44,74 @@ bounds_of least n most h = (low least n most h, high least n most h)
     high : (least n most : ℕ) → (nat_le least n && nat_le n most) ≡ true → n ≤ most
     high least n most h = grind (arith, nat_tests)
 
--- a number that was read is in its range
-pub number_range : (why : BookWhy) (least most : ℕ) (d : Data) (n : ℕ) → number_of why least most d ≡ Ok n → (least ≤ n) × (n ≤ most)
-unfolding number_of
-number_range why least most (integer (pos m)) n h =
+-- a number that passes the test is at most the other
+at_most : (n most : ℕ) → nat_le n most ≡ true → n ≤ most
+at_most n most h = grind (arith, nat_tests)
+
+-- a value that passes a test is let through, and else its fault comes
+such_follows : {V : Type 0} (fits : Bool) (v : V) (why : BookWhy) → Follows (must fits why ∷ []) (such fits v why)
+such_follows true v why = refl
+such_follows false v why = refl
+
+-- whole numbers are read exactly where they are in their range:
+number_found : (why : BookWhy) (least most : ℕ) (d : Data) (n : ℕ) → number_in why least most d ≡ Ok n → IsNumber least most d n
+unfolding number_in
+number_found why least most (integer (pos m)) n h =
     let (fits, same) = such_ok (nat_le least m && nat_le m most) m n why h in
-    subst (λ k. (least ≤ k) × (k ≤ most)) same (bounds_of least m most fits)
-number_range why least most (integer (negsuc m)) n h = absurd (cc h)
-number_range why least most d n h = absurd (cc h)
+    let (enough, few) = bounds_of least m most fits in
+    subst (λ k. IsNumber least most (integer (pos m)) k) same (record { there = refl; at_least = enough; at_most = few })
+number_found why least most (integer (negsuc m)) n h = absurd (cc h)
+number_found why least most d n h = absurd (cc h)
 
--- a number in its range is read as it was written
-pub number_again : (why : BookWhy) (least most n : ℕ) → least ≤ n → n ≤ most → number_of why least most (integer (pos n)) ≡ Ok n
-unfolding number_of
-number_again why least most n enough few = rw (between least n most enough few) refl
+number_held : (why : BookWhy) (least most : ℕ) (d : Data) (n : ℕ) → IsNumber least most d n → number_in why least most d ≡ Ok n
+unfolding number_in
+number_held why least most d n h = rw (h.there, between least n most h.at_least h.at_most) refl
 
--- a signed number whose size is at most the bound is read as it was written
-pub signed_again : (why : BookWhy) (most : ℕ) (z : ℤ) → nat_abs z ≤ most → signed_in why most (integer z) ≡ Ok z
+number_follows : (why : BookWhy) (least most : ℕ) (d : Data)
+    → Follows ((number why least most).demands d) (number_in why least most d)
+unfolding number_in
+number_follows why least most (integer (pos n)) = such_follows (nat_le least n && nat_le n most) n why
+number_follows why least most (integer (negsuc n)) = refl
+number_follows why least most d = refl
+
+pub number_sound : (why : BookWhy) (least most : ℕ) → IsSoundType (number why least most)
+number_sound why least most = record {
+  found = number_found why least most;
+  held = number_held why least most;
+  follows = number_follows why least most;
+}
+
+-- a number in its range is that of the value that it is written as
+pub number_again : (least most n : ℕ) → least ≤ n → n ≤ most → IsNumber least most (integer (pos n)) n
+number_again least most n enough few = record { there = refl; at_least = enough; at_most = few }
+
+-- signed numbers are read exactly where they are in their range:
+signed_found : (why : BookWhy) (most : ℕ) (d : Data) (z : ℤ) → signed_in why most d ≡ Ok z → IsSigned most d z
 unfolding signed_in
-signed_again why most z few = rw (le-leb (nat_abs z) most few) refl
+signed_found why most (integer y) z h =
+    let (fits, same) = such_ok (nat_le (nat_abs y) most) y z why h in
+    subst (λ k. IsSigned most (integer y) k) same (record { there = refl; at_most = at_most (nat_abs y) most fits })
+signed_found why most d z h = absurd (cc h)
 
--- bytes that were read are those of a text, and as many as they may be
-pub bytes_range : (why : BookWhy) (least most : ℕ) (d : Data) (bytes : List ℕ) → bytes_in why least most d ≡ Ok bytes
-    → (text : List ℕ) × (decode_of text ≡ Ok bytes) × (least ≤ length bytes) × (length bytes ≤ most)
+signed_held : (why : BookWhy) (most : ℕ) (d : Data) (z : ℤ) → IsSigned most d z → signed_in why most d ≡ Ok z
+unfolding signed_in
+signed_held why most d z h = rw (h.there, le-leb (nat_abs z) most h.at_most) refl
+
+signed_follows : (why : BookWhy) (most : ℕ) (d : Data) → Follows ((signed why most).demands d) (signed_in why most d)
+unfolding signed_in
+signed_follows why most (integer z) = such_follows (nat_le (nat_abs z) most) z why
+signed_follows why most d = refl
+
+pub signed_sound : (why : BookWhy) (most : ℕ) → IsSoundType (signed why most)
+signed_sound why most = record { found = signed_found why most; held = signed_held why most; follows = signed_follows why most }
+
+-- bytes are read exactly where they are those of a hexadecimal text, and as many as they may be:
+bytes_found : (why : BookWhy) (least most : ℕ) (d : Data) (bytes : List ℕ) → bytes_in why least most d ≡ Ok bytes
+    → IsHexText least most d bytes
 unfolding bytes_in
-bytes_range why least most (string text) bytes h =
+bytes_found why least most (string text) bytes h =
     let (value, enough, few) = decoded_ok (decode_of text) bytes h in
-    (text, value, enough, few)
+    record { text = text; there = refl; spelled = value; at_least = enough; at_most = few }
   where
     decoded_ok : {E : Type 0} (r : Result (List ℕ) E) (bytes : List ℕ) → decoded why least most r ≡ Ok bytes
         → (r ≡ Ok bytes) × (least ≤ length bytes) × (length bytes ≤ most)
@@ -76,24 +120,87 @@ bytes_range why least most (string text) bytes h =
         let (enough, few) = bounds_of least (length bs) most fits in
         (ap Ok same, subst (λ k. least ≤ length k) same enough, subst (λ k. length k ≤ most) same few)
     decoded_ok (Err e) bytes h = absurd (cc h)
-bytes_range why least most d bytes h = absurd (cc h)
+bytes_found why least most d bytes h = absurd (cc h)
+
+bytes_held : (why : BookWhy) (least most : ℕ) (d : Data) (bytes : List ℕ) → IsHexText least most d bytes
+    → bytes_in why least most d ≡ Ok bytes
+unfolding bytes_in
+bytes_held why least most d bytes h = rw (h.there, h.spelled, between least (length bytes) most h.at_least h.at_most) refl
+
+bytes_follow : (why : BookWhy) (least most : ℕ) (d : Data) → Follows ((bytes why least most).demands d) (bytes_in why least most d)
+unfolding bytes_in
+bytes_follow why least most (string text) = decoded_follows (decode_of text)
+  where
+    decoded_follows : {E : Type 0} (r : Result (List ℕ) E) → Follows (must (are_decoded least most r) why ∷ []) (decoded why least most r)
+    decoded_follows (Ok bs) = such_follows (nat_le least (length bs) && nat_le (length bs) most) bs why
+    decoded_follows (Err e) = refl
+bytes_follow why least most d = refl
+
+pub bytes_sound : (why : BookWhy) (least most : ℕ) → IsSoundType (bytes why least most)
+bytes_sound why least most = record {
+  found = bytes_found why least most;
+  held = bytes_held why least most;
+  follows = bytes_follow why least most;
+}
 
 -- the hexadecimal text of the bytes gives them back
 abbrev pub ComesBack : List ℕ → Type 0
 ComesBack bytes = decode_of (encode_lower bytes) ≡ Ok bytes
 
--- bytes whose hexadecimal text gives them back, as many as there may be, are read from that text
-pub bytes_again : (why : BookWhy) (least most : ℕ) (bytes : List ℕ) → ComesBack bytes → least ≤ length bytes → length bytes ≤ most
-    → bytes_in why least most (string (encode_lower bytes)) ≡ Ok bytes
-unfolding bytes_in
-bytes_again why least most bytes back enough few = rw (back, between least (length bytes) most enough few) refl
+-- bytes whose hexadecimal text gives them back, as many as there may be, are those of that text
+pub bytes_again : (least most : ℕ) (bytes : List ℕ) → ComesBack bytes → least ≤ length bytes → length bytes ≤ most
+    → IsHexText least most (string (encode_lower bytes)) bytes
+bytes_again least most bytes back enough few =
+    record { text = encode_lower bytes; there = refl; spelled = back; at_least = enough; at_most = few }
 
--- a hash is read from its name
-pub hash_again : (hash : OtpHash) → hash_in (string (hash_name hash)) ≡ Ok hash
+-- a value that is read as a text is that text
+text_said : (d : Data) (t : List ℕ) → ok_or (as_str d) Key ≡ Ok t → d ≡ string t
+text_said (string s) t h = ap string (ok_same s t h)
+text_said d t h = absurd (cc h)
+
+-- a hash function is read exactly from its name:
+hash_again : (hash : OtpHash) → hash_in (string (hash_name hash)) ≡ Ok hash
 unfolding hash_in text_in
 hash_again Sha1 = refl
 hash_again Sha256 = refl
 hash_again Sha512 = refl
+
+name_of_hash : (name : List ℕ) (hash : OtpHash) → hash_named name ≡ Some hash → name ≡ hash_name hash
+name_of_hash name hash h = elim (cases_Bool (bytes_eq name (hash_name Sha1))) [
+  | inl is ↦ named Sha1 is (rw is at h)
+  | inr not_sha1 ↦ elim (cases_Bool (bytes_eq name (hash_name Sha256))) [
+    | inl is ↦ named Sha256 is (rw (not_sha1, is) at h)
+    | inr not_sha256 ↦ elim (cases_Bool (bytes_eq name (hash_name Sha512))) [
+      | inl is ↦ named Sha512 is (rw (not_sha1, not_sha256, is) at h)
+      | inr not_sha512 ↦
+          let none = rw (not_sha1, not_sha256, not_sha512) at h in absurd (cc none)
+    ]
+  ]
+]
+  where
+    some_same : (a b : OtpHash) → Some a ≡ Some b → a ≡ b
+    some_same a b e = cc e
+
+    named : (found : OtpHash) → bytes_eq name (hash_name found) ≡ true → Some found ≡ Some hash → name ≡ hash_name hash
+    named found is same = subst (λ k. name ≡ hash_name k) (some_same found hash same) ((bytes_eq-Decides name (hash_name found)).0 is)
+
+hash_found : (d : Data) (hash : OtpHash) → hash_in d ≡ Ok hash → d ≡ string (hash_name hash)
+unfolding hash_in text_in
+hash_found d hash h =
+    let (name, said, rest) = bind_ok (ok_or (as_str d) Key) (λ name. ok_or (hash_named name) Token) hash h in
+    text_said d name said ∙ ap string (name_of_hash name hash (ok_or_ok (hash_named name) Token hash rest))
+
+hash_follows : (d : Data) → Follows (hash.demands d) (hash_in d)
+unfolding hash_in text_in
+hash_follows d = required_follows Key (λ name. must (is_some (hash_named name)) Token ∷ []) (as_str d)
+    (λ name. ok_or (hash_named name) Token) (λ name. there_follows Token (hash_named name))
+
+pub hash_sound : IsSoundType hash
+hash_sound = record { found = hash_found; held = λ d h is. rw is (hash_again h); follows = hash_follows }
+
+-- a value is read as a table exactly where it is that table
+pub any_table_sound : IsSoundType any_table
+any_table_sound = record { found = table_said; held = λ d ms is. rw is refl; follows = λ d. there_follows Key (as_table d) }
 
 -- Lists of names.
 
@@ -108,7 +215,7 @@ count_again (name ∷ names) =
     let rest = count_again names in
     omega (arith, rest)
 
--- a plain name is read as itself:
+-- a plain name is read as itself, and so is a list of plain names:
 pub name_held : (name : List ℕ) → IsPlainName name → plain_name_of name ≡ Ok name
 name_held name h = rw (le-leb 1 (length name) h.at_least, le-leb (length name) 255 h.at_most, h.each) refl
 
@@ -124,11 +231,6 @@ name_found text name h =
     let (length_fits, each) = and_parts (nat_le 1 (length text) && nat_le (length text) 255) (list_all is_plain text) fits in
     let (least, most) = bounds_of 1 (length text) 255 length_fits in
     (same, subst IsPlainName same (record { at_least = least; at_most = most; each = each }))
-
--- a value that is read as a text is that text
-text_said : (d : Data) (t : List ℕ) → ok_or (as_str d) Key ≡ Ok t → d ≡ string t
-text_said (string s) t h = ap string (ok_same s t h)
-text_said d t h = absurd (cc h)
 
 -- two items are the same where their first texts and their rests are
 items_same : (d : Data) (ds : Items) (text name : List ℕ) (rest : List (List ℕ)) → d ≡ string text → text ≡ name
@@ -152,15 +254,12 @@ names_found (item d ds) names h =
 list_found : (list : Items) (names : List (List ℕ)) → names_of list ≡ Ok names → IsNameList (array list) names
 unfolding names_of
 list_found list names h =
-    let (u, typed, h0) = bind_ok (demand (are_texts list) Key) _ names h in
-    let (v, few, h1) = bind_ok (demand (nat_le (item_count list) most_names) Name) _ names h0 in
+    let (u, typed, h0) = bind_ok (pass_or (are_texts list) Key) _ names h in
+    let (v, few, h1) = bind_ok (pass_or (nat_le (item_count list) most_names) Name) _ names h0 in
     let (same, plain) = names_found list names h1 in
     let count : item_count list ≡ length names = ap item_count same ∙ count_again names in
-    let most : item_count list ≤ most_names = at_most (item_count list) most_names (demand_ok _ Name v few) in
+    let most : item_count list ≤ most_names = at_most (item_count list) most_names (pass_or_ok _ Name v few) in
     record { there = ap array same; plain = plain; few = omega (arith, count, most) }
-  where
-    at_most : (n most : ℕ) → nat_le n most ≡ true → n ≤ most
-    at_most n most h = grind (arith, nat_tests)
 
 name_list_found : (d : Data) (names : List (List ℕ)) → name_list_in d ≡ Ok names → IsNameList d names
 unfolding name_list_in
@@ -173,6 +272,33 @@ unfolding name_list_in names_of
 name_list_held d names h =
     rw (h.there, texts_again names, count_again names, le-leb (length names) most_names h.few, names_held names h.plain) refl
 
+-- the names of texts are read where each is plain:
+name_follows : (plain others : Bool) (text : List ℕ) (rest : Result (List (List ℕ)) BookWhy) → Follows (must others Name ∷ []) rest
+    → Follows (must (plain && others) Name ∷ []) (such plain text Name >>= λ name. rest >>= λ names. Ok (name ∷ names))
+name_follows true others text rest h = h ∙ bare_made rest (λ names. text ∷ names)
+name_follows false others text rest h = refl
+
+names_follow : (list : Items) → are_texts list ≡ true → Follows (must (are_names list) Name ∷ []) (names_in list)
+unfolding names_in text_in
+names_follow no_items typed = refl
+names_follow (item (string text) ds) typed =
+    name_follows (is_plain_name text) (are_names ds) text (names_in ds) (names_follow ds typed)
+names_follow (item d ds) typed = absurd (cc typed)
+
+-- where names may be too many, they are read where they are not
+few_follow : (few plain : Bool) (names : Result (List (List ℕ)) BookWhy) → Follows (must plain Name ∷ []) names
+    → Follows (must (few && plain) Name ∷ []) (pass_or few Name >>= λ u. names)
+few_follow true plain names h = h
+few_follow false plain names h = refl
+
+name_list_follows : (d : Data) → Follows (name_list.demands d) (name_list_in d)
+unfolding name_list_in names_of
+name_list_follows (array list) = test_follows (are_texts list) Key
+    (must (nat_le (item_count list) most_names && are_names list) Name ∷ [])
+    (λ u. pass_or (nat_le (item_count list) most_names) Name >>= λ u. names_in list)
+    (λ typed. few_follow (nat_le (item_count list) most_names) (are_names list) (names_in list) (names_follow list typed))
+name_list_follows d = refl
+
 -- the type of lists of names reads exactly the lists of plain names
 pub name_list_sound : IsSoundType name_list
-name_list_sound = record { found = name_list_found; held = name_list_held }
+name_list_sound = record { found = name_list_found; held = name_list_held; follows = name_list_follows }

@@ -1,5 +1,5 @@
 -- The trees that are written are those of their values.
-use Rattle.std.proofs.Common.{◌≡◌, inr, ℕ, ℤ, pos, nat_abs, ◌≤◌, List, [], ◌∷◌, ◌++◌, length, codes, true, Option, Some, None, Ok}
+use Rattle.std.proofs.Common.{◌≡◌, inr, ℕ, ℤ, pos, nat_abs, ◌≤◌, List, [], ◌∷◌, ◌++◌, length, codes, true, Option, Some, None}
 use Rattle.std.proofs.Common.{option_map, refl, arith}
 use Rattle.std.specs.Option.{ForSome}
 use Rattle.toml.specs.Data.{integer, Members, no_members, get_member}
@@ -9,23 +9,25 @@ use Rattle.scram_text.specs.Class.{IsPlainName}
 use Rattle.scram_text.specs.Limits.{most_count}
 use Rattle.otp_core.specs.Ranges.{IsSecretLength}
 use Rattle.otp_core.specs.Ranges.{IsDigitCount, IsMoment, least_secret, most_secret, least_digits, most_digits, last_moment, most_counter}
-use Rattle.otp_core.specs.Ranges.{most_look_ahead, most_sync_ahead, longest_step, most_steps, most_drift, most_limit}
-use Rattle.otp_core.specs.Settings.{IsHotpInRange, IsTotpInRange}
+use Rattle.otp_core.specs.Ranges.{most_look_ahead, most_sync_ahead, longest_step, most_steps_aside, most_drift, most_limit}
+use Rattle.otp_core.specs.TokenRanges.{IsHotpInRange, IsTotpInRange}
 use Rattle.otp_core.specs.declared.token.kinds.HotpFields.{HotpFields}
 use Rattle.otp_core.specs.declared.token.kinds.TotpFields.{TotpFields}
 use Rattle.book_format.specs.Account.{AccountFields, AreKeys, IsAccount}
 use Rattle.book_format.specs.Book.{BookFields, AreAccounts, IsBook}
 use Rattle.book_format.specs.Keys.{is_among, has_only}
-use Rattle.book_format.specs.ValueTypes.{number, number_of, signed_in, AreNames}
+use Rattle.book_format.specs.ValueTypes.{number, IsNumber, IsSigned}
+use Rattle.book_format.specs.Names.{AreNames}
+use Rattle.book_format.specs.Rows.{ValueType, WritesItself, Table, HasMarks, HasRows, IsTable, entries, table_keys, written}
+use Rattle.book_format.specs.RowKinds.{HasSome, in_table, bound_at}
+use Rattle.book_format.specs.Tables.{mech, sha1_keys, sha256_keys, token, account, document}
+use Rattle.book_format.specs.Tokens.{hotp, totp}
 use Rattle.book_format.specs.Put.{put_some}
-use Rattle.book_format.specs.Rows.{ValueType, WritesItself, Table, HasMarks, HasRows, HasSome, IsTable, entries, table_keys, in_table}
-use Rattle.book_format.specs.Rows.{number_at, written}
-use Rattle.book_format.specs.Tables.{mech, sha1_keys, sha256_keys, hotp, totp, token, account, document}
 use Rattle.book_format.specs.Trees.{AreAccountTrees, IsBookTree}
 use Rattle.book_format.specs.Written.{accounts_tree, book_tree}
 use Rattle.book_format.specs.declared.account.MechKeys.{MechKeys}
-use Rattle.book_format.specs.declared.fault.BookWhy.TheVariants.{Count, KeyLength, Salt, Token}
-use Rattle.book_format.proofs.lemmas.ValueTypes.{ComesBack, number_again, signed_again, bytes_again, hash_again}
+use Rattle.book_format.specs.declared.fault.BookWhy.TheVariants.{Token}
+use Rattle.book_format.proofs.lemmas.ValueTypes.{ComesBack, number_again, bytes_again}
 use Rattle.book_format.proofs.lemmas.Put.{HasAll, are_new, has_all, none_yet, all_known, known_all}
 
 -- a table is written as that of its T, where what is written at each key makes it so
@@ -37,20 +39,20 @@ writes_itself t x new known each =
     record { marks = marks; known = known_all (is_among (table_keys t)) (entries t x) no_members known refl; rows = rows }
 
 -- a key that may be missing has the option that was written there
-some_writes_itself : {V : Type 0} (k : ValueType V) (key : List ℕ) (ms : Members) (o : Option V) → get_member key ms ≡ option_map k.write o
-    → ForSome o (WritesItself k) → HasSome key k ms o
-some_writes_itself k key ms None at h = at
+some_writes_itself : {V : Type 0} (values : ValueType V) (key : List ℕ) (ms : Members) (o : Option V)
+    → get_member key ms ≡ option_map values.write o → ForSome o (WritesItself values) → HasSome key values ms o
+some_writes_itself values key ms None at h = at
 some_writes_itself k key ms (Some v) at h = (k.write v, at, h v refl)
 
 -- the number at another key is the bound
 bound_again : (key : List ℕ) (ms : Members) (most n : ℕ) → get_member key ms ≡ Some (integer (pos most)) → n ≤ most
-    → number_of Token 0 (number_at key ms) (integer (pos n)) ≡ Ok n
-bound_again key ms most n there few = rw there (number_again Token 0 most n (omega arith) few)
+    → IsNumber 0 (bound_at key ms) (integer (pos n)) n
+bound_again key ms most n there few = rw there (number_again 0 most n (omega arith) few)
 
--- where the bound stands at another key, a signed number within it is read as it was written
+-- where the bound stands at another key, a signed number within it is that number again
 sides_again : (key : List ℕ) (ms : Members) (most : ℕ) (z : ℤ) → get_member key ms ≡ Some (integer (pos most)) → nat_abs z ≤ most
-    → signed_in Token (number_at key ms) (integer z) ≡ Ok z
-sides_again key ms most z there few = rw there (signed_again Token most z few)
+    → IsSigned (bound_at key ms) (integer z) z
+sides_again key ms most z there few = rw there (record { there = refl; at_most = few })
 
 -- keys in their ranges whose bytes come back from their texts are written as their table
 pub mech_writes_itself : (len : ℕ) (m : MechKeys) → AreKeys len m → ComesBack m.salt → ComesBack m.keys.stored.items
@@ -63,12 +65,12 @@ mech_writes_itself len m fits salt stored server =
       writes_itself (mech len) m refl refl (λ ms at. (
         tt,
         (
-          (_, at.0, bytes_again Salt 1 64 m.salt salt fits.salt.at_least fits.salt.at_most),
+          (_, at.0, bytes_again 1 64 m.salt salt fits.salt.at_least fits.salt.at_most),
           (
-            (_, at.1.0, number_again Count 1 most_count m.count fits.count.at_least fits.count.at_most),
+            (_, at.1.0, number_again 1 most_count m.count fits.count.at_least fits.count.at_most),
             (
-              (_, at.1.1.0, bytes_again KeyLength len len _ stored (lengths _ fits.stored).0 (lengths _ fits.stored).1),
-              ((_, at.1.1.1.0, bytes_again KeyLength len len _ server (lengths _ fits.server).0 (lengths _ fits.server).1), tt),
+              (_, at.1.1.0, bytes_again len len _ stored (lengths _ fits.stored).0 (lengths _ fits.stored).1),
+              ((_, at.1.1.1.0, bytes_again len len _ server (lengths _ fits.server).0 (lengths _ fits.server).1), tt),
             ),
           ),
         ),
@@ -85,17 +87,17 @@ hotp_writes_itself t (next, (look_ahead, (sync_ahead, (limit, (failures, end))))
       let rows = at.1 in (
         (at.0, tt),
         (
-          (_, rows.0, bytes_again Token least_secret most_secret t.secret back secret.0 secret.1),
+          (_, rows.0, bytes_again least_secret most_secret t.secret back secret.0 secret.1),
           (
-            (_, rows.1.0, number_again Token least_digits most_digits t.digits digits.0 digits.1),
+            (_, rows.1.0, number_again least_digits most_digits t.digits digits.0 digits.1),
             (
-              (_, rows.1.1.0, number_again Token 0 _ t.next (omega arith) next),
+              (_, rows.1.1.0, number_again 0 _ t.next (omega arith) next),
               (
-                (_, rows.1.1.1.0, number_again Token 0 most_look_ahead t.look_ahead (omega arith) look_ahead),
+                (_, rows.1.1.1.0, number_again 0 most_look_ahead t.look_ahead (omega arith) look_ahead),
                 (
-                  inr (_, rows.1.1.1.1.0, number_again Token 0 most_sync_ahead t.sync_ahead (omega arith) sync_ahead),
+                  inr (_, rows.1.1.1.1.0, number_again 0 most_sync_ahead t.sync_ahead (omega arith) sync_ahead),
                   (
-                    (_, rows.1.1.1.1.1.0, number_again Token 1 most_limit t.limit limit.0 limit.1),
+                    (_, rows.1.1.1.1.1.0, number_again 1 most_limit t.limit limit.0 limit.1),
                     ((_, rows.1.1.1.1.1.1.0, bound_again (codes "limit") ms t.limit t.failures rows.1.1.1.1.1.0 failures), tt),
                   ),
                 ),
@@ -111,7 +113,7 @@ last_writes_itself : (ms : Members) (last : Option ℕ) → get_member (codes "l
     → ForSome last (λ l. l ≤ most_counter)
     → HasSome (codes "last") (number Token 0 most_counter) ms last
 last_writes_itself ms last there few = some_writes_itself (number Token 0 most_counter) (codes "last") ms last there
-    (λ l is. number_again Token 0 _ l (omega arith) (few l is))
+    (λ l is. number_again 0 _ l (omega arith) (few l is))
 
 -- a TOTP token in its ranges whose secret comes back from its text is written as its table
 pub totp_writes_itself : (t : TotpFields) → IsTotpInRange t → IsSecretLength (length t.secret) → IsDigitCount t.digits → IsMoment t.t0
@@ -125,27 +127,27 @@ totp_writes_itself t (step, (back, (ahead, (max_drift, (last, (drift, (limit, (f
       let then = first.1.1.1.1.1.1.1 in (
         (at.0, tt),
         (
-          (_, first.0, hash_again t.hash),
+          (_, first.0, refl),
           (
-            (_, first.1.0, bytes_again Token least_secret most_secret t.secret hex secret.0 secret.1),
+            (_, first.1.0, bytes_again least_secret most_secret t.secret hex secret.0 secret.1),
             (
-              (_, first.1.1.0, number_again Token least_digits most_digits t.digits digits.0 digits.1),
+              (_, first.1.1.0, number_again least_digits most_digits t.digits digits.0 digits.1),
               (
-                (_, first.1.1.1.0, number_again Token 0 last_moment t.t0 (omega arith) t0),
+                (_, first.1.1.1.0, number_again 0 last_moment t.t0 (omega arith) t0),
                 (
-                  (_, first.1.1.1.1.0, number_again Token 1 longest_step t.step step.0 step.1),
+                  (_, first.1.1.1.1.0, number_again 1 longest_step t.step step.0 step.1),
                   (
-                    (_, first.1.1.1.1.1.0, number_again Token 0 most_steps t.back (omega arith) back),
+                    (_, first.1.1.1.1.1.0, number_again 0 most_steps_aside t.back (omega arith) back),
                     (
-                      (_, first.1.1.1.1.1.1.0, number_again Token 0 most_steps t.ahead (omega arith) ahead),
+                      (_, first.1.1.1.1.1.1.0, number_again 0 most_steps_aside t.ahead (omega arith) ahead),
                       (
-                        (_, then.0, number_again Token 0 most_drift t.max_drift (omega arith) max_drift),
+                        (_, then.0, number_again 0 most_drift t.max_drift (omega arith) max_drift),
                         (
                           last_writes_itself ms t.last then.1.0 last,
                           (
                             (_, then.1.1.0, sides_again (codes "max_drift") ms t.max_drift t.drift then.0 drift),
                             (
-                              (_, then.1.1.1.0, number_again Token 1 most_limit t.limit limit.0 limit.1),
+                              (_, then.1.1.1.0, number_again 1 most_limit t.limit limit.0 limit.1),
                               ((_, then.1.1.1.1.0, bound_again (codes "limit") ms t.limit t.failures then.1.1.1.0 failures), tt),
                             ),
                           ),
@@ -223,10 +225,10 @@ book_writes_itself b fits key back accounts = record {
       (
         _,
         at.1.0,
-        bytes_again KeyLength (length_by ScramSha256) (length_by ScramSha256) b.decoy_key back (omega (arith, key)) (omega (arith, key)),
+        bytes_again (length_by ScramSha256) (length_by ScramSha256) b.decoy_key back (omega (arith, key)) (omega (arith, key)),
       ),
       (
-        (_, at.1.1.0, number_again Count 1 most_count b.decoy_count fits.count.at_least fits.count.at_most),
+        (_, at.1.1.0, number_again 1 most_count b.decoy_count fits.count.at_least fits.count.at_most),
         ((_, at.1.1.1.0, refl), tt),
       ),
     ),

@@ -2,9 +2,12 @@
 ghost use Rattle.std.specs.Prelude.{◌≡◌, ◌≤◌, codes, [], Ok, Some};
 ghost use Rattle.toml.specs.Data.{get_member};
 ghost use Rattle.toml.specs.View.{view, items_view, table_view};
-ghost use Rattle.book_format.specs.ValueTypes.{plain_name_of, are_texts, names_in, names_of, name_list_in};
-ghost use Rattle.book_format.specs.Reading.{IsReadAs, IsReadOrFault, named_account_of, accounts_from, in_account};
-ghost use Rattle.book_format.specs.Rows.{in_table, read_or, read_some, table_in};
+ghost use Rattle.book_format.specs.reading.Values.{plain_name_of, names_in, names_of, name_list_in};
+ghost use Rattle.book_format.specs.Names.{are_texts};
+ghost use Rattle.book_format.specs.reading.Steps.{IsReadAs, IsReadOrFault};
+ghost use Rattle.book_format.specs.reading.Books.{named_account_of, accounts_from, in_account};
+ghost use Rattle.book_format.specs.RowKinds.{in_table};
+ghost use Rattle.book_format.specs.reading.Rows.{read_or, read_some, table_in};
 ghost use Rattle.book_format.specs.Tables.{mech, token, account};
 ghost use Rattle.book_format.specs.declared.fault.BookWhy.TheVariants.{NoMemory};
 
@@ -24,7 +27,7 @@ const MOST_NAMES: usize = 16;
 
 /// The accounts of a table in byte order of names, each wholly read before the next. The fault is that of the first account at
 /// fault, with its index; or, at any place, `NoMemory`.
-#[tactic(auto, unfolding(crate::specs::Reading::accounts_from))]
+#[tactic(auto, unfolding(crate::specs::reading::Books::accounts_from))]
 pub(crate) fn accounts_from(
     alloc: Global,
     table: &Table,
@@ -57,7 +60,7 @@ fn in_account(why: BookWhy, index: usize) -> BookFault
 }
 
 // An account and its name. `Name` where the key is no plain name, then the fault of the account.
-#[tactic(auto, unfolding(crate::specs::Reading::named_account_of))]
+#[tactic(auto, unfolding(crate::specs::reading::Books::named_account_of))]
 fn named_account_of(
     alloc: Global,
     key: &str,
@@ -79,7 +82,7 @@ fn plain_name_of(text: &str) -> Result<PlainName, BookWhy>
 
 // The account of a table. `Key` where the value is no table or a key is unknown; then the fault of the first of `sha1`,
 // `sha256`, `act_as` and `token` at fault. Each may be missing.
-#[tactic(auto, unfolding(crate::specs::Rows::table_in, crate::specs::Rows::read_table))]
+#[tactic(auto, unfolding(crate::specs::reading::Rows::table_in, crate::specs::reading::Rows::read_table))]
 fn account_of(alloc: Global, value: &Value) -> Result<Account, BookWhy>
     ensures { IsReadAs (λ a. a) result (table_in account (view value.now)) }
 {
@@ -130,7 +133,7 @@ fn act_as_if_any(alloc: Global, table: &Table) -> Result<Vec<PlainName>, BookWhy
 
 // The names of a list. `Key` where the value is no list or has a value that is no text, then `Name` where there are more than
 // 16 or one is not plain.
-#[tactic(auto, unfolding(crate::specs::ValueTypes::name_list_in))]
+#[tactic(auto, unfolding(crate::specs::reading::Values::name_list_in))]
 fn act_as_of(alloc: Global, value: &Value) -> Result<Vec<PlainName>, BookWhy>
     ensures { IsReadAs (λ v. v.items) result (name_list_in (view value.now)) }
 {
@@ -165,7 +168,7 @@ fn are_texts(list: &[Value]) -> bool
 }
 
 // The names of texts. `Key` at the first value that is no text, and `Name` at the first that is no plain name.
-#[tactic(auto, unfolding(crate::specs::ValueTypes::names_in, crate::specs::ValueTypes::text_in))]
+#[tactic(auto, unfolding(crate::specs::reading::Values::names_in, crate::specs::reading::Values::text_in))]
 fn names_in(alloc: Global, list: &[Value]) -> Result<Vec<PlainName>, BookWhy>
     ensures { IsReadAs (λ v. v.items) result (names_in (items_view list.now)) }
 {

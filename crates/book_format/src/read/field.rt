@@ -6,9 +6,11 @@ ghost use Rattle.toml.specs.Data.{get_member};
 ghost use Rattle.toml.specs.View.{view, table_view};
 ghost use Rattle.book_format.specs.Keys.{has_only};
 ghost use Rattle.hex.specs.Hex.{decode_of};
-ghost use Rattle.book_format.specs.ValueTypes.{number, number_of, bytes, bytes_in, decoded, text_in};
-ghost use Rattle.book_format.specs.Reading.{seen};
-ghost use Rattle.book_format.specs.Rows.{demand, number_at, read_at, read_or, table_of};
+ghost use Rattle.book_format.specs.ValueTypes.{number, bytes};
+ghost use Rattle.book_format.specs.reading.Values.{number_in, bytes_in, decoded, text_in, table_of};
+ghost use Rattle.book_format.specs.reading.Steps.{seen, pass_or};
+ghost use Rattle.book_format.specs.RowKinds.{bound_at};
+ghost use Rattle.book_format.specs.reading.Rows.{read_at, read_or};
 ghost use Rattle.book_format.specs.declared.fault.BookWhy.{BookWhy};
 ghost use Rattle.book_format.specs.declared.fault.BookWhy.TheVariants.{Key};
 
@@ -40,7 +42,7 @@ pub(crate) fn table_of(value: &Value) -> Result<&Table, BookWhy>
 
 /// Answers `Key` where the table has a key that is not among these.
 pub(crate) fn check_keys(table: &Table, keys: &[&str]) -> Result<(), BookWhy>
-    ensures { result ≡ demand (has_only (λ key. list_any (λ k. bytes_eq k.now key) keys.now) (table_view table.now)) Key }
+    ensures { result ≡ pass_or (has_only (λ key. list_any (λ k. bytes_eq k.now key) keys.now) (table_view table.now)) Key }
 {
     if has_only(table, keys) {
         Ok(())
@@ -70,7 +72,7 @@ fn is_among(keys: &[&str], key: &str) -> bool
 }
 
 /// The text at a key. `Key` where it is missing or the value has another type.
-#[tactic(auto, unfolding(crate::specs::ValueTypes::text_in))]
+#[tactic(auto, unfolding(crate::specs::reading::Values::text_in))]
 pub(crate) fn text_at<'a>(table: &'a Table, key: &str) -> Result<&'a str, BookWhy>
     ensures { seen (λ t. t.now) result ≡ read_or (Err Key) text_in (get_member key.now (table_view table.now)) }
 {
@@ -78,9 +80,9 @@ pub(crate) fn text_at<'a>(table: &'a Table, key: &str) -> Result<&'a str, BookWh
 }
 
 /// The whole number, from `least` to `most`. `Key` for a value of another type, and `why` for another number.
-#[tactic(auto, unfolding(crate::specs::ValueTypes::number_of))]
+#[tactic(auto, unfolding(crate::specs::reading::Values::number_in))]
 pub(crate) fn number_of(value: &Value, least: u64, most: u64, why: BookWhy) -> Result<u64, BookWhy>
-    ensures value { result ≡ number_of why least most (view value.now) }
+    ensures value { result ≡ number_in why least most (view value.now) }
     ensures least { IfOk result (λ n. least ≤ n) }
     ensures most { IfOk result (λ n. n ≤ most) }
 {
@@ -98,7 +100,7 @@ pub(crate) fn number_of(value: &Value, least: u64, most: u64, why: BookWhy) -> R
 
 /// The whole number from `least` to `most` at a key. `Key` where it is missing or the value has another
 /// type, and `why` where it is another number.
-#[tactic(auto, unfolding(crate::specs::ValueTypes::number_of))]
+#[tactic(auto, unfolding(crate::specs::reading::Values::number_in))]
 pub(crate) fn number_at(
     table: &Table,
     key: &str,
@@ -109,7 +111,7 @@ pub(crate) fn number_at(
     ensures value { result ≡ read_at key.now (number why least most) (table_view table.now) }
     ensures least { IfOk result (λ n. least ≤ n) }
     ensures most { IfOk result (λ n. n ≤ most) }
-    ensures at { IfOk result (λ n. number_at key.now (table_view table.now) ≡ n) }
+    ensures at { IfOk result (λ n. bound_at key.now (table_view table.now) ≡ n) }
 {
     number_of(required(table, key)?, least, most, why)
 }
@@ -122,7 +124,7 @@ pub(crate) fn number_or_zero(
     most: u64,
     why: BookWhy,
 ) -> Result<u64, BookWhy>
-    ensures value { result ≡ read_or (Ok 0) (number_of why 0 most) (get_member key.now (table_view table.now)) }
+    ensures value { result ≡ read_or (Ok 0) (number_in why 0 most) (get_member key.now (table_view table.now)) }
     ensures most { IfOk result (λ n. n ≤ most) }
 {
     match at(table, key) {
@@ -149,7 +151,7 @@ fn bytes_within(least: usize, most: usize, text: &str) -> Option<Tag>
 
 /// The bytes, `least` to `most` of them, whose hexadecimal text, in either case, is at a key. `Key`
 /// where it is missing or the value has another type, and `why` for another text.
-#[tactic(auto, unfolding(crate::specs::ValueTypes::bytes_in, crate::specs::ValueTypes::text_in))]
+#[tactic(auto, unfolding(crate::specs::reading::Values::bytes_in, crate::specs::reading::Values::text_in))]
 pub(crate) fn bytes_at(
     table: &Table,
     key: &str,

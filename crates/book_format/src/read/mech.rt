@@ -1,20 +1,20 @@
 //! What is kept for one mechanism: `salt`, `count`, `stored`, `server`.
 ghost use Rattle.std.specs.Prelude.{◌≡◌, ◌≤◌, length};
 ghost use Rattle.toml.specs.View.{view};
-ghost use Rattle.book_format.specs.Rows.{table_in};
+ghost use Rattle.book_format.specs.reading.Rows.{table_in};
 ghost use Rattle.book_format.specs.Tables.{mech};
 
-use crate::account::{MOST_COUNT, MechKeys};
+use crate::account::MechKeys;
 use crate::fault::BookWhy;
 use crate::read::field::{bytes_at, check_keys, number_at, table_of};
 use mac_core::{ScramKeys, Tag};
-use scram_text::{LONGEST_SALT, Salt};
+use scram_text::{LONGEST_SALT, MOST_COUNT, Salt};
 use toml::Value;
 
 /// What is kept for a mechanism whose keys have `len` bytes. `Key` where the value is no table or a key is unknown; then of the
 /// first key at fault, in the order above: `Key` where it is missing or its value has another type, else `Salt`, `Count` or
 /// `KeyLength` where the value is out of its range.
-#[tactic(auto, unfolding(crate::specs::Rows::table_in, crate::specs::Rows::read_table))]
+#[tactic(auto, unfolding(crate::specs::reading::Rows::table_in, crate::specs::reading::Rows::read_table))]
 pub(crate) fn mech_of(len: usize, value: &Value) -> Result<MechKeys, BookWhy>
     requires { len ≤ 64 }
     ensures { result ≡ table_in (mech len) (view value.now) }
@@ -22,7 +22,7 @@ pub(crate) fn mech_of(len: usize, value: &Value) -> Result<MechKeys, BookWhy>
     let table = table_of(value)?;
     check_keys(table, &["salt", "count", "stored", "server"])?;
     let salt = bytes_at(table, "salt", 1, LONGEST_SALT, BookWhy::Salt)?;
-    let count = number_at(table, "count", 1, MOST_COUNT, BookWhy::Count)?;
+    let count = number_at(table, "count", 1, u64::from(MOST_COUNT), BookWhy::Count)?;
     let stored = bytes_at(table, "stored", len, len, BookWhy::KeyLength)?;
     let server = bytes_at(table, "server", len, len, BookWhy::KeyLength)?;
     Ok(MechKeys {

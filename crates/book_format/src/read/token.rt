@@ -1,7 +1,7 @@
 //! A token of either kind: `kind`, and the keys of that kind.
 ghost use Rattle.std.specs.Prelude.{◌≡◌};
 ghost use Rattle.toml.specs.View.{view, table_view};
-ghost use Rattle.book_format.specs.Tables.{token_in, token_of_kind};
+ghost use Rattle.book_format.specs.reading.Tokens.{token_in, token_of_kind};
 
 mod hotp;
 mod setting;
@@ -15,7 +15,7 @@ use toml::{Table, Value};
 use totp::{totp_of, totp_token};
 
 /// The token of a table. `Key` where the value is no table or `kind` is missing or no text, then what `kind_of` answers.
-#[tactic(auto, unfolding(crate::specs::Tables::token_in))]
+#[tactic(auto, unfolding(crate::specs::reading::Tokens::token_in))]
 pub(crate) fn token_of(value: &Value) -> Result<Token, BookWhy>
     ensures { result ≡ token_in (view value.now) }
 {
@@ -25,7 +25,7 @@ pub(crate) fn token_of(value: &Value) -> Result<Token, BookWhy>
 }
 
 // The token of the kind of this name. `Token` for another name, else the fault of the first key at fault.
-#[tactic(auto, unfolding(crate::specs::Tables::token_of_kind))]
+#[tactic(auto, unfolding(crate::specs::reading::Tokens::token_of_kind))]
 fn kind_of(kind: &str, table: &Table) -> Result<Token, BookWhy>
     ensures { result ≡ token_of_kind kind.now (table_view table.now) }
 {

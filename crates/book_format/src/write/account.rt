@@ -4,8 +4,9 @@ ghost use Rattle.std.specs.Option.{ForSome};
 ghost use Rattle.toml.specs.View.{view, table_view};
 ghost use Rattle.book_format.specs.Account.{AreKeys, IsAccount};
 ghost use Rattle.book_format.specs.Put.{put_some};
-ghost use Rattle.book_format.specs.ValueTypes.{AreNames, names_tree};
-ghost use Rattle.book_format.specs.Rows.{WritesItself, in_table};
+ghost use Rattle.book_format.specs.Names.{AreNames, names_tree};
+ghost use Rattle.book_format.specs.Rows.{WritesItself};
+ghost use Rattle.book_format.specs.RowKinds.{in_table};
 ghost use Rattle.book_format.specs.Tables as tables;
 
 use super::put::{put, put_count, put_hex};

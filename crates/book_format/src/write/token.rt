@@ -4,10 +4,12 @@ ghost use Rattle.std.specs.Option.{ForSome};
 ghost use Rattle.toml.specs.Data.{integer};
 ghost use Rattle.toml.specs.View.{view, table_view};
 ghost use Rattle.otp_core.specs.Ranges.{most_counter};
-ghost use Rattle.otp_core.specs.Settings.{IsHotpInRange, IsTotpInRange};
+ghost use Rattle.otp_core.specs.TokenRanges.{IsHotpInRange, IsTotpInRange};
 ghost use Rattle.book_format.specs.Put.{put_some};
-ghost use Rattle.book_format.specs.Rows.{WritesItself, in_table, written};
+ghost use Rattle.book_format.specs.Rows.{WritesItself, written};
+ghost use Rattle.book_format.specs.RowKinds.{in_table};
 ghost use Rattle.book_format.specs.Tables as tables;
+ghost use Rattle.book_format.specs.Tokens as tokens;
 
 use super::put::{put_hex, put_number, put_text};
 use otp_core::{HotpFields, Token, TokenFields, TotpFields};
@@ -28,8 +30,8 @@ pub(super) fn token_value(alloc: Global, token: &Token) -> Result<Value, AllocEr
 #[tactic(auto, unfolding(crate::specs::Rows::written))]
 fn hotp_value(alloc: Global, fields: &HotpFields) -> Result<Value, AllocError>
     requires { IsHotpInRange fields.now }
-    ensures tree { IfOk result (λ v. view v ≡ (in_table tables.hotp).write fields.now) }
-    ensures itself { OnOk result (WritesItself (in_table tables.hotp) fields.now) }
+    ensures tree { IfOk result (λ v. view v ≡ (in_table tokens.hotp).write fields.now) }
+    ensures itself { OnOk result (WritesItself (in_table tokens.hotp) fields.now) }
 {
     let mut table = Table::new(alloc);
     put_text(alloc, &mut table, "kind", "hotp")?;
@@ -50,8 +52,8 @@ fn hotp_value(alloc: Global, fields: &HotpFields) -> Result<Value, AllocError>
 
 fn totp_value(alloc: Global, fields: &TotpFields) -> Result<Value, AllocError>
     requires { IsTotpInRange fields.now }
-    ensures tree { IfOk result (λ v. view v ≡ (in_table tables.totp).write fields.now) }
-    ensures itself { OnOk result (WritesItself (in_table tables.totp) fields.now) }
+    ensures tree { IfOk result (λ v. view v ≡ (in_table tokens.totp).write fields.now) }
+    ensures itself { OnOk result (WritesItself (in_table tokens.totp) fields.now) }
 {
     let mut table = settings_table(alloc, fields)?;
     put_last(alloc, &mut table, fields.last)?;
@@ -62,8 +64,8 @@ fn totp_value(alloc: Global, fields: &TotpFields) -> Result<Value, AllocError>
 #[tactic(auto, unfolding(crate::specs::Rows::written))]
 fn settings_table(alloc: Global, fields: &TotpFields) -> Result<Table, AllocError>
     requires { IsTotpInRange fields.now }
-    ensures tree { IfOk result (λ t. table_view t ≡ written tables.totp (record fields.now { last = None })) }
-    ensures itself { OnOk result (WritesItself (in_table tables.totp) fields.now) }
+    ensures tree { IfOk result (λ t. table_view t ≡ written tokens.totp (record fields.now { last = None })) }
+    ensures itself { OnOk result (WritesItself (in_table tokens.totp) fields.now) }
 {
     let mut table = Table::new(alloc);
     put_text(alloc, &mut table, "kind", "totp")?;

@@ -1,4 +1,5 @@
 //! Texts that were worked out by hand from the rules of the format.
+use super::{HOTP, TOP, TOTP};
 use book_format::Contents;
 use std::collections::BTreeMap;
 use std::process::Abort;
@@ -36,7 +37,7 @@ fn names_in_quotes(rt: HostRuntime) -> Result<(), Fail> {
         ("\"\\\\\"", "'\\'"),
         ("\"\\\"'\"", "\"\\\"'\""),
     ] {
-        let text = format!(in alloc; "{FRONT}[accounts.{name}]\n")?;
+        let text = format!(in alloc; "{TOP}[accounts.{name}]\n")?;
         let want = format!(in alloc; "{FRONT_WRITTEN}\n[accounts.{header}]\nact_as = []\n")?;
         writes(&rt, text.as_str(), want.as_str())?;
     }
@@ -108,7 +109,7 @@ t0 = 253402300799
 #[test]
 fn account_with_everything(rt: HostRuntime) -> Result<(), Fail> {
     let alloc = rt.alloc();
-    let text = format!(in alloc; "{FRONT}{EVERYTHING}")?;
+    let text = format!(in alloc; "{TOP}{EVERYTHING}")?;
     let want = format!(in alloc; "{FRONT_WRITTEN}{EVERYTHING_WRITTEN}")?;
     writes(&rt, text.as_str(), want.as_str())
 }
@@ -138,12 +139,6 @@ secret = \"3132333435363738393031323334353637383930\"
 sync_ahead = 1000
 ";
 
-const FRONT: &str = "\
-format = 1
-decoy_key = \"000102030405060708090a0b0c0d0e0f101112131415161718191a1b1c1d1e1f\"
-decoy_count = 4096
-";
-
 const FRONT_WRITTEN: &str = "\
 decoy_count = 4096
 decoy_key = \"000102030405060708090a0b0c0d0e0f101112131415161718191a1b1c1d1e1f\"
@@ -151,7 +146,7 @@ format = 1
 ";
 
 // The keys of RFC 5802's user by Python's hashlib, some in upper case.
-const USER: &str = "
+const USER_IN_UPPER_CASE: &str = "
 [accounts.user]
 act_as = []
 
@@ -171,17 +166,6 @@ count = 4096
 salt = \"4125c247e43ab1e93c6dff76\"
 server = \"0fe09258b3ac852ba502cc62ba903eaacdbf7d31\"
 stored = \"e9d94660c39d65c38fbad91c358f14da0eef2bd6\"
-";
-
-const HOTP: &str = "
-[accounts.user.token]
-kind = \"hotp\"
-secret = \"3132333435363738393031323334353637383930\"
-digits = 6
-next = 0
-look_ahead = 3
-limit = 3
-failures = 0
 ";
 
 const HOTP_WRITTEN: &str = "
@@ -221,22 +205,6 @@ secret = \"3132333435363738393031323334353637383930\"
 sync_ahead = 8
 ";
 
-const TOTP: &str = "
-[accounts.user.token]
-kind = \"totp\"
-hash = \"sha1\"
-secret = \"3132333435363738393031323334353637383930\"
-digits = 8
-t0 = 0
-step = 30
-back = 0
-ahead = 1
-max_drift = 1
-drift = 0
-limit = 3
-failures = 0
-";
-
 const TOTP_WRITTEN: &str = "
 [accounts.user.token]
 ahead = 1
@@ -273,7 +241,7 @@ fn books_that_were_read(rt: HostRuntime) -> Result<(), Fail> {
         (HOTP_ENDED, HOTP_ENDED_WRITTEN),
         (TOTP, TOTP_WRITTEN),
     ] {
-        let text = format!(in alloc; "{FRONT}{USER}{token}")?;
+        let text = format!(in alloc; "{TOP}{USER_IN_UPPER_CASE}{token}")?;
         let want = format!(in alloc; "{FRONT_WRITTEN}{USER_WRITTEN}{written}")?;
         writes(&rt, text.as_str(), want.as_str())?;
     }
@@ -284,7 +252,7 @@ fn books_that_were_read(rt: HostRuntime) -> Result<(), Fail> {
 #[test]
 fn accounts_in_order_of_their_names(rt: HostRuntime) -> Result<(), Fail> {
     let alloc = rt.alloc();
-    let text = format!(in alloc; "{FRONT}{USER}{HOTP}\n[accounts.\"a.b\"]\n")?;
+    let text = format!(in alloc; "{TOP}{USER_IN_UPPER_CASE}{HOTP}\n[accounts.\"a.b\"]\n")?;
     let empty = "\n[accounts.\"a.b\"]\nact_as = []\n";
     let want = format!(in alloc; "{FRONT_WRITTEN}{empty}{USER_WRITTEN}{HOTP_WRITTEN}")?;
     writes(&rt, text.as_str(), want.as_str())
@@ -293,7 +261,7 @@ fn accounts_in_order_of_their_names(rt: HostRuntime) -> Result<(), Fail> {
 #[test]
 fn thousand_accounts(rt: HostRuntime) -> Result<(), Fail> {
     let alloc = rt.alloc();
-    let mut text = String::from_str(alloc, FRONT)?;
+    let mut text = String::from_str(alloc, TOP)?;
     let mut want = String::from_str(alloc, FRONT_WRITTEN)?;
     for number in 0..1000u32 {
         let last = 999 - number;

@@ -1,7 +1,8 @@
 -- A walk through the lines of an input, one after another.
-use Rattle.std.proofs.Common.{◌≡◌, ℕ, ◌≤◌, Bool, true, false, List, [], ◌∷◌, ◌++◌, length, Option, IfSome, refl, subst}
+use Rattle.std.proofs.Common.{ℕ, ◌≤◌, Bool, true, List, [], ◌∷◌, ◌++◌, length, Option, IfSome, refl, sym, subst}
 use Rattle.std.specs.Prelude.{◌&&◌}
 use Rattle.std.specs.Io.KnownBytes.{IsAtEnd}
+use Rattle.std.proofs.Math.Bool.{and_assoc, and-true}
 use Rattle.command_io.specs.Input.{line_bytes, TakesLine, AreLinesOf, LinesInTurn}
 use Rattle.command_io.proofs.lemmas.InputLines.{none_left, with_first, some_lines}
 
@@ -12,15 +13,6 @@ abbrev pub HasCome : {State : Type 0} → (Step : List ℕ → State → Bool �
 HasCome {State} Step first start passed left now =
     (last : List (List ℕ)) (others : Bool) (new : State) → LinesInTurn Step left last now others new
     → LinesInTurn Step first last start (passed && others) new
-
--- `&&` is associative, and true changes nothing at its right:
-and_assoc : (a b c : Bool) → (a && (b && c)) ≡ ((a && b) && c)
-and_assoc true b c = refl
-and_assoc false b c = refl
-
-and_true : (a : Bool) → (a && true) ≡ a
-and_true true = refl
-and_true false = refl
 
 -- a run that works on one more line has come one line further in its input
 pub after_line : {State : Type 0} (Step : List ℕ → State → Bool → State → Type 0) (first : Option (List ℕ)) (start : State) (so_far : Bool)
@@ -34,22 +26,22 @@ after_line Step first start so_far left now line has_lf rest passed next come ta
       are = with_first left line has_lf rest takes some (walk.lines ++ last) walk.are;
       in_turn = (passed, next, others, step, walk.in_turn, refl);
     } in
-    subst (λ (b : Bool). LinesInTurn Step first last start b new) (and_assoc so_far passed others) (come last (passed && others) new more)
+    subst (λ (b : Bool). LinesInTurn Step first last start b new) (sym (and_assoc so_far passed others)) (come last (passed && others) new more)
 
 -- a run that stops leaves the lines after the place to which it has come
-pub stops : {State : Type 0} (Step : List ℕ → State → Bool → State → Type 0) (first : Option (List ℕ)) (start : State) (so_far : Bool)
+stops_there : {State : Type 0} (Step : List ℕ → State → Bool → State → Type 0) (first : Option (List ℕ)) (start : State) (so_far : Bool)
     (left : Option (List ℕ)) (now : State)
     → HasCome Step first start so_far left now → (last : List (List ℕ)) → IfSome left (λ bytes. AreLinesOf bytes last)
     → LinesInTurn Step first last start so_far now
-stops Step first start so_far left now come last are =
-    subst (λ (b : Bool). LinesInTurn Step first last start b now) (and_true so_far)
+stops_there Step first start so_far left now come last are =
+    subst (λ (b : Bool). LinesInTurn Step first last start b now) (and-true so_far)
     (come last true now (record { lines = []; are = are; in_turn = (refl, refl) }))
 
 -- a run that comes to the end of its input has worked on all its lines
 pub at_end : {State : Type 0} (Step : List ℕ → State → Bool → State → Type 0) (first : Option (List ℕ)) (start : State) (so_far : Bool)
     (left : Option (List ℕ)) (now : State)
     → HasCome Step first start so_far left now → IsAtEnd left → LinesInTurn Step first [] start so_far now
-at_end Step first start so_far left now come end = stops Step first start so_far left now come [] (none_left left end)
+at_end Step first start so_far left now come end = stops_there Step first start so_far left now come [] (none_left left end)
 
 -- a run that stops before a line has worked on the lines before it, and all others are left
 pub before_line : {State : Type 0} (Step : List ℕ → State → Bool → State → Type 0) (first : Option (List ℕ)) (start : State) (so_far : Bool)
@@ -57,7 +49,7 @@ pub before_line : {State : Type 0} (Step : List ℕ → State → Bool → State
     → HasCome Step first start so_far left now → (last : List (List ℕ)) × LinesInTurn Step first last start so_far now
     × IfSome left (λ bytes. AreLinesOf bytes last)
 before_line Step first start so_far left now come =
-    let more = some_lines left in (more.0, stops Step first start so_far left now come more.0 more.1, more.1)
+    let more = some_lines left in (more.0, stops_there Step first start so_far left now come more.0 more.1, more.1)
 
 -- a run that stops at a line has worked on the lines before it
 pub at_line : {State : Type 0} (Step : List ℕ → State → Bool → State → Type 0) (first : Option (List ℕ)) (start : State) (so_far : Bool)
@@ -67,4 +59,4 @@ pub at_line : {State : Type 0} (Step : List ℕ → State → Bool → State →
     → (last : List (List ℕ)) × LinesInTurn Step first (line ∷ last) start so_far now
 at_line Step first start so_far left now line has_lf rest come takes some =
     let more = some_lines rest in
-    (more.0, stops Step first start so_far left now come (line ∷ more.0) (with_first left line has_lf rest takes some more.0 more.1))
+    (more.0, stops_there Step first start so_far left now come (line ∷ more.0) (with_first left line has_lf rest takes some more.0 more.1))

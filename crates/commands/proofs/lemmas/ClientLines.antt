@@ -86,12 +86,12 @@ IsDueTo (Begun one) (cont message) = Unit {0}
 IsDueTo (Proved two) (accepts message) = Unit {0}
 IsDueTo stage line = ⊥
 
--- a client at a stage where it may say nothing has to leave
+-- the client, at a stage of its own login, may say nothing to what it was told, and is not shown the keys by it
 abbrev pub LeavesAt : ClientEnd → Stage → (told : List ℕ) → Type 0
 LeavesAt client stage told = HasItsLogin stage → ((said : List ℕ) (new : Stage) → MaySay client stage told said new → ⊥)
     × (ShowsKeys stage told → ⊥)
 
--- where a client has to leave by the stage at which it stands, it has to leave
+-- what makes a client leave at a stage makes it leave where it stands at that stage
 leaves_at : (client : ClientEnd) (stage : Stage) (told : List ℕ) → client.stage ≡ stage → LeavesAt client stage told
     → HasToLeave client told
 leaves_at client stage told is leaves = subst (λ (s : Stage). LeavesAt client s told) (sym is) leaves

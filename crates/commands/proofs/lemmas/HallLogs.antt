@@ -1,5 +1,5 @@
 -- The log of a hall after one more event.
-use Rattle.std.proofs.Common.{◌≡◌, ◌⊎◌, inl, inr, ℕ, Bool, List, [], ◌∷◌, ◌++◌, refl, sym, ◌∙◌, ap, subst, append_assoc}
+use Rattle.std.proofs.Common.{◌≡◌, inl, inr, ℕ, Bool, List, [], ◌∷◌, ◌++◌, sym, ◌∙◌, ap, subst, append_assoc}
 use Rattle.std.specs.Prelude.{map}
 use Rattle.std.specs.Io.KnownBytes.{Appends}
 use Rattle.std.proofs.KnownBytes.{Appends-trans}
@@ -11,26 +11,25 @@ use Rattle.command_line.specs.declared.fault.Fault.TheVariants.{BadEvent}
 use Rattle.log_grammar.specs.Lines.{LogLine}
 use Rattle.log_grammar.specs.Numbered.{Numbered, numbered}
 use Rattle.sasl_log.specs.Sink.{SinkFacts}
-use Rattle.sasl_desk.specs.Events.{ClientEvent, sends, goes_away}
-use Rattle.std.specs.declared.option.Option.TheVariants.{None}
-use Rattle.sasl_desk.specs.Halls.{phase_in, HallFields, hall_of, hall_shown, hall_bytes, numbered_bytes, IsHallAfter, AnswersIn, IsSameHall}
-use Rattle.sasl_desk.specs.Runs.{Asked, hears, Call, call_of}
+use Rattle.sasl_desk.specs.Events.{ClientEvent}
+use Rattle.sasl_desk.specs.Halls.{HallFields, hall_of, hall_shown, hall_bytes, numbered_bytes, IsHallAfter, AnswersIn, IsSameHall}
+use Rattle.sasl_desk.specs.Runs.{Request, Call, call_of}
 use Rattle.sasl_desk.specs.declared.session.phase.Phase.{Phase}
 use Rattle.sasl_desk.specs.declared.hall.Hall.{Hall}
 use Rattle.sasl_desk.proofs.lemmas.halls.Laws.{hall_bytes_next}
 use Rattle.sasl_desk.proofs.lemmas.halls.Turns.{stands_reordered}
 use Rattle.commands.specs.PrintedLog.{IsUnsavedOrUnlogged}
-use Rattle.commands.specs.Hall.{InputEvent, opens, says, goes, does_at, SaysEvent, SaysNothing, IsOfNobody, IsCallFor, IsHallLogOf, Hears}
+use Rattle.commands.specs.Hall.{InputEvent, opens, does_at, SaysEvent, SaysNothing, IsCallFor, IsHallLogOf, Hears}
 
 -- a call by which a hall heard an event added what was put into the log
 pub answered_in_log : {S : Type 0} (facts : S → StoreFacts) (IsStored : List ℕ → Type 0) (old new : Hall S) (event : InputEvent) (n : ℕ)
-    (asked : Asked) (phase : Phase)
+    (request : Request) (phase : Phase)
     (wire wire' none written : List ℕ) (log log' : SinkFacts)
-    → ((lines : List LogLine) → IsCallFor event (numbered n (call_of asked lines)))
-    → AnswersIn facts IsStored (hall_shown old) n asked phase wire wire' none written (hall_shown new) → none ≡ []
+    → ((lines : List LogLine) → IsCallFor event (numbered n (call_of request lines)))
+    → AnswersIn facts IsStored (hall_shown old) n request phase wire wire' none written (hall_shown new) → none ≡ []
     → Appends log.given log'.given written → Hears facts IsStored (event ∷ []) old log new log'
-answered_in_log facts IsStored old new event n asked phase wire wire' none written log log' is a empty put start before earlier l =
-    let call : Numbered Call = numbered n (call_of asked a.lines) in
+answered_in_log facts IsStored old new event n request phase wire wire' none written log log' is a empty put start before earlier l =
+    let call : Numbered Call = numbered n (call_of request a.lines) in
     let more : List ℕ = numbered_bytes (map (numbered n) a.lines) in
     let are : written ≡ more = a.logged ∙ ap (λ (b : List ℕ). b ++ more) empty in
     let putting = subst (λ (b : List ℕ). Appends log.given log'.given b) are put in
@@ -42,21 +41,15 @@ answered_in_log facts IsStored old new event n asked phase wire wire' none writt
           (Appends-trans before log.given log'.given (hall_bytes l.calls) more l.logged putting);
     }
 
--- the call for what a client does
-pub call_for : (n : ℕ) (event : ClientEvent) (moment : ℕ) (lines : List LogLine)
-    → IsCallFor (does_at n event moment) (numbered n (call_of (hears event moment) lines))
-call_for n (sends text) moment lines = (refl, refl)
-call_for n goes_away moment lines = (refl, refl)
-
 -- a hall that is the same has the keeper, the count and the halt that it had, and guests
-same_hall : {S : Type 0} (old new : HallFields S) → IsSameHall old new → new ≡ hall_of old.keeper new.guests old.begun old.is_halted
+same_hall : {S : Type 0} (old new : HallFields S) → IsSameHall old new → new ≡ hall_of old.keeper new.guests old.given old.is_halted
 same_hall {S} old new same =
     let book = ap (λ (b : BookFields). hall_of
-    (record { book = b; store = new.keeper.store }) new.guests new.begun new.is_halted) same.book in
-    let store = ap (λ (s : S). hall_of (record { book = old.keeper.book; store = s }) new.guests new.begun new.is_halted) same.store in
-    let begun = ap (λ (n : ℕ). hall_of old.keeper new.guests n new.is_halted) same.begun in
-    let halted = ap (λ (b : Bool). hall_of old.keeper new.guests old.begun b) same.halted in
-    book ∙ (store ∙ (begun ∙ halted))
+    (record { book = b; store = new.keeper.store }) new.guests new.given new.is_halted) same.book in
+    let store = ap (λ (s : S). hall_of (record { book = old.keeper.book; store = s }) new.guests new.given new.is_halted) same.store in
+    let given = ap (λ (n : ℕ). hall_of old.keeper new.guests n new.is_halted) same.given in
+    let halted = ap (λ (b : Bool). hall_of old.keeper new.guests old.given b) same.halted in
+    book ∙ (store ∙ (given ∙ halted))
 
 -- a hall that stays the same, up to the order of its guests, while its log takes nothing has heard no event more
 pub same_in_log : {S : Type 0} (facts : S → StoreFacts) (IsStored : List ℕ → Type 0) (old new : Hall S) (log log' : SinkFacts)
@@ -66,7 +59,7 @@ same_in_log {S} facts IsStored old new log log' same unlogged start before earli
   calls = l.calls;
   heard = l.heard;
   stands = subst (λ (h : HallFields S). IsHallAfter facts IsStored start l.calls h) (sym (same_hall (hall_shown old) (hall_shown new) same))
-      (stands_reordered facts IsStored start l.calls old.keeper old.seats new.seats old.begun old.is_halted same.guests l.stands);
+      (stands_reordered facts IsStored start l.calls old.keeper old.seats new.seats old.given old.is_halted same.guests l.stands);
   logged = subst (λ (k : SinkFacts). Appends before k.given (hall_bytes l.calls)) (sym unlogged) l.logged;
 }
 
@@ -89,20 +82,8 @@ pub not_bad : (path : List ℕ) (log : SinkFacts) (fault : Fault) → IsUnsavedO
 not_bad path log fault (inl unwritten) is = let wrong = subst (IsUnwritten path) is unwritten in cc wrong
 not_bad path log fault (inr (output, failed)) is = cc (output, is)
 
--- where a session is not open, an event of its client is one of nobody
-pub of_nobody : {S : Type 0} (hall : HallFields S) (n : ℕ) (event : ClientEvent) (moment : ℕ) → phase_in hall n ≡ None
-    → IsOfNobody hall (does_at n event moment)
-of_nobody hall n (sends text) moment none = none
-of_nobody hall n goes_away moment none = none
-
 -- a line says nothing where no client comes and none does anything
 pub says_nothing : (line : List ℕ) → ((server_nonce : List ℕ) → SaysEvent line (opens server_nonce) → ⊥)
     → ((session moment : ℕ) (event : ClientEvent) → SaysEvent line (does_at session event moment) → ⊥) → SaysNothing line
 says_nothing line opened done (opens server_nonce) is = opened server_nonce is
-says_nothing line opened done (says n m text) is = done n m (sends text) is
-says_nothing line opened done (goes n m) is = done n m goes_away is
-
--- of two facts the first is kept, and the second is replaced by what follows from it, with any third fact as one more case
-pub put_or_failed : {P Q N H : Type 0} → P ⊎ Q → (Q → H) → P ⊎ (N ⊎ H)
-put_or_failed (inl failed) heard = inl failed
-put_or_failed (inr put) heard = inr (inr (heard put))
+says_nothing line opened done (does_at n event m) is = done n m event is

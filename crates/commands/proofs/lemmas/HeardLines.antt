@@ -15,7 +15,7 @@ use Rattle.sasl_desk.specs.Runs.{Call}
 use Rattle.sasl_desk.specs.Saved.{AreLinesSaved}
 use Rattle.sasl_desk.specs.declared.session.phase.Phase.{Phase}
 use Rattle.sasl_desk.specs.declared.hall.Hall.{Hall}
-use Rattle.commands.specs.Hall.{InputEvent, opens, says, goes, IsBadEvent, IsBadAfter, AreCallsFor, IsHallLogOf, Hears, HearsLine}
+use Rattle.commands.specs.Hall.{InputEvent, opens, does_at, IsBadEvent, IsBadAfter, AreCallsFor, IsHallLogOf, Hears, HearsLine}
 use Rattle.commands.specs.Hall.{HearsUpTo, HearsFirstLines, MeetsBadEvent, PrintsHallLog, PrintsToBadEvent}
 use Rattle.command_io.specs.Input.{line_bytes, TakesLine}
 use Rattle.commands.specs.PrintedLog.{IsLogFault, StopsAfter}
@@ -176,10 +176,8 @@ bad_after : {S : Type 0} (facts : S → StoreFacts) (IsStored : List ℕ → Typ
     → IsBadAfter (accounts_in start) calls line
 bad_after facts IsStored start calls hall line s phases (inl nothing) = inl nothing
 bad_after facts IsStored start calls hall line s phases (inr (opens server_nonce, said, never)) = absurd never
-bad_after facts IsStored start calls hall line s phases (inr (says n moment text, said, none)) =
-    inr (says n moment text, said, not_open facts IsStored start calls hall s n (phases n) none)
-bad_after facts IsStored start calls hall line s phases (inr (goes n moment, said, none)) =
-    inr (goes n moment, said, not_open facts IsStored start calls hall s n (phases n) none)
+bad_after facts IsStored start calls hall line s phases (inr (does_at n event moment, said, none)) =
+    inr (does_at n event moment, said, not_open facts IsStored start calls hall s n (phases n) none)
 
 -- where a hall meets a bad event, the log of what it heard before is printed, and the next line is bad after it
 pub prints_to_bad_event : {S : Type 0} (facts : S → StoreFacts) (IsStored : List ℕ → Type 0) (book : BookFields)

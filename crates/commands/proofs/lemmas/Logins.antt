@@ -11,7 +11,7 @@ use Rattle.sasl_log.specs.Source.{SourceFacts}
 use Rattle.sasl_log.specs.Sink.{SinkFacts}
 use Rattle.sasl_desk.specs.Inputs.{event_read}
 use Rattle.sasl_desk.specs.Events.{ClientEvent}
-use Rattle.sasl_desk.specs.Runs.{Asked, greets, hears, Call, call_of, run_lines}
+use Rattle.sasl_desk.specs.Runs.{Request, greets, hears, Call, call_of, run_lines}
 use Rattle.sasl_desk.specs.Desks.{IsDeskAfter, Answers, IsSameDesk}
 use Rattle.sasl_desk.specs.Saved.{IsLogSaved}
 use Rattle.sasl_desk.specs.Serves.{IsUndone, Service, service_of, IsTurnServed, IsTurnFault}
@@ -23,23 +23,24 @@ use Rattle.sasl_desk.proofs.lemmas.runs.Bytes.{log_bytes-append}
 use Rattle.command_line.specs.Fault.{IsUnwritten}
 use Rattle.command_line.specs.declared.fault.Fault.{Fault}
 use Rattle.command_line.specs.declared.fault.Fault.TheVariants.{NoMemory as OutOfMemory}
-use Rattle.commands.specs.Login.{HasSavedLog, IsAskedWith, IsDeskLog, StaysItsLog, StaysItsLogWith, IsLogAfterFault, IsLogAfterFaultWith}
-use Rattle.commands.specs.Login.{IsFaultOfServing, IsFaultInTurn, StopsTalking, TalkPasses, PrintsPasses}
-use Rattle.commands.specs.PrintedLog.{FailsToBegin, StopsAfter}
+use Rattle.commands.specs.DeskLog.{HasSavedLog, IsRequestWith, IsDeskLog, StaysItsLog, StaysItsLogWith, IsLogAfterFault, IsLogAfterFaultWith}
+use Rattle.commands.specs.LoginFaults.{IsFaultOfServing, IsFaultInTurn, StopsTalking}
+use Rattle.commands.specs.Login.{TalkPasses, PrintsPasses}
+use Rattle.commands.specs.PrintedLog.{StopsAfter}
 use Rattle.commands.specs.Talked.{Talked}
 use Rattle.commands.specs.declared.login.client_end.User.{User}
 
 -- where a log took the lines of one more call of its desk, it stays the desk's log
 one_more : {S : Type 0} (facts : S → StoreFacts) (IsStored : List ℕ → Type 0) (IsNow : ℕ → Type 0) (server_nonce : List ℕ)
     (old new : Desk S)
-    (asked : Asked) (lines : List LogLine) (log log' : SinkFacts)
-    → IsAskedWith server_nonce IsNow asked → ((start : BookFields) (calls : List Call) → IsDeskAfter facts IsStored start calls old
-    → IsDeskAfter facts IsStored start (call_of asked lines ∷ calls) new)
+    (request : Request) (lines : List LogLine) (log log' : SinkFacts)
+    → IsRequestWith server_nonce IsNow request → ((start : BookFields) (calls : List Call) → IsDeskAfter facts IsStored start calls old
+    → IsDeskAfter facts IsStored start (call_of request lines ∷ calls) new)
     → Appends log.given log'.given (log_bytes lines) → StaysItsLogWith facts IsStored IsNow server_nonce old log new log'
-one_more facts IsStored IsNow server_nonce old new asked lines log log' is stands more start before l = record {
-  calls = call_of asked lines ∷ l.calls;
+one_more facts IsStored IsNow server_nonce old new request lines log log' is stands more start before l = record {
+  calls = call_of request lines ∷ l.calls;
   stands = stands start l.calls l.stands;
-  asked = (is, l.asked);
+  requests = (is, l.requests);
   logged = subst (λ (bytes : List ℕ). Appends before log'.given bytes) (sym (log_bytes-append (run_lines l.calls) lines))
       (Appends-trans before log.given log'.given (log_bytes (run_lines l.calls)) (log_bytes lines) l.logged more);
 }
@@ -164,7 +165,7 @@ login_stops_after facts IsStored IsNow book server_nonce given before after old 
     inr (
       bytes,
       front book desk.calls new desk.stands,
-      record { calls = desk.calls; place = desk.stands.place; is_run = desk.stands.is_run; asked = desk.asked; is_log = refl },
+      record { calls = desk.calls; place = desk.stands.place; is_run = desk.stands.is_run; requests = desk.requests; is_log = refl },
       subst (λ (o : Option (List ℕ)). Appends before o bytes) (sym is)
           (subst (λ (o : Option (List ℕ)). Appends o log'.given bytes) was desk.logged),
       kept book desk.calls new desk.stands,
@@ -220,8 +221,3 @@ pub stops_in_turn : (path : List ℕ) (log : SinkFacts) (fault : Fault) → IsFa
 stops_in_turn path log fault (inl socket) = inr (inl socket)
 stops_in_turn path log fault (inr (inl unwritten)) = inr (inr (inl unwritten))
 stops_in_turn path log fault (inr (inr (output, failed))) = inr (inr (inr output))
-
--- a fault by which a desk can't begin ends the talk
-pub stops_before : (path : List ℕ) (old new : SinkFacts) (fault : Fault) → FailsToBegin path old new fault → StopsTalking path fault
-stops_before path old new fault (inl (output, failed)) = inr (inr (inr output))
-stops_before path old new fault (inr (same, unwritten)) = inr (inr (inl unwritten))

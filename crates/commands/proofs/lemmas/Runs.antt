@@ -1,8 +1,7 @@
 -- One run of the program, by the command that it runs.
 use Rattle.std.proofs.Common.{◌≡◌, ◌≢◌, ◌⊎◌, ◌∙◌, inl, inr, ℕ, List, [], Option, refl, sym, subst, ap}
-use Rattle.std.specs.Prelude.{Some, None, Ok, Err, Box, Bool, true, codes, option_map, IfErr, IfOk, OnOk, MatchResult}
+use Rattle.std.specs.Prelude.{Some, None, Ok, Err, Box, true, codes, option_map, IfErr, IfOk, MatchResult}
 use Rattle.std.specs.Box.{box_value}
-use Rattle.std.specs.Io.KnownBytes.{Keeps}
 use Rattle.std.specs.declared.result.Result.{Result}
 use Rattle.std.proofs.KnownBytes.{Keeps-refl}
 use Rattle.clap.proofs.OnLiterals.{clap_on_literals}
@@ -62,18 +61,6 @@ pub stops : {File : Type 0} {bytes_of written_to : File
     → (fault ≡ CannotWriteOutput) ⊎ RunsUntil bytes_of written_to found fault input old new
 stops name words is stopped = inr (record { name = name; words = words; is_named = is; stops = stopped })
 
--- two facts that each fault has hold together of the fault
-pub both : {T : Type 0} (P S : Fault → Type 0) (ended : Result T Fault) → IfErr ended P → IfErr ended S
-    → IfErr ended (λ fault. P fault × S fault)
-both P S (Ok x) one two = tt
-both P S (Err fault) one two = (one, two)
-
--- what holds of each Ok, and what holds of `Ok true` alone, hold together
-pub logs_in : {R : Type 0} (P : Type 0) (ended : Result Bool Fault) → OnOk ended P → (ended ≡ Ok true → R)
-    → IfOk ended (λ passed. P × (passed ≡ true → R))
-logs_in P (Ok passed) printed passes = (printed, λ yes. passes (ap (λ (p : Bool). Ok p) yes))
-logs_in P (Err fault) printed passes = tt
-
 -- where no subcommand was entered, no command is found
 none_entered : {Z : Type 0} (o : Option (Box SubCommand Z)) (word : Text) (rows : List Row)
     → None ≡ option_map (λ b. (out-SubCommand (box_value b)).name.now) o → subcommand_rows o ≡ Some (word, rows) → ⊥
@@ -85,10 +72,10 @@ pub not_unnamed : (matches : ArgMatches) → NamesCommand (subcommand_rows_of ma
 not_unnamed matches (name, values, are) is = none_entered (out-ArgMatches matches).subcommand (word_of name) values is are
 
 -- the name of the entered subcommand is the word that the parse finds
-same_name : {Z : Type 0} (o : Option (Box SubCommand Z)) (name word : Text) (rows : List Row)
+name_is_word : {Z : Type 0} (o : Option (Box SubCommand Z)) (name word : Text) (rows : List Row)
     → Some name ≡ option_map (λ b. (out-SubCommand (box_value b)).name.now) o → subcommand_rows o ≡ Some (word, rows) → name ≡ word
-same_name None name word rows is are = absurd (cc is)
-same_name (Some b) name word rows is are =
+name_is_word None name word rows is are = absurd (cc is)
+name_is_word (Some b) name word rows is are =
     let named : Some (out-SubCommand (box_value b)).name.now ≡ Some word = ap (option_map (λ (p : Text × List Row). p.0)) are in cc
 
 -- the name is that of no command
@@ -112,7 +99,7 @@ other name Upgrade (keys, enrol, code, verify, unlock, login, hall, audit, upgra
 pub not_other : (matches : ArgMatches) (name : Text) → NamesCommand (subcommand_rows_of matches) → Some name ≡ subcommand_name_of matches
     → IsOther name → ⊥
 not_other matches name (command, values, are) is others =
-    other name command others (same_name (out-ArgMatches matches).subcommand name (word_of command) values is are)
+    other name command others (name_is_word (out-ArgMatches matches).subcommand name (word_of command) values is are)
 
 -- the program's app is simple, and free of conflicts; of such an app the functions of `clap` tell all:
 is_simple_program : is_simple program ≡ true
@@ -134,9 +121,9 @@ pub understood : (app : App) (line : List Text) → app ≡ program → (is_simp
 understood app line is fails = sym (ap (λ (a : App). fault_of a line) is) ∙ fails (ap is_simple_and_free is ∙ is_free_program)
 
 -- a line that is parsed names a command
-pub names_one : (app : App) (line : List Text) (matches : ArgMatches) → app ≡ program → HasMatchesOf app line matches
+pub line_names_command : (app : App) (line : List Text) (matches : ArgMatches) → app ≡ program → HasMatchesOf app line matches
     → (is_simple_and_free app ≡ true → fault_of app line ≡ []) → NamesCommand (subcommand_rows_of matches)
-names_one app line matches is has fails =
+line_names_command app line matches is has fails =
     subst NamesCommand (sym (found_by app line matches is has)) (names_command line (understood app line is fails))
 
 -- an error of the parser is an error in the words of the line

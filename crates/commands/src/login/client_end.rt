@@ -11,7 +11,7 @@ ghost use Rattle.commands.specs.ClientEnd.{IfSays, IsChosen, BeginsLogin, Answer
 
 use command_line::Fault;
 use mac_core::Mechanism;
-use sasl_log::{Line, Payload, ServerLine, escape, read_line};
+use sasl_log::{Line, Payload, ServerLine, read_line, word, write_message_line};
 use scram_ends::{Client, ClientOne, ClientTwo, Limits, OneRefused};
 use scram_text::{NoncePart, Password, PlainName};
 use std::alloc::Global;
@@ -152,7 +152,7 @@ impl ClientEnd {
         match client.first(&self.password, challenge, &mut message) {
             Ok(client) => {
                 self.stage = Stage::Proved(client);
-                Ok(Next::Says(message_line(alloc, b"RESP :", message.as_slice())?))
+                Ok(Next::Says(message_line(alloc, word::RESP, message.as_slice())?))
             }
             Err(OneRefused::Spent(_)) => Ok(Next::Leaves),
             Err(OneRefused::Back(_, _)) => Err(Fault::NoMemory),
@@ -184,8 +184,6 @@ fn message_line(alloc: Global, front: &[u8], message: &[u8]) -> Result<Vec<u8>, 
     ensures err { IfErr result (λ fault. fault ≡ Fault.NoMemory) }
 {
     let mut line = Vec::new(alloc);
-    line.extend_from_slice(front)?;
-    escape(message, &mut line).map_err(|_| Fault::NoMemory)?;
-    line.extend_from_slice(b"\n")?;
+    write_message_line(front, message, &mut line).map_err(|_| Fault::NoMemory)?;
     Ok(line)
 }

@@ -1,6 +1,6 @@
 //! The moments by which a login's codes are judged.
 ghost use Rattle.std.specs.Prelude.{◌≡◌, ℕ, Option, None};
-ghost use Rattle.commands.specs.Login.{IsGiven};
+ghost use Rattle.commands.specs.DeskLog.{IsGiven};
 
 use otp_core::Moment;
 use std::marker::{Brand, PhantomData};

@@ -2,8 +2,7 @@
 ghost use Rattle.std.specs.Prelude.{◌≡◌, [], ◌∷◌, ◌++◌, IfOk, IfErr, take};
 ghost use Rattle.std.specs.Str.{byte};
 ghost use Rattle.otp_core.specs.Attempt.{CodeTexts};
-ghost use Rattle.commands.specs.Login.{sent_for};
-ghost use Rattle.commands.specs.Sent.{SaysCodes};
+ghost use Rattle.commands.specs.SentCodes.{sent_for, SaysCodes};
 ghost use Rattle.commands.specs.declared.login.TheConstants.{MOST_WITH_LF};
 
 use crate::login::MOST_WITH_LF;

@@ -1,8 +1,8 @@
 //! The nonces of a login: those that the words give, or fresh random ones.
-ghost use Rattle.std.specs.Prelude.{◌≡◌, ◌⊎◌, Some, IfOk, IfErr, length};
+ghost use Rattle.std.specs.Prelude.{◌≡◌, IfOk, IfErr, length};
 ghost use Rattle.scram_text.specs.Base64Field.{base64};
 ghost use Rattle.command_io.specs.File.{IsFileUnread};
-ghost use Rattle.commands.specs.Nonces.{TakesNonce, TakesNonces};
+ghost use Rattle.commands.specs.Nonces.{AreGivenOrFresh, TakesNonce, TakesNonces};
 
 use base64::engine::general_purpose::STANDARD;
 use command_io::random::RandomFile;
@@ -30,10 +30,7 @@ pub fn both<R: Files + AllocGlobal>(
     client: Option<NoncePart>,
     server: Option<NoncePart>,
 ) -> Result<Nonces, Fault>
-    // Both are given, or a file gives the bytes of each that is not, one after the other.
-    ensures ok { IfOk result (λ nonces. ((client ≡ Some nonces.client) × (server ≡ Some nonces.server))
-        ⊎ ((file : R.File) × (after : R.File)
-        × TakesNonces (R.File.remaining file) client server nonces.client nonces.server (R.File.remaining after))) }
+    ensures ok { IfOk result (λ nonces. AreGivenOrFresh R.File.remaining client server nonces.client nonces.server) }
     ensures err { IfErr result (IsFileUnread path.now) }
 {
     match (client, server) {

@@ -2,7 +2,8 @@
 ghost use Rattle.std.specs.Prelude.{◌≡◌, ℕ, List, Some, decimal, option_map, IfOk, IfErr};
 ghost use Rattle.scram_text.specs.Class.{IsNoncePart};
 ghost use Rattle.command_words.specs.Values.{value_of};
-ghost use Rattle.commands.specs.Login.{IsUserAsked, HasBadLoginValue};
+ghost use Rattle.commands.specs.Login.{IsUserAsked};
+ghost use Rattle.commands.specs.LoginFaults.{HasBadLoginValue};
 
 use crate::login::client_end::User;
 use clap::ArgMatches;

@@ -1,6 +1,8 @@
 //! Sessions in a hall: many at a time, one log, and each client's own wire.
 use account_book::Book;
-use desk_in_memory::{ANSWERS, BOOK, LOGIN, Memory, book_text};
+use desk_in_memory::{
+    ACCEPTANCE, ANSWERS, BOOK, CHALLENGE, LOGIN, Memory, OPENS, PROVES, book_text,
+};
 use sasl_desk::{DeskFault, Event, Hall, Moment, Phase};
 use scram_text::NoncePart;
 use std::alloc::Global;
@@ -107,14 +109,12 @@ fn two_sessions_stand_in_one_log(rt: HostRuntime) -> Result<(), Fail> {
     let mut party = greeted(&rt, Memory::new(rt.alloc(), 0, false), 2)?;
     let steps = [
         (2, "AUTH PLAIN", Phase::Closed),
-        (1, LOGIN[0], Phase::WaitFinal),
-        (1, LOGIN[1], Phase::WaitCode),
+        (1, OPENS, Phase::WaitFinal),
+        (1, PROVES, Phase::WaitCode),
         (1, "CODE 755224", Phase::WaitCode),
         (1, "", Phase::Closed),
     ];
     play(&rt, &mut party, &steps)?;
-    let first = LOGIN[0];
-    let last = LOGIN[1];
     let log = format!(in rt.alloc();
         "SCRAMLOG 2
 1 S MECHS SCRAM-SHA-256 SCRAM-SHA-1
@@ -122,11 +122,9 @@ fn two_sessions_stand_in_one_log(rt: HostRuntime) -> Result<(), Fail> {
 2 C AUTH PLAIN
 2 S NO :
 2 E
-1 C {first}
-1 S CONT :r=fyko+d2lbbFgONRv9qkxdawL3rfcNHYJY1ZVvWVs7j,s=QSXCR+Q6sek8bf92,i=4096
-1 C {last}
-1 S OK :v=rmF9pqV8S7suAoZWja4dJRkFsKQ=
-1 C CODE 755224
+1 C {OPENS}
+1 S {CHALLENGE}1 C {PROVES}
+1 S {ACCEPTANCE}1 C CODE 755224
 1 S PASS 3 0
 1 C GONE
 1 E
@@ -187,7 +185,7 @@ fn an_ended_session_frees_its_place(rt: HostRuntime) -> Result<(), Fail> {
     play(&rt, &mut party, &[(7, "", Phase::Closed)])?;
     assert_eq!(rt; greet(&mut party, true)?, Ok((65, Phase::WaitAuth)));
     for number in 1..66u64 {
-        assert_eq!(rt; party.hall.phase(number).is_some(), number != 7);
+        assert_eq!(rt; party.hall.phase(number).is_some(), number != 7, "{number}");
     }
     Ok(())
 }
@@ -196,8 +194,8 @@ fn an_ended_session_frees_its_place(rt: HostRuntime) -> Result<(), Fail> {
 fn a_failed_save_halts_all(rt: HostRuntime) -> Result<(), Fail> {
     let mut party = greeted(&rt, Memory::new(rt.alloc(), 2, false), 2)?;
     let steps = [
-        (1, LOGIN[0], Phase::WaitFinal),
-        (1, LOGIN[1], Phase::WaitCode),
+        (1, OPENS, Phase::WaitFinal),
+        (1, PROVES, Phase::WaitCode),
         (1, "CODE 755224", Phase::Halted),
     ];
     play(&rt, &mut party, &steps)?;
@@ -206,7 +204,7 @@ fn a_failed_save_halts_all(rt: HostRuntime) -> Result<(), Fail> {
         (2, Some(Phase::Halted)),
         (3, None),
     ] {
-        assert_eq!(rt; party.hall.phase(number), phase);
+        assert_eq!(rt; party.hall.phase(number), phase, "{number}");
     }
     assert_eq!(rt; greet(&mut party, true)?, Err(DeskFault::Halted));
     assert_eq!(rt;

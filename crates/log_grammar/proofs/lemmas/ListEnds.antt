@@ -1,35 +1,28 @@
--- Lists by their first elements, by their last, and by one within.
-use Rattle.std.proofs.Common.{◌≡◌, ◌+◌, ◌<◌, ℕ, zero, suc, List, [], ◌∷◌, ◌++◌, length, take, refl, sym, ◌∙◌, ap, arith, length-append}
+-- Lists by their last elements, and by those within.
+use Rattle.std.proofs.Common.{◌≡◌, ◌⊎◌, inl, inr, ℕ, zero, suc, ◌+◌, ◌<◌, List, [], ◌∷◌, ◌++◌, length, take, refl, sym, ◌∙◌, ap, arith}
+use Rattle.std.proofs.Common.{length-append, append_assoc}
 use Rattle.std.specs.List.{AllByRecursion, AllZip}
 use Rattle.std.proofs.Math.Seq.{take-append-add}
+use Rattle.scram_text.proofs.lemmas.ListEnds.{last_same, with_last}
 
--- lists that are the same have the same first element, and the same elements after it
-pub heads : {A : Type 0} (a b : A) (x y : List A) → a ∷ x ≡ b ∷ y → (a ≡ b) × (x ≡ y)
-heads a b x y e = (cc, cc)
+-- an empty list has no element
+pub no_element : {A : Type 0} (before : List A) (x : A) (rest : List A) → [] ≡ before ++ x ∷ rest → ⊥
+no_element [] x rest e = cc e
+no_element (y ∷ before) x rest e = cc e
 
--- lists with the same first element and the same elements after it are the same
-pub same_cons : {A : Type 0} (a b : A) (x y : List A) → a ≡ b → x ≡ y → a ∷ x ≡ b ∷ y
-same_cons a b x y head tail = cc
+-- an element of a list with a last element is that one, or stands before it
+pub last_or_earlier : {A : Type 0} (log : List A) (x : A) (before : List A) (y : A) (rest : List A) → log ++ x ∷ [] ≡ before ++ y ∷ rest
+    → ((log ≡ before) × (x ≡ y)) ⊎ ((less : List A) × (log ≡ before ++ y ∷ less))
+last_or_earlier log x before y [] e = inl (last_same log before x y e)
+last_or_earlier log x before y (z ∷ rest) e =
+    let last = with_last z rest in
+    let moved = ap (λ l. before ++ y ∷ l) last.2 ∙ sym (append_assoc before (y ∷ last.0) (last.1 ∷ [])) in
+    inr (last.0, (last_same log (before ++ y ∷ last.0) x last.1 (e ∙ moved)).0)
 
--- what has a last element is not empty
-pub some_last : {A : Type 0} (xs : List A) (x : A) → xs ++ x ∷ [] ≡ [] → ⊥
-some_last [] x e = cc e
-some_last (y ∷ xs) x e = cc e
-
--- lists with a last element that are the same have the same last element, and the same before it
-pub last_same : {A : Type 0} (xs ys : List A) (x y : A) → xs ++ x ∷ [] ≡ ys ++ y ∷ [] → (xs ≡ ys) × (x ≡ y)
-last_same [] [] x y e = (refl, (heads x y [] [] e).0)
-last_same [] (b ∷ ys) x y e = absurd (some_last ys y (sym (heads x b [] (ys ++ y ∷ []) e).1))
-last_same (a ∷ xs) [] x y e = absurd (some_last xs x (heads a y (xs ++ x ∷ []) [] e).1)
-last_same (a ∷ xs) (b ∷ ys) x y e =
-    let h = heads a b (xs ++ x ∷ []) (ys ++ y ∷ []) e in
-    let more = last_same xs ys x y h.1 in
-    (same_cons a b xs ys h.0 more.0, more.1)
-
--- a list that is not empty has a last element
-pub with_last : {A : Type 0} (a : A) (xs : List A) → (front : List A) × (x : A) × (a ∷ xs ≡ front ++ x ∷ [])
-with_last a [] = ([], a, refl)
-with_last a (b ∷ xs) = let more = with_last b xs in (a ∷ more.0, more.1, ap (λ l. a ∷ l) more.2)
+-- what stands before a list's end stands in a longer list
+pub stands_on : {A : Type 0} (log more before : List A) (y : A) (rest : List A) → log ≡ before ++ y ∷ rest
+    → log ++ more ≡ before ++ y ∷ (rest ++ more)
+stands_on log more before y rest e = ap (λ l. l ++ more) e ∙ append_assoc before (y ∷ rest) more
 
 -- where a list with a last element is related to another, the other has a last element too, and they are related part by part
 pub split_last : {A B : Type 0} (R : A → B → Type 0) (xs : List A) (x : A) (ys : List B) → AllZip R (xs ++ x ∷ []) ys
@@ -51,7 +44,7 @@ take_none : {A : Type 0} (xs : List A) → take 0 xs ≡ []
 take_none [] = refl
 take_none (x ∷ xs) = refl
 
--- to take one element more than stand before a given one is to take those and the given one
+-- the elements of a list up to a given one are those before it, and this one
 pub with_next : {A : Type 0} (xs : List A) (x : A) (more : List A) → take (length xs + 1) (xs ++ x ∷ more) ≡ xs ++ x ∷ []
 with_next xs x more = take-append-add xs (x ∷ more) 1 ∙ ap (λ l. xs ++ x ∷ l) (take_none more)
 
@@ -70,10 +63,14 @@ pub all_append : {A : Type 0} (P : A → Type 0) (front back : List A) → AllBy
 all_append P [] back h k = k
 all_append P (a ∷ front) back h k = (h.0, all_append P front back h.1 k)
 
--- what holds of each of some elements holds of the first of them, and of one among them:
+-- what holds of each element of a list holds of each in front, of each after the front, and of any one within:
 pub each_first : {A : Type 0} (P : A → Type 0) (front back : List A) → AllByRecursion P (front ++ back) → AllByRecursion P front
 each_first P [] back each = tt
 each_first P (a ∷ front) back each = (each.0, each_first P front back each.1)
+
+pub each_rest : {A : Type 0} (P : A → Type 0) (front back : List A) → AllByRecursion P (front ++ back) → AllByRecursion P back
+each_rest P [] back each = each
+each_rest P (a ∷ front) back each = each_rest P front back each.1
 
 pub each_at : {A : Type 0} (P : A → Type 0) (front : List A) (a : A) (back : List A) → AllByRecursion P (front ++ a ∷ back) → P a
 each_at P [] a back each = each.0

@@ -6,4 +6,5 @@ pub mod LinesDecided
 pub mod Cuts
 pub mod TextBytes
 pub mod LackLf
+pub mod Written
 pub mod NumberedReadBack

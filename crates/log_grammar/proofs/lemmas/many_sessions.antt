@@ -4,6 +4,7 @@ pub mod Visits
 pub mod NumberedReplies
 pub mod LogSteps
 pub mod WithoutLast
+pub mod HaltAndBusy
 pub mod OneReading
 pub mod OwnPlaces
 pub mod OpenCounts

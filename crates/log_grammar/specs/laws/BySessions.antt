@@ -25,17 +25,17 @@ abbrev pub IsHalted : Session → Type 0
 IsHalted s = EndsWith (session_lines s) (said halt ∷ [])
 
 -- each session but the last is closed, and the last is closed or halted
-abbrev pub AreOver : List Session → Type 0
-AreOver [] = Unit {0}
-AreOver (s ∷ []) = IsClosed s ⊎ IsHalted s
-AreOver (s ∷ t ∷ more) = IsClosed s × AreOver (t ∷ more)
+abbrev pub AreFinished : List Session → Type 0
+AreFinished [] = Unit {0}
+AreFinished (s ∷ []) = IsClosed s ⊎ IsHalted s
+AreFinished (s ∷ t ∷ more) = IsClosed s × AreFinished (t ∷ more)
 
 -- the bytes are `SCRAMLOG 1` and the lines of these sessions, each ended by an LF; each session meets its demands; and
 -- what was told of each account in all of them, in its order, is a legal history of its token
 pub record IsLogOf (accounts : Accounts) (bytes : List ℕ) (sessions : List Session) : Type 0 where
   pub spelled : bytes ≡ log_bytes (header ∷ flat_map session_lines sessions)
   pub lines : AllByRecursion IsWritable (flat_map session_lines sessions)
-  pub over : AreOver sessions
+  pub finished : AreFinished sessions
   pub good : AllByRecursion (SessionMeets (demands accounts)) sessions
   pub histories : (account : List ℕ) → IsHistory (accounts.token account) account (flat_map session_told sessions)
 
@@ -44,13 +44,13 @@ abbrev pub CleanLogsAreThoseOfSessions : Type 0
 CleanLogsAreThoseOfSessions = (accounts : Accounts) (bytes : List ℕ)
     → IsCleanOf (version_one accounts) bytes ↔ ((sessions : List Session) × IsLogOf accounts bytes sessions)
 
--- whole lines are a front exactly where they begin a clean log
+-- where a challenge can be written for each name, whole lines are a front exactly where they begin a clean log
 abbrev pub FrontsAreWhatBeginsCleanLogs : Type 0
 FrontsAreWhatBeginsCleanLogs = (accounts : Accounts) → AllCanBeChallenged accounts → (bytes : List ℕ) (texts : List (List ℕ))
     → IsSplit bytes texts []
     → IsFront accounts bytes ↔ BeginsClean accounts bytes
 
--- a line is the fault line exactly where it is the first that begins no clean log
+-- where a challenge can be written for each name, a line is the fault line exactly where it is the first that begins no clean log
 abbrev pub FaultLinesBeginNoCleanLog : Type 0
 FaultLinesBeginNoCleanLog = (accounts : Accounts) → AllCanBeChallenged accounts
     → (bytes : List ℕ) (texts : List (List ℕ)) (rest : List ℕ) (k : ℕ)

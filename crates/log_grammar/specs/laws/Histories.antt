@@ -9,7 +9,7 @@ use Rattle.otp_core.specs.declared.token.kinds.TokenFields.{TokenFields}
 use Rattle.log_grammar.specs.LoggedReply.{LoggedReply}
 use Rattle.log_grammar.specs.Demands.{attempts_of}
 
--- where this is told of this account, there was no reply, since it has no token
+-- where this is told of this account, there was no reply
 abbrev pub HasNoReply : List ℕ → LoggedReply → Type 0
 HasNoReply account t = t.account ≡ account → t.reply ≡ None
 

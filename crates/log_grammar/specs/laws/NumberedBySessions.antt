@@ -32,7 +32,7 @@ pub record IsNumberedLogOf (limit : ℕ) (accounts : Accounts) (bytes : List ℕ
   pub visit : ℕ → Option Visit
   pub numbered_told : List (Numbered LoggedReply)
   pub sessions : AreOfSessions limit (demands accounts) log visit numbered_told
-  pub over : ((n : ℕ) → IsClosedVisit (visit n)) ⊎ ((n : ℕ) × IsHaltedVisit (visit n))
+  pub finished : ((n : ℕ) → IsClosedVisit (visit n)) ⊎ ((n : ℕ) × IsHaltedVisit (visit n))
   pub histories : (account : List ℕ) → IsHistory (accounts.token account) account (map (λ t. t.value) numbered_told)
 
 -- a log of version 2 is clean exactly where it is that of some sessions

@@ -5,14 +5,14 @@ use Rattle.std.specs.Prelude.{ℕ, ◌≡◌, ◌≢◌, ◌≤◌, ◌+◌, ◌
 use Rattle.log_grammar.specs.Lines.{LogLine, said, busy}
 use Rattle.log_grammar.specs.LoggedReply.{LoggedReply}
 use Rattle.log_grammar.specs.Places.{Place, is_closed}
-use Rattle.log_grammar.specs.Demands.{Accounts, demands}
+use Rattle.log_grammar.specs.Demands.{Accounts, Demands, demands}
 use Rattle.log_grammar.specs.state_machine.Steps.{told_at}
 use Rattle.log_grammar.specs.Why.{LineClass}
-use Rattle.log_grammar.specs.Numbered.{Numbered, numbered, of_number, begun, closed_in, SpellsNumbered}
+use Rattle.log_grammar.specs.Numbered.{Numbered, numbered, of_number, given_in, closed_in, SpellsNumbered}
 use Rattle.log_grammar.specs.NumberedClasses.{IsNumberClassDue}
 use Rattle.log_grammar.specs.state_machine.NumberedDueClasses.{IsNumberDueAt}
 use Rattle.log_grammar.specs.state_machine.OpenNumbers.{open_up_to}
-use Rattle.log_grammar.specs.state_machine.NumberedSteps.{put, IsNumberedTransition, HasLastNumberedTransition}
+use Rattle.log_grammar.specs.state_machine.NumberedSteps.{put, IsNumberedTransition}
 
 -- where a number may have a line, the log goes on with it, and no other number's place changes
 abbrev pub GoesOnByANumberedLine : Type 0
@@ -20,6 +20,17 @@ GoesOnByANumberedLine = (limit : ℕ) (accounts : Accounts) (log : List (Numbere
     (n : ℕ) (line : LogLine) (to : Place) → SpellsNumbered limit (demands accounts) log places told
     → IsNumberedTransition limit (demands accounts) log places told n line to
     → SpellsNumbered limit (demands accounts) (log ++ numbered n line ∷ []) (put n to places) (told ++ told_at (places n) line)
+
+-- what a log was before its last line, which is of this number: a log that the line may follow, and only the place of
+-- this number was another
+pub record HasLastNumberedTransition (limit : ℕ) (d : Demands) (log : List (Numbered LogLine)) (n : ℕ) (line : LogLine) (places : ℕ → Place)
+    (all : List LoggedReply) : Type 0 where
+  pub before : ℕ → Place
+  pub told : List LoggedReply
+  pub spells : SpellsNumbered limit d log before told
+  pub goes : IsNumberedTransition limit d log before told n line (places n)
+  pub others : (m : ℕ) → (n ≡ m → ⊥) → places m ≡ before m
+  pub tells : all ≡ told ++ told_at (before n) line
 
 -- a log goes on in no other way: before its last line it is one after which this number may have the line
 abbrev pub GoesOnByNoOtherNumberedLine : Type 0
@@ -58,20 +69,20 @@ SessionsStandAlone = (limit : ℕ) (accounts : Accounts) (log other : List (Numb
     → SpellsNumbered limit (demands accounts) log places told → SpellsNumbered limit (demands accounts) other others also
     → (n m : ℕ) → of_number n log ≡ of_number m other → places n ≡ others m
 
--- the sessions that are open and those that are closed are all that began, which have the numbers from 1
+-- the numbers that are open and those that are closed are all that were given, from 1 on
 abbrev pub OpenSessionsAreCounted : Type 0
 OpenSessionsAreCounted = (limit : ℕ) (accounts : Accounts) (log : List (Numbered LogLine)) (places : ℕ → Place) (told : List LoggedReply)
     → SpellsNumbered limit (demands accounts) log places told
-    → (open_up_to (begun log) places + closed_in log ≡ begun log)
-    × ((n : ℕ) → is_closed (places n) ≡ false → (1 ≤ n) × (n ≤ begun log))
+    → (open_up_to (given_in log) places + closed_in log ≡ given_in log)
+    × ((n : ℕ) → is_closed (places n) ≡ false → (1 ≤ n) × (n ≤ given_in log))
 
 -- at most `limit` are open, or one more where BUSY is the last line: the one that it turns away
 abbrev pub FewSessionsAreOpen : Type 0
 FewSessionsAreOpen = (limit : ℕ) (accounts : Accounts) (log : List (Numbered LogLine)) (places : ℕ → Place) (told : List LoggedReply)
     → SpellsNumbered limit (demands accounts) log places told
-    → (open_up_to (begun log) places ≤ limit)
+    → (open_up_to (given_in log) places ≤ limit)
     ⊎ ((before : List (Numbered LogLine)) × (n : ℕ) × (log ≡ before ++ numbered n (said busy) ∷ [])
-    × (open_up_to (begun log) places ≡ limit + 1))
+    × (open_up_to (given_in log) places ≡ limit + 1))
 
 -- the classes due at a number after a log's lines are those of its place, where there is room for them and they may follow
 -- the last line

@@ -11,7 +11,8 @@ use Rattle.log_grammar.specs.Lines.{LogLine, said, heard, mechs, cont, refuses, 
 use Rattle.log_grammar.specs.LoggedReply.{LoggedReply, logged_reply_of}
 use Rattle.log_grammar.specs.Places.{Place, between, offered, asks_bare, waits_first, got_first, waits_final, got_final, waits_code}
 use Rattle.log_grammar.specs.Places.{got_code, leaving, over, halted}
-use Rattle.log_grammar.specs.Demands.{Accounts, NamesMechanism, IsChallenged, IsVerdictDue, IsLoggedReplyDue, demands, IsUnoffered, IsNotTakenUp}
+use Rattle.log_grammar.specs.Demands.{Accounts, NamesMechanism, IsChallenged, IsVerdictDue, IsLoggedReplyDue, demands, IsUnoffered}
+use Rattle.log_grammar.specs.Demands.{IsNotTakenUp}
 use Rattle.log_grammar.specs.Begins.{Begins}
 use Rattle.log_grammar.specs.laws.Logins.{IsLoginTo, exchange_of}
 

@@ -17,7 +17,7 @@ use Rattle.log_grammar.specs.Places.{Place, waits_code, got_code}
 use Rattle.log_grammar.specs.Demands.{Accounts, attempts_of, demands}
 use Rattle.log_grammar.specs.Begins.{Begins}
 use Rattle.log_grammar.specs.Versions.{IsClean}
-use Rattle.log_grammar.specs.Upgrades.{original_text}
+use Rattle.log_grammar.specs.Upgrades.{original_bytes}
 use Rattle.log_grammar.specs.laws.Logins.{Exchange, IsLoginTo, login_session}
 
 -- the line that lets a code, or two in a row, pass
@@ -67,7 +67,7 @@ NextHotpCodePasses = (accounts : Accounts) (mechanism name : List ℕ) (exchange
     → IsLoginTo accounts mechanism name exchange → IsMoment moment → accounts.token name ≡ Some (Hotp t)
     → t.failures < t.limit → IsDigitCount t.digits → IsCounter t.next
     → let text = code_text (Hotp t) t.next in
-    IsClean accounts (original_text (login_session mechanism exchange ++ heard (code text) ∷ passes moment t.next ∷ gone ∷ ended ∷ []))
+    IsClean accounts (original_bytes (login_session mechanism exchange ++ heard (code text) ∷ passes moment t.next ∷ gone ∷ ended ∷ []))
 
 -- the line with two codes in a row: those of the next counter of a HOTP token and of the one after it
 abbrev pub next_two : HotpFields → LogLine
@@ -79,4 +79,4 @@ abbrev pub NextTwoHotpCodesPass : Type 0
 NextTwoHotpCodesPass = (accounts : Accounts) (mechanism name : List ℕ) (exchange : Exchange) (moment : ℕ) (t : HotpFields)
     → IsLoginTo accounts mechanism name exchange → IsMoment moment → accounts.token name ≡ Some (Hotp t)
     → t.failures < t.limit → IsDigitCount t.digits → IsCounter (t.next + 1)
-    → IsClean accounts (original_text (login_session mechanism exchange ++ next_two t ∷ passes moment (t.next + 1) ∷ gone ∷ ended ∷ []))
+    → IsClean accounts (original_bytes (login_session mechanism exchange ++ next_two t ∷ passes moment (t.next + 1) ∷ gone ∷ ended ∷ []))

@@ -4,6 +4,7 @@ use Rattle.std.proofs.Common.{length-append}
 use Rattle.std.specs.Prelude.{All}
 use Rattle.std.specs.Char.{IsAsciiDigit}
 use Rattle.std.specs.Str.{IsUtf8, byte}
+use Rattle.std.proofs.lemmas.List.Elements.{All-push}
 use Rattle.std.proofs.lemmas.Str.{IsUtf8-from_ascii}
 use Rattle.std.proofs.lemmas.Grind.{common_steps}
 use Rattle.otp_core.specs.Ranges.{IsDigitCount}
@@ -16,16 +17,12 @@ length-last_digits zero number = refl
 length-last_digits (suc count) number =
     omega (arith, length-last_digits count (number / 10), length-append (last_digits count (number / 10)) ((byte "0" + number % 10) ∷ []))
 
--- ASCII digits and one more at their end are ASCII digits
-all_more : (xs : List ℕ) (x : ℕ) → All IsAsciiDigit xs → IsAsciiDigit x → All IsAsciiDigit (xs ++ x ∷ [])
-all_more xs x all one = search (rules, common_steps)
-
 -- each of the last digits of a number is an ASCII digit
 digits-last_digits : (count number : ℕ) → All IsAsciiDigit (last_digits count number)
 unfolding last_digits
 digits-last_digits zero number = search rules
 digits-last_digits (suc count) number =
-    all_more _ _ (digits-last_digits count (number / 10)) (search (rules, arith))
+    All-push IsAsciiDigit _ _ (digits-last_digits count (number / 10)) (search (rules, arith))
 
 -- the last of the digits that are left moves to the front of those that were found
 pub last_digits-more : (more number : ℕ) (rest : List ℕ)

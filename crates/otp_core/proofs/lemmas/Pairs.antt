@@ -2,7 +2,7 @@
 use Rattle.std.proofs.Common.{◌≡◌, ◌≤◌, ◌<◌, ◌+◌, ◌↔◌, ℕ, List, [], Option, None, Some, sym, subst, arith}
 use Rattle.std.specs.Prelude.{IfSome, IfNone}
 use Rattle.otp_core.specs.Ranges.{most_counter}
-use Rattle.otp_core.specs.Code.{hotp_text_by}
+use Rattle.otp_core.specs.Hash.{hotp_text_by}
 use Rattle.otp_core.specs.Attempt.CodeTexts.{TwoTexts}
 use Rattle.otp_core.specs.Window.{IsInHotpWindow}
 use Rattle.otp_core.specs.Reply.{IsFitting, IsDueReply, limit_of, failures_of}

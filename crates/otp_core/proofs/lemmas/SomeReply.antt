@@ -38,16 +38,16 @@ decided_last (Some last) w =
     (λ f. f last refl)
     (decided_lt last w)
 
--- whether a counter is in a window, and whether a step is near a moment, is decided:
-decided_counter : (first look_ahead c : ℕ) → Decided (IsInHotpWindow first look_ahead c)
-decided_counter first look_ahead c =
+-- whether a counter is in HOTP's window, and whether a step is in TOTP's, is decided:
+decided_hotp_window : (first look_ahead c : ℕ) → Decided (IsInHotpWindow first look_ahead c)
+decided_hotp_window first look_ahead c =
     decided_by ((first ≤ c) × ((c ≤ first + look_ahead) × (c ≤ most_counter))) (IsInHotpWindow first look_ahead c)
     (λ h. record { not_before = h.0; within = h.1.0; most = h.1.1 })
     (λ d. (d.not_before, (d.within, d.most)))
     (decided_both _ _ (decided_le first c) (decided_both _ _ (decided_le c (first + look_ahead)) (decided_le c most_counter)))
 
-decided_near : (now : ℕ) (drift : ℤ) (back ahead max_drift w : ℕ) → Decided (IsInTotpWindow now drift back ahead max_drift w)
-decided_near now drift back ahead max_drift w =
+decided_totp_window : (now : ℕ) (drift : ℤ) (back ahead max_drift w : ℕ) → Decided (IsInTotpWindow now drift back ahead max_drift w)
+decided_totp_window now drift back ahead max_drift w =
     decided_by
     (((((pos now +ℤ drift) -ℤ pos back) ≤ℤ pos w) × (pos w ≤ℤ ((pos now +ℤ drift) +ℤ pos ahead)))
     × ((now ≤ w + max_drift) × (w ≤ now + max_drift)))
@@ -60,19 +60,19 @@ decided_near now drift back ahead max_drift w =
 
 -- whether a counter can pass is decided
 decided_candidate : (s : TokenFields) (h : List Attempt) (m c : ℕ) → Decided (IsCandidate s h m c)
-decided_candidate (Hotp t) h m c = decided_counter (first_in_window t.next (used_in h)) t.look_ahead c
+decided_candidate (Hotp t) h m c = decided_hotp_window (first_in_window t.next (used_in h)) t.look_ahead c
 decided_candidate (Totp t) h m w =
     let near : Type 0 = IsInTotpWindow (step_at t m) (drift_after t h) t.back t.ahead t.max_drift w in
     decided_by ((t.t0 ≤ m) × (near × (ForSome t.last (λ l. l < w) × IsAbove (used_in h) w))) (IsCandidate (Totp t) h m w)
     (λ d. (d.0, d.1.0, d.1.1.0, d.1.1.1))
     (λ d. (d.0, (d.1, (d.2, d.3))))
     (decided_both _ _ (decided_le t.t0 m)
-    (decided_both _ _ (decided_near (step_at t m) (drift_after t h) t.back t.ahead t.max_drift w)
+    (decided_both _ _ (decided_totp_window (step_at t m) (drift_after t h) t.back t.ahead t.max_drift w)
     (decided_both _ _ (decided_last t.last w) (decided_above (used_in h) w))))
 
 -- whether a counter can be the first of a pair is decided
 decided_pair : (s : TokenFields) (h : List Attempt) (w : ℕ) → Decided (IsPairCandidate s h w)
-decided_pair (Hotp t) h w = decided_both _ _ (decided_counter (first_in_window t.next (used_in h)) t.sync_ahead w)
+decided_pair (Hotp t) h w = decided_both _ _ (decided_hotp_window (first_in_window t.next (used_in h)) t.sync_ahead w)
     (decided_le (w + 1) most_counter)
 decided_pair (Totp t) h w = inr (λ pair. pair)
 

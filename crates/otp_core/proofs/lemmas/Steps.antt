@@ -1,14 +1,16 @@
--- One more attempt: from a token and its past to any start and history that are alike.
+-- Pasts that are alike: the same replies are due after both, and one more attempt keeps them alike.
 use Rattle.std.proofs.Common.{◌≡◌, ◌≤◌, ◌<◌, ◌+◌, ◌-◌, ◌↔◌, ◌++◌, ℕ, pos, ◌-ℤ◌, List, [], ◌∷◌, Option, Some, None, max, refl, sym, ap}
 use Rattle.std.proofs.Common.{subst, arith, ◌∙◌}
 use Rattle.std.specs.Option.{option_map_or}
 use Rattle.otp_core.specs.Ranges.{IsMoment, most_counter}
+use Rattle.otp_core.specs.TokenRanges.{IsInRange}
 use Rattle.otp_core.specs.Attempt.{Attempt, CodeTexts, attempt_of, counters_of, used_in}
 use Rattle.otp_core.specs.Attempt.CodeTexts.{OneText, TwoTexts}
 use Rattle.otp_core.specs.Window.{IsCandidate, IsPairCandidate, IsInHotpWindow, IsInTotpWindow, IsAbove, first_in_window, greatest, step_at}
 use Rattle.otp_core.specs.Reply.{IsDueReply, IsFitting, code_text, limit_of, failures_of, failures_after, failures_after_reply}
 use Rattle.otp_core.specs.History.{IsAfter, AreAlike, settings_of}
-use Rattle.otp_core.specs.State.{advanced, after_pass}
+use Rattle.otp_core.specs.State.{after_reply, after_pass}
+use Rattle.otp_core.specs.TokenAttempt.{IsTokenAttempt}
 use Rattle.otp_core.specs.declared.token.answer.Reply.{Reply}
 use Rattle.otp_core.specs.declared.token.answer.Reply.TheVariants.{Pass, Fail, Locked}
 use Rattle.otp_core.specs.declared.token.kinds.HotpFields.{HotpFields}
@@ -91,35 +93,36 @@ due_alike s t h k m sent (Pass p) alike is due =
       λ c fits. due.2 c (fits_alike s t h k m sent c alike is fits),
     )
 
--- a due reply leaves the settings as they are, and changes the failures as it says
-parts_advanced : (t : TokenFields) (m : ℕ) (reply : Reply)
-    → (settings_of t ≡ settings_of (advanced t m reply)) × (failures_after_reply reply (failures_of t) ≡ failures_of (advanced t m reply))
-parts_advanced (Hotp t) m (Pass p) = (refl, refl)
-parts_advanced (Hotp t) m Fail = (refl, refl)
-parts_advanced (Hotp t) m Locked = (refl, refl)
-parts_advanced (Totp t) m (Pass p) = (refl, refl)
-parts_advanced (Totp t) m Fail = (refl, refl)
-parts_advanced (Totp t) m Locked = (refl, refl)
+-- after a reply a token has the settings that it had, and as many failures as the reply leaves
+parts_after_reply : (t : TokenFields) (m : ℕ) (reply : Reply)
+    → (settings_of t ≡ settings_of (after_reply t m reply))
+    × (failures_after_reply reply (failures_of t) ≡ failures_of (after_reply t m reply))
+parts_after_reply (Hotp t) m (Pass p) = (refl, refl)
+parts_after_reply (Hotp t) m Fail = (refl, refl)
+parts_after_reply (Hotp t) m Locked = (refl, refl)
+parts_after_reply (Totp t) m (Pass p) = (refl, refl)
+parts_after_reply (Totp t) m Fail = (refl, refl)
+parts_after_reply (Totp t) m Locked = (refl, refl)
 
--- after a pass of a counter that is due, HOTP's first counter is one more
-first_of : (o : Option ℕ) (next p : ℕ) → option_map_or (λ m. m + 1) o next ≤ p
+-- after a pass of one code HOTP's first counter is one more than the counter that passed, which was not before the first
+first_after_one : (o : Option ℕ) (next p : ℕ) → option_map_or (λ m. m + 1) o next ≤ p
     → option_map_or (λ m. m + 1) (Some (option_map_or (λ most. max p most) o p)) next ≡ p + 1
-first_of None next p h = refl
-first_of (Some m) next p h = omega arith
+first_after_one None next p h = refl
+first_after_one (Some m) next p h = omega arith
 
 -- after a pass of a pair, HOTP's first counter is one more than the second of the pair
-pair_first_of : (o : Option ℕ) (next w : ℕ) → option_map_or (λ m. m + 1) o next ≤ w
+first_after_two : (o : Option ℕ) (next w : ℕ) → option_map_or (λ m. m + 1) o next ≤ w
     → option_map_or (λ m. m + 1) (Some (max (w + 1) (option_map_or (λ most. max (w + 1 - 1) most) o (w + 1 - 1)))) next ≡ w + 1 + 1
-pair_first_of None next w h = omega arith
-pair_first_of (Some m) next w h = omega arith
+first_after_two None next w h = omega arith
+first_after_two (Some m) next w h = omega arith
 
 -- HOTP's first counter is one after what was sent has passed
 pub first_after : (t : HotpFields) (h : List Attempt) (m : ℕ) (sent : CodeTexts) (p : ℕ) → IsFitting (Hotp t) h m sent p
     → first_in_window t.next (counters_of sent p ++ used_in h) ≡ p + 1
-first_after t h m (OneText text) p fits = first_of (greatest (used_in h)) t.next p fits.0.not_before
+first_after t h m (OneText text) p fits = first_after_one (greatest (used_in h)) t.next p fits.0.not_before
 first_after t h m (TwoTexts one other) p (w, next, pair, first, second) =
     subst (λ (n : ℕ). first_in_window t.next (counters_of (TwoTexts one other) n ++ used_in h) ≡ n + 1) (sym next)
-    (pair_first_of (greatest (used_in h)) t.next w pair.0.not_before)
+    (first_after_two (greatest (used_in h)) t.next w pair.0.not_before)
 
 -- no pair of TOTP codes fits
 no_pair : (t : TotpFields) (h : List Attempt) (m : ℕ) (one other : List ℕ) (c : ℕ) → IsFitting (Totp t) h m (TwoTexts one other) c → ⊥
@@ -149,10 +152,10 @@ CanPassAlike s h t k =
     × ((w : ℕ) → IsPairCandidate s h w ↔ IsPairCandidate t k w)
 
 -- what can pass after a pass of a fitting counter is what can pass in the token that the pass makes, whatever the past
-passed : (s t : TokenFields) (h : List Attempt) (m : ℕ) (sent : CodeTexts) (p : ℕ) → settings_of s ≡ settings_of t
+can_pass_after_pass : (s t : TokenFields) (h : List Attempt) (m : ℕ) (sent : CodeTexts) (p : ℕ) → settings_of s ≡ settings_of t
     → IsFitting s h m sent p → CanPassAlike s (attempt_of m sent (Pass p) ∷ h) (after_pass t m p) []
 unfolding window_by pairs_by
-passed (Hotp s) (Hotp t) h m sent p e fits =
+can_pass_after_pass (Hotp s) (Hotp t) h m sent p e fits =
     let first : first_in_window s.next (counters_of sent p ++ used_in h) ≡ p + 1 = first_after s h m sent p fits in (
       (λ later c when. (
         (λ w. subst (λ f. window_by f m p later c) e (subst (λ n. IsInHotpWindow n s.look_ahead c) first w)),
@@ -163,7 +166,7 @@ passed (Hotp s) (Hotp t) h m sent p e fits =
         (λ x. subst (λ n. IsInHotpWindow n s.sync_ahead w × (w + 1 ≤ most_counter)) (sym first) (subst (λ f. pairs_by f p w) (sym e) x)),
       )),
     )
-passed (Totp s) (Totp t) h m (OneText text) p e fits = (
+can_pass_after_pass (Totp s) (Totp t) h m (OneText text) p e fits = (
   (λ later c when. (
     (λ w. let near = subst (λ f. window_by f m p later c) e (w.0, w.1) in
         let above : p < c = w.3.0 in
@@ -174,13 +177,13 @@ passed (Totp s) (Totp t) h m (OneText text) p e fits = (
   )),
   (λ w. ((λ x. x), (λ x. x))),
 )
-passed (Totp s) (Totp t) h m (TwoTexts one other) p e fits = absurd (no_pair s h m one other p fits)
-passed (Hotp s) (Totp t) h m sent p e fits = absurd (cc)
-passed (Totp s) (Hotp t) h m sent p e fits = absurd (cc)
+can_pass_after_pass (Totp s) (Totp t) h m (TwoTexts one other) p e fits = absurd (no_pair s h m one other p fits)
+can_pass_after_pass (Hotp s) (Totp t) h m sent p e fits = absurd (cc)
+can_pass_after_pass (Totp s) (Hotp t) h m sent p e fits = absurd (cc)
 
 -- `CanPassAlike` is reflexive
-same : (s : TokenFields) (h : List Attempt) → CanPassAlike s h s h
-same s h = ((λ m c is. ((λ x. x), (λ x. x))), (λ w. ((λ x. x), (λ x. x))))
+can_pass_same : (s : TokenFields) (h : List Attempt) → CanPassAlike s h s h
+can_pass_same s h = ((λ m c is. ((λ x. x), (λ x. x))), (λ w. ((λ x. x), (λ x. x))))
 
 -- a reply that passes no counter
 abbrev IsNoPass : Reply → Type 0
@@ -189,20 +192,20 @@ IsNoPass Fail = Unit {0}
 IsNoPass Locked = Unit {0}
 
 -- a reply that passes no counter leaves what can pass as it was, after the history and in the token that it makes
-kept : (s : TokenFields) (h : List Attempt) (m : ℕ) (sent : CodeTexts) (reply : Reply) → IsNoPass reply
-    → CanPassAlike s (attempt_of m sent reply ∷ h) s h × CanPassAlike s (attempt_of m sent reply ∷ h) (advanced s m reply) h
-kept s h m sent (Pass p) idle = absurd idle
-kept (Hotp s) h m sent Fail idle = (same (Hotp s) h, same (Hotp s) h)
-kept (Totp s) h m sent Fail idle = (same (Totp s) h, same (Totp s) h)
-kept (Hotp s) h m sent Locked idle = (same (Hotp s) h, same (Hotp s) h)
-kept (Totp s) h m sent Locked idle = (same (Totp s) h, same (Totp s) h)
+can_pass_kept : (s : TokenFields) (h : List Attempt) (m : ℕ) (sent : CodeTexts) (reply : Reply) → IsNoPass reply
+    → CanPassAlike s (attempt_of m sent reply ∷ h) s h × CanPassAlike s (attempt_of m sent reply ∷ h) (after_reply s m reply) h
+can_pass_kept s h m sent (Pass p) idle = absurd idle
+can_pass_kept (Hotp s) h m sent Fail idle = (can_pass_same (Hotp s) h, can_pass_same (Hotp s) h)
+can_pass_kept (Totp s) h m sent Fail idle = (can_pass_same (Totp s) h, can_pass_same (Totp s) h)
+can_pass_kept (Hotp s) h m sent Locked idle = (can_pass_same (Hotp s) h, can_pass_same (Hotp s) h)
+can_pass_kept (Totp s) h m sent Locked idle = (can_pass_same (Totp s) h, can_pass_same (Totp s) h)
 
 -- an attempt that passes no counter keeps equal what can pass after two alike pasts
-still : (s t : TokenFields) (h k : List Attempt) (m : ℕ) (sent : CodeTexts) (reply : Reply) → IsNoPass reply → AreAlike s h t k
+can_pass_still : (s t : TokenFields) (h k : List Attempt) (m : ℕ) (sent : CodeTexts) (reply : Reply) → IsNoPass reply → AreAlike s h t k
     → CanPassAlike s (attempt_of m sent reply ∷ h) t (attempt_of m sent reply ∷ k)
-still s t h k m sent reply idle alike =
-    let one = (kept s h m sent reply idle).0 in
-    let other = (kept t k m sent reply idle).0 in (
+can_pass_still s t h k m sent reply idle alike =
+    let one = (can_pass_kept s h m sent reply idle).0 in
+    let other = (can_pass_kept t k m sent reply idle).0 in (
       (λ later c when. onward (one.0 later c when) (onward (alike.candidates later c when) (back (other.0 later c when)))),
       (λ w. onward (one.1 w) (onward (alike.pairs w) (back (other.1 w)))),
     )
@@ -211,11 +214,11 @@ still s t h k m sent reply idle alike =
 can_pass_more : (s t : TokenFields) (h k : List Attempt) (m : ℕ) (sent : CodeTexts) (reply : Reply) → AreAlike s h t k → IsMoment m
     → IsDueReply t k m sent reply → CanPassAlike s (attempt_of m sent reply ∷ h) t (attempt_of m sent reply ∷ k)
 can_pass_more s t h k m sent (Pass p) alike is due =
-    let one = passed s t h m sent p alike.settings (fits_alike t s k h m sent p (alike_back s t h k alike) is due.1) in
-    let other = passed t t k m sent p refl due.1 in
+    let one = can_pass_after_pass s t h m sent p alike.settings (fits_alike t s k h m sent p (alike_back s t h k alike) is due.1) in
+    let other = can_pass_after_pass t t k m sent p refl due.1 in
     ((λ later c when. onward (one.0 later c when) (back (other.0 later c when))), (λ w. onward (one.1 w) (back (other.1 w))))
-can_pass_more s t h k m sent Fail alike is due = still s t h k m sent Fail tt alike
-can_pass_more s t h k m sent Locked alike is due = still s t h k m sent Locked tt alike
+can_pass_more s t h k m sent Fail alike is due = can_pass_still s t h k m sent Fail tt alike
+can_pass_more s t h k m sent Locked alike is due = can_pass_still s t h k m sent Locked tt alike
 
 -- one more attempt keeps two pasts alike
 pub alike_more : (s t : TokenFields) (h k : List Attempt) (m : ℕ) (sent : CodeTexts) (reply : Reply) → AreAlike s h t k → IsMoment m
@@ -229,23 +232,39 @@ alike_more s t h k m sent reply alike is due =
     }
 
 -- what can pass in a token after a due reply is what can pass after that attempt
-can_pass_advanced : (t : TokenFields) (m : ℕ) (sent : CodeTexts) (reply : Reply) → IsDueReply t [] m sent reply
-    → CanPassAlike t (attempt_of m sent reply ∷ []) (advanced t m reply) []
-can_pass_advanced t m sent (Pass p) due = passed t t [] m sent p refl due.1
-can_pass_advanced t m sent Fail due = (kept t [] m sent Fail tt).1
-can_pass_advanced t m sent Locked due = (kept t [] m sent Locked tt).1
+can_pass_after_reply : (t : TokenFields) (m : ℕ) (sent : CodeTexts) (reply : Reply) → IsDueReply t [] m sent reply
+    → CanPassAlike t (attempt_of m sent reply ∷ []) (after_reply t m reply) []
+can_pass_after_reply t m sent (Pass p) due = can_pass_after_pass t t [] m sent p refl due.1
+can_pass_after_reply t m sent Fail due = (can_pass_kept t [] m sent Fail tt).1
+can_pass_after_reply t m sent Locked due = (can_pass_kept t [] m sent Locked tt).1
 
 -- a due reply leads from a past to that past with the attempt added
 pub after_attempt : (s t : TokenFields) (h : List Attempt) (m : ℕ) (sent : CodeTexts) (reply : Reply) → IsMoment m
-    → IsAfter s h t → IsDueReply t [] m sent reply → IsAfter s (attempt_of m sent reply ∷ h) (advanced t m reply)
+    → IsAfter s h t → IsDueReply t [] m sent reply → IsAfter s (attempt_of m sent reply ∷ h) (after_reply t m reply)
 after_attempt s t h m sent reply is after due =
-    let passing = can_pass_advanced t m sent reply due in record {
+    let passing = can_pass_after_reply t m sent reply due in record {
       legal = (is, due_alike s t h [] m sent reply after.alike is due, after.legal);
-      alike = alike_onward s t (advanced t m reply) (attempt_of m sent reply ∷ h) (attempt_of m sent reply ∷ []) []
+      alike = alike_onward s t (after_reply t m reply) (attempt_of m sent reply ∷ h) (attempt_of m sent reply ∷ []) []
           (alike_more s t h [] m sent reply after.alike is due) (record {
-            settings = (parts_advanced t m reply).0;
-            failures = (parts_advanced t m reply).1;
+            settings = (parts_after_reply t m reply).0;
+            failures = (parts_after_reply t m reply).1;
             candidates = passing.0;
             pairs = passing.1;
           });
     }
+
+-- where the token after a pass is in its ranges, the counter that passed is at most the greatest that can pass
+passed_in_range : (t : TokenFields) (m c : ℕ) → IsInRange (after_pass t m c) → c ≤ most_counter
+passed_in_range (Hotp t) m c range = let next : c + 1 ≤ most_counter + 1 = range.0 in omega arith
+passed_in_range (Totp t) m c range = range.1.1.1.1.0 c refl
+
+-- a due reply, and the token after it in its ranges, are what an attempt gives
+pub token_attempt : (old : TokenFields) (m : ℕ) (sent : CodeTexts) (reply : Reply) (new : TokenFields) → IsMoment m
+    → IsDueReply old [] m sent reply → new ≡ after_reply old m reply → IsInRange new → IsTokenAttempt old m sent reply new
+token_attempt old m sent reply new is due state range = record {
+  due = λ start history after. due_alike start old history [] m sent reply after.alike is due;
+  after = λ start history after. subst (λ (t : TokenFields). IsAfter start (attempt_of m sent reply ∷ history) t) (sym state)
+      (after_attempt start old history m sent reply is after due);
+  state = state;
+  counter = λ c same. passed_in_range old m c (subst IsInRange (state ∙ ap (after_reply old m) same) range);
+}

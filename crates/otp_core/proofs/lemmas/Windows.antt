@@ -1,10 +1,7 @@
 -- Where a token's window begins, by the last step that passed.
-use Rattle.std.proofs.Common.{◌≡◌, ◌≤◌, ◌<◌, ◌+◌, ◌↔◌, ℕ, Option, Some, None, max, arith}
+use Rattle.std.proofs.Common.{◌≡◌, ◌≤◌, ◌<◌, ◌+◌, ◌↔◌, ℕ, Option, Some, None, max, sym, ◌∙◌, arith}
 use Rattle.std.specs.Option.{ForSome}
-
--- an option that holds two values holds one
-same_value : (o : Option ℕ) (x y : ℕ) → o ≡ Some x → o ≡ Some y → x ≡ y
-same_value o x y p q = cc
+use Rattle.std.proofs.lemmas.Option.{same_Some, none-some}
 
 -- where a step has passed, the window begins after it, or at its own first step if that is later
 pub cut_by_last : {N : Type 0} (o : Option ℕ) (last first cut end w : ℕ) → o ≡ Some last → cut ≡ max first (last + 1)
@@ -12,7 +9,7 @@ pub cut_by_last : {N : Type 0} (o : Option ℕ) (last first cut end w : ℕ) →
 cut_by_last o last first cut end w is value near = (
   (λ h. let above : last < w = h.1 last is in let within = near.0 h.0 in let low : first ≤ w = within.0 in ((omega arith), within.1)),
   (λ h. let low : cut ≤ w = h.0 in let begins : first ≤ w = omega arith in let above : last < w = omega arith in
-      (near.1 (begins, h.1), λ x at. let same : x ≡ last = same_value o x last at is in omega arith)),
+      (near.1 (begins, h.1), λ x at. let same : x ≡ last = same_Some x last (sym at ∙ is) in omega arith)),
 )
 
 -- where no step has passed, the window is whole
@@ -20,8 +17,5 @@ pub cut_by_none : {N : Type 0} (o : Option ℕ) (first end w : ℕ) → o ≡ No
     → (N ↔ ((first ≤ w) × (w < end))) → ((N × ForSome o (λ l. l < w)) ↔ ((first ≤ w) × (w < end)))
 cut_by_none o first end w is near = (
   (λ h. near.0 h.0),
-  (λ h. (near.1 h, λ x at. absurd (no_value o x is at))),
+  (λ h. (near.1 h, λ x at. absurd (none-some x (sym is ∙ at)))),
 )
-  where
-    no_value : (o : Option ℕ) (x : ℕ) → o ≡ None → o ≡ Some x → ⊥
-    no_value o x p q = cc

@@ -2,7 +2,7 @@
 ghost use Rattle.std.specs.Prelude.{◌≡◌, ◌↔◌, ◌≤◌, IfSome, IfNone, IsTrue};
 ghost use Rattle.std.specs.Option.{ForSome};
 ghost use Rattle.otp_core.specs.Ranges.{most_counter};
-ghost use Rattle.otp_core.specs.Settings.{IsHotpInRange, IsTotpInRange, IsFirstOutside, hotp_ranges, totp_ranges};
+ghost use Rattle.otp_core.specs.TokenRanges.{IsHotpInRange, IsTotpInRange, IsFirstOutside, hotp_ranges, totp_ranges};
 
 use crate::digits::Digits;
 use crate::fault::Setting;

@@ -1,9 +1,9 @@
 //! The counters that can pass now, as one range.
 ghost use Rattle.std.specs.Prelude.{◌≡◌, ◌≤◌, ◌<◌, ◌↔◌, ◌+◌, ◌^◌, ℕ, pos, ◌-ℤ◌, [], nat_abs};
 ghost use Rattle.std.specs.Option.{ForSome};
-ghost use Rattle.otp_core.specs.Settings.{IsHotpInRange, IsTotpInRange, IsInRange};
+ghost use Rattle.otp_core.specs.TokenRanges.{IsHotpInRange, IsTotpInRange, IsInRange};
 ghost use Rattle.otp_core.specs.Window.{IsInHotpWindow, IsInTotpWindow, IsCandidate};
-ghost use Rattle.otp_core.specs.Ranges.{IsMoment, last_moment, most_counter, most_steps, most_drift};
+ghost use Rattle.otp_core.specs.Ranges.{IsMoment, last_moment, most_counter, most_steps_aside, most_drift};
 
 use crate::code::step;
 use crate::moment::Moment;
@@ -71,8 +71,8 @@ fn fast_and_slow(drift: i64) -> (u64, u64)
 fn steps_near(now: u64, drift: i64, back: u64, ahead: u64, max_drift: u64) -> Counters
     requires now { now ≤ last_moment }
     requires drift { nat_abs drift ≤ most_drift }
-    requires back { back ≤ most_steps }
-    requires ahead { ahead ≤ most_steps }
+    requires back { back ≤ most_steps_aside }
+    requires ahead { ahead ≤ most_steps_aside }
     requires max_drift { max_drift ≤ most_drift }
     ensures { (w : ℕ) → IsInTotpWindow now drift back ahead max_drift w ↔ ((result.first ≤ w) × (w < result.end)) }
 {

@@ -110,9 +110,9 @@ pub fn told_counters_are_saved<S: BookStore>()
 /// the book's accounts: two sessions, of one hall or of two, which agree in these and were not turned away, have the same lines.
 /// So neither the lines of other sessions enter, nor their order, nor the moments, nor a token.
 pub fn sessions_are_told_alone<S: BookStore>()
-    ensures { (start begun : BookFields) (calls others : List (Numbered Call)) (hall other : HallFields S) (n m : ℕ)
-        → IsHallAfter S.facts S.IsStored start calls hall → IsHallAfter S.facts S.IsStored begun others other
-        → HaveSameEntries (accounts_in start) (accounts_in begun)
+    ensures { (start other_start : BookFields) (calls others : List (Numbered Call)) (hall other : HallFields S) (n m : ℕ)
+        → IsHallAfter S.facts S.IsStored start calls hall → IsHallAfter S.facts S.IsStored other_start others other
+        → HaveSameEntries (accounts_in start) (accounts_in other_start)
         → of_number n (hall_lines calls) ≢ busy_lines → of_number m (hall_lines others) ≢ busy_lines
         → HaveSameRequests (of_number n calls) (of_number m others)
         → up_to_acceptance (of_number n (hall_lines calls)) ≡ up_to_acceptance (of_number m (hall_lines others)) }

@@ -7,11 +7,11 @@ ghost use Rattle.log_grammar.specs.Places.{Place, offered, waits_first, waits_co
 ghost use Rattle.log_grammar.specs.Demands.{Accounts};
 ghost use Rattle.sasl_log.specs.Logins.{KeepsEntries};
 ghost use Rattle.sasl_log.specs.Shown.{client_shown};
-ghost use Rattle.sasl_log.specs.Texts.{CanBeLine};
+ghost use Rattle.sasl_log.specs.Texts.{IsLineWritable};
 ghost use Rattle.sasl_desk.specs.Events.{ClientEvent};
-ghost use Rattle.sasl_desk.specs.Turns.{is_client_turn, is_due, BearsMessage};
+ghost use Rattle.sasl_desk.specs.DueLines.{is_client_turn, is_due, BearsMessage};
 ghost use Rattle.sasl_desk.specs.Sessions.{IsWaitingAt, IsRecord, turn_lines, heard_lines, CanBeWritten};
-ghost use Rattle.sasl_desk.specs.Sessions.{IsTurnOnEvent, IsTurnOnLine, ComesOfLine, IsOfCode, AsksFor};
+ghost use Rattle.sasl_desk.specs.Sessions.{IsTurnOnEvent, IsTurnOnLine, ComesOfLine, JudgesOnlyWhereCodeIsDue, JudgesOnlyLine};
 
 use crate::session::Session;
 use crate::session::answer::{auth_answer, bare_no, silence};
@@ -72,7 +72,7 @@ pub(crate) fn hear_auth<'a, A: Allocator>(
     message: &mut Vec<u8, A>,
 ) -> Result<Turn<'a>, Session>
     requires empty { message.old.items ≡ [] }
-    requires line { CanBeLine (from_client (client_shown line)) }
+    requires line { IsLineWritable (from_client (client_shown line)) }
     ensures turn { (accounts : Accounts) → KeepsEntries accounts book.now
         → IfOk result (λ turn. IsTurnOnLine accounts server_nonce.now (client_shown line.entry) offered turn message.new.items) }
     ensures lines { IfOk result (λ turn. CanBeWritten (turn_lines turn message.new.items)) }
@@ -119,7 +119,7 @@ pub(crate) fn hear_first<'a, A: Allocator>(
     message: &mut Vec<u8, A>,
 ) -> Result<Turn<'a>, Session>
     requires empty { message.old.items ≡ [] }
-    requires line { CanBeLine (from_client (client_shown line)) }
+    requires line { IsLineWritable (from_client (client_shown line)) }
     ensures turn { (accounts : Accounts) → KeepsEntries accounts book.now
         → IfOk result (λ turn. IsTurnOnLine accounts server_nonce.now (client_shown line.entry) (waits_first (name_of mechanism))
         turn message.new.items) }
@@ -150,7 +150,7 @@ pub(crate) fn hear_final<'a, A: Allocator>(
     message: &mut Vec<u8, A>,
 ) -> Result<Turn<'a>, Session>
     requires empty { message.old.items ≡ [] }
-    requires line { CanBeLine (from_client (client_shown line)) }
+    requires line { IsLineWritable (from_client (client_shown line)) }
     ensures turn { (accounts : Accounts) (server_nonce : List ℕ) (place : Place) → IsWaitingAt accounts place waiting
         → IfOk result (λ turn. IsTurnOnLine accounts server_nonce (client_shown line.entry) place turn message.new.items) }
     ensures lines { IfOk result (λ turn. CanBeWritten (turn_lines turn message.new.items)) }
@@ -174,11 +174,11 @@ pub(crate) fn hear_final<'a, A: Allocator>(
 
 /// After an acceptance, or the reply to a code: CODE, SYNC and ABORT are due. Nothing is said here.
 pub(crate) fn hear_code<'a>(name: PlainName, line: ClientLine<'a>) -> HearResult<'a>
-    requires { CanBeLine (from_client (client_shown line)) }
+    requires { IsLineWritable (from_client (client_shown line)) }
     ensures heard { (accounts : Accounts) (server_nonce : List ℕ)
         → ComesOfLine accounts server_nonce (client_shown line.entry) (waits_code name) result [] }
-    ensures asks { IsOfCode result (Session.WaitCode name) }
-    ensures asked { AsksFor result (client_shown line.entry) }
+    ensures waits { JudgesOnlyWhereCodeIsDue result (Session.WaitCode name) }
+    ensures sent { JudgesOnlyLine result (client_shown line.entry) }
     ensures lines { CanBeWritten (heard_lines result []) }
 {
     match line {

@@ -1,29 +1,11 @@
 //! Codes of RFC 4226, appendix D, and what the store holds after them.
 use account_book::Book;
-use desk_in_memory::{BOOK, Memory};
+use desk_in_memory::{BOOK, Memory, book_at};
 use sasl_desk::{CodeJudged, DeskFault, Keeper, Moment, Reply, Sent};
 use scram_text::PlainName;
 use std::alloc::Global;
 use std::process::Abort;
 use std::test::Fail;
-
-// The book whose user has a token with the RFC's secret: three failures lock it; it looks three counters ahead, and eight
-// for two codes in a row.
-fn book_at(alloc: Global, failures: u64, next: u64) -> Result<String, Fail> {
-    Ok(format!(in alloc;
-        "{BOOK}
-[accounts.user.token]
-digits = 6
-failures = {failures}
-kind = \"hotp\"
-limit = 3
-look_ahead = 3
-next = {next}
-secret = \"3132333435363738393031323334353637383930\"
-sync_ahead = 8
-"
-    )?)
-}
 
 // A keeper of the book of this text, over this store.
 fn begun(alloc: Global, text: &str, store: Memory) -> Result<Keeper<Memory>, Fail> {

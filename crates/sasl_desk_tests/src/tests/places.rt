@@ -1,26 +1,16 @@
 //! What ends a session at each place where it is the client's turn.
-use desk_in_memory::{Memory, Service};
+use desk_in_memory::{ACCEPTANCE, CHALLENGE, Memory, OPENS, PROVES, Service};
 use sasl_desk::{Event, Phase};
 use sasl_log::Clean;
 use std::process::Abort;
 use std::test::Fail;
 
-// The published login of RFC 5802, section 5, and how its lines are logged.
+// The published login of RFC 5802, section 5, where the mechanism comes without a message, and how that is logged.
 const ASKS: &str = "AUTH SCRAM-SHA-1";
 
 const ASKED: &str = "C AUTH SCRAM-SHA-1\nS CONT :\n";
 
-const OPENS: &str = "AUTH SCRAM-SHA-1 :n,,n=user,r=fyko+d2lbbFgONRv9qkxdawL";
-
 const OPENS_LATER: &str = "RESP :n,,n=user,r=fyko+d2lbbFgONRv9qkxdawL";
-
-const CHALLENGED: &str =
-    "S CONT :r=fyko+d2lbbFgONRv9qkxdawL3rfcNHYJY1ZVvWVs7j,s=QSXCR+Q6sek8bf92,i=4096\n";
-
-const PROVES: &str =
-    "RESP :c=biws,r=fyko+d2lbbFgONRv9qkxdawL3rfcNHYJY1ZVvWVs7j,p=v0X8v3Bz2T0CJGbJQyF0X+HI4Ts=";
-
-const ACCEPTED: &str = "S OK :v=rmF9pqV8S7suAoZWja4dJRkFsKQ=\n";
 
 // Where a session stands: after these lines of its client, of which the log has those, with so many acceptances.
 #[derive(Clone, Copy)]
@@ -142,8 +132,8 @@ fn after_the_empty_challenge(rt: HostRuntime) -> Result<(), Fail> {
 // After the challenge, whether the client-first message came with the mechanism or after it.
 #[test]
 fn after_the_challenge(rt: HostRuntime) -> Result<(), Fail> {
-    let logged = format!(in rt.alloc(); "C {OPENS}\n{CHALLENGED}")?;
-    let later = format!(in rt.alloc(); "{ASKED}C {OPENS_LATER}\n{CHALLENGED}")?;
+    let logged = format!(in rt.alloc(); "C {OPENS}\nS {CHALLENGE}")?;
+    let later = format!(in rt.alloc(); "{ASKED}C {OPENS_LATER}\nS {CHALLENGE}")?;
     for place in [
         Place {
             lines: &[OPENS],
@@ -174,7 +164,7 @@ fn after_the_challenge(rt: HostRuntime) -> Result<(), Fail> {
 
 #[test]
 fn after_the_acceptance(rt: HostRuntime) -> Result<(), Fail> {
-    let logged = format!(in rt.alloc(); "C {OPENS}\n{CHALLENGED}C {PROVES}\n{ACCEPTED}")?;
+    let logged = format!(in rt.alloc(); "C {OPENS}\nS {CHALLENGE}C {PROVES}\nS {ACCEPTANCE}")?;
     let place = Place {
         lines: &[OPENS, PROVES],
         logged: logged.as_str(),

@@ -186,7 +186,10 @@ fn reads_that_fail_after_each_byte(rt: HostRuntime) -> Result<(), Fail> {
             return Err("no such part of the log".into());
         };
         let fault = fault_of(rt.alloc(), Torn { bytes })?;
-        assert!(rt; matches!(fault, Some(AuditFault::ReadFault)));
+        assert!(rt;
+            matches!(fault, Some(AuditFault::ReadFault)),
+            "after {size} bytes"
+        );
     }
     Ok(())
 }
@@ -230,8 +233,12 @@ fn had_memory(alloc: Global, bytes: usize) -> Result<Option<bool>, Fail> {
 fn refused_memory(rt: HostRuntime) -> Result<(), Fail> {
     let alloc = rt.alloc();
     assert_eq!(rt; had_memory(alloc, 16)?, Some(false));
-    for size in 0..50usize {
-        assert!(rt; had_memory(alloc, 64 + 64 * size)?.is_some());
+    for step in 0..50usize {
+        let bytes = 64 + 64 * step;
+        assert!(rt;
+            had_memory(alloc, bytes)?.is_some(),
+            "{bytes} bytes of memory"
+        );
     }
     assert_eq!(rt; had_memory(alloc, 4096)?, Some(true));
     Ok(())

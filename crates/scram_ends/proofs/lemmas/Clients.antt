@@ -1,7 +1,6 @@
 -- The client's messages: that they can be written and are short, and that they are honest.
-use Rattle.std.proofs.Common.{◌≡◌, ℕ, ◌+◌, ◌-◌, ◌*◌, ◌<◌, ◌≤◌, List, [], ◌∷◌, ◌++◌, length, take, drop, length-append, sym, ◌∙◌, ap, subst}
+use Rattle.std.proofs.Common.{◌≡◌, ℕ, ◌+◌, ◌*◌, ◌<◌, ◌≤◌, List, [], ◌∷◌, ◌++◌, length, length-append, sym, ◌∙◌, ap, subst}
 use Rattle.std.proofs.Common.{refl, arith, inl}
-use Rattle.std.proofs.Math.Seq.{drop-append_seam}
 use Rattle.std.specs.Prelude.{codes, option_map, IfSome}
 use Rattle.std.specs.declared.option.Option.{Option}
 use Rattle.std.specs.declared.option.Option.TheVariants.{None, Some}
@@ -21,7 +20,6 @@ use Rattle.scram_text.specs.declared.fault.WriteFault.{WriteFault}
 use Rattle.scram_text.specs.declared.fault.WriteFault.TheVariants.{Unwritable, OverLimit, NoMemory}
 use Rattle.scram_text.specs.declared.client_first.Flag.TheVariants.{NoBinding}
 use Rattle.scram_text.specs.declared.client_final.ClientFinalWithoutProof.{ClientFinalWithoutProof}
-use Rattle.scram_text.proofs.lemmas.Parts.{rest_taken}
 use Rattle.scram_text.proofs.lemmas.Names.{length-spelling}
 use Rattle.scram_text.proofs.lemmas.Base64.{length-base64, field_of_bytes}
 use Rattle.scram_text.proofs.lemmas.Texts.{text_nil}
@@ -45,11 +43,11 @@ only_memory r NoMemory failed unwritable over = refl
 
 -- a client without channel binding can write a client-first message without extensions
 pub can_start : CanBeClientFirst NoBinding []
-can_start = record { flag_class = refl; extensions_class = record { is_text = text_nil; each = tt } }
+can_start = record { flag_class = refl; extensions_class = record { utf8_text = text_nil; each = tt } }
 
 -- the length of a client-first message is that of its parts, and of three commas
-flat_first : (f a n r : List ℕ) → length ((f ++ 44 ∷ (a ++ 44 ∷ [])) ++ (n ++ 44 ∷ r)) ≡ length f + length a + length n + length r + 3
-flat_first f a n r =
+length-first : (f a n r : List ℕ) → length ((f ++ 44 ∷ (a ++ 44 ∷ [])) ++ (n ++ 44 ∷ r)) ≡ length f + length a + length n + length r + 3
+length-first f a n r =
     omega (
       arith,
       length-append (f ++ 44 ∷ (a ++ 44 ∷ [])) (n ++ 44 ∷ r),
@@ -74,7 +72,7 @@ pub first_short : (authzid : Option (List ℕ)) (name nonce : List ℕ) → IfSo
 unfolding client_first_text header_text bare_text
 first_short authzid name nonce is_authzid is_name is_nonce =
     subst (λ (k : ℕ). k ≤ longest_message)
-    (sym (flat_first (codes "n") (authzid_text (option_map name_spelling authzid)) (codes "n=" ++ name_spelling name)
+    (sym (length-first (codes "n") (authzid_text (option_map name_spelling authzid)) (codes "n=" ++ name_spelling name)
     (codes "r=" ++ nonce)))
     (first_bound 1 _ _ _ refl (spelled_authzid authzid is_authzid) (omega (arith, length-spelling name, is_name.at_most))
     (omega (arith, is_nonce.at_most)))
@@ -117,15 +115,6 @@ honest_taken_up name authzid nonce client_first first honest =
       is_authzid = authzid_of authzid honest.plain_authzid;
     })
 
--- where a buffer is what it was and a text after it, what follows its old end is that text
-pub appended : (whole written front text : List ℕ) (start : ℕ) → whole ≡ written → written ≡ front ++ text → start ≡ length front
-    → take (length whole - start) (drop start whole) ≡ text
-appended whole written front text start same is at =
-    rest_taken whole start
-    ∙ (ap (λ (k : ℕ). drop k whole) at
-    ∙ (ap (λ (xs : List ℕ). drop (length front) xs) (same ∙ is)
-    ∙ drop-append_seam front text))
-
 -- The bare message and the gs2-header of client-first.
 
 -- a client-first message's bare part is no longer than a message
@@ -147,8 +136,8 @@ authzid_length (Some name) (Some part) is =
     omega (arith, same, length-spelling name, is.plain.at_most)
 
 -- the length of a header is that of its two parts, and of two commas
-flat_header : (f a : List ℕ) → length (f ++ 44 ∷ (a ++ 44 ∷ [])) ≡ length f + length a + 2
-flat_header f a = omega (arith, length-append f (44 ∷ (a ++ 44 ∷ [])), length-append a (44 ∷ []))
+length-header : (f a : List ℕ) → length (f ++ 44 ∷ (a ++ 44 ∷ [])) ≡ length f + length a + 2
+length-header f a = omega (arith, length-append f (44 ∷ (a ++ 44 ∷ [])), length-append a (44 ∷ []))
 
 -- the header of an honest client-first message has from 1 to 770 bytes
 pub header_length : (name : List ℕ) (authzid : Option (List ℕ)) (nonce client_first : List ℕ) (first : ClientFirstParts)
@@ -158,7 +147,7 @@ unfolding header_text
 header_length name authzid nonce client_first first honest =
     let flag : length first.flag ≡ 1 = ap (λ (p : ClientFirstParts). length p.flag) honest.parts in
     let short = authzid_length authzid first.authzid (honest_taken_up name authzid nonce client_first first honest).is_authzid in
-    let whole = flat_header first.flag (authzid_text first.authzid) in
+    let whole = length-header first.flag (authzid_text first.authzid) in
     (omega (arith, flag, whole), omega (arith, flag, short, whole))
 
 -- the header of an honest client-first message fits a field of client-final
@@ -177,7 +166,7 @@ can_sign : (header nonce : List ℕ) → AreBytes header → 1 ≤ length header
 can_sign header nonce bytes some short is_nonce = record {
   channel_class = field_of_bytes longest_channel header bytes some (omega (arith, short));
   nonce_class = is_nonce;
-  extensions_class = record { is_text = text_nil; each = tt };
+  extensions_class = record { utf8_text = text_nil; each = tt };
 }
 
 -- a header, a nonce and a proof within their bounds can be written as client-final
@@ -189,8 +178,8 @@ can_answer header nonce proof bytes also some short is_nonce some_proof short_pr
 }
 
 -- the length of a client-final message is that of its three parts, and of two commas
-flat_final : (c n p : List ℕ) → length ((c ++ 44 ∷ n) ++ 44 ∷ p) ≡ length c + length n + length p + 2
-flat_final c n p = omega (arith, length-append (c ++ 44 ∷ n) (44 ∷ p), length-append c (44 ∷ n))
+length-final : (c n p : List ℕ) → length ((c ++ 44 ∷ n) ++ 44 ∷ p) ≡ length c + length n + length p + 2
+length-final c n p = omega (arith, length-append (c ++ 44 ∷ n) (44 ∷ p), length-append c (44 ∷ n))
 
 -- the parts of client-final within their bounds make no more than a message may have
 final_bound : (c n p : ℕ) → c ≤ 1030 → n ≤ 514 → p ≤ 90 → c + n + p + 2 ≤ longest_message
@@ -206,7 +195,7 @@ pub answer_short : (header nonce proof : List ℕ) → length header ≤ 770 →
 unfolding client_final_text client_final_without_proof
 answer_short header nonce proof short is_nonce is_proof =
     subst (λ (k : ℕ). k ≤ longest_message)
-    (sym (flat_final (codes "c=" ++ base64 header) (codes "r=" ++ nonce) (codes "p=" ++ base64 proof)))
+    (sym (length-final (codes "c=" ++ base64 header) (codes "r=" ++ nonce) (codes "p=" ++ base64 proof)))
     (final_bound _ _ _ (omega (arith, field_bound header 257 (omega arith))) (omega arith)
     (omega (arith, field_bound proof 22 (omega arith))))
 
@@ -224,13 +213,13 @@ unfolding client_final_without_proof
 same_front header nonce proof = refl
 
 -- client-final before its proof never fails to be written, where memory does not run out
-pub front_fails : {T : Type 0} (r : Result T WriteFault) (f : WriteFault) (header nonce : List ℕ) → r ≡ Err f
+pub front_never_fails : {T : Type 0} (r : Result T WriteFault) (f : WriteFault) (header nonce : List ℕ) → r ≡ Err f
     → AreBytes header → 1 ≤ length header → length header ≤ 770 → IsNonce longest_nonce nonce
     → (r ≡ Err Unwritable → CanBeClientFinalWithoutProof header nonce [] → ⊥)
     → (r ≡ Err OverLimit → CanBeClientFinalWithoutProof header nonce []
     × (longest_message < length (client_final_without_proof (client_final_of header nonce [] []))))
     → (r ≡ Err NoMemory → ⊥) → ⊥
-front_fails r f header nonce failed bytes some short is_nonce unwritable over no_memory =
+front_never_fails r f header nonce failed bytes some short is_nonce unwritable over no_memory =
     let full : f ≡ NoMemory = only_memory r f failed (λ e. unwritable e (can_sign header nonce bytes some short is_nonce))
     (λ e. let long = over e in omega (arith, long.1, front_short header nonce short is_nonce.at_most)) in
     no_memory (failed ∙ ap (λ (x : WriteFault). Err x) full)
@@ -258,11 +247,12 @@ header_range w l header started same =
     (omega (arith, long, range.0), omega (arith, long, range.1))
 
 -- equal arguments make equal proofs, and equal signatures:
-same_proof : (m n : Mechanism) (password salt other auth text : List ℕ) (count also : ℕ) → m ≡ n → salt ≡ other → count ≡ also → auth ≡ text
+pub same_proof : (m n : Mechanism) (password salt other auth text : List ℕ) (count also : ℕ) → m ≡ n → salt ≡ other → count ≡ also
+    → auth ≡ text
     → proof_of m password salt count auth ≡ proof_of n password other also text
 same_proof m n password salt other auth text count also e f g h = λ i. proof_of (e i) password (f i) (g i) (h i)
 
-same_signature : (m n : Mechanism) (password salt other auth text : List ℕ) (count also : ℕ) → m ≡ n → salt ≡ other → count ≡ also
+pub same_signature : (m n : Mechanism) (password salt other auth text : List ℕ) (count also : ℕ) → m ≡ n → salt ≡ other → count ≡ also
     → auth ≡ text
     → expected_signature m password salt count auth ≡ expected_signature n password other also text
 same_signature m n password salt other auth text count also e f g h = λ i. expected_signature (e i) password (f i) (g i) (h i)

@@ -12,13 +12,13 @@ use Rattle.mac_core.specs.declared.mechanism.Mechanism.{Mechanism}
 use Rattle.mac_core.proofs.lemmas.Among.{any_among}
 use Rattle.scram_text.specs.Messages.{header_text, ClientFinalParts, client_final_mandatory}
 use Rattle.mac_core.proofs.lemmas.Decided.{Decided, decided_by, decided_both, decided_test, decided_nat, decided_same}
-use Rattle.scram_text.proofs.lemmas.MessagesDecided.{client_final_is_decided}
+use Rattle.scram_text.proofs.lemmas.messages_decided.ClientFinal.{client_final_is_decided}
 use Rattle.scram_ends.specs.Entry.{Keys, Entry}
 use Rattle.scram_ends.specs.Stages.{Challenged}
 use Rattle.scram_ends.specs.Auth.{auth_message, client_signature, server_signature, IsProof}
 use Rattle.scram_ends.specs.Opening.{Opening, IsAllowed}
 use Rattle.scram_ends.specs.Verdict.{refusals_in_order, Asks, Due, accept, refuse, IsVerdictOn}
-use Rattle.scram_ends.specs.Laws.{SomeIsDue}
+use Rattle.scram_ends.specs.Laws.{SomeVerdictIsDue}
 use Rattle.scram_ends.specs.declared.verdict.Refusal.{Refusal}
 use Rattle.scram_ends.specs.declared.verdict.Refusal.TheVariants.{InvalidEncoding, ExtensionsNotSupported, OtherNonce, Channel}
 use Rattle.scram_ends.specs.declared.verdict.Refusal.TheVariants.{InvalidProof, NotAuthorised}
@@ -71,8 +71,8 @@ decided_asked InvalidProof l o p = decided_keys l.mechanism l.entry.keys (auth_m
 decided_asked NotAuthorised l o p = decided_allowed l.entry o.name o.authzid
 
 -- the parts have a verdict: they do not meet some first row, or they meet all, and the keys of their proof sign
-some_weighed : (l : Challenged) (o : Opening) (p : ClientFinalParts) → (d : Due) × IsVerdictOn l o p d
-some_weighed l o p = elim (first_or_all (λ r. Asks r l o p) refusals_in_order (λ r. decided_asked r l o p)) [
+some_verdict_on_parts : (l : Challenged) (o : Opening) (p : ClientFinalParts) → (d : Due) × IsVerdictOn l o p d
+some_verdict_on_parts l o p = elim (first_or_all (λ r. Asks r l o p) refusals_in_order (λ r. decided_asked r l o p)) [
   | inl first ↦ (refuse first.0, first.1)
   | inr all ↦ let (mandatory, (nonce, (channel, (proof, rest)))) = all in (
     accept (server_signature l.mechanism proof.0 (auth_message o.first l.server_first p)),
@@ -81,11 +81,11 @@ some_weighed l o p = elim (first_or_all (λ r. Asks r l o p) refusals_in_order (
 ]
 
 -- the law: after an opening some verdict is due to each text
-pub some_is_due : SomeIsDue
+pub some_is_due : SomeVerdictIsDue
 some_is_due l client_final o is_opening = elim (client_final_is_decided client_final) [
   | inr none ↦ (refuse InvalidEncoding, inl (none, refl))
-  | inl found ↦ let weighed = some_weighed l o found.0 in (
-    weighed.0,
-    inr (record { opening = o; final = found.0; is_opening = is_opening; is_final = found.1; weighed = weighed.1 }),
+  | inl found ↦ let verdict = some_verdict_on_parts l o found.0 in (
+    verdict.0,
+    inr (record { opening = o; final = found.0; is_opening = is_opening; is_final = found.1; is_verdict = verdict.1 }),
   )
 ]

@@ -13,7 +13,7 @@ use Rattle.mac_core.specs.Keys.{xor_bytes}
 use Rattle.mac_core.specs.Mechanism.{hash_by, hmac_by}
 use Rattle.mac_core.specs.declared.mechanism.Mechanism.{Mechanism}
 use Rattle.mac_core.specs.declared.mechanism.Mechanism.TheVariants.{ScramSha1, ScramSha256}
-use Rattle.scram_text.proofs.lemmas.Decided.{same_cons}
+use Rattle.scram_text.proofs.lemmas.ListEnds.{same_cons}
 
 -- each element is a byte
 abbrev pub AreBytes : List ℕ → Type 0

@@ -1,30 +1,28 @@
 -- Honest logins succeed.
-use Rattle.std.proofs.Common.{◌≡◌, ℕ, ◌≤◌, inl, List, [], ◌++◌, length, sym, ◌∙◌, ap, subst, refl, arith}
+use Rattle.std.proofs.Common.{◌≡◌, ℕ, ◌≤◌, List, [], ◌++◌, length, sym, ◌∙◌, ap, subst, refl, arith}
 use Rattle.std.specs.Prelude.{codes}
-use Rattle.scram_text.specs.Limits.{longest_message}
 use Rattle.mac_core.specs.Mechanism.{length_by, hi_by, client_key_by, stored_key_by}
 use Rattle.mac_core.specs.Keys.{xor_bytes}
 use Rattle.mac_core.specs.declared.mechanism.Mechanism.{Mechanism}
 use Rattle.mac_core.specs.declared.mechanism.Mechanism.TheVariants.{ScramSha1, ScramSha256}
 use Rattle.scram_text.specs.Parts.{have_mandatory}
-use Rattle.scram_text.specs.Messages.{ClientFirstParts, ServerFirstParts, server_first_mandatory, verified, server_final_text}
-use Rattle.scram_text.specs.Written.{server_final_of}
-use Rattle.scram_text.proofs.lemmas.Base64.{length-base64, field_of_bytes}
-use Rattle.scram_text.proofs.lemmas.Texts.{text_nil}
+use Rattle.scram_text.specs.Messages.{ClientFirstParts, ServerFirstParts, server_first_mandatory, verifier}
+use Rattle.scram_text.proofs.lemmas.Base64.{field_of_bytes}
 use Rattle.scram_text.proofs.lemmas.Composed.{signature_text, server_final_related}
 use Rattle.scram_text.proofs.lemmas.ClientFirst.{client_first_once}
 use Rattle.scram_text.proofs.lemmas.ServerFirst.{server_first_once}
 use Rattle.scram_ends.specs.Entry.{Entry, password_keys}
 use Rattle.scram_ends.specs.Stages.{Answered, challenged_login}
-use Rattle.scram_ends.specs.Auth.{auth_message, client_signature, server_signature, IsProof, proof_of, expected_signature}
+use Rattle.scram_ends.specs.Auth.{auth_message, client_signature, server_signature, IsProof, proof_of}
 use Rattle.scram_ends.specs.Opening.{IsOpening}
 use Rattle.scram_ends.specs.Verdict.{accept, IsDue, due_text, final_due}
 use Rattle.scram_ends.specs.Login.{IsAuthentic, IsValidLogin}
 use Rattle.scram_ends.specs.First.{IsChallengeTo}
 use Rattle.scram_ends.specs.Honest.{IsHonest, honest_signature}
 use Rattle.scram_ends.specs.Laws.{HonestLogsIn}
-use Rattle.scram_ends.proofs.lemmas.Clients.{honest_taken_up}
+use Rattle.scram_ends.proofs.lemmas.Clients.{honest_taken_up, same_proof, same_signature}
 use Rattle.scram_ends.proofs.lemmas.Verdicts.{due_of_valid}
+use Rattle.scram_ends.proofs.lemmas.Written.{can_be_signature, signature_short}
 use Rattle.mac_core.proofs.lemmas.Lengths.{length-hmac_by}
 use Rattle.scram_ends.proofs.lemmas.Digests.{AreBytes, mac_bytes, length-xor, xor_back}
 
@@ -33,22 +31,15 @@ pub length_range : (m : Mechanism) → (1 ≤ length_by m) × (length_by m ≤ 3
 length_range ScramSha1 = (omega arith, omega arith)
 length_range ScramSha256 = (omega arith, omega arith)
 
--- the server-final message of a signature of at most 64 bytes is within the limit
-final_short : (signature : List ℕ) → length signature ≤ 64
-    → length (server_final_text (server_final_of (verified signature) [])) ≤ longest_message
-unfolding server_final_text
-final_short signature within = omega (arith, within, length-base64 signature)
-
 -- the server-final message of a signature bears it
 shown : (signature : List ℕ) → AreBytes signature → 1 ≤ length signature → length signature ≤ 64
     → IsAuthentic (due_text (accept signature)) signature
 shown signature fits some within = record {
   last = final_due (accept signature);
-  is_last = server_final_related (verified signature) [] (signature_text signature fits)
-      (record { outcome_class = field_of_bytes 64 signature fits some within; extensions_class = record { is_text = text_nil; each = tt } })
-      (final_short signature within);
+  is_last = server_final_related (verifier signature) [] (signature_text signature fits)
+      (can_be_signature signature (field_of_bytes 64 signature fits some within)) (signature_short signature within);
   not_mandatory = refl;
-  verifier = refl;
+  is_verifier = refl;
 }
 
 -- the proof of a password passes by its keys: what the signature hides is ClientKey
@@ -66,12 +57,12 @@ proved m password salt auth proof count is =
     }
 
 -- an honest client's first message and a challenge of the account to it open its login
-opened : (e : Entry) (server_nonce : List ℕ) (l : Answered) → 1 ≤ length server_nonce
+honest_opens : (e : Entry) (server_nonce : List ℕ) (l : Answered) → 1 ≤ length server_nonce
     → IsChallengeTo e l.client_first server_nonce l.server_first
     → (honest : IsHonest l)
     → IsOpening e l.client_first l.server_first
     (record { first = honest.first; name = l.name; authzid = l.authzid; challenge = honest.challenge })
-opened e server_nonce l some challenge honest =
+honest_opens e server_nonce l some challenge honest =
     let first : challenge.first ≡ honest.first = client_first_once l.client_first challenge.first honest.first challenge.is_first
     honest.is_first.is_first in
     let same = server_first_once l.server_first honest.challenge _ honest.is_challenge challenge.is_challenge in
@@ -89,15 +80,6 @@ opened e server_nonce l some challenge honest =
       count = ap (λ (p : ServerFirstParts). p.count) same;
     }
 
--- equal salts and counts make equal proofs, and equal signatures:
-same_proof : (m : Mechanism) (password salt other auth : List ℕ) (count also : ℕ) → salt ≡ other → count ≡ also
-    → proof_of m password salt count auth ≡ proof_of m password other also auth
-same_proof m password salt other auth count also e f = λ i. proof_of m password (e i) (f i) auth
-
-same_signature : (m : Mechanism) (password salt other auth : List ℕ) (count also : ℕ) → salt ≡ other → count ≡ also
-    → expected_signature m password salt count auth ≡ expected_signature m password other also auth
-same_signature m password salt other auth count also e f = λ i. expected_signature m password (e i) (f i) auth
-
 -- the law: an honest login succeeds
 pub honest_logs_in : HonestLogsIn
 honest_logs_in e server_nonce l has_keys allowed some challenge honest =
@@ -106,9 +88,9 @@ honest_logs_in e server_nonce l has_keys allowed some challenge honest =
     let auth = auth_message honest.first l.server_first honest.final in
     let keys = password_keys m l.password e.salt e.count in
     let signature = honest_signature l honest in
-    let is_opening = opened e server_nonce l some challenge honest in
-    let same : signature ≡ server_signature m keys auth = same_signature m l.password _ e.salt auth _ e.count is_opening.salt
-    is_opening.count in
+    let is_opening = honest_opens e server_nonce l some challenge honest in
+    let same : signature ≡ server_signature m keys auth = same_signature m m l.password _ e.salt auth auth _ e.count
+    refl is_opening.salt is_opening.count refl in
     let long : length signature ≡ length_by m = length-hmac_by m _ auth in
     let range = length_range m in
     let authentic : IsAuthentic (due_text (accept signature)) signature =
@@ -124,7 +106,7 @@ honest_logs_in e server_nonce l has_keys allowed some challenge honest =
       channel = honest.is_final.channel;
       has_keys = has_keys;
       proof = proved m l.password e.salt auth honest.final.proof e.count
-          (honest.is_final.proof ∙ same_proof m l.password _ e.salt auth _ e.count is_opening.salt is_opening.count);
+          (honest.is_final.proof ∙ same_proof m m l.password _ e.salt auth auth _ e.count refl is_opening.salt is_opening.count refl);
       allowed = allowed;
       authentic = subst (λ (s : List ℕ). IsAuthentic (due_text (accept signature)) s) same authentic;
     } in (

@@ -1,16 +1,20 @@
 -- Two texts open a login of an account in at most one way, and what is refused is not taken up.
-use Rattle.std.proofs.Common.{◌≡◌, ◌++◌, ℕ, List, true, false, codes, sym, ◌∙◌, ap, refl, subst, inl, inr}
+use Rattle.std.proofs.Common.{◌≡◌, ℕ, List, sym, ◌∙◌, ap, refl, subst}
+use Rattle.std.specs.List.{AllByRecursion}
 use Rattle.std.specs.declared.option.Option.{Option}
 use Rattle.std.specs.declared.option.Option.TheVariants.{None, Some}
 use Rattle.std.proofs.lemmas.Option.{same_Some}
-use Rattle.scram_text.specs.Messages.{ClientFirstParts, client_first_mandatory, ServerFirstParts}
+use Rattle.scram_text.specs.FirstUnmet.{IsFirstUnmet}
+use Rattle.scram_text.specs.Messages.{ClientFirstParts, ServerFirstParts}
+use Rattle.scram_text.proofs.lemmas.FirstUnmet.{none_unmet}
 use Rattle.scram_text.proofs.lemmas.Names.{name_once}
 use Rattle.scram_text.proofs.lemmas.ClientFirst.{client_first_once}
 use Rattle.scram_text.proofs.lemmas.ServerFirst.{server_first_once}
 use Rattle.scram_ends.specs.Entry.{Entry}
 use Rattle.scram_ends.specs.Laws.{RefusedIsNotTakenUp}
-use Rattle.scram_ends.specs.Opening.{IsNameOf, IsAuthzidOf, IsUnbound, Opening, IsOpening}
-use Rattle.scram_ends.specs.declared.first.FirstFault.TheVariants.{Text, Mandatory, BindingAsked, OutsideProfile}
+use Rattle.scram_ends.specs.Opening.{IsNameOf, IsAuthzidOf, IsTakenUp, Opening, IsOpening}
+use Rattle.scram_ends.specs.First.{first_faults_in_order, AsksOfFirst}
+use Rattle.scram_ends.specs.declared.first.FirstFault.TheVariants.{Text}
 
 -- a saslname spells one plain name
 pub same_name : (one other part also : List ℕ) → part ≡ also → IsNameOf one part → IsNameOf other also → one ≡ other
@@ -51,27 +55,15 @@ same_opening e client_first server_first o other is also =
     (ap (λ (p : ClientFirstParts). p.authzid) first) is.taken_up.is_authzid also.taken_up.is_authzid)
     (server_first_once server_first o.challenge other.challenge is.is_challenge also.is_challenge)
 
--- a client-first message with a mandatory extension is not one without
-mandatory_clash : (one other : ClientFirstParts) → one ≡ other → client_first_mandatory one ≡ true → client_first_mandatory other ≡ false
-    → ⊥
-mandatory_clash one other same is is_not = let both : true
-    ≡ false = sym is ∙ (ap (λ (p : ClientFirstParts). client_first_mandatory p) same ∙ is_not) in cc
-
--- a client with channel binding is not one without
-flag_clash : (flag binding : List ℕ) → IsUnbound flag → flag ≡ codes "p=" ++ binding → ⊥
-flag_clash flag binding (inl n) p = cc
-flag_clash flag binding (inr y) p = cc
+-- parts of which a server takes up a login meet every row
+taken_up_asks : (first : ClientFirstParts) (name : List ℕ) (authzid : Option (List ℕ)) → IsTakenUp first name authzid
+    → AllByRecursion (λ row. AsksOfFirst row first) first_faults_in_order
+taken_up_asks first name authzid taken = (taken.not_mandatory, (taken.unbound, ((name, authzid, taken.is_name, taken.is_authzid), tt)))
 
 -- the law: what is refused is not taken up
-pub not_taken_up : RefusedIsNotTakenUp
-not_taken_up text (Text fault) p name authzid refused is taken = refused.0 p is
-not_taken_up text Mandatory p name authzid refused is taken =
-    mandatory_clash refused.0 p (client_first_once text refused.0 p refused.1 is) refused.2 taken.not_mandatory
-not_taken_up text BindingAsked p name authzid refused is taken =
-    let same : refused.0 ≡ p = client_first_once text refused.0 p refused.1 is in
-    flag_clash p.flag refused.3.0 taken.unbound (subst (λ (q : ClientFirstParts). q.flag ≡ codes "p=" ++ refused.3.0) same refused.3.1)
-not_taken_up text OutsideProfile p name authzid refused is taken =
-    let same : p ≡ refused.0 = client_first_once text p refused.0 is refused.1 in
-    refused.4 name authzid
-    (subst (λ (q : ClientFirstParts). IsNameOf name q.name) same taken.is_name)
-    (subst (λ (q : ClientFirstParts). IsAuthzidOf authzid q.authzid) same taken.is_authzid)
+pub refused_is_not_taken_up : RefusedIsNotTakenUp
+refused_is_not_taken_up text (Text fault) p name authzid refused is taken = refused.0 p is
+refused_is_not_taken_up text fault p name authzid refused is taken =
+    none_unmet (λ row. AsksOfFirst row p) first_faults_in_order fault (taken_up_asks p name authzid taken)
+    (subst (λ (q : ClientFirstParts). IsFirstUnmet (λ row. AsksOfFirst row q) first_faults_in_order fault)
+    (client_first_once text refused.0 p refused.1 is) refused.2)

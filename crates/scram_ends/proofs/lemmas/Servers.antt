@@ -1,6 +1,5 @@
 -- The challenge that a server sends opens a login.
-use Rattle.std.proofs.Common.{◌≡◌, ◌≤◌, ◌-◌, ℕ, List, [], ◌++◌, length, take, drop, ap, subst, refl, arith, ◌∙◌}
-use Rattle.std.proofs.lemmas.Grind.{common_steps}
+use Rattle.std.proofs.Common.{◌≡◌, ◌≤◌, ℕ, List, [], ◌++◌, length, ap, subst, refl, arith, ◌∙◌}
 use Rattle.mac_core.specs.Mechanism.{length_by, hmac_by}
 use Rattle.mac_core.specs.declared.mechanism.Mechanism.{Mechanism}
 use Rattle.mac_core.specs.declared.mechanism.Mechanism.TheVariants.{ScramSha1, ScramSha256}
@@ -13,7 +12,7 @@ use Rattle.scram_ends.specs.Entry.{Entry}
 use Rattle.scram_ends.specs.Stages.{Challenged}
 use Rattle.scram_ends.specs.Verdict.{Due, accept, IsDue}
 use Rattle.scram_ends.specs.Opening.{Opening, IsOpening}
-use Rattle.scram_ends.specs.First.{ShowsAcceptedFirst, ShowsOpening}
+use Rattle.scram_ends.specs.TakenFirst.{ShowsAcceptedFirst, ShowsOpening}
 use Rattle.scram_ends.specs.declared.first.AcceptedFirst.{AcceptedFirst}
 use Rattle.scram_ends.proofs.lemmas.Verdicts.{signature_due}
 
@@ -43,23 +42,18 @@ challenge_opens e client_first server_nonce server_first sent first taken is_fir
       record { header = shows.header; bare = shows.bare; name = refl; authzid = refl; nonce = refl },
     )
 
--- what follows the front of a list
-pub after_front : (items front text : List ℕ) (start : ℕ) → items ≡ front ++ text → start ≡ length front
-    → take (length items - start) (drop start items) ≡ text
-after_front items front text start same at = rw (same, at) (grind (arith, common_steps))
-
 -- a signature as long as a MAC is not empty
 is_signed : (m : Mechanism) (mac signature : List ℕ) → length mac ≡ length_by m → signature ≡ mac → length signature ≡ 0 → ⊥
 is_signed ScramSha1 mac signature len same none = omega (arith, len, ap length same, none)
 is_signed ScramSha256 mac signature len same none = omega (arith, len, ap length same, none)
 
 -- a verdict that is due fails to be written only where memory runs out
-pub memory_alone : (l : Challenged) (client_final : List ℕ) (d : Due) (fault : WriteFault) → IsDue l client_final d
+pub verdict_fails : (l : Challenged) (client_final : List ℕ) (d : Due) (fault : WriteFault) → IsDue l client_final d
     → (fault ≡ Unwritable → (signature : List ℕ) × (d ≡ accept signature) × (length signature ≡ 0)) → (fault ≡ OverLimit → ⊥)
     → fault ≡ NoMemory
-memory_alone l client_final d NoMemory due empty over = refl
-memory_alone l client_final d OverLimit due empty over = absurd (over refl)
-memory_alone l client_final d Unwritable due empty over =
+verdict_fails l client_final d NoMemory due empty over = refl
+verdict_fails l client_final d OverLimit due empty over = absurd (over refl)
+verdict_fails l client_final d Unwritable due empty over =
     let none = empty refl in
     let (keys, auth, signed) = signature_due l client_final none.0 (subst (λ (x : Due). IsDue l client_final x) none.1 due) in
     absurd (is_signed l.mechanism (hmac_by l.mechanism keys.server auth) none.0 (length-hmac_by l.mechanism _ _) signed none.2)

@@ -1,6 +1,5 @@
 -- At most one verdict is due, and acceptance exactly to a valid login.
 use Rattle.std.proofs.Common.{◌≡◌, ◌↔◌, ℕ, inl, inr, List, sym, ◌∙◌, ap, subst, refl}
-use Rattle.std.specs.declared.option.Option.TheVariants.{Some}
 use Rattle.std.proofs.lemmas.Option.{same_Some}
 use Rattle.scram_text.specs.Messages.{ClientFinalParts, IsClientFinal, IsServerFinal}
 use Rattle.scram_text.proofs.lemmas.ClientFinal.{client_final_once}
@@ -11,7 +10,7 @@ use Rattle.scram_ends.specs.Opening.{Opening, IsOpening}
 use Rattle.scram_ends.specs.Verdict.{refusals_in_order, Asks, Due, accept, refuse, IsVerdictOn, IsDueToParts, IsDue, final_due}
 use Rattle.scram_ends.specs.Verdict.{due_text, verdict_of}
 use Rattle.scram_ends.specs.Login.{IsAuthentic, IsValidLogin}
-use Rattle.scram_ends.specs.Laws.{AtMostOneIsDue, AcceptsExactlyValid}
+use Rattle.scram_ends.specs.Laws.{AtMostOneVerdictIsDue, AcceptsExactlyValid}
 use Rattle.scram_ends.specs.declared.verdict.Refusal.{Refusal}
 use Rattle.scram_ends.specs.declared.verdict.Refusal.TheVariants.{InvalidEncoding}
 use Rattle.scram_ends.specs.declared.verdict.Verdict.TheVariants as verdict
@@ -23,33 +22,33 @@ refusal_is_not_acceptance : (r : Refusal) (signature : List ℕ) → refuse r �
 refusal_is_not_acceptance r signature same = cc
 
 -- one verdict at most is due to the parts
-one_weighed : (l : Challenged) (o : Opening) (p : ClientFinalParts) (d other : Due) → IsVerdictOn l o p d → IsVerdictOn l o p other
+one_verdict_on_parts : (l : Challenged) (o : Opening) (p : ClientFinalParts) (d other : Due) → IsVerdictOn l o p d → IsVerdictOn l o p other
     → d ≡ other
-one_weighed l o p (accept one) (accept other) is also =
+one_verdict_on_parts l o p (accept one) (accept other) is also =
     let signed : Keys → List ℕ = λ keys. server_signature l.mechanism keys (auth_message o.first l.server_first p) in
     let keys : is.1.0 ≡ also.1.0 = same_Some is.1.0 also.1.0 (sym is.1.1 ∙ also.1.1) in
     ap (λ (s : List ℕ). accept s) (is.1.2 ∙ (ap signed keys ∙ sym also.1.2))
-one_weighed l o p (accept one) (refuse q) is also = absurd (none_unmet (λ r. Asks r l o p) refusals_in_order q is.0 also)
-one_weighed l o p (refuse r) (accept other) is also = absurd (none_unmet (λ r. Asks r l o p) refusals_in_order r also.0 is)
-one_weighed l o p (refuse r) (refuse q) is also = ap (λ (x : Refusal). refuse x)
+one_verdict_on_parts l o p (accept one) (refuse q) is also = absurd (none_unmet (λ r. Asks r l o p) refusals_in_order q is.0 also)
+one_verdict_on_parts l o p (refuse r) (accept other) is also = absurd (none_unmet (λ r. Asks r l o p) refusals_in_order r also.0 is)
+one_verdict_on_parts l o p (refuse r) (refuse q) is also = ap (λ (x : Refusal). refuse x)
     (one_first (λ r. Asks r l o p) refusals_in_order r q is also)
 
 -- the verdict that is due to the messages is the one due to the parts that they have
-weighed_of : (l : Challenged) (client_final : List ℕ) (o : Opening) (p : ClientFinalParts) (d : Due)
+verdict_of_opening : (l : Challenged) (client_final : List ℕ) (o : Opening) (p : ClientFinalParts) (d : Due)
     → IsOpening l.entry l.client_first l.server_first o → IsClientFinal client_final p → IsDueToParts l client_final d → IsVerdictOn l o p d
-weighed_of l client_final o p d is_opening is_final due =
+verdict_of_opening l client_final o p d is_opening is_final due =
     subst (λ (q : ClientFinalParts). IsVerdictOn l o q d) (client_final_once client_final due.final p due.is_final is_final)
     (subst (λ (q : Opening). IsVerdictOn l q due.final d)
-    (same_opening l.entry l.client_first l.server_first due.opening o due.is_opening is_opening) due.weighed)
+    (same_opening l.entry l.client_first l.server_first due.opening o due.is_opening is_opening) due.is_verdict)
 
 -- the law: at most one verdict is due
-pub at_most_one : AtMostOneIsDue
-at_most_one l client_final d other (inl none) (inl also) = none.1 ∙ sym also.1
-at_most_one l client_final d other (inl none) (inr also) = absurd (none.0 also.final also.is_final)
-at_most_one l client_final d other (inr due) (inl none) = absurd (none.0 due.final due.is_final)
-at_most_one l client_final d other (inr due) (inr also) =
-    one_weighed l also.opening also.final d other
-    (weighed_of l client_final also.opening also.final d also.is_opening also.is_final due) also.weighed
+pub at_most_one_verdict_is_due : AtMostOneVerdictIsDue
+at_most_one_verdict_is_due l client_final d other (inl none) (inl also) = none.1 ∙ sym also.1
+at_most_one_verdict_is_due l client_final d other (inl none) (inr also) = absurd (none.0 also.final also.is_final)
+at_most_one_verdict_is_due l client_final d other (inr due) (inl none) = absurd (none.0 due.final due.is_final)
+at_most_one_verdict_is_due l client_final d other (inr due) (inr also) =
+    one_verdict_on_parts l also.opening also.final d other
+    (verdict_of_opening l client_final also.opening also.final d also.is_opening also.is_final due) also.is_verdict
 
 -- a valid login makes acceptance due, with the signature that its last message bears
 pub due_of_valid : (l : Challenged) (client_final server_final : List ℕ) (v : IsValidLogin l client_final server_final)
@@ -59,7 +58,7 @@ due_of_valid l client_final server_final v = inr (record {
   final = v.final;
   is_opening = v.is_opening;
   is_final = v.is_final;
-  weighed = (
+  is_verdict = (
     (v.not_mandatory, (v.nonce, (v.channel, ((v.keys, v.has_keys, v.proof), (v.allowed, tt))))),
     (v.keys, v.has_keys, refl),
   );
@@ -70,7 +69,7 @@ pub signature_due : (l : Challenged) (client_final signature : List ℕ) → IsD
     → (keys : Keys) × (auth : List ℕ) × (signature ≡ server_signature l.mechanism keys auth)
 signature_due l client_final signature (inl none) = absurd (refusal_is_not_acceptance InvalidEncoding signature (sym none.1))
 signature_due l client_final signature (inr due) =
-    let signed = due.weighed.1 in
+    let signed = due.is_verdict.1 in
     (signed.0, auth_message due.opening.first l.server_first due.final, signed.2)
 
 -- where acceptance is due, a text that shows the signature makes a valid login
@@ -79,8 +78,8 @@ valid_of : (l : Challenged) (client_final server_final signature : List ℕ)
 valid_of l client_final server_final signature (inl none) authentic = absurd
     (refusal_is_not_acceptance InvalidEncoding signature (sym none.1))
 valid_of l client_final server_final signature (inr due) authentic =
-    let (mandatory, (nonce, (channel, (proof, (allowed, rest))))) = due.weighed.0 in
-    let signed = due.weighed.1 in
+    let (mandatory, (nonce, (channel, (proof, (allowed, rest))))) = due.is_verdict.0 in
+    let signed = due.is_verdict.1 in
     let keys : signed.0 ≡ proof.0 = same_Some signed.0 proof.0 (sym signed.1 ∙ proof.1) in
     record {
       opening = due.opening;
@@ -119,10 +118,11 @@ pub valid_iff : (l : Challenged) (client_final : List ℕ) (d : Due) → IsDue l
     → (verdict_of d ≡ verdict.Accepted) ↔ IsValidLogin l client_final (due_text d)
 valid_iff l client_final (accept signature) due is_last =
     let authentic : IsAuthentic (due_text (accept signature)) signature =
-    record { last = final_due (accept signature); is_last = is_last; not_mandatory = refl; verifier = refl } in
+    record { last = final_due (accept signature); is_last = is_last; not_mandatory = refl; is_verifier = refl } in
     ((λ _. (accepts_exactly_valid l client_final (due_text (accept signature))).0 (signature, due, authentic)), λ _. refl)
 valid_iff l client_final (refuse r) due is_last = (
   (λ same. absurd (refused_is_not_accepted r same)),
   λ valid. let accepted = (accepts_exactly_valid l client_final (due_text (refuse r))).1 valid in
-      absurd (refusal_is_not_acceptance r accepted.0 (at_most_one l client_final (refuse r) (accept accepted.0) due accepted.1)),
+      absurd (refusal_is_not_acceptance r accepted.0
+      (at_most_one_verdict_is_due l client_final (refuse r) (accept accepted.0) due accepted.1)),
 )

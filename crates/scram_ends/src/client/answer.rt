@@ -4,13 +4,14 @@ ghost use Rattle.std.specs.Prelude.{◌≡◌, ◌≤◌, ◌<◌, ◌+◌, ℕ,
 ghost use Rattle.mac_core.specs.Mechanism.{hmac_by, length_by};
 ghost use Rattle.scram_text.specs.Messages.{ClientFirstParts, bare_text, ServerFirstParts, IsServerFirst};
 ghost use Rattle.scram_text.specs.Shown.{ShowsServerFirst};
-ghost use Rattle.scram_text.specs.Appended.{UnchangedOnErr, LacksRoom};
+ghost use Rattle.scram_text.specs.Appended.{UnchangedOnErr, KeepsRoom, LacksRoom};
 ghost use Rattle.scram_ends.specs.Stages.{Started, answered};
 ghost use Rattle.scram_ends.specs.Auth.{auth_to_challenge, proof_of, expected_signature};
 ghost use Rattle.scram_ends.specs.Honest.{IsHonest};
-ghost use Rattle.scram_ends.specs.Client.{IsStarted, IsAnswerable, IsExpecting, IsChallengeFault, HasAnswered, IfSpent, IfBack};
+ghost use Rattle.scram_ends.specs.Client.{IsStarted, IsAnswerable, IsExpecting, IsChallengeFault, IsUnspent, IfSpent, IfBack};
 
 use crate::client::{ClientFault, ClientOne, ClientTwo, OneRefused};
+use crate::fixed::are_bytes;
 use crate::signing::running;
 use mac_core::{Tag, xor};
 use scram_text::{ClientFinalWithoutProof, Password, ServerFirst, WriteFault, read_server_first};
@@ -18,7 +19,7 @@ use std::alloc::Allocator;
 
 impl ClientOne {
     /// Answers the challenge `server_first` (RFC 5802, section 3): appends the client-final message with
-    /// the proof of `password` to `out`, at most 1592 bytes. Where nothing is wrong with the challenge,
+    /// the proof of `password` to `out`, at most 1592 bytes, which no clause says. Where nothing is wrong with the challenge,
     /// this takes time in proportion to its iteration count.
     ///
     /// Spent has the first of these: 24 for a text that is no server-first message, 25 for one that asks for a mandatory
@@ -35,12 +36,13 @@ impl ClientOne {
             → (client_final : List ℕ) × (out.new.items ≡ out.old.items ++ client_final)
             × IsExpecting two (answered l password.now server_first.now client_final)) }
         ensures unchanged { UnchangedOnErr result out.old out.new }
+        ensures room { KeepsRoom out.old out.new }
         // Where it is answered, or would have been, it is a challenge to this client with nothing wrong.
-        ensures answerable { HasAnswered result → (l : Started) → IsStarted self l
+        ensures answerable { IsUnspent result → (l : Started) → IsStarted self l
             → (challenge : ServerFirstParts) × IsAnswerable l.limits l.nonce server_first.now challenge }
         // Each such challenge is answered, or its answer could not be written.
         ensures only { (l : Started) (challenge : ServerFirstParts) → IsStarted self l
-            → IsAnswerable l.limits l.nonce server_first.now challenge → HasAnswered result }
+            → IsAnswerable l.limits l.nonce server_first.now challenge → IsUnspent result }
         ensures spent { IfSpent result (λ fault. (l : Started) → IsStarted self l
             → IsChallengeFault l.limits l.nonce server_first.now fault) }
         ensures back { IfBack result (λ client _. client ≡ self) }
@@ -60,6 +62,7 @@ impl ClientOne {
     }
 
     // Reads the challenge, or says what is wrong with it.
+    #[tactic(auto, using(scram_text::proofs::lemmas::FirstUnmet::first_found))]
     fn take_up<'a>(&self, server_first: &'a [u8]) -> Result<ServerFirst<'a>, ClientFault>
         ensures ok { IfOk result (λ challenge. (p : ServerFirstParts) × ShowsServerFirst challenge p
             × IsAnswerable self.now.limits self.now.nonce.items server_first.now p) }
@@ -96,6 +99,7 @@ impl ClientOne {
             → (client_final : List ℕ) × (out.new.items ≡ out.old.items ++ client_final)
             × IsExpecting two (answered l password.now server_first.now client_final)) }
         ensures unchanged { UnchangedOnErr result out.old out.new }
+        ensures room { KeepsRoom out.old out.new }
         ensures no_memory { IfErr result (λ fault. (l : Started) (p : ServerFirstParts) → IsStarted self.now l
             → IsServerFirst server_first.now p → ShowsServerFirst challenge.now p
             → (fault ≡ WriteFault.NoMemory) × ((client_final : List ℕ)
@@ -163,8 +167,3 @@ struct Answer {
     proof: Tag,
     expected: Tag,
 }
-
-// The elements of a slice are bytes by their type; the proof alone needs this.
-fn are_bytes(bytes: &[u8])
-    ensures { (i : ℕ) → slice_index bytes.now i < 256 }
-{}

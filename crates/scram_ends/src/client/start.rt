@@ -3,7 +3,7 @@ ghost use Rattle.std.specs.Prelude.{◌≡◌, ◌≤◌, ◌<◌, ◌+◌, ℕ,
 ghost use Rattle.std.specs.Option.{option_copied};
 ghost use Rattle.scram_text.specs.Class.{IsPlainName, IsNoncePart};
 ghost use Rattle.scram_text.specs.Messages.{ClientFirstParts};
-ghost use Rattle.scram_text.specs.Appended.{UnchangedOnErr, LacksRoom};
+ghost use Rattle.scram_text.specs.Appended.{UnchangedOnErr, KeepsRoom, LacksRoom};
 ghost use Rattle.scram_ends.specs.Stages.{started};
 ghost use Rattle.scram_ends.specs.Honest.{IsHonestFirst};
 ghost use Rattle.scram_ends.specs.Client.{IsStarted};
@@ -15,7 +15,7 @@ use std::alloc::Allocator;
 
 impl Client {
     /// Appends the client-first message of this name, name to act as and nonce to `out`: at most
-    /// 1796 bytes, with the flag `n` and no extensions. `limits` are the counts that the client will
+    /// 1796 bytes, which no clause says, with the flag `n` and no extensions. `limits` are the counts that the client will
     /// accept, the least at least 1. Answers no fault but 99 NoMemory, and only where `out` had no
     /// room reserved for the message; `out` is then unchanged.
     pub fn start<A: Allocator>(
@@ -32,6 +32,7 @@ impl Client {
             × IsStarted client (started mechanism limits name.now (option_copied authzid.entry)
             nonce.now client_first)) }
         ensures unchanged { UnchangedOnErr result out.old out.new }
+        ensures room { KeepsRoom out.old out.new }
         ensures no_memory { IfErr result (λ fault. (fault ≡ WriteFault.NoMemory)
             × ((client_first : List ℕ) × (first : ClientFirstParts)
             × IsHonestFirst name.now (option_copied authzid.entry) nonce.now client_first first

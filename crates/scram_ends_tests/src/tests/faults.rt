@@ -43,9 +43,19 @@ fn texts_of_first_faults(rt: HostRuntime) -> Result<(), Fail> {
     )
 }
 
+// The fault has this number and these words.
+fn check_client_fault(
+    rt: &(impl Abort + AllocGlobal),
+    fault: ClientFault,
+    number: u16,
+    text: &str,
+) -> Result<(), Fail> {
+    assert_eq!(rt; fault.number(), number, "{text}");
+    check_words(rt, rt.alloc(), &fault, text)
+}
+
 #[test]
-fn texts_of_client_faults(rt: HostRuntime) -> Result<(), Fail> {
-    let alloc = rt.alloc();
+fn texts_of_faults_of_a_challenge(rt: HostRuntime) -> Result<(), Fail> {
     for (fault, number, text) in [
         (
             ClientFault::Text(no_name()),
@@ -72,6 +82,15 @@ fn texts_of_client_faults(rt: HostRuntime) -> Result<(), Fail> {
             28,
             "the iteration count is outside the client's limits",
         ),
+    ] {
+        check_client_fault(&rt, fault, number, text)?;
+    }
+    Ok(())
+}
+
+#[test]
+fn texts_of_faults_of_the_last_message(rt: HostRuntime) -> Result<(), Fail> {
+    for (fault, number, text) in [
         (
             ClientFault::ServerRefused,
             29,
@@ -83,8 +102,7 @@ fn texts_of_client_faults(rt: HostRuntime) -> Result<(), Fail> {
             "the signature is wrong: the other end does not have the account's keys",
         ),
     ] {
-        assert_eq!(rt; fault.number(), number, "{text}");
-        check_words(&rt, alloc, &fault, text)?;
+        check_client_fault(&rt, fault, number, text)?;
     }
     Ok(())
 }

@@ -1,17 +1,14 @@
 -- Parts that are a letter, `=` and a value: as the code tests them, and as the grammar has them.
-use Rattle.std.proofs.Common.{◌≡◌, ◌↔◌, inl, inr, ℕ, Bool, true, not, ◌&&◌, List, [], ◌∷◌, length, refl, sym, ap, subst, arith}
+use Rattle.std.proofs.Common.{◌≡◌, ◌↔◌, inl, inr, ℕ, true, not, List, [], ◌∷◌, length, refl, sym, ap, subst, arith}
 use Rattle.std.specs.Prelude.{IsTrue, ◌==◌}
+use Rattle.std.specs.Cmp.Derive.{both_true}
 use Rattle.std.specs.List.{list_all}
 use Rattle.std.proofs.lemmas.Bool.{cases_Bool, eqb-true, both_ways, and_parts}
 use Rattle.scram_text.specs.Class.{is_letter, is_comma}
 use Rattle.scram_text.specs.Name.{LacksComma}
 use Rattle.scram_text.specs.Parts.{IsExtension}
 use Rattle.scram_text.specs.Pieces.{is_attribute}
-use Rattle.scram_text.proofs.lemmas.Names.{heads}
-
--- tests that both pass pass together
-both_pass : (x y : Bool) → x ≡ true → y ≡ true → (x && y) ≡ true
-both_pass x y p q = rw (p, q) refl
+use Rattle.scram_text.proofs.lemmas.ListEnds.{heads}
 
 -- a part without a comma that passes the code's test is an extension
 attribute_extension : (part : List ℕ) → LacksComma part → IsTrue (is_attribute part) → IsExtension part
@@ -36,7 +33,7 @@ extension_attribute (a ∷ b ∷ []) (letter, is_one, (value, spelled, is)) =
 extension_attribute (a ∷ b ∷ c ∷ rest) (letter, is_one, (value, spelled, is)) =
     let first = heads a letter (b ∷ c ∷ rest) (61 ∷ value) spelled in
     let second = heads b 61 (c ∷ rest) value first.1 in
-    both_pass (is_letter a) (b == 61) (subst (λ (n : ℕ). is_letter n ≡ true) (sym first.0) is_one)
+    both_true (subst (λ (n : ℕ). is_letter n ≡ true) (sym first.0) is_one)
     (subst (λ (n : ℕ). (n == 61) ≡ true) (sym second.0) refl)
 
 -- the code's test of a part without a comma is that of an extension

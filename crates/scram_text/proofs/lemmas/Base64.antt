@@ -1,31 +1,31 @@
 -- The STANDARD engine's texts have their usual form: no comma, four bytes for each three begun, and each
 -- is decoded to the bytes that it is the text of, while no other text is.
-use Rattle.std.proofs.Common.{◌≡◌, ℕ, zero, suc, ◌+◌, ◌*◌, ◌/◌, ◌%◌, ◌≤◌, true, not, List, [], ◌∷◌, length, replicate, refl, sym, ◌∙◌, ap}
+use Rattle.std.proofs.Common.{◌≡◌, ℕ, zero, suc, ◌+◌, ◌*◌, ◌/◌, ◌%◌, ◌≤◌, ◌<◌, true, not, List, [], ◌∷◌, length, take, drop, replicate, refl, sym, ◌∙◌, ap}
 use Rattle.std.proofs.Common.{arith, length-append, subst}
 use Rattle.std.specs.Prelude.{slice_index}
 use Rattle.std.specs.List.{list_all}
 use Rattle.std.specs.declared.result.Result.TheVariants.{Ok, Err}
-use Rattle.std.proofs.lemmas.List.{length-replicate}
+use Rattle.std.proofs.lemmas.Bool.{and_parts}
+use Rattle.std.proofs.lemmas.List.{length-replicate, take-append-drop}
 use Rattle.std.proofs.lemmas.List.Folds.{list_all-append}
 use Rattle.base64.specs.declared.decode.DecodeError.{DecodeError}
 use Rattle.base64.specs.Engines.{standard}
 use Rattle.base64.specs.GeneralPurpose.{decode_of, IsBytes}
 use Rattle.base64.specs.Rfc4648.{encode_symbols, padding_len, unpadded_len}
-use Rattle.base64.proofs.EngineFacts.{decode_of-encode_of, decode_of_strict}
+use Rattle.base64.proofs.EngineFacts.{decode_of-encode_of, decode_of_strict, front_bytes}
 use Rattle.base64.proofs.RoundTrip.{length-encode_symbols}
 use Rattle.scram_text.specs.Class.{is_comma}
 use Rattle.scram_text.specs.Name.{LacksComma}
-use Rattle.scram_text.specs.Base64Field.{base64, reading, IsField}
+use Rattle.scram_text.specs.Base64Field.{base64, base64_decoded, IsField}
 use Rattle.scram_text.specs.Laws.{HasUsualBase64}
 use Rattle.scram_text.specs.Parts.{SpellsField}
-use Rattle.scram_text.proofs.lemmas.Parts.{both}
 
 -- no element of a list without commas is a comma, nor is 0, which is what an index past the end reads
 symbol_lacks : (symbols : List ℕ) (k : ℕ) → LacksComma symbols → not (is_comma (slice_index symbols k)) ≡ true
 symbol_lacks [] k h = refl
-symbol_lacks (c ∷ symbols) zero h = (both (not (is_comma c)) (list_all (λ c. not (is_comma c)) symbols) h).0
+symbol_lacks (c ∷ symbols) zero h = (and_parts (not (is_comma c)) (list_all (λ c. not (is_comma c)) symbols) h).0
 symbol_lacks (c ∷ symbols) (suc k) h =
-    symbol_lacks symbols k (both (not (is_comma c)) (list_all (λ c. not (is_comma c)) symbols) h).1
+    symbol_lacks symbols k (and_parts (not (is_comma c)) (list_all (λ c. not (is_comma c)) symbols) h).1
 
 -- the 64 symbols
 abbrev table : List ℕ
@@ -69,52 +69,54 @@ length-base64 bytes =
     ∙ rw (length-encode_symbols table bytes, length-replicate) (padded_length (length bytes))
 
 -- a text of bytes is decoded to them
-pub base64_back : (bytes : List ℕ) → IsBytes bytes → reading (base64 bytes) ≡ Ok bytes
-unfolding reading base64
+pub base64_back : (bytes : List ℕ) → IsBytes bytes → base64_decoded (base64 bytes) ≡ Ok bytes
+unfolding base64_decoded base64
 base64_back bytes fits = decode_of-encode_of standard bytes refl fits
 
 -- a text that is decoded is the text of what it is decoded to
-pub base64_read : (text bytes : List ℕ) → IsBytes text → reading text ≡ Ok bytes → text ≡ base64 bytes
-unfolding reading base64
+pub base64_read : (text bytes : List ℕ) → IsBytes text → base64_decoded text ≡ Ok bytes → text ≡ base64 bytes
+unfolding base64_decoded base64
 base64_read text bytes fits read = decode_of_strict standard text bytes (refl, refl) fits read
 
 -- the law: base64 has its usual form
 pub has_usual_base64 : HasUsualBase64
 has_usual_base64 bytes fits least most =
-    (record { spelled = refl; back = base64_back bytes fits; no_comma = base64_lacks bytes }, length-base64 bytes)
+    record { decoded = base64_back bytes fits; no_comma = base64_lacks bytes; len = length-base64 bytes }
+
+-- the front of bytes is bytes
+pub taken_bytes : (n : ℕ) (bytes : List ℕ) → IsBytes bytes → IsBytes (take n bytes)
+taken_bytes n bytes fits = front_bytes (take n bytes) (drop n bytes) (subst IsBytes (sym (take-append-drop n bytes)) fits)
 
 -- what was decoded to 1 to `most` bytes is a field
-pub read_field : (most : ℕ) (text bytes : List ℕ) → IsBytes text → decode_of standard text ≡ Ok bytes
+pub read_field : (most : ℕ) (text bytes : List ℕ) → IsBytes text → IsBytes bytes → decode_of standard text ≡ Ok bytes
     → 1 ≤ length bytes → length bytes ≤ most → IsField most bytes × (text ≡ base64 bytes)
-unfolding reading
-read_field most text bytes fits read least within =
-    let spelled : text ≡ base64 bytes = base64_read text bytes fits read in (
-      record {
-        at_least = least;
-        at_most = within;
-        field = record {
-          spelled = refl;
-          back = subst (λ (t : List ℕ). reading t ≡ Ok bytes) spelled read;
-          no_comma = base64_lacks bytes;
-        };
-      },
-      spelled,
-    )
+unfolding base64_decoded
+read_field most text bytes fits read_fits read least within =
+    (record { at_least = least; at_most = within; each = read_fits }, base64_read text bytes fits read)
 
 -- the bytes of a field are those that it is decoded to
 pub field_read : (most : ℕ) (text bytes : List ℕ) → decode_of standard text ≡ Ok bytes → SpellsField most text → IsField most bytes
-unfolding reading
+unfolding base64_decoded
 field_read most text bytes read (spelt, spelled, field) =
-    let also = subst (λ (t : List ℕ). reading t ≡ Ok spelt) (sym spelled) field.field.back in
+    let also = subst (λ (t : List ℕ). base64_decoded t ≡ Ok spelt) (sym spelled) (base64_back spelt field.each) in
     let same : spelt ≡ bytes = cc (also, read) in
     subst (IsField most) same field
 
 -- a text that is not decoded is no field
 pub field_error : (most : ℕ) (text : List ℕ) (e : DecodeError) → decode_of standard text ≡ Err e → SpellsField most text → ⊥
-unfolding reading
+unfolding base64_decoded
 field_error most text e read (spelt, spelled, field) =
-    let also = subst (λ (t : List ℕ). reading t ≡ Ok spelt) (sym spelled) field.field.back in
+    let also = subst (λ (t : List ℕ). base64_decoded t ≡ Ok spelt) (sym spelled) (base64_back spelt field.each) in
     cc (also, read)
+
+-- the base64 of a field that is too long spells no field
+pub too_long : (most other : ℕ) (text bytes : List ℕ) → IsField other bytes → text ≡ base64 bytes → most < length bytes
+    → SpellsField most text → ⊥
+too_long most other text bytes field is long (spelt, spelled, within) =
+    let read = subst (λ (t : List ℕ). base64_decoded t ≡ Ok spelt) (sym spelled ∙ is) (base64_back spelt within.each) in
+    let back = base64_back bytes field.each in
+    let same : spelt ≡ bytes = cc (read, back) in
+    omega (arith, long, within.at_most, ap length same)
 
 -- the text of at most 64 bytes has at most 88 characters
 pub short_text : (text bytes : List ℕ) → text ≡ base64 bytes → IsField 64 bytes → length text ≤ 88
@@ -124,8 +126,4 @@ short_text text bytes spelled field =
 
 -- bytes of a length within the limits fit a field
 pub field_of_bytes : (most : ℕ) (bytes : List ℕ) → IsBytes bytes → 1 ≤ length bytes → length bytes ≤ most → IsField most bytes
-field_of_bytes most bytes fits least within = record {
-  at_least = least;
-  at_most = within;
-  field = record { spelled = refl; back = base64_back bytes fits; no_comma = base64_lacks bytes };
-}
+field_of_bytes most bytes fits least within = record { at_least = least; at_most = within; each = fits }

@@ -9,15 +9,18 @@ use Rattle.scram_text.specs.Class.{IsNonce}
 use Rattle.scram_text.specs.Base64Field.{base64, IsField}
 use Rattle.scram_text.specs.Parts.{parts, joined, AreExtensions}
 use Rattle.scram_text.specs.Messages.{ClientFinalParts, client_final_without_proof, client_final_text, IsClientFinal}
+use Rattle.scram_text.specs.Laws.{HasOneClientFinal}
 use Rattle.scram_text.specs.Faults.{Fits, fault, places, IsPartFault, IsClientFinalFault}
 use Rattle.scram_text.specs.Pieces.{IsExtensionMisfit}
 use Rattle.scram_text.specs.Shown.{ShowsClientFinal}
 use Rattle.scram_text.specs.declared.client_final.ClientFinal.{ClientFinal}
 use Rattle.scram_text.specs.declared.fault.TextFault.{TextFault}
 use Rattle.scram_text.specs.declared.fault.TextWhy.TheVariants.{Channel, Nonce, Extension, Proof}
+use Rattle.scram_text.proofs.lemmas.ListEnds.{last_same}
+use Rattle.scram_text.proofs.lemmas.Base64.{base64_lacks}
 use Rattle.scram_text.proofs.lemmas.Parts.{parts-append, parts_whole, misfit_here, misfit_later}
 use Rattle.scram_text.proofs.lemmas.Places.{AllFit, fits_cons, fits_end, places_of, misfit-append, misfit_after, fit_after, no_fault}
-use Rattle.scram_text.proofs.lemmas.Places.{nonce_lacks, extensions_lack, parts-joined, last_once, field_fits, field_once}
+use Rattle.scram_text.proofs.lemmas.Places.{nonce_lacks, extensions_lack, parts-joined, field_fits, field_once}
 
 -- the parts of the message that these parts make
 abbrev pub final_parts : ClientFinalParts → List (List ℕ)
@@ -25,12 +28,12 @@ final_parts p =
     (codes "c=" ++ base64 p.channel) ∷ (codes "r=" ++ p.nonce) ∷ (p.extensions ++ (codes "p=" ++ base64 p.proof) ∷ [])
 
 -- the front has a part for each of its pieces
-front_parts : (p : ClientFinalParts) → IsField longest_channel p.channel → IsNonce longest_nonce p.nonce → AreExtensions p.extensions
+front_parts : (p : ClientFinalParts) → IsNonce longest_nonce p.nonce → AreExtensions p.extensions
     → parts (client_final_without_proof p) ≡ (codes "c=" ++ base64 p.channel) ∷ (codes "r=" ++ p.nonce) ∷ p.extensions
 unfolding client_final_without_proof
-front_parts p channel nonce extensions =
+front_parts p nonce extensions =
     parts-joined (codes "c=" ++ base64 p.channel) ((codes "r=" ++ p.nonce) ∷ p.extensions)
-    (channel.field.no_comma, (nonce_lacks longest_nonce p.nonce nonce, extensions_lack p.extensions extensions))
+    (base64_lacks p.channel, (nonce_lacks longest_nonce p.nonce nonce, extensions_lack p.extensions extensions))
 
 -- a client-final message is cut into its parts
 pub parts_final : (text : List ℕ) (p : ClientFinalParts) → IsClientFinal text p → parts text ≡ final_parts p
@@ -38,8 +41,8 @@ unfolding client_final_text
 parts_final text p is =
     rw (is.spelled) (rw (
       parts-append (client_final_without_proof p) (codes "p=" ++ base64 p.proof),
-      front_parts p is.channel is.nonce is.extensions,
-      parts_whole (codes "p=" ++ base64 p.proof) is.proof.field.no_comma,
+      front_parts p is.nonce is.extensions,
+      parts_whole (codes "p=" ++ base64 p.proof) (base64_lacks p.proof),
     ) refl)
 
 -- client-final messages with the same parts are the same
@@ -47,14 +50,14 @@ parts_once : (p q : ClientFinalParts) → p.channel ≡ q.channel → p.nonce �
 parts_once p q channel nonce extensions proof =
     λ i. record { channel = channel i; nonce = nonce i; extensions = extensions i; proof = proof i }
 
--- a text is client-final with one list of parts
-pub client_final_once : (text : List ℕ) (p q : ClientFinalParts) → IsClientFinal text p → IsClientFinal text q → p ≡ q
+-- the law: a text is client-final with one list of parts
+pub client_final_once : HasOneClientFinal
 client_final_once text p q is also =
     let same : final_parts p ≡ final_parts q = sym (parts_final text p is) ∙ parts_final text q also in
     let channels : base64 p.channel ≡ base64 q.channel = cc same in
     let nonces : p.nonce ≡ q.nonce = cc same in
     let rest : p.extensions ++ (codes "p=" ++ base64 p.proof) ∷ [] ≡ q.extensions ++ (codes "p=" ++ base64 q.proof) ∷ [] = cc same in
-    let ends = last_once p.extensions q.extensions _ _ rest in
+    let ends = last_same p.extensions q.extensions _ _ rest in
     let proofs : base64 p.proof ≡ base64 q.proof = cc (ends.1) in
     let channel = field_once longest_channel p.channel q.channel is.channel also.channel channels in
     let proof = field_once 64 p.proof q.proof is.proof also.proof proofs in
@@ -89,7 +92,7 @@ client_final_fit p channel nonce extensions proof =
 -- a client-final message has no fault
 pub client_final_no_fault : (text : List ℕ) (p : ClientFinalParts) (f : TextFault) → IsClientFinal text p → IsClientFinalFault text f → ⊥
 client_final_no_fault text p f is =
-    no_fault longest_nonce (Channel ∷ Nonce ∷ []) (Proof ∷ []) text (final_parts p) f is.short is.is_text (parts_final text p is)
+    no_fault longest_nonce (Channel ∷ Nonce ∷ []) (Proof ∷ []) text (final_parts p) f is.short is.utf8_text (parts_final text p is)
     (omega (arith, length-append p.extensions ((codes "p=" ++ base64 p.proof) ∷ [])))
     (client_final_fit p is.channel is.nonce is.extensions is.proof)
 
@@ -105,7 +108,7 @@ client_final_spelled text front last channel_part nonce_part p whole cut is_chan
     let front_is : front ≡ client_final_without_proof p = sym (join_with_byte-slice_split 44 front) ∙ ap joined (cut ∙ pieces) in
     (front_is, rw (whole, front_is, is_proof) refl)
 
--- the parts that were read of client-final are all that the text can have
+-- a text that is client-final is read, and what is read shows its parts
 pub client_final_only : (text : List ℕ) (r : Result ClientFinal TextFault)
     → IfOk r (λ m. (p : ClientFinalParts) × IsClientFinal text p × ShowsClientFinal m p) → IfErr r (λ f. IsClientFinalFault text f)
     → (p : ClientFinalParts) → IsClientFinal text p → IsOkAnd r (λ m. ShowsClientFinal m p)

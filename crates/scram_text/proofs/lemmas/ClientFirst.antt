@@ -7,13 +7,14 @@ use Rattle.std.specs.declared.option.Option.{Option}
 use Rattle.std.specs.declared.option.Option.TheVariants.{None, Some}
 use Rattle.std.specs.declared.result.Result.{Result}
 use Rattle.std.specs.declared.result.Result.TheVariants.{Ok, Err}
-use Rattle.std.proofs.lemmas.Bool.{cases_Bool, eqb-true, both_ways}
+use Rattle.std.proofs.lemmas.Bool.{cases_Bool, eqb-true, both_ways, and_parts}
 use Rattle.std.proofs.lemmas.List.Splits.{join_with_byte-slice_split}
 use Rattle.scram_text.specs.Limits.{longest_message, longest_nonce_part}
-use Rattle.scram_text.specs.Class.{is_cb_char, IsNonce, IsText}
+use Rattle.scram_text.specs.Class.{is_cb_char, IsNonce, IsUtf8Text}
 use Rattle.scram_text.specs.Name.{LacksComma, IsSaslName}
 use Rattle.scram_text.specs.Parts.{parts, joined, is_flag, is_cb_name, authzid_text, mext_parts, is_named, IsValue, AreExtensions}
 use Rattle.scram_text.specs.Messages.{ClientFirstParts, header_text, bare_parts, bare_text, client_first_text, IsClientFirst}
+use Rattle.scram_text.specs.Laws.{HasOneClientFirst}
 use Rattle.scram_text.specs.Faults.{Fits, fault, places, IsAuthzid, IsFirstMisfit, marked_places, first_of}
 use Rattle.scram_text.specs.Pieces.{IsExtensionMisfit}
 use Rattle.scram_text.specs.Faults.{client_first_places, IsClientFirstFault}
@@ -23,11 +24,12 @@ use Rattle.scram_text.specs.declared.client_first.ClientFirst.{ClientFirst}
 use Rattle.scram_text.specs.declared.fault.TextFault.{TextFault}
 use Rattle.scram_text.specs.declared.fault.TextWhy.{TextWhy}
 use Rattle.scram_text.specs.declared.fault.TextWhy.TheVariants.{Flag, Authzid, Name, Nonce, Extension}
-use Rattle.scram_text.proofs.lemmas.Parts.{both, parts_front, misfit_here, misfit_later}
-use Rattle.scram_text.proofs.lemmas.Places.{AllFit, fits_cons, fits_end, fit_after, fault_at, no_fault_at, class_lacks, nonce_lacks}
+use Rattle.scram_text.proofs.lemmas.Parts.{parts_front, misfit_here, misfit_later}
+use Rattle.scram_text.proofs.lemmas.Places.{AllFit, fits_cons, fits_end, fit_after, fault_at, no_fault_at, nonce_lacks}
 use Rattle.scram_text.proofs.lemmas.Places.{extensions_lack, parts-joined_list, misfit_at}
 use Rattle.scram_text.proofs.lemmas.Marked.{places-cons, places_front, marked_of, marked_lack, marked_some, marked_once, marked_fit}
 use Rattle.scram_text.proofs.lemmas.Marked.{marked_misfit, marked_length}
+use Rattle.scram_text.proofs.lemmas.WithoutByte.{class_without}
 
 -- the parts after the mandatory extension, if there is one
 abbrev pub later_parts : ClientFirstParts → List (List ℕ)
@@ -35,14 +37,14 @@ later_parts p = (codes "n=" ++ p.name) ∷ (codes "r=" ++ p.nonce) ∷ p.extensi
 
 -- the name of a channel binding, the flag and the part of the name to act as have no comma:
 cb_name_lacks : (name : List ℕ) → is_cb_name name ≡ true → LacksComma name
-cb_name_lacks name is = class_lacks is_cb_char name refl (both (nat_le 1 (length name)) (list_all is_cb_char name) is).1
+cb_name_lacks name is = class_without 44 is_cb_char name refl (and_parts (nat_le 1 (length name)) (list_all is_cb_char name) is).1
 
 pub flag_lacks : (flag : List ℕ) → is_flag flag ≡ true → LacksComma flag
 flag_lacks [] is = refl
-flag_lacks (c ∷ []) is = class_lacks (λ b. (b == 110) || (b == 121)) (c ∷ []) refl (rw is refl)
+flag_lacks (c ∷ []) is = class_without 44 (λ b. (b == 110) || (b == 121)) (c ∷ []) refl (rw is refl)
 flag_lacks (a ∷ b ∷ name) is =
-    let front = both ((a == 112) && (b == 61)) (is_cb_name name) is in
-    let letters = both (a == 112) (b == 61) front.0 in
+    let front = and_parts ((a == 112) && (b == 61)) (is_cb_name name) is in
+    let letters = and_parts (a == 112) (b == 61) front.0 in
     rw (eqb-true a 112 letters.0, eqb-true b 61 letters.1) (cb_name_lacks name front.1)
 
 pub authzid_lacks : (authzid : Option (List ℕ)) → IfSome authzid IsSaslName → LacksComma (authzid_text authzid)
@@ -89,8 +91,8 @@ parts_once : (p q : ClientFirstParts) → p.flag ≡ q.flag → p.authzid ≡ q.
 parts_once p q flag authzid mext name nonce extensions =
     λ i. record { flag = flag i; authzid = authzid i; mext = mext i; name = name i; nonce = nonce i; extensions = extensions i }
 
--- a text is client-first with one list of parts
-pub client_first_once : (text : List ℕ) (p q : ClientFirstParts) → IsClientFirst text p → IsClientFirst text q → p ≡ q
+-- the law: a text is client-first with one list of parts
+pub client_first_once : HasOneClientFirst
 client_first_once text p q is also =
     let same : p.flag ∷ authzid_text p.authzid ∷ bare_parts p ≡ q.flag ∷ authzid_text q.authzid ∷ bare_parts q =
     sym (parts_client_first text p is) ∙ parts_client_first text q also in
@@ -125,7 +127,7 @@ pub header_places : (later : List TextWhy) (n : ℕ) → places (Flag ∷ Authzi
 header_places later n =
     places-cons Flag (Authzid ∷ later) [] (suc n) ∙ ap (λ (ps : List TextWhy). Flag ∷ ps) (places-cons Authzid later [] n)
 
--- a mandatory extension is one more place
+-- there are as many fixed places as the later ones, and one for a mandatory extension where the parts begin with one
 pub marked_count : (pieces : List (List ℕ)) (later : List TextWhy)
     → length (marked_places pieces later) ≡ length (marked_places pieces []) + length later
 marked_count pieces later = elim (cases_Bool (is_named 109 (first_of pieces))) [
@@ -160,13 +162,13 @@ bare_fit p mext name nonce extensions =
 pub client_first_no_fault : (text : List ℕ) (p : ClientFirstParts) (f : TextFault) → IsClientFirst text p → IsClientFirstFault text f → ⊥
 client_first_no_fault text p f is =
     let lengths = marked_length (Name ∷ Nonce ∷ []) (bare_parts p) (later_parts p) p.mext (bare_marked p is.mext) in
-    no_fault_at longest_nonce_part client_first_places text (p.flag ∷ authzid_text p.authzid ∷ bare_parts p) f is.short is.is_text
+    no_fault_at longest_nonce_part client_first_places text (p.flag ∷ authzid_text p.authzid ∷ bare_parts p) f is.short is.utf8_text
     (parts_client_first text p is)
     (omega (arith, lengths.0, lengths.1))
     (header_fit p.flag (authzid_text p.authzid) (bare_parts p) is.flag (p.authzid, refl, is.authzid)
     (bare_fit p is.mext is.name is.nonce is.extensions))
 
--- the parts that were read of client-first are all that the text can have
+-- a text that is client-first is read, and what is read shows its parts
 pub client_first_only : (text : List ℕ) (r : Result ClientFirst TextFault)
     → IfOk r (λ m. (p : ClientFirstParts) × IsClientFirst text p × ShowsClientFirst m p) → IfErr r (λ f. IsClientFirstFault text f)
     → (p : ClientFirstParts) → IsClientFirst text p → IsOkAnd r (λ m. ShowsClientFirst m p)
@@ -175,14 +177,14 @@ client_first_only text (Ok m) found fault p is =
 client_first_only text (Err f) found fault p is = client_first_no_fault text p f is fault
 
 -- the first misfit of all parts is a fault of the text
-header_fault : (text flag authzid : List ℕ) (bare : List (List ℕ)) (f : TextFault) → length text ≤ longest_message → IsText text
+header_fault : (text flag authzid : List ℕ) (bare : List (List ℕ)) (f : TextFault) → length text ≤ longest_message → IsUtf8Text text
     → parts text ≡ flag ∷ authzid ∷ bare
     → length (marked_places bare []) + 2 ≤ length bare
     → IsFirstMisfit longest_nonce_part (Flag ∷ Authzid ∷ places (marked_places bare (Name ∷ Nonce ∷ [])) [] (length bare)) 0
     (flag ∷ authzid ∷ bare) f
     → IsClientFirstFault text f
-header_fault text flag authzid bare f short is_text cut enough misfit =
-    fault_at longest_nonce_part client_first_places text (flag ∷ authzid ∷ bare) f short is_text cut
+header_fault text flag authzid bare f short utf8_text cut enough misfit =
+    fault_at longest_nonce_part client_first_places text (flag ∷ authzid ∷ bare) f short utf8_text cut
     (inr (
       omega (arith, enough, marked_count bare (Name ∷ Nonce ∷ [])),
       subst (λ (ps : List TextWhy). IsFirstMisfit longest_nonce_part ps 0 (flag ∷ authzid ∷ bare) f)
@@ -190,28 +192,28 @@ header_fault text flag authzid bare f short is_text cut enough misfit =
     ))
 
 -- the first part of client-first that does not fit is a fault of the text: the flag, the name to act as, or one of the bare message:
-pub flag_fault : (text flag authzid : List ℕ) (bare : List (List ℕ)) → length text ≤ longest_message → IsText text
+pub flag_fault : (text flag authzid : List ℕ) (bare : List (List ℕ)) → length text ≤ longest_message → IsUtf8Text text
     → parts text ≡ flag ∷ authzid ∷ bare
     → length (marked_places bare []) + 2 ≤ length bare → is_flag flag ≡ false → IsClientFirstFault text (fault 0 Flag)
-flag_fault text flag authzid bare short is_text cut enough no_flag =
-    header_fault text flag authzid bare _ short is_text cut enough
+flag_fault text flag authzid bare short utf8_text cut enough no_flag =
+    header_fault text flag authzid bare _ short utf8_text cut enough
     (misfit_here longest_nonce_part 0 Flag _ flag _ (λ is. both_ways (is_flag flag) no_flag is))
 
-pub authzid_fault : (text flag authzid : List ℕ) (bare : List (List ℕ)) (f : TextFault) → length text ≤ longest_message → IsText text
+pub authzid_fault : (text flag authzid : List ℕ) (bare : List (List ℕ)) (f : TextFault) → length text ≤ longest_message → IsUtf8Text text
     → parts text ≡ flag ∷ authzid ∷ bare
     → length (marked_places bare []) + 2 ≤ length bare → is_flag flag ≡ true → (IsAuthzid authzid → ⊥) × (f ≡ fault 1 Authzid)
     → IsClientFirstFault text f
-authzid_fault text flag authzid bare f short is_text cut enough is_a_flag (no_authzid, is) =
+authzid_fault text flag authzid bare f short utf8_text cut enough is_a_flag (no_authzid, is) =
     subst (λ (g : TextFault). IsClientFirstFault text g) (sym is)
-    (header_fault text flag authzid bare (fault 1 Authzid) short is_text cut enough
+    (header_fault text flag authzid bare (fault 1 Authzid) short utf8_text cut enough
     (misfit_later longest_nonce_part 0 Flag _ flag _ _ is_a_flag (misfit_here longest_nonce_part 1 Authzid _ authzid _ no_authzid)))
 
-pub bare_fault : (text flag authzid : List ℕ) (bare : List (List ℕ)) (f : TextFault) → length text ≤ longest_message → IsText text
+pub bare_fault : (text flag authzid : List ℕ) (bare : List (List ℕ)) (f : TextFault) → length text ≤ longest_message → IsUtf8Text text
     → parts text ≡ flag ∷ authzid ∷ bare
     → length (marked_places bare []) + 2 ≤ length bare → is_flag flag ≡ true → IsAuthzid authzid → IsBareMisfit bare f
     → IsClientFirstFault text f
-bare_fault text flag authzid bare f short is_text cut enough is_a_flag is_authzid misfit =
-    header_fault text flag authzid bare f short is_text cut enough
+bare_fault text flag authzid bare f short utf8_text cut enough is_a_flag is_authzid misfit =
+    header_fault text flag authzid bare f short utf8_text cut enough
     (misfit_later longest_nonce_part 0 Flag _ flag _ f is_a_flag
     (misfit_later longest_nonce_part 1 Authzid _ authzid _ f is_authzid misfit))
 

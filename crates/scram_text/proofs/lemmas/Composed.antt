@@ -7,13 +7,13 @@ use Rattle.std.specs.declared.option.Option.TheVariants.{None, Some}
 use Rattle.std.proofs.lemmas.List.Splits.{join_with_byte-slice_split}
 use Rattle.base64.specs.GeneralPurpose.{IsBytes}
 use Rattle.scram_text.specs.Limits.{longest_message, longest_nonce, longest_nonce_part}
-use Rattle.scram_text.specs.Class.{IsText, IsPlainName, IsNoncePart}
+use Rattle.scram_text.specs.Class.{IsUtf8Text, IsPlainName, IsNoncePart}
 use Rattle.scram_text.specs.Name.{IsSaslName, name_spelling}
 use Rattle.scram_text.specs.Base64Field.{base64, IsField}
 use Rattle.scram_text.specs.Parts.{parts, joined, is_flag, authzid_text}
 use Rattle.scram_text.specs.Messages.{header_text, bare_text, client_first_text, IsClientFirst, server_first_text, IsServerFirst}
 use Rattle.scram_text.specs.Messages.{ClientFinalParts, client_final_without_proof, client_final_text, IsClientFinal, VerifierOrError}
-use Rattle.scram_text.specs.Messages.{verified, failed, verifier_or_error_text, IsVerifierOrError, server_final_text, IsServerFinal}
+use Rattle.scram_text.specs.Messages.{verifier, server_error, verifier_or_error_text, IsVerifierOrError, server_final_text, IsServerFinal}
 use Rattle.scram_text.specs.Shown.{flag_text}
 use Rattle.scram_text.specs.Draft.{after_comma}
 use Rattle.scram_text.specs.Written.{extension_parts, client_first_of, CanBeClientFirst, server_first_of, CanBeServerFirst, client_final_of}
@@ -32,6 +32,13 @@ pub joined_cons : (piece : List ℕ) (pieces : List (List ℕ)) → 1 ≤ length
 joined_cons piece [] some = absurd (omega (arith, some))
 joined_cons piece (next ∷ pieces) some = refl
 
+-- parts with a last one, joined by commas, are those before it joined, a comma and the last
+pub joined_last : (piece : List ℕ) (front : List (List ℕ)) (last : List ℕ)
+    → joined (piece ∷ (front ++ last ∷ [])) ≡ joined (piece ∷ front) ++ 44 ∷ last
+joined_last piece [] last = refl
+joined_last piece (next ∷ front) last =
+    ap (λ (t : List ℕ). piece ++ 44 ∷ t) (joined_last next front last) ∙ sym (append_assoc piece (44 ∷ joined (next ∷ front)) (44 ∷ last))
+
 -- a comma and the extensions follow, where there are any
 pub joined_after : (piece extensions : List ℕ) → joined (piece ∷ extension_parts extensions) ≡ piece ++ after_comma extensions
 joined_after piece [] = sym (append-nil piece)
@@ -40,7 +47,7 @@ joined_after piece (c ∷ text) =
     ∙ ap (λ (t : List ℕ). piece ++ 44 ∷ t) (join_with_byte-slice_split 44 (c ∷ text))
 
 -- a comma and extensions that are a text are a text
-after_text : (extensions : List ℕ) → IsText extensions → IsText (after_comma extensions)
+after_text : (extensions : List ℕ) → IsUtf8Text extensions → IsUtf8Text (after_comma extensions)
 after_text [] is = is
 after_text (c ∷ text) is = text-append (44 ∷ []) (c ∷ text) (plain_text (44 ∷ []) refl) is
 
@@ -61,13 +68,13 @@ without_proof_composed channel nonce extensions proof =
 
 -- client-final before its proof is a text
 pub without_proof_text : (channel nonce extensions proof : List ℕ) → IsBytes channel → CanBeClientFinalWithoutProof channel nonce extensions
-    → IsText (client_final_without_proof (client_final_of channel nonce extensions proof))
+    → IsUtf8Text (client_final_without_proof (client_final_of channel nonce extensions proof))
 without_proof_text channel nonce extensions proof bytes can =
     let lead = text-append (codes "c=") (base64 channel) (plain_text (codes "c=") refl) (base64_text channel bytes) in
     let middle = text-append _ nonce (text-append _ (codes ",r=") lead (plain_text (codes ",r=") refl))
     (nonce_text longest_nonce nonce can.nonce_class) in
-    subst IsText (without_proof_composed channel nonce extensions proof)
-    (text-append _ (after_comma extensions) middle (after_text extensions can.extensions_class.is_text))
+    subst IsUtf8Text (without_proof_composed channel nonce extensions proof)
+    (text-append _ (after_comma extensions) middle (after_text extensions can.extensions_class.utf8_text))
 
 -- The proof follows the text before it.
 
@@ -79,7 +86,7 @@ with_proof_composed p front proof held same =
     append_assoc front (codes ",p=") (base64 proof) ∙ (λ i. held i ++ (codes ",p=" ++ base64 (sym same i)))
 
 -- client-final is a text, where it is one before its proof
-with_proof_text : (p : ClientFinalParts) → IsText (client_final_without_proof p) → IsBytes p.proof → IsText (client_final_text p)
+with_proof_text : (p : ClientFinalParts) → IsUtf8Text (client_final_without_proof p) → IsBytes p.proof → IsUtf8Text (client_final_text p)
 unfolding client_final_text
 with_proof_text p front bytes =
     text-append (client_final_without_proof p) (codes ",p=" ++ base64 p.proof) front
@@ -95,7 +102,7 @@ with_proof_related w p proof is same bytes field short = record {
   nonce = is.nonce;
   extensions = is.extensions;
   proof = subst (IsField 64) (sym same) field;
-  is_text = with_proof_text p is.is_text (subst IsBytes (sym same) bytes);
+  utf8_text = with_proof_text p is.utf8_text (subst IsBytes (sym same) bytes);
   short = short;
 }
 
@@ -122,7 +129,7 @@ client_final_related channel nonce extensions proof channel_bytes proof_bytes ca
   nonce = can.without_proof.nonce_class;
   extensions = can.without_proof.extensions_class.each;
   proof = can.proof_class;
-  is_text = with_proof_text (client_final_of channel nonce extensions proof)
+  utf8_text = with_proof_text (client_final_of channel nonce extensions proof)
       (without_proof_text channel nonce extensions proof channel_bytes can.without_proof) proof_bytes;
   short = short;
 }
@@ -153,14 +160,14 @@ server_first_related nonce salt count extensions bytes can short =
     let salted = text-append _ (base64 salt) (text-append _ (codes ",s=") lead (plain_text (codes ",s=") refl)) (base64_text salt bytes) in
     let counted = text-append _ (decimal count) (text-append _ (codes ",i=") salted (plain_text (codes ",i=") refl))
     (count_text count can.count_class) in
-    let whole = text-append _ (after_comma extensions) counted (after_text extensions can.extensions_class.is_text) in record {
+    let whole = text-append _ (after_comma extensions) counted (after_text extensions can.extensions_class.utf8_text) in record {
       spelled = refl;
       mext = tt;
       nonce = can.nonce_class;
       salt = can.salt_class;
       count = can.count_class;
       extensions = can.extensions_class.each;
-      is_text = subst IsText (server_first_composed nonce salt count extensions) whole;
+      utf8_text = subst IsUtf8Text (server_first_composed nonce salt count extensions) whole;
       short = short;
     }
 
@@ -173,27 +180,27 @@ unfolding server_final_text
 server_final_composed outcome extensions = sym (joined_after (verifier_or_error_text outcome) extensions)
 
 -- a signature with its letter, and an error with its, is a text:
-pub signature_text : (signature : List ℕ) → IsBytes signature → IsText (codes "v=" ++ base64 signature)
+pub signature_text : (signature : List ℕ) → IsBytes signature → IsUtf8Text (codes "v=" ++ base64 signature)
 signature_text signature bytes = text-append (codes "v=") (base64 signature) (plain_text (codes "v=") refl) (base64_text signature bytes)
 
-pub error_text : (value : List ℕ) → IsText value → IsText (codes "e=" ++ value)
+pub error_text : (value : List ℕ) → IsUtf8Text value → IsUtf8Text (codes "e=" ++ value)
 error_text value is = text-append (codes "e=") value (plain_text (codes "e=") refl) is
 
 -- what can be told is a verifier or an error
 told_class : (outcome : VerifierOrError) → CanBeVerifierOrError outcome → IsVerifierOrError outcome
-told_class (verified signature) can = can
-told_class (failed value) can = can.0
+told_class (verifier signature) can = can
+told_class (server_error value) can = can.0
 
 -- a server-final message of what can be written is one, where it is within the limit
-pub server_final_related : (outcome : VerifierOrError) (extensions : List ℕ) → IsText (verifier_or_error_text outcome)
+pub server_final_related : (outcome : VerifierOrError) (extensions : List ℕ) → IsUtf8Text (verifier_or_error_text outcome)
     → CanBeServerFinal outcome extensions → length (server_final_text (server_final_of outcome extensions)) ≤ longest_message
     → IsServerFinal (server_final_text (server_final_of outcome extensions)) (server_final_of outcome extensions)
 server_final_related outcome extensions told can short =
-    let whole = text-append _ (after_comma extensions) told (after_text extensions can.extensions_class.is_text) in record {
+    let whole = text-append _ (after_comma extensions) told (after_text extensions can.extensions_class.utf8_text) in record {
       spelled = refl;
       outcome = told_class outcome can.outcome_class;
       extensions = can.extensions_class.each;
-      is_text = subst IsText (server_final_composed outcome extensions) whole;
+      utf8_text = subst IsUtf8Text (server_final_composed outcome extensions) whole;
       short = short;
     }
 
@@ -222,13 +229,13 @@ authzid_class : (authzid : Option (List ℕ)) → IfSome authzid IsPlainName →
 authzid_class None is = tt
 authzid_class (Some name) is = spelling_saslname name is.at_least
 
-authzid_is_text : (authzid : Option (List ℕ)) → IfSome authzid IsPlainName → IsText (authzid_text (option_map name_spelling authzid))
+authzid_is_text : (authzid : Option (List ℕ)) → IfSome authzid IsPlainName → IsUtf8Text (authzid_text (option_map name_spelling authzid))
 authzid_is_text None is = text_nil
 authzid_is_text (Some name) is =
     text-append (codes "a=") (name_spelling name) (plain_text (codes "a=") refl) (spelling_text name is.each)
 
 -- a flag is a text
-flag_is_text : (flag : Flag) → is_flag (flag_text flag) ≡ true → IsText (flag_text flag)
+flag_is_text : (flag : Flag) → is_flag (flag_text flag) ≡ true → IsUtf8Text (flag_text flag)
 flag_is_text NoBinding is = plain_text (codes "n") refl
 flag_is_text NotOffered is = plain_text (codes "y") refl
 flag_is_text (Binding name) is = text-append (codes "p=") name.now (plain_text (codes "p=") refl) (cb_name_text name.now is)
@@ -246,7 +253,7 @@ client_first_related flag authzid name nonce extensions is_authzid is_name is_no
     (spelling_text name is_name.each) in
     let fresh = text-append _ nonce (text-append _ (codes ",r=") named (plain_text (codes ",r=") refl))
     (nonce_text longest_nonce_part nonce is_nonce) in
-    let whole = text-append _ (after_comma extensions) fresh (after_text extensions can.extensions_class.is_text) in record {
+    let whole = text-append _ (after_comma extensions) fresh (after_text extensions can.extensions_class.utf8_text) in record {
       spelled = refl;
       flag = can.flag_class;
       authzid = authzid_class authzid is_authzid;
@@ -254,6 +261,6 @@ client_first_related flag authzid name nonce extensions is_authzid is_name is_no
       name = spelling_saslname name is_name.at_least;
       nonce = is_nonce;
       extensions = can.extensions_class.each;
-      is_text = subst IsText (client_first_composed flag authzid name nonce extensions) whole;
+      utf8_text = subst IsUtf8Text (client_first_composed flag authzid name nonce extensions) whole;
       short = short;
     }

@@ -1,5 +1,6 @@
 -- What holds of the extensions that are left, read from the left, holds of all.
-use Rattle.std.proofs.Common.{◌≡◌, ℕ, ◌+◌, ◌||◌, Bool, true, false, List, ◌∷◌, length, refl, ◌∙◌, arith}
+use Rattle.std.proofs.Common.{◌≡◌, ℕ, ◌+◌, ◌||◌, Bool, List, ◌∷◌, length, ◌∙◌, arith}
+use Rattle.std.proofs.Math.Bool.{or_assoc}
 use Rattle.scram_text.specs.Parts.{IsExtension, AreExtensions, have_mandatory, is_named}
 use Rattle.scram_text.specs.Faults.{fault}
 use Rattle.scram_text.specs.Pieces.{IsExtensionMisfit}
@@ -13,11 +14,6 @@ pub record Leads (first : ℕ) (all : List (List ℕ)) (index : ℕ) (mandatory 
   pub is_mandatory : (mandatory || have_mandatory left) ≡ have_mandatory all
   pub misfit : (f : TextFault) → IsExtensionMisfit index left f → IsExtensionMisfit first all f
   pub room : index + length left ≡ first + length all
-
--- `||` is associative
-or_assoc : (a b c : Bool) → ((a || b) || c) ≡ (a || (b || c))
-or_assoc true b c = refl
-or_assoc false b c = refl
 
 -- what holds from an extension on holds from the next on
 pub Leads-next : (first : ℕ) (all : List (List ℕ)) (index : ℕ) (mandatory : Bool) (part : List ℕ) (left : List (List ℕ))

@@ -1,10 +1,11 @@
 -- Messages that may begin with a mandatory extension.
-use Rattle.std.proofs.Common.{◌≡◌, inr, ℕ, suc, ◌+◌, ◌-◌, ◌≤◌, true, false, List, [], ◌∷◌, ◌++◌, length, replicate, refl, sym, ◌∙◌, ap}
+use Rattle.std.proofs.Common.{◌≡◌, inl, inr, ℕ, suc, ◌+◌, ◌-◌, ◌≤◌, true, false, List, [], ◌∷◌, ◌++◌, length, replicate, refl, sym, ◌∙◌, ap}
 use Rattle.std.proofs.Common.{arith, subst, append-nil}
 use Rattle.std.specs.Prelude.{codes, IfSome}
 use Rattle.std.specs.List.{AllByRecursion}
 use Rattle.std.specs.declared.option.Option.{Option}
 use Rattle.std.specs.declared.option.Option.TheVariants.{None, Some}
+use Rattle.std.proofs.lemmas.Bool.{cases_Bool}
 use Rattle.scram_text.specs.Name.{LacksComma}
 use Rattle.scram_text.specs.Parts.{is_named, mext_parts, IsValue, IsAttrVal}
 use Rattle.scram_text.specs.Faults.{fault, IsFirstMisfit, IsPartFault, places, first_of, marked_places}
@@ -13,7 +14,7 @@ use Rattle.scram_text.specs.declared.fault.TextFault.{TextFault}
 use Rattle.scram_text.specs.declared.fault.TextWhy.{TextWhy}
 use Rattle.scram_text.specs.declared.fault.TextWhy.TheVariants.{Mandatory, Extension}
 use Rattle.scram_text.proofs.lemmas.Parts.{misfit_here, misfit_later}
-use Rattle.scram_text.proofs.lemmas.Places.{AllFit, fits_cons, places_of}
+use Rattle.scram_text.proofs.lemmas.Places.{AllFit, fits_cons, fits_first, places_of}
 
 -- the places of one more part, with one more fixed place before them, are this place and the others
 pub places-cons : (place : TextWhy) (front back : List TextWhy) (n : ℕ) → places (place ∷ front) back (suc n) ≡ place ∷ places front back n
@@ -60,7 +61,7 @@ marked_fit most later pieces rest (Some value) marked fit =
     (rw (places-cons Mandatory later [] (length rest))
     (fits_cons most Mandatory _ (codes "m=" ++ value) rest (value, refl, marked.value) fit))
 
--- the places and the parts of a message are those after its mandatory extension, and one more where it has one
+-- a message has as many fixed places, and as many parts, as come after its mandatory extension, and one more where it has one
 pub marked_length : (later : List TextWhy) (pieces rest : List (List ℕ)) (mext : Option (List ℕ)) → IsMarked pieces rest mext
     → (length (marked_places pieces later) ≡ length (mext_parts mext) + length later)
     × (length pieces ≡ length (mext_parts mext) + length rest)
@@ -105,3 +106,31 @@ marked_once (Some v) None a b x y ha hb same =
     let front : b ≡ codes "m=" ++ v = cc same in let headed = rw front at hb in absurd (cc headed)
 marked_once (Some v) (Some w) a b x y ha hb same =
     let values : v ≡ w = cc same in let rest : a ∷ x ≡ b ∷ y = cc same in (ap Some values, rest)
+
+-- parts that begin with a mandatory extension, with enough after it, are that extension and the others, which fit their places
+marked_split_yes : (most least : ℕ) (later : List TextWhy) (pieces : List (List ℕ)) → length later ≡ least
+    → is_named 109 (first_of pieces) ≡ true
+    → length (Mandatory ∷ later) ≤ length pieces → AllFit most (places (Mandatory ∷ later) [] (length pieces)) pieces
+    → (mext : Option (List ℕ)) × (rest : List (List ℕ)) × IsMarked pieces rest mext × (least ≤ length rest)
+    × AllFit most (places later [] (length rest)) rest
+marked_split_yes most least later [] count headed enough fit = absurd (omega (arith, enough))
+marked_split_yes most least later (part ∷ rest) count headed enough fit =
+    let placed = subst (λ (ps : List TextWhy). AllFit most ps (part ∷ rest)) (places-cons Mandatory later [] (length rest)) fit in
+    let each = fits_first most Mandatory _ part rest placed in
+    let (value, spelled, is) = each.0 in (
+      Some value,
+      rest,
+      record { cut = ap (λ (x : List ℕ). x ∷ rest) spelled; value = is; headed = headed },
+      omega (arith, enough, count),
+      each.1,
+    )
+
+-- parts are a mandatory extension, where they begin with one, and then enough others
+pub marked_split : (most least : ℕ) (later : List TextWhy) (pieces : List (List ℕ)) → length later ≡ least
+    → length (marked_places pieces later) ≤ length pieces → AllFit most (places (marked_places pieces later) [] (length pieces)) pieces
+    → (mext : Option (List ℕ)) × (rest : List (List ℕ)) × IsMarked pieces rest mext × (least ≤ length rest)
+    × AllFit most (places later [] (length rest)) rest
+marked_split most least later pieces count enough fit = elim (cases_Bool (is_named 109 (first_of pieces))) [
+  | inl hit ↦ marked_split_yes most least later pieces count hit (rw hit at enough) (rw hit at fit)
+  | inr miss ↦ (None, pieces, record { cut = refl; value = tt; headed = miss }, (rw (miss, count) at enough), (rw miss at fit))
+]

@@ -1,12 +1,13 @@
 -- A name's spelling is read in one way, from the left, and is a saslname.
 use Rattle.std.proofs.Common.{◌≡◌, ◌≢◌, ◌⊎◌, inl, inr, ℕ, ◌*◌, ◌≤◌, List, [], ◌∷◌, ◌++◌, length, refl, sym, ◌∙◌, arith, append_assoc}
-use Rattle.std.proofs.Common.{append-nil, true, false, not}
+use Rattle.std.proofs.Common.{append-nil, true, not}
 use Rattle.std.specs.Prelude.{codes}
 use Rattle.std.proofs.lemmas.Bool.Decides.{eqb_tells}
 use Rattle.std.proofs.lemmas.List.Folds.{list_all-append}
 use Rattle.std.proofs.lemmas.Bool.{ne_eqb}
 use Rattle.scram_text.specs.Class.{is_comma}
 use Rattle.scram_text.specs.Name.{IsSaslName, LacksComma, escape, name_spelling, is_escaped}
+use Rattle.scram_text.proofs.lemmas.ListEnds.{heads, same_cons}
 
 -- a byte is spelled as `=2C` where it is a comma, as `=3D` where it is an equals sign, and else as itself
 pub escape_cases : (c : ℕ) → ((c ≡ 44) × (escape c ≡ codes "=2C"))
@@ -18,10 +19,6 @@ escape_cases c = elim (eqb_tells c 44) [
     | inr neither ↦ inr (inr (other.1, neither.1, rw (other.0, neither.0) refl))
   ]
 ]
-
--- lists that are the same have the same first element, and the same elements after it
-pub heads : (a b : ℕ) (x y : List ℕ) → a ∷ x ≡ b ∷ y → (a ≡ b) × (x ≡ y)
-heads a b x y e = (cc, cc)
 
 -- lists of numbers that are the same have the same second element, and the same elements after three
 heads_3 : (a b c a' b' c' : ℕ) (x y : List ℕ) → a ∷ b ∷ c ∷ x ≡ a' ∷ b' ∷ c' ∷ y → (b ≡ b') × (x ≡ y)
@@ -65,10 +62,6 @@ escape_nonempty b x e = elim (escape_cases b) [
   ]
 ]
 
--- two numbers and two lists that are the same make the same list, the other way round
-cons_both : (b c : ℕ) (x y : List ℕ) → b ≡ c → x ≡ y → c ∷ y ≡ b ∷ x
-cons_both b c x y first rest = cc
-
 -- where the spelling of the first bytes was read, the rest spells the others
 pub spelling_rest : (front rest name : List ℕ) → name_spelling front ++ rest ≡ name_spelling name
     → (more : List ℕ) × (name ≡ front ++ more) × (rest ≡ name_spelling more)
@@ -77,7 +70,7 @@ spelling_rest (b ∷ front) rest [] e = absurd (escape_nonempty b (name_spelling
 spelling_rest (b ∷ front) rest (c ∷ name) e =
     let first = escape_first b c (name_spelling front ++ rest) (name_spelling name) (rw append_assoc at e) in
     let more = spelling_rest front rest name first.1 in
-    (more.0, cons_both b c (front ++ more.0) name first.0 (sym more.1), more.2)
+    (more.0, same_cons c b name (front ++ more.0) (sym first.0) more.1, more.2)
 
 -- two names with the same spelling are the same
 pub name_once : (one other : List ℕ) → name_spelling one ≡ name_spelling other → one ≡ other

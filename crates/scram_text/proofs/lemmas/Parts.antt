@@ -1,13 +1,12 @@
 -- Texts that are cut at their commas.
-use Rattle.std.proofs.Common.{◌≡◌, inl, inr, ℕ, suc, ◌+◌, ◌-◌, ◌≤◌, Bool, true, false, not, ◌&&◌, List, [], ◌∷◌, ◌++◌, length, take, drop}
-use Rattle.std.proofs.Common.{get_or, refl, ◌∙◌, ap, arith, length-drop}
+use Rattle.std.proofs.Common.{◌≡◌, inl, inr, ℕ, suc, ◌+◌, ◌-◌, ◌≤◌, not, List, [], ◌∷◌, ◌++◌, length, take, drop}
+use Rattle.std.proofs.Common.{get_or, refl, ◌∙◌, ap, arith}
 use Rattle.std.specs.Prelude.{position, count_by, MatchOption}
 use Rattle.std.specs.List.{position_or_len, onto_first, list_all, zip}
-use Rattle.std.proofs.lemmas.Bool.{cases_Bool, cases_lt, eqb-true, lt-ltb, le-ltb, not-true}
+use Rattle.std.proofs.lemmas.Bool.{cases_Bool, cases_lt, eqb-true, lt-ltb, le-ltb, not-true, and_parts}
 use Rattle.std.proofs.lemmas.List.Splits.{length-slice_split}
 use Rattle.std.proofs.lemmas.List.Sums.{split_at_first, passes_at_first}
-use Rattle.std.proofs.Math.Seq.{take-length}
-use Rattle.std.proofs.lemmas.List.{take_all}
+use Rattle.std.proofs.lemmas.List.{take_all, take_rest}
 use Rattle.std.specs.declared.option.Option.TheVariants.{None, Some}
 use Rattle.scram_text.specs.Class.{is_comma}
 use Rattle.scram_text.specs.Name.{LacksComma}
@@ -21,16 +20,11 @@ use Rattle.scram_text.proofs.lemmas.FirstUnmet.{below}
 pub parts_count : (text : List ℕ) → length (parts text) ≡ count_by is_comma text + 1
 parts_count text = length-slice_split is_comma text
 
--- where two tests both pass, each does
-pub both : (a b : Bool) → (a && b) ≡ true → (a ≡ true) × (b ≡ true)
-both true b h = (refl, h)
-both false b h = absurd (cc h)
-
 -- a text without commas is its one part
 pub parts_whole : (text : List ℕ) → LacksComma text → parts text ≡ text ∷ []
 parts_whole [] h = refl
 parts_whole (c ∷ text) h =
-    let each = both (not (is_comma c)) (list_all (λ c. not (is_comma c)) text) h in
+    let each = and_parts (not (is_comma c)) (list_all (λ c. not (is_comma c)) text) h in
     rw (not-true (is_comma c) each.0, parts_whole text each.1) refl
 
 -- a character goes before the first part, also where more parts follow
@@ -64,10 +58,6 @@ before_lacks (c ∷ text) = elim (cases_Bool (is_comma c)) [
   | inr miss ↦ rw (miss, take_more (position_or_len is_comma text) c text, miss) (before_lacks text)
 ]
 
--- to take what is left after an index from there on takes all of it
-pub rest_taken : (text : List ℕ) (k : ℕ) → take (length text - k) (drop k text) ≡ drop k text
-rest_taken text k = rw (← length-drop k text) (take-length (drop k text))
-
 -- where a text has a comma, it is cut at the first: none comes before it; else it has none
 pub position_cuts : (text : List ℕ) → MatchOption (position is_comma text) (LacksComma text)
     (λ at. (text ≡ take at text ++ 44 ∷ drop (at + 1) text) × LacksComma (take at text))
@@ -79,14 +69,14 @@ position_cuts text = let at = position_or_len is_comma text in elim (cases_lt at
   | inr none ↦ rw (le-ltb at (length text) none) (rw (take_all at text none) at (before_lacks text))
 ]
 
--- where a text has a comma at an index, its parts are what is before it, which has none, and the parts of what follows it
+-- where a text's first comma is at an index, its parts are what is before it, which has none, and the parts of what follows it
 pub cut_at : (text : List ℕ) (at : ℕ) → position is_comma text ≡ Some at
     → (parts text ≡ take at text ∷ parts (take (length text - (at + 1)) (drop (at + 1) text))) × LacksComma (take at text)
 cut_at text at found =
     let cuts = rw found at (position_cuts text) in
-    (rw (rest_taken text (at + 1)) (ap parts cuts.0 ∙ parts_front (take at text) (drop (at + 1) text) cuts.1), cuts.1)
+    (rw (take_rest text (at + 1)) (ap parts cuts.0 ∙ parts_front (take at text) (drop (at + 1) text) cuts.1), cuts.1)
 
--- where a text has a comma at an index, it is what is before it, the comma and what follows it
+-- where a text's first comma is at an index, the text is what is before it, the comma and what follows it
 pub cut_text : (text : List ℕ) (at : ℕ) → position is_comma text ≡ Some at → text ≡ take at text ++ 44 ∷ drop (at + 1) text
 cut_text text at found = let cuts = rw found at (position_cuts text) in cuts.0
 

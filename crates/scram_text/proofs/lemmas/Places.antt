@@ -1,11 +1,10 @@
 -- Parts and their places, in each of the messages.
-use Rattle.std.proofs.Common.{◌≡◌, inl, inr, ℕ, ◌+◌, ◌-◌, ◌≤◌, Bool, true, false, List, [], ◌∷◌, ◌++◌, length, replicate, refl, sym, ◌∙◌}
+use Rattle.std.proofs.Common.{◌≡◌, inl, inr, ℕ, ◌+◌, ◌-◌, ◌≤◌, List, [], ◌∷◌, ◌++◌, length, replicate, refl, sym, ◌∙◌}
 use Rattle.std.proofs.Common.{ap, arith, subst}
-use Rattle.std.specs.List.{AllByRecursion, list_all, zip}
-use Rattle.std.proofs.lemmas.Bool.{cases_Bool, eqb-true, both_ways}
+use Rattle.std.specs.List.{AllByRecursion, zip}
 use Rattle.std.proofs.lemmas.List.{append_assoc}
 use Rattle.scram_text.specs.Limits.{longest_message}
-use Rattle.scram_text.specs.Class.{is_comma, is_printable, IsNonce, IsText}
+use Rattle.scram_text.specs.Class.{is_printable, IsNonce, IsUtf8Text}
 use Rattle.scram_text.specs.Name.{LacksComma}
 use Rattle.scram_text.specs.Base64Field.{base64, IsField}
 use Rattle.scram_text.specs.Parts.{parts, joined, AreExtensions, IsAttrVal, SpellsField}
@@ -13,9 +12,11 @@ use Rattle.scram_text.specs.Faults.{Fits, IsFirstMisfit, IsPartFault, IsFault, p
 use Rattle.scram_text.specs.declared.fault.TextFault.{TextFault}
 use Rattle.scram_text.specs.declared.fault.TextWhy.{TextWhy}
 use Rattle.scram_text.specs.declared.fault.TextWhy.TheVariants.{Extension}
-use Rattle.scram_text.proofs.lemmas.Parts.{both, parts_whole, parts_front, misfit_later}
+use Rattle.scram_text.proofs.lemmas.Base64.{base64_back}
+use Rattle.scram_text.proofs.lemmas.Parts.{parts_whole, parts_front, misfit_later}
 use Rattle.scram_text.proofs.lemmas.AttrVals.{extension_lacks}
 use Rattle.scram_text.proofs.lemmas.FirstUnmet.{none_unmet}
+use Rattle.scram_text.proofs.lemmas.WithoutByte.{class_without}
 
 -- each part fits its place, as far as there are both
 unfoldable pub AllFit : ℕ → List TextWhy → List (List ℕ) → Type 0
@@ -30,6 +31,28 @@ fits_cons most place later part pieces fits fit = (fits, fit)
 pub fits_end : (most : ℕ) (pieces : List (List ℕ)) → AllFit most [] pieces
 unfolding AllFit
 fits_end most pieces = tt
+
+-- where parts fit their places, the first fits the first place, and the others fit theirs
+pub fits_first : (most : ℕ) (place : TextWhy) (later : List TextWhy) (part : List ℕ) (pieces : List (List ℕ))
+    → AllFit most (place ∷ later) (part ∷ pieces) → Fits most place part × AllFit most later pieces
+unfolding AllFit
+fits_first most place later part pieces fit = fit
+
+-- where extensions and parts after them fit their places, the extensions are ones, and the parts fit theirs
+pub fits_split : (most : ℕ) (later : List TextWhy) (extensions pieces : List (List ℕ))
+    → AllFit most (replicate (length extensions) Extension ++ later) (extensions ++ pieces) → AreExtensions extensions
+    × AllFit most later pieces
+unfolding AllFit
+fits_split most later [] pieces fit = (tt, fit)
+fits_split most later (part ∷ extensions) pieces fit =
+    let after = fits_split most later extensions pieces fit.1 in ((fit.0, after.0), after.1)
+
+-- parts that fit the places of extensions are extensions
+pub fits_extensions : (most : ℕ) (extensions : List (List ℕ)) → AllFit most (replicate (length extensions) Extension) extensions
+    → AreExtensions extensions
+unfolding AllFit
+fits_extensions most [] fit = tt
+fits_extensions most (part ∷ extensions) fit = (fit.0, fits_extensions most extensions fit.1)
 
 -- where each part fits, none is the first that does not
 pub no_misfit : (most : ℕ) (later : List TextWhy) (k : ℕ) (pieces : List (List ℕ)) (f : TextFault)
@@ -87,26 +110,26 @@ places_of front back n middle count =
 
 -- a fault of the parts is one of the text
 pub fault_of : (most : ℕ) (front back : List TextWhy) (text : List ℕ) (pieces : List (List ℕ)) (f : TextFault)
-    → length text ≤ longest_message → IsText text → parts text ≡ pieces → IsPartFault most front back pieces f
+    → length text ≤ longest_message → IsUtf8Text text → parts text ≡ pieces → IsPartFault most front back pieces f
     → IsFault most front back text f
-fault_of most front back text pieces f short is_text cut misfit =
-    inr (short, is_text, subst (λ (ps : List (List ℕ)). IsPartFault most front back ps f) (sym cut) misfit)
+fault_of most front back text pieces f short utf8_text cut misfit =
+    inr (short, utf8_text, subst (λ (ps : List (List ℕ)). IsPartFault most front back ps f) (sym cut) misfit)
 
 -- a fault of the parts is one of the text, where the places follow from the parts
 pub fault_at : (most : ℕ) (front : List (List ℕ) → List TextWhy) (text : List ℕ) (pieces : List (List ℕ)) (f : TextFault)
-    → length text ≤ longest_message → IsText text → parts text ≡ pieces → IsPartFault most (front pieces) [] pieces f
+    → length text ≤ longest_message → IsUtf8Text text → parts text ≡ pieces → IsPartFault most (front pieces) [] pieces f
     → IsFault most (front (parts text)) [] text f
-fault_at most front text pieces f short is_text cut misfit =
-    inr (short, is_text, subst (λ (ps : List (List ℕ)). IsPartFault most (front ps) [] ps f) (sym cut) misfit)
+fault_at most front text pieces f short utf8_text cut misfit =
+    inr (short, utf8_text, subst (λ (ps : List (List ℕ)). IsPartFault most (front ps) [] ps f) (sym cut) misfit)
 
 -- a text whose parts fit has no fault
 pub no_fault : (most : ℕ) (front back : List TextWhy) (text : List ℕ) (pieces : List (List ℕ)) (f : TextFault)
-    → length text ≤ longest_message → IsText text → parts text ≡ pieces → length front + length back ≤ length pieces
+    → length text ≤ longest_message → IsUtf8Text text → parts text ≡ pieces → length front + length back ≤ length pieces
     → AllFit most (places front back (length pieces)) pieces → IsFault most front back text f → ⊥
-no_fault most front back text pieces f short is_text cut enough fit faulty = elim faulty [
+no_fault most front back text pieces f short utf8_text cut enough fit faulty = elim faulty [
   | inl whole ↦ elim whole [
     | inl long ↦ omega (arith, short, long.0)
-    | inr no_text ↦ no_text.1 is_text
+    | inr no_text ↦ no_text.1 utf8_text
   ]
   | inr in_parts ↦
       let misfit = rw cut at in_parts.2 in elim misfit [
@@ -117,25 +140,15 @@ no_fault most front back text pieces f short is_text cut enough fit faulty = eli
 
 -- a text whose parts fit has no fault, where the places follow from the parts
 pub no_fault_at : (most : ℕ) (front : List (List ℕ) → List TextWhy) (text : List ℕ) (pieces : List (List ℕ)) (f : TextFault)
-    → length text ≤ longest_message → IsText text → parts text ≡ pieces → length (front pieces) ≤ length pieces
+    → length text ≤ longest_message → IsUtf8Text text → parts text ≡ pieces → length (front pieces) ≤ length pieces
     → AllFit most (places (front pieces) [] (length pieces)) pieces → IsFault most (front (parts text)) [] text f → ⊥
-no_fault_at most front text pieces f short is_text cut enough fit faulty =
-    no_fault most (front pieces) [] text pieces f short is_text cut (omega (arith, enough)) fit
+no_fault_at most front text pieces f short utf8_text cut enough fit faulty =
+    no_fault most (front pieces) [] text pieces f short utf8_text cut (omega (arith, enough)) fit
     (subst (λ (ps : List (List ℕ)). IsFault most (front ps) [] text f) cut faulty)
-
--- bytes that all pass a test which a comma fails have no comma
-pub class_lacks : (test : ℕ → Bool) (bytes : List ℕ) → test 44 ≡ false → list_all test bytes ≡ true → LacksComma bytes
-class_lacks test [] no_comma h = refl
-class_lacks test (c ∷ bytes) no_comma h =
-    let each = both (test c) (list_all test bytes) h in
-    elim (cases_Bool (is_comma c)) [
-      | inl hit ↦ absurd (both_ways (test 44) no_comma (rw (eqb-true c 44 hit) at each.0))
-      | inr miss ↦ rw miss (class_lacks test bytes no_comma each.1)
-    ]
 
 -- a nonce has no comma, and no extension does:
 pub nonce_lacks : (most : ℕ) (nonce : List ℕ) → IsNonce most nonce → LacksComma nonce
-nonce_lacks most nonce class = class_lacks is_printable nonce refl class.each
+nonce_lacks most nonce class = class_without 44 is_printable nonce refl class.each
 
 pub extensions_lack : (extensions : List (List ℕ)) → AreExtensions extensions → AllByRecursion LacksComma extensions
 extensions_lack [] are = tt
@@ -157,17 +170,6 @@ pub misfit_at : (most j k : ℕ) (later : List TextWhy) (pieces : List (List ℕ
     → IsFirstMisfit most later j pieces f → IsFirstMisfit most later k pieces f
 misfit_at most j k later pieces f same misfit = subst (λ (i : ℕ). IsFirstMisfit most later i pieces f) same misfit
 
--- lists with a last element that are the same have the same last element, and the same before it
-pub last_once : (xs ys : List (List ℕ)) (x y : List ℕ) → xs ++ x ∷ [] ≡ ys ++ y ∷ [] → (xs ≡ ys) × (x ≡ y)
-last_once [] [] x y same = (refl, cc)
-last_once [] (b ∷ []) x y same = absurd (cc same)
-last_once [] (b ∷ c ∷ ys) x y same = absurd (cc same)
-last_once (a ∷ []) [] x y same = absurd (cc same)
-last_once (a ∷ c ∷ xs) [] x y same = absurd (cc same)
-last_once (a ∷ xs) (b ∷ ys) x y same =
-    let rest : xs ++ x ∷ [] ≡ ys ++ y ∷ [] = cc same in
-    let later = last_once xs ys x y rest in (cc (same, later.0), later.1)
-
 -- a letter, `=` and the base64 of a field are a part that spells the field
 pub field_fits : (letter most : ℕ) (part bytes : List ℕ) → part ≡ letter ∷ 61 ∷ base64 bytes → IsField most bytes
     → IsAttrVal letter (SpellsField most) part
@@ -176,7 +178,7 @@ field_fits letter most part bytes spelled field = (base64 bytes, spelled, (bytes
 -- two fields with the same base64 are the same bytes
 pub field_once : (most : ℕ) (one other : List ℕ) → IsField most one → IsField most other → base64 one ≡ base64 other → one ≡ other
 field_once most one other is also same =
-    let read = rw same at is.field.back in let read_also = also.field.back in cc (read, read_also)
+    let read = rw same at (base64_back one is.each) in let read_also = base64_back other also.each in cc (read, read_also)
 
 -- lists with different first elements are different
 pub heads_differ : (a b : ℕ) (x y : List ℕ) → a ∷ x ≡ b ∷ y → (a ≡ b → ⊥) → ⊥

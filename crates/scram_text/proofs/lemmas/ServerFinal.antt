@@ -5,18 +5,20 @@ use Rattle.std.specs.declared.result.Result.{Result}
 use Rattle.std.specs.declared.result.Result.TheVariants.{Ok, Err}
 use Rattle.std.proofs.lemmas.List.Splits.{join_with_byte-slice_split}
 use Rattle.scram_text.specs.Limits.{longest_message, longest_nonce}
-use Rattle.scram_text.specs.Class.{IsText}
+use Rattle.scram_text.specs.Class.{IsUtf8Text}
 use Rattle.scram_text.specs.Name.{LacksComma}
 use Rattle.scram_text.specs.Base64Field.{base64}
 use Rattle.scram_text.specs.Parts.{parts, joined, AreExtensions}
-use Rattle.scram_text.specs.Messages.{VerifierOrError, verified, failed, ServerFinalParts, verifier_or_error_text, IsVerifierOrError}
+use Rattle.scram_text.specs.Messages.{VerifierOrError, verifier, server_error, ServerFinalParts, verifier_or_error_text, IsVerifierOrError}
 use Rattle.scram_text.specs.Messages.{server_final_text, IsServerFinal}
+use Rattle.scram_text.specs.Laws.{HasOneServerFinal}
 use Rattle.scram_text.specs.Faults.{Fits, fault, places, result_place, server_final_places, IsServerFinalFault}
 use Rattle.scram_text.specs.Pieces.{IsExtensionMisfit}
 use Rattle.scram_text.specs.Shown.{ShowsServerFinal}
 use Rattle.scram_text.specs.declared.server_final.ServerFinal.{ServerFinal}
 use Rattle.scram_text.specs.declared.fault.TextFault.{TextFault}
 use Rattle.scram_text.specs.declared.fault.TextWhy.TheVariants.{Extension}
+use Rattle.scram_text.proofs.lemmas.Base64.{base64_lacks}
 use Rattle.scram_text.proofs.lemmas.Parts.{misfit_here, misfit_later}
 use Rattle.scram_text.proofs.lemmas.Places.{AllFit, fits_cons, fits_end, fit_after, fault_at, no_fault_at, extensions_lack, parts-joined}
 use Rattle.scram_text.proofs.lemmas.Places.{field_fits, field_once, heads_differ}
@@ -24,8 +26,8 @@ use Rattle.scram_text.proofs.lemmas.Marked.{places_front}
 
 -- a verifier or an error has no comma
 outcome_lacks : (outcome : VerifierOrError) → IsVerifierOrError outcome → LacksComma (verifier_or_error_text outcome)
-outcome_lacks (verified signature) is = is.field.no_comma
-outcome_lacks (failed value) is = is.no_comma
+outcome_lacks (verifier signature) is = base64_lacks signature
+outcome_lacks (server_error value) is = is.no_comma
 
 -- a server-final message is cut into its parts
 pub parts_server_final : (text : List ℕ) (p : ServerFinalParts) → IsServerFinal text p
@@ -38,14 +40,14 @@ parts_server_final text p is =
 -- outcomes with the same text are the same
 outcome_once : (one other : VerifierOrError) → IsVerifierOrError one → IsVerifierOrError other
     → verifier_or_error_text one ≡ verifier_or_error_text other → one ≡ other
-outcome_once (verified one) (verified other) is also same =
-    let texts : base64 one ≡ base64 other = cc same in ap verified (field_once 64 one other is also texts)
-outcome_once (verified one) (failed other) is also same = absurd (heads_differ 118 101 _ _ same (λ e. omega (arith, e)))
-outcome_once (failed one) (verified other) is also same = absurd (heads_differ 101 118 _ _ same (λ e. omega (arith, e)))
-outcome_once (failed one) (failed other) is also same = let values : one ≡ other = cc same in ap failed values
+outcome_once (verifier one) (verifier other) is also same =
+    let texts : base64 one ≡ base64 other = cc same in ap verifier (field_once 64 one other is also texts)
+outcome_once (verifier one) (server_error other) is also same = absurd (heads_differ 118 101 _ _ same (λ e. omega (arith, e)))
+outcome_once (server_error one) (verifier other) is also same = absurd (heads_differ 101 118 _ _ same (λ e. omega (arith, e)))
+outcome_once (server_error one) (server_error other) is also same = let values : one ≡ other = cc same in ap server_error values
 
--- a text is server-final with one list of parts
-pub server_final_once : (text : List ℕ) (p q : ServerFinalParts) → IsServerFinal text p → IsServerFinal text q → p ≡ q
+-- the law: a text is server-final with one list of parts
+pub server_final_once : HasOneServerFinal
 server_final_once text p q is also =
     let same : verifier_or_error_text p.outcome ∷ p.extensions ≡ verifier_or_error_text q.outcome
     ∷ q.extensions = sym (parts_server_final text p is) ∙ parts_server_final text q also in
@@ -62,8 +64,8 @@ result_places first extensions = places_front (result_place first ∷ []) (lengt
 -- an outcome's text fits its place
 pub outcome_fits : (outcome : VerifierOrError) → IsVerifierOrError outcome
     → Fits longest_nonce (result_place (verifier_or_error_text outcome)) (verifier_or_error_text outcome)
-outcome_fits (verified signature) is = field_fits 118 64 _ signature refl is
-outcome_fits (failed value) is = (value, refl, is)
+outcome_fits (verifier signature) is = field_fits 118 64 _ signature refl is
+outcome_fits (server_error value) is = (value, refl, is)
 
 -- where the first part of server-final fits its place, and the others are extensions, all parts fit their places
 pub server_final_fit : (first : List ℕ) (extensions : List (List ℕ)) → Fits longest_nonce (result_place first) first
@@ -78,11 +80,11 @@ server_final_fit first extensions fits are =
 -- a server-final message has no fault
 pub server_final_no_fault : (text : List ℕ) (p : ServerFinalParts) (f : TextFault) → IsServerFinal text p → IsServerFinalFault text f → ⊥
 server_final_no_fault text p f is =
-    no_fault_at longest_nonce server_final_places text (verifier_or_error_text p.outcome ∷ p.extensions) f is.short is.is_text
+    no_fault_at longest_nonce server_final_places text (verifier_or_error_text p.outcome ∷ p.extensions) f is.short is.utf8_text
     (parts_server_final text p is)
     (omega arith) (server_final_fit (verifier_or_error_text p.outcome) p.extensions (outcome_fits p.outcome is.outcome) is.extensions)
 
--- the parts that were read of server-final are all that the text can have
+-- a text that is server-final is read, and what is read shows its parts
 pub server_final_only : (text : List ℕ) (r : Result ServerFinal TextFault)
     → IfOk r (λ m. (p : ServerFinalParts) × IsServerFinal text p × ShowsServerFinal m p) → IfErr r (λ f. IsServerFinalFault text f)
     → (p : ServerFinalParts) → IsServerFinal text p → IsOkAnd r (λ m. ShowsServerFinal m p)
@@ -91,19 +93,19 @@ server_final_only text (Ok m) found fault p is =
 server_final_only text (Err f) found fault p is = server_final_no_fault text p f is fault
 
 -- the first part of server-final that does not fit is a fault of the text: the outcome's, or an extension:
-pub result_fault : (text first : List ℕ) (extensions : List (List ℕ)) (f : TextFault) → length text ≤ longest_message → IsText text
+pub result_fault : (text first : List ℕ) (extensions : List (List ℕ)) (f : TextFault) → length text ≤ longest_message → IsUtf8Text text
     → parts text ≡ first ∷ extensions
     → (Fits longest_nonce (result_place first) first → ⊥) × (f ≡ fault 0 (result_place first)) → IsServerFinalFault text f
-result_fault text first extensions f short is_text cut (no_fit, is) =
+result_fault text first extensions f short utf8_text cut (no_fit, is) =
     subst (λ (g : TextFault). IsServerFinalFault text g) (sym is)
-    (fault_at longest_nonce server_final_places text (first ∷ extensions) (fault 0 (result_place first)) short is_text cut
+    (fault_at longest_nonce server_final_places text (first ∷ extensions) (fault 0 (result_place first)) short utf8_text cut
     (inr (omega arith, rw (result_places first extensions) (misfit_here longest_nonce 0 (result_place first) _ first extensions no_fit))))
 
-pub extension_fault : (text first : List ℕ) (extensions : List (List ℕ)) (f : TextFault) → length text ≤ longest_message → IsText text
+pub extension_fault : (text first : List ℕ) (extensions : List (List ℕ)) (f : TextFault) → length text ≤ longest_message → IsUtf8Text text
     → parts text ≡ first ∷ extensions
     → Fits longest_nonce (result_place first) first → IsExtensionMisfit 1 extensions f → IsServerFinalFault text f
-extension_fault text first extensions f short is_text cut fits misfit =
-    fault_at longest_nonce server_final_places text (first ∷ extensions) f short is_text cut
+extension_fault text first extensions f short utf8_text cut fits misfit =
+    fault_at longest_nonce server_final_places text (first ∷ extensions) f short utf8_text cut
     (inr (
       omega arith,
       rw (result_places first extensions)

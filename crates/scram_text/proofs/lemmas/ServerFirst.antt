@@ -7,10 +7,11 @@ use Rattle.std.specs.declared.result.Result.TheVariants.{Ok, Err}
 use Rattle.std.proofs.lemmas.Fmt.{decimal_injective}
 use Rattle.std.proofs.lemmas.List.Splits.{join_with_byte-slice_split}
 use Rattle.scram_text.specs.Limits.{longest_message, longest_nonce}
-use Rattle.scram_text.specs.Class.{IsText}
+use Rattle.scram_text.specs.Class.{IsUtf8Text}
 use Rattle.scram_text.specs.Base64Field.{base64}
 use Rattle.scram_text.specs.Parts.{parts, joined, mext_parts, AreExtensions}
 use Rattle.scram_text.specs.Messages.{ServerFirstParts, server_first_text, IsServerFirst}
+use Rattle.scram_text.specs.Laws.{HasOneServerFirst}
 use Rattle.scram_text.specs.Faults.{Fits, fault, places, IsFirstMisfit, IsServerFirstFault, server_first_places}
 use Rattle.scram_text.specs.Pieces.{IsExtensionMisfit}
 use Rattle.scram_text.specs.Shown.{ShowsServerFirst}
@@ -18,6 +19,7 @@ use Rattle.scram_text.specs.Pieces.{IsMarked}
 use Rattle.scram_text.specs.declared.server_first.ServerFirst.{ServerFirst}
 use Rattle.scram_text.specs.declared.fault.TextFault.{TextFault}
 use Rattle.scram_text.specs.declared.fault.TextWhy.TheVariants.{Nonce, Salt, Count, Extension}
+use Rattle.scram_text.proofs.lemmas.Base64.{base64_lacks}
 use Rattle.scram_text.proofs.lemmas.Parts.{misfit_here, misfit_later}
 use Rattle.scram_text.proofs.lemmas.Places.{AllFit, fits_cons, fits_end, fit_after, no_fault_at, nonce_lacks, extensions_lack}
 use Rattle.scram_text.proofs.lemmas.Places.{parts-joined_list, field_fits, field_once, misfit_at}
@@ -37,7 +39,7 @@ parts_server_first text p is =
     (marked_lack p.mext (later_parts p) is.mext (
       nonce_lacks longest_nonce p.nonce is.nonce,
       (
-        is.salt.field.no_comma,
+        base64_lacks p.salt,
         (decimal_lacks p.count is.count, extensions_lack p.extensions is.extensions),
       ),
     )))
@@ -54,8 +56,8 @@ parts_once : (p q : ServerFirstParts) → p.mext ≡ q.mext → p.nonce ≡ q.no
 parts_once p q mext nonce salt count extensions =
     λ i. record { mext = mext i; nonce = nonce i; salt = salt i; count = count i; extensions = extensions i }
 
--- a text is server-first with one list of parts
-pub server_first_once : (text : List ℕ) (p q : ServerFirstParts) → IsServerFirst text p → IsServerFirst text q → p ≡ q
+-- the law: a text is server-first with one list of parts
+pub server_first_once : HasOneServerFirst
 server_first_once text p q is also =
     let same = marked_once p.mext q.mext (codes "r=" ++ p.nonce) (codes "r=" ++ q.nonce) _ _ refl refl
     (sym (parts_server_first text p is) ∙ parts_server_first text q also) in
@@ -98,10 +100,10 @@ server_first_fit text p is =
 pub server_first_no_fault : (text : List ℕ) (p : ServerFirstParts) (f : TextFault) → IsServerFirst text p → IsServerFirstFault text f → ⊥
 server_first_no_fault text p f is =
     let lengths = marked_length (Nonce ∷ Salt ∷ Count ∷ []) (parts text) (later_parts p) p.mext (is_marked text p is) in
-    no_fault_at longest_nonce server_first_places text (parts text) f is.short is.is_text refl (omega (arith, lengths.0, lengths.1))
+    no_fault_at longest_nonce server_first_places text (parts text) f is.short is.utf8_text refl (omega (arith, lengths.0, lengths.1))
     (server_first_fit text p is)
 
--- the parts that were read of server-first are all that the text can have
+-- a text that is server-first is read, and what is read shows its parts
 pub server_first_only : (text : List ℕ) (r : Result ServerFirst TextFault)
     → IfOk r (λ m. (p : ServerFirstParts) × IsServerFirst text p × ShowsServerFirst m p) → IfErr r (λ f. IsServerFirstFault text f)
     → (p : ServerFirstParts) → IsServerFirst text p → IsOkAnd r (λ m. ShowsServerFirst m p)
@@ -111,51 +113,51 @@ server_first_only text (Err f) found fault p is = server_first_no_fault text p f
 
 -- a misfit after the mandatory extension is a fault of the text; k is the index of the nonce
 later_fault : (text nonce salt count : List ℕ) (extensions : List (List ℕ)) (mext : Option (List ℕ)) (k : ℕ) (f : TextFault)
-    → length text ≤ longest_message → IsText text → IsMarked (parts text) (nonce ∷ salt ∷ count ∷ extensions) mext
+    → length text ≤ longest_message → IsUtf8Text text → IsMarked (parts text) (nonce ∷ salt ∷ count ∷ extensions) mext
     → k ≡ length (mext_parts mext)
     → IsFirstMisfit longest_nonce (Nonce ∷ Salt ∷ Count ∷ replicate (length extensions) Extension) k (nonce ∷ salt ∷ count ∷ extensions) f
     → IsServerFirstFault text f
-later_fault text nonce salt count extensions mext k f short is_text marked at misfit =
+later_fault text nonce salt count extensions mext k f short utf8_text marked at misfit =
     inr (
       short,
-      is_text,
+      utf8_text,
       marked_fault longest_nonce (Nonce ∷ Salt ∷ Count ∷ []) (parts text) (nonce ∷ salt ∷ count ∷ extensions) mext f marked (omega arith)
           (rw (later_places nonce salt count extensions) (misfit_at longest_nonce k (length (mext_parts mext)) _ _ f at misfit)),
     )
 
 -- the first part of server-first that does not fit is a fault of the text: the nonce, the salt, the count or an extension:
 pub nonce_fault : (text nonce salt count : List ℕ) (extensions : List (List ℕ)) (mext : Option (List ℕ)) (k : ℕ)
-    → length text ≤ longest_message → IsText text → IsMarked (parts text) (nonce ∷ salt ∷ count ∷ extensions) mext
+    → length text ≤ longest_message → IsUtf8Text text → IsMarked (parts text) (nonce ∷ salt ∷ count ∷ extensions) mext
     → k ≡ length (mext_parts mext)
     → (Fits longest_nonce Nonce nonce → ⊥) → IsServerFirstFault text (fault k Nonce)
-nonce_fault text nonce salt count extensions mext k short is_text marked at no_nonce =
-    later_fault text nonce salt count extensions mext k _ short is_text marked at (misfit_here longest_nonce k Nonce _ nonce _ no_nonce)
+nonce_fault text nonce salt count extensions mext k short utf8_text marked at no_nonce =
+    later_fault text nonce salt count extensions mext k _ short utf8_text marked at (misfit_here longest_nonce k Nonce _ nonce _ no_nonce)
 
 pub salt_fault : (text nonce salt count : List ℕ) (extensions : List (List ℕ)) (mext : Option (List ℕ)) (k : ℕ)
-    → length text ≤ longest_message → IsText text → IsMarked (parts text) (nonce ∷ salt ∷ count ∷ extensions) mext
+    → length text ≤ longest_message → IsUtf8Text text → IsMarked (parts text) (nonce ∷ salt ∷ count ∷ extensions) mext
     → k ≡ length (mext_parts mext)
     → Fits longest_nonce Nonce nonce → (Fits longest_nonce Salt salt → ⊥) → IsServerFirstFault text (fault (k + 1) Salt)
-salt_fault text nonce salt count extensions mext k short is_text marked at is_nonce no_salt =
-    later_fault text nonce salt count extensions mext k _ short is_text marked at
+salt_fault text nonce salt count extensions mext k short utf8_text marked at is_nonce no_salt =
+    later_fault text nonce salt count extensions mext k _ short utf8_text marked at
     (misfit_later longest_nonce k Nonce _ nonce _ _ is_nonce (misfit_here longest_nonce (k + 1) Salt _ salt _ no_salt))
 
 pub count_fault : (text nonce salt count : List ℕ) (extensions : List (List ℕ)) (mext : Option (List ℕ)) (k : ℕ)
-    → length text ≤ longest_message → IsText text → IsMarked (parts text) (nonce ∷ salt ∷ count ∷ extensions) mext
+    → length text ≤ longest_message → IsUtf8Text text → IsMarked (parts text) (nonce ∷ salt ∷ count ∷ extensions) mext
     → k ≡ length (mext_parts mext)
     → Fits longest_nonce Nonce nonce → Fits longest_nonce Salt salt → (Fits longest_nonce Count count → ⊥)
     → IsServerFirstFault text (fault (k + 2) Count)
-count_fault text nonce salt count extensions mext k short is_text marked at is_nonce is_salt no_count =
-    later_fault text nonce salt count extensions mext k _ short is_text marked at
+count_fault text nonce salt count extensions mext k short utf8_text marked at is_nonce is_salt no_count =
+    later_fault text nonce salt count extensions mext k _ short utf8_text marked at
     (misfit_later longest_nonce k Nonce _ nonce _ _ is_nonce (misfit_later longest_nonce (k + 1) Salt _ salt _ _ is_salt
     (misfit_at longest_nonce (k + 2) (k + 1 + 1) _ _ _ (omega arith) (misfit_here longest_nonce (k + 2) Count _ count _ no_count))))
 
 pub extension_fault : (text nonce salt count : List ℕ) (extensions : List (List ℕ)) (mext : Option (List ℕ)) (k : ℕ) (f : TextFault)
-    → length text ≤ longest_message → IsText text → IsMarked (parts text) (nonce ∷ salt ∷ count ∷ extensions) mext
+    → length text ≤ longest_message → IsUtf8Text text → IsMarked (parts text) (nonce ∷ salt ∷ count ∷ extensions) mext
     → k ≡ length (mext_parts mext)
     → Fits longest_nonce Nonce nonce → Fits longest_nonce Salt salt → Fits longest_nonce Count count
     → IsExtensionMisfit (k + 3) extensions f → IsServerFirstFault text f
-extension_fault text nonce salt count extensions mext k f short is_text marked at is_nonce is_salt is_count misfit =
-    later_fault text nonce salt count extensions mext k f short is_text marked at
+extension_fault text nonce salt count extensions mext k f short utf8_text marked at is_nonce is_salt is_count misfit =
+    later_fault text nonce salt count extensions mext k f short utf8_text marked at
     (misfit_later longest_nonce k Nonce _ nonce _ f is_nonce
     (misfit_later longest_nonce (k + 1) Salt _ salt _ f is_salt (misfit_later longest_nonce (k + 1 + 1) Count _ count _ f is_count
     (misfit_at longest_nonce (k + 3) (k + 1 + 1 + 1) _ _ f (omega arith) (misfit longest_nonce)))))

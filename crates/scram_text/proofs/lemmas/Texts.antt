@@ -1,11 +1,10 @@
 -- Texts of which messages are made: each is UTF-8 without a NUL.
 use Rattle.std.proofs.Common.{◌≡◌, inl, inr, ℕ, zero, suc, ◌+◌, ◌*◌, ◌/◌, ◌%◌, ◌<◌, Bool, true, false, not, ◌&&◌, List, [], ◌∷◌, ◌++◌}
-use Rattle.std.proofs.Common.{length, replicate, refl, arith, eqb}
+use Rattle.std.proofs.Common.{length, replicate, refl, arith}
 use Rattle.std.specs.Prelude.{slice_index, decimal, nat_le, ◌==◌}
 use Rattle.std.specs.List.{list_all}
 use Rattle.std.specs.Str.{IsAscii}
-use Rattle.std.specs.Str.Parse.{AllDigits}
-use Rattle.std.proofs.lemmas.Bool.{cases_Bool, cases_lt, eqb-true, leb-true, le-leb, lt-leb, both_ways, ne_eqb}
+use Rattle.std.proofs.lemmas.Bool.{cases_lt, leb-true, le-leb, lt-leb, both_ways, ne_eqb, and_parts}
 use Rattle.std.proofs.lemmas.Fmt.{IsAscii-decimal, decimal_is_IsNumeral}
 use Rattle.std.proofs.lemmas.List.Folds.{list_all-append}
 use Rattle.std.proofs.lemmas.Str.{IsUtf8-nil, IsUtf8-from_ascii, IsUtf8-append}
@@ -13,68 +12,60 @@ use Rattle.base64.specs.Engines.{standard}
 use Rattle.base64.specs.GeneralPurpose.{IsBytes}
 use Rattle.base64.specs.Rfc4648.{encode_symbols, padding_len}
 use Rattle.base64.proofs.EngineFacts.{IsAscii-encode_of}
-use Rattle.scram_text.specs.Class.{is_comma, is_cb_char, is_printable, is_plain, IsNonce, IsText}
+use Rattle.scram_text.specs.Class.{is_comma, is_cb_char, is_printable, is_plain, IsNonce, IsUtf8Text}
 use Rattle.scram_text.specs.Name.{escape, name_spelling}
 use Rattle.scram_text.specs.Base64Field.{base64}
 use Rattle.scram_text.specs.Parts.{IsCount, is_cb_name}
-use Rattle.scram_text.proofs.lemmas.Parts.{both}
 use Rattle.scram_text.proofs.lemmas.Counts.{below_64}
 use Rattle.scram_text.proofs.lemmas.Names.{escape_cases}
+use Rattle.scram_text.proofs.lemmas.WithoutByte.{class_without, digits_without}
 
 -- a byte is no NUL
 abbrev is_no_nul : ℕ → Bool
 is_no_nul c = not (c == 0)
 
 -- the empty text is a text, and two texts joined are one:
-pub text_nil : IsText []
+pub text_nil : IsUtf8Text []
 text_nil = record { utf8 = IsUtf8-nil; no_nul = refl }
 
-pub text-append : (front back : List ℕ) → IsText front → IsText back → IsText (front ++ back)
+pub text-append : (front back : List ℕ) → IsUtf8Text front → IsUtf8Text back → IsUtf8Text (front ++ back)
 text-append front back is also = record {
   utf8 = IsUtf8-append front back is.utf8 also.utf8;
   no_nul = rw (list_all-append is_no_nul front back, is.no_nul, also.no_nul) refl;
 }
 
--- bytes of a class of ASCII characters are ASCII, and those of a class without NUL have none:
+-- bytes of a class of ASCII characters are ASCII
 class_ascii : (test : ℕ → Bool) (bytes : List ℕ) → ((c : ℕ) → test c ≡ true → c < 128) → list_all test bytes ≡ true → IsAscii bytes
 class_ascii test [] below all i = omega arith
-class_ascii test (c ∷ bytes) below all zero = below c (both (test c) (list_all test bytes) all).0
-class_ascii test (c ∷ bytes) below all (suc i) = class_ascii test bytes below (both (test c) (list_all test bytes) all).1 i
-
-class_no_nul : (test : ℕ → Bool) (bytes : List ℕ) → test 0 ≡ false → list_all test bytes ≡ true → list_all is_no_nul bytes ≡ true
-class_no_nul test [] no_nul all = refl
-class_no_nul test (c ∷ bytes) no_nul all =
-    let each = both (test c) (list_all test bytes) all in
-    elim (cases_Bool (eqb c 0)) [
-      | inl hit ↦ absurd (both_ways (test 0) no_nul (rw (eqb-true c 0 hit) at each.0))
-      | inr miss ↦ rw miss (class_no_nul test bytes no_nul each.1)
-    ]
+class_ascii test (c ∷ bytes) below all zero = below c (and_parts (test c) (list_all test bytes) all).0
+class_ascii test (c ∷ bytes) below all (suc i) = class_ascii test bytes below (and_parts (test c) (list_all test bytes) all).1 i
 
 -- bytes of a class of ASCII characters are a text
 class_text : (test : ℕ → Bool) (bytes : List ℕ) → ((c : ℕ) → test c ≡ true → c < 128) → test 0 ≡ false → list_all test bytes ≡ true
-    → IsText bytes
+    → IsUtf8Text bytes
 class_text test bytes below no_nul all = record {
   utf8 = IsUtf8-from_ascii bytes (class_ascii test bytes below all);
-  no_nul = class_no_nul test bytes no_nul all;
+  no_nul = class_without 0 test bytes no_nul all;
 }
 
--- plain bytes and printable bytes are ASCII:
-at_most : (c : ℕ) → nat_le c 0x7E ≡ true → c < 128
-at_most c is = omega (arith, leb-true c 0x7E is)
+-- a byte up to `~` is ASCII
+up_to_tilde : (c : ℕ) → nat_le c 0x7E ≡ true → c < 128
+up_to_tilde c is = omega (arith, leb-true c 0x7E is)
 
+-- plain bytes and printable bytes are ASCII:
 plain_below : (c : ℕ) → is_plain c ≡ true → c < 128
-plain_below c is = at_most c (both (nat_le 0x20 c) (nat_le c 0x7E) is).1
+plain_below c is = up_to_tilde c (and_parts (nat_le 0x20 c) (nat_le c 0x7E) is).1
 
 printable_below : (c : ℕ) → is_printable c ≡ true → c < 128
 printable_below c is =
-    at_most c (both (nat_le 0x21 c) (nat_le c 0x7E) (both (nat_le 0x21 c && nat_le c 0x7E) (not (is_comma c)) is).0).1
+    up_to_tilde c (and_parts (nat_le 0x21 c) (nat_le c 0x7E) (and_parts (nat_le 0x21 c && nat_le c 0x7E) (not (is_comma c)) is).0).1
 
 -- plain bytes are a text
-pub plain_text : (bytes : List ℕ) → list_all is_plain bytes ≡ true → IsText bytes
+pub plain_text : (bytes : List ℕ) → list_all is_plain bytes ≡ true → IsUtf8Text bytes
 plain_text bytes all = class_text is_plain bytes plain_below refl all
 
 -- a nonce is a text
-pub nonce_text : (most : ℕ) (nonce : List ℕ) → IsNonce most nonce → IsText nonce
+pub nonce_text : (most : ℕ) (nonce : List ℕ) → IsNonce most nonce → IsUtf8Text nonce
 nonce_text most nonce is = class_text is_printable nonce printable_below refl is.each
 
 -- a plain byte, and a plain name, is spelled by plain bytes:
@@ -90,35 +81,27 @@ escape_plain c is = elim (escape_cases c) [
 spelling_plain : (name : List ℕ) → list_all is_plain name ≡ true → list_all is_plain (name_spelling name) ≡ true
 spelling_plain [] all = refl
 spelling_plain (c ∷ name) all =
-    let each = both (is_plain c) (list_all is_plain name) all in
+    let each = and_parts (is_plain c) (list_all is_plain name) all in
     rw (list_all-append is_plain (escape c) (name_spelling name), escape_plain c each.0, spelling_plain name each.1) refl
 
 -- the spelling of a plain name is a text
-pub spelling_text : (name : List ℕ) → list_all is_plain name ≡ true → IsText (name_spelling name)
+pub spelling_text : (name : List ℕ) → list_all is_plain name ≡ true → IsUtf8Text (name_spelling name)
 spelling_text name all = plain_text (name_spelling name) (spelling_plain name all)
 
--- decimal digits have no NUL
-digits_no_nul : (digits : List ℕ) → AllDigits 10 digits → list_all is_no_nul digits ≡ true
-digits_no_nul [] all = refl
-digits_no_nul (c ∷ digits) all = elim (cases_Bool (eqb c 0)) [
-  | inl hit ↦ let value = rw (eqb-true c 0 hit) at all.0 in absurd (omega (arith, value))
-  | inr miss ↦ rw miss (digits_no_nul digits all.1)
-]
-
 -- the decimal of a count is a text
-pub count_text : (count : ℕ) → IsCount count → IsText (decimal count)
+pub count_text : (count : ℕ) → IsCount count → IsUtf8Text (decimal count)
 count_text count is = record {
   utf8 = IsUtf8-from_ascii (decimal count) (IsAscii-decimal count (below_64 count is));
-  no_nul = digits_no_nul (decimal count) (decimal_is_IsNumeral count (below_64 count is)).0.1;
+  no_nul = digits_without 0 (decimal count) (omega arith) (decimal_is_IsNumeral count (below_64 count is)).0.1;
 }
 
 -- where no symbol is NUL, the one at each index is not
 symbol_no_nul : (symbols : List ℕ) (k : ℕ) → k < length symbols → list_all is_no_nul symbols ≡ true
     → is_no_nul (slice_index symbols k) ≡ true
 symbol_no_nul [] k within all = absurd (omega (arith, within))
-symbol_no_nul (c ∷ symbols) zero within all = (both (is_no_nul c) (list_all is_no_nul symbols) all).0
+symbol_no_nul (c ∷ symbols) zero within all = (and_parts (is_no_nul c) (list_all is_no_nul symbols) all).0
 symbol_no_nul (c ∷ symbols) (suc k) within all =
-    symbol_no_nul symbols k (omega (arith, within)) (both (is_no_nul c) (list_all is_no_nul symbols) all).1
+    symbol_no_nul symbols k (omega (arith, within)) (and_parts (is_no_nul c) (list_all is_no_nul symbols) all).1
 
 -- the 64 symbols
 abbrev table : List ℕ
@@ -154,7 +137,7 @@ padding_no_nul zero = refl
 padding_no_nul (suc n) = padding_no_nul n
 
 -- the base64 of bytes is a text
-pub base64_text : (bytes : List ℕ) → IsBytes bytes → IsText (base64 bytes)
+pub base64_text : (bytes : List ℕ) → IsBytes bytes → IsUtf8Text (base64 bytes)
 unfolding base64
 base64_text bytes fits = record {
   utf8 = IsUtf8-from_ascii _ (IsAscii-encode_of standard bytes);
@@ -182,5 +165,5 @@ letter_below c is = elim (cases_lt c 128) [
 ]
 
 -- the name of a channel binding is a text
-pub cb_name_text : (name : List ℕ) → is_cb_name name ≡ true → IsText name
-cb_name_text name is = class_text is_cb_char name letter_below refl (both (nat_le 1 (length name)) (list_all is_cb_char name) is).1
+pub cb_name_text : (name : List ℕ) → is_cb_name name ≡ true → IsUtf8Text name
+cb_name_text name is = class_text is_cb_char name letter_below refl (and_parts (nat_le 1 (length name)) (list_all is_cb_char name) is).1

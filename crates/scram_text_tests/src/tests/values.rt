@@ -1,4 +1,4 @@
-//! Names in order of their bytes, and names and salts as texts and copies.
+//! Names in order of their bytes, names and salts as texts and copies, and numbers in decimal.
 use super::*;
 use std::cmp::Ordering;
 
@@ -37,4 +37,27 @@ fn copies_and_texts(rt: HostRuntime) -> Result<(), Fail> {
     let salt = Salt::new(&[0, 255, 7]).ok_or("in range")?;
     check_bytes(&rt, salt.copy().bytes(), &[0, 255, 7], "a copy of a salt");
     Ok(())
+}
+
+#[test]
+fn decimals(rt: HostRuntime) {
+    for (text, number) in [
+        (b"0".as_slice(), Some(0)),
+        (b"7", Some(7)),
+        (b"10", Some(10)),
+        (b"18446744073709551615", Some(u64::MAX)),
+        (b"18446744073709551616", None),
+        (b"", None),
+        (b"00", None),
+        (b"07", None),
+        (b"+7", None),
+        (b"-7", None),
+        (b" 7", None),
+        (b"7 ", None),
+        (b"0x7", None),
+        (b"\xd9\xa7", None),
+        (b"\xff", None),
+    ] {
+        assert_eq!(rt; scram_text::decimal(text), number, "{text:?}");
+    }
 }

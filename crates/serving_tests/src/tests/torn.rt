@@ -1,6 +1,6 @@
 //! A wire and a log that fail at each of their writes in turn.
 use super::check_halted;
-use desk_in_memory::{AMPLE, Memory, Room, Service, login_and};
+use desk_in_memory::{ACCEPTANCE, AMPLE, CHALLENGE, Memory, Room, Service, login_and};
 use sasl_desk::{Event, Phase, ServeFault};
 use sasl_log::{Clean, OverRead};
 use std::alloc::Global;
@@ -35,7 +35,7 @@ const SESSION: [Written<'static>; 5] = [
         logged: "C AUTH SCRAM-SHA-1 :n,,n=user,r=fyko+d2lbbFgONRv9qkxdawL
 S CONT :r=fyko+d2lbbFgONRv9qkxdawL3rfcNHYJY1ZVvWVs7j,s=QSXCR+Q6sek8bf92,i=4096
 ",
-        told: "CONT :r=fyko+d2lbbFgONRv9qkxdawL3rfcNHYJY1ZVvWVs7j,s=QSXCR+Q6sek8bf92,i=4096\n",
+        told: CHALLENGE,
         phase: Phase::WaitFinal,
         accepted: 0,
         codes_passed: 0,
@@ -45,7 +45,7 @@ S CONT :r=fyko+d2lbbFgONRv9qkxdawL3rfcNHYJY1ZVvWVs7j,s=QSXCR+Q6sek8bf92,i=4096
         logged: "C RESP :c=biws,r=fyko+d2lbbFgONRv9qkxdawL3rfcNHYJY1ZVvWVs7j,p=v0X8v3Bz2T0CJGbJQyF0X+HI4Ts=
 S OK :v=rmF9pqV8S7suAoZWja4dJRkFsKQ=
 ",
-        told: "OK :v=rmF9pqV8S7suAoZWja4dJRkFsKQ=\n",
+        told: ACCEPTANCE,
         phase: Phase::WaitCode,
         accepted: 1,
         codes_passed: 0,

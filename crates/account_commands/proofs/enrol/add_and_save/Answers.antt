@@ -1,7 +1,7 @@
 use Rattle.std.proofs.Common.{inl, inr, refl, sym}
 use Rattle.std.proofs.lemmas.Result.{err_from_is_err_and, on_ok_weaker, IfErr-weaker}
 use Rattle.account_commands.proofs.lemmas.EnrolFaults.{not_added, not_saved}
-use Rattle.account_commands.proofs.lemmas.Results.{on_ok_both}
+use Rattle.command_io.proofs.lemmas.Results.{on_ok_both}
 use Rattle.account_commands.proofs.enrol.add_and_save.Goals as goal
 
 -- the book of the file has changed, and the account is added to the one that is there now

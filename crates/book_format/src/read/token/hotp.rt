@@ -1,10 +1,10 @@
 //! A HOTP token: `secret`, `digits`, `next`, `look_ahead`, `sync_ahead`, `limit`, `failures`.
 ghost use Rattle.std.specs.Prelude.{◌≡◌, IfOk};
 ghost use Rattle.toml.specs.View.{table_view};
-ghost use Rattle.otp_core.specs.Settings.{IsHotpInRange};
+ghost use Rattle.otp_core.specs.TokenRanges.{IsHotpInRange};
 ghost use Rattle.otp_core.specs.declared.token.kinds.TokenFields.TheVariants.{Hotp};
-ghost use Rattle.book_format.specs.Rows.{read_table};
-ghost use Rattle.book_format.specs.Tables.{hotp};
+ghost use Rattle.book_format.specs.reading.Rows.{read_table};
+ghost use Rattle.book_format.specs.Tokens.{hotp};
 
 use crate::fault::BookWhy;
 use crate::read::field::{bytes_at, check_keys, number_at, number_or_zero};
@@ -18,7 +18,7 @@ use toml::Table;
 /// The settings and the state of a HOTP token, of a table whose `kind` says that it is one. `Key` where a key is unknown;
 /// then of the first key at fault, in the order above: `Key` where it is missing or its value has another type, and `Token`
 /// where the value is out of its range. `sync_ahead` may be missing.
-#[tactic(auto, unfolding(crate::specs::Rows::read_table))]
+#[tactic(auto, unfolding(crate::specs::reading::Rows::read_table))]
 pub(super) fn hotp_of(table: &Table) -> Result<HotpFields, BookWhy>
     ensures value { result ≡ read_table hotp (table_view table.now) }
     ensures range { IfOk result IsHotpInRange }

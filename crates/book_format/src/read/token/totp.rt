@@ -4,12 +4,14 @@ ghost use Rattle.std.specs.Prelude.{◌≡◌, ◌≤◌, codes, nat_abs, IfOk};
 ghost use Rattle.std.specs.Option.{ForSome};
 ghost use Rattle.toml.specs.View.{table_view};
 ghost use Rattle.otp_core.specs.Ranges.{most_counter};
-ghost use Rattle.otp_core.specs.Settings.{IsTotpInRange};
+ghost use Rattle.otp_core.specs.TokenRanges.{IsTotpInRange};
 ghost use Rattle.otp_core.specs.declared.token.kinds.TokenFields.TheVariants.{Totp};
 ghost use Rattle.book_format.specs.Keys.{is_among, has_only};
 ghost use Rattle.book_format.specs.ValueTypes.{number, signed, hash};
-ghost use Rattle.book_format.specs.Rows.{demand, read_at, read_some, read_table, table_keys};
-ghost use Rattle.book_format.specs.Tables.{totp};
+ghost use Rattle.book_format.specs.reading.Steps.{pass_or};
+ghost use Rattle.book_format.specs.reading.Rows.{read_at, read_some, read_table};
+ghost use Rattle.book_format.specs.Rows.{table_keys};
+ghost use Rattle.book_format.specs.Tokens.{totp};
 ghost use Rattle.book_format.specs.declared.fault.BookWhy.TheVariants as why;
 
 use crate::fault::BookWhy;
@@ -24,7 +26,7 @@ use toml::Table;
 /// The settings and the state of a TOTP token, of a table whose `kind` says that it is one. `Key` where a key is unknown;
 /// then of the first key at fault, in the order above: `Key` where it is missing or its value has another type, and `Token`
 /// where the value is out of its range. `last` may be missing.
-#[tactic(auto, unfolding(crate::specs::Rows::read_table))]
+#[tactic(auto, unfolding(crate::specs::reading::Rows::read_table))]
 pub(super) fn totp_of(table: &Table) -> Result<TotpFields, BookWhy>
     ensures value { result ≡ read_table totp (table_view table.now) }
     ensures range { IfOk result IsTotpInRange }
@@ -66,7 +68,7 @@ pub(super) fn totp_of(table: &Table) -> Result<TotpFields, BookWhy>
 
 // Answers `Key` where the table has a key that a TOTP token has not.
 fn check_totp_keys(table: &Table) -> Result<(), BookWhy>
-    ensures { result ≡ demand (has_only (is_among (table_keys totp)) (table_view table.now)) why.Key }
+    ensures { result ≡ pass_or (has_only (is_among (table_keys totp)) (table_view table.now)) why.Key }
 {
     check_keys(
         table,
@@ -100,7 +102,7 @@ pub(super) fn totp_token(fields: TotpFields) -> Token
 }
 
 // The hash function at a key. `Key` where it is missing or no text, and `Token` where no hash function has the name.
-#[tactic(auto, unfolding(crate::specs::ValueTypes::hash_in))]
+#[tactic(auto, unfolding(crate::specs::reading::Values::hash_in))]
 fn hash_at(table: &Table, key: &str) -> Result<OtpHash, BookWhy>
     ensures { result ≡ read_at key.now hash (table_view table.now) }
 {
@@ -121,7 +123,7 @@ fn last_if_any(table: &Table) -> Result<Option<u64>, BookWhy>
 
 // The drift at a key, at most `most` steps to either side. `Key` where it is missing or no whole number, and `Token` where it
 // is further off.
-#[tactic(auto, unfolding(crate::specs::ValueTypes::signed_in))]
+#[tactic(auto, unfolding(crate::specs::reading::Values::signed_in))]
 fn drift_at(table: &Table, key: &str, most: u64) -> Result<i64, BookWhy>
     ensures value { result ≡ read_at key.now (signed why.Token most) (table_view table.now) }
     ensures range { IfOk result (λ drift. nat_abs drift ≤ most) }

@@ -1,6 +1,6 @@
 use Rattle.std.proofs.Common.{rules, [], ap, codes}
 use Rattle.std.proofs.lemmas.Result.{IfOk-weaker}
-use Rattle.command_words.specs.Commands.{option, with_default, required, HasOptions}
+use Rattle.command_words.specs.Commands.{one_value, with_default, required, HasOptions}
 use Rattle.command_line.specs.declared.option_name.OptionName.TheVariants.{Secret, Digits, Counter, Moment, Hash, T0, Step}
 use Rattle.clap.specs.Simple.{app_of_fields}
 use Rattle.clap.specs.declared.builder.command.Command.{Command}
@@ -16,8 +16,8 @@ returns c =
     let one = with_option _ _ (required Secret) _ _ _ c.in_ok-arg.ensures (search rules) c.required.ensures.local none in
     let two = with_option _ _ (with_default Digits (codes "6")) _ _ _ c.in_ok-arg-2.ensures
     (search rules) c.with_default.ensures.local one in
-    let three = with_option _ _ (option Counter) _ _ _ c.in_ok-arg-3.ensures (search rules) c.option.ensures.local two in
-    let four = with_option _ _ (option Moment) _ _ _ c.in_ok-arg-4.ensures (search rules) c.option-2.ensures.local three in
+    let three = with_option _ _ (one_value Counter) _ _ _ c.in_ok-arg-3.ensures (search rules) c.one_value.ensures.local two in
+    let four = with_option _ _ (one_value Moment) _ _ _ c.in_ok-arg-4.ensures (search rules) c.one_value-2.ensures.local three in
     let five = with_option _ _ (with_default Hash (codes "sha1")) _ _ _ c.in_ok-arg-5.ensures
     (search rules) c.with_default-2.ensures.local four in
     let six = with_option _ _ (with_default T0 (codes "0")) _ _ _ c.in_ok-arg-6.ensures

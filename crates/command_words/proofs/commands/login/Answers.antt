@@ -1,6 +1,6 @@
 use Rattle.std.proofs.Common.{rules, [], ap, codes}
 use Rattle.std.proofs.lemmas.Result.{IfOk-weaker}
-use Rattle.command_words.specs.Commands.{option, with_default, required, HasOptions}
+use Rattle.command_words.specs.Commands.{one_value, with_default, required, HasOptions}
 use Rattle.command_line.specs.declared.option_name.OptionName.TheVariants.{Book, Name, As, Socket, Random, ClientNonce, ServerNonce, Mechanism, Moment}
 use Rattle.clap.specs.Simple.{app_of_fields}
 use Rattle.clap.specs.declared.builder.command.Command.{Command}
@@ -15,12 +15,12 @@ returns c =
     (ap app_of_fields c.after_help.ensures) (ap (λ (f : Command-F Command). f.has_globals) c.after_help.ensures) in
     let one = with_option _ _ (required Book) _ _ _ c.in_ok-arg.ensures (search rules) c.book.ensures.local none in
     let two = with_option _ _ (required Name) _ _ _ c.in_ok-arg-2.ensures (search rules) c.name.ensures.local one in
-    let three = with_option _ _ (option Mechanism) _ _ _ c.in_ok-arg-3.ensures (search rules) c.option.ensures.local two in
-    let four = with_option _ _ (option As) _ _ _ c.in_ok-arg-4.ensures (search rules) c.option-2.ensures.local three in
+    let three = with_option _ _ (one_value Mechanism) _ _ _ c.in_ok-arg-3.ensures (search rules) c.one_value.ensures.local two in
+    let four = with_option _ _ (one_value As) _ _ _ c.in_ok-arg-4.ensures (search rules) c.one_value-2.ensures.local three in
     let five = with_option _ _ (required Socket) _ _ _ c.in_ok-arg-5.ensures (search rules) c.required.ensures.local four in
     let six = with_option _ _ (with_default Random (codes "/dev/urandom")) _ _ _ c.in_ok-arg-6.ensures
     (search rules) c.random.ensures.local five in
-    let seven = with_option _ _ (option ClientNonce) _ _ _ c.in_ok-arg-7.ensures (search rules) c.option-3.ensures.local six in
-    let eight = with_option _ _ (option ServerNonce) _ _ _ c.in_ok-arg-8.ensures (search rules) c.option-4.ensures.local seven in
-    IfOk-weaker c.arg-9.result _ _ (λ command added. with_option _ _ (option Moment) _ _ _ added
-    (search rules) c.option-5.ensures.local eight) c.arg-9.ensures
+    let seven = with_option _ _ (one_value ClientNonce) _ _ _ c.in_ok-arg-7.ensures (search rules) c.one_value-3.ensures.local six in
+    let eight = with_option _ _ (one_value ServerNonce) _ _ _ c.in_ok-arg-8.ensures (search rules) c.one_value-4.ensures.local seven in
+    IfOk-weaker c.arg-9.result _ _ (λ command added. with_option _ _ (one_value Moment) _ _ _ added
+    (search rules) c.one_value-5.ensures.local eight) c.arg-9.ensures

@@ -1,7 +1,7 @@
 use Rattle.std.proofs.Common.{inl, refl}
-use Rattle.commands.specs.Login.{IsLogAfterFaultWith}
+use Rattle.commands.specs.DeskLog.{IsLogAfterFaultWith}
 use Rattle.commands.specs.Talked.{talked_in}
-use Rattle.commands.proofs.lemmas.Faults.{handed_on}
+use Rattle.command_io.proofs.lemmas.Results.{handed_on}
 use Rattle.commands.proofs.lemmas.Logins.{stays_twice, fails_with}
 use Rattle.commands.proofs.login.converse.Goals as goal
 
@@ -29,7 +29,7 @@ returns-clause-clean g c = λ start before l.
     c.in_ok-hang_up.ensures.log start before l in (
       _,
       c.log_is_clean.ensures.closed start desk.calls c.hang_up.new.talk.desk desk.stands (inl c.in_ok-hang_up.ensures.closed),
-      record { calls = desk.calls; place = desk.stands.place; is_run = desk.stands.is_run; asked = desk.asked; is_log = refl },
+      record { calls = desk.calls; place = desk.stands.place; is_run = desk.stands.is_run; requests = desk.requests; is_log = refl },
       desk.logged,
       c.log_is_saved.ensures start desk.calls c.hang_up.new.talk.desk desk.stands,
     )

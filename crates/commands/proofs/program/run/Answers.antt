@@ -1,6 +1,6 @@
 use Rattle.std.proofs.Common.{inl, inr, map, refl}
 use Rattle.clap.specs.declared.error.kind.ErrorKind.TheVariants.{OutOfMemory}
-use Rattle.commands.proofs.lemmas.Runs.{error_of, found_by, has_ended, names_one, understood}
+use Rattle.commands.proofs.lemmas.Runs.{error_of, found_by, has_ended, line_names_command, understood}
 use Rattle.commands.proofs.program.run.Goals as goal
 
 pub returns-in_default-clause-ends : goal.returns-in_default-clause-ends
@@ -9,7 +9,7 @@ returns-in_default-clause-ends g c = inr (OutOfMemory, inl refl, (c.report.ensur
 pub dispatch-ended-requires : goal.dispatch-ended-requires
 dispatch-ended-requires g c =
     let parsed = c.in-Ok-try_get_matches_from.ensures in
-    names_one _ (map g.S.AsStr.text c.args.words.now) _ c.in-Ok.ensures parsed.matches parsed.kinds
+    line_names_command _ (map g.S.AsStr.text c.args.words.now) _ c.in-Ok.ensures parsed.matches parsed.kinds
 
 pub returns-in-Ok-ended-clause-ends : goal.returns-in-Ok-ended-clause-ends
 returns-in-Ok-ended-clause-ends g c =

@@ -1,6 +1,6 @@
 use Rattle.std.proofs.Common.{inl, inr, refl, ◌∙◌}
 use Rattle.commands.specs.Verify.{run_of, AnswersLine}
-use Rattle.commands.proofs.lemmas.Faults.{handed_on}
+use Rattle.command_io.proofs.lemmas.Results.{handed_on}
 use Rattle.command_io.proofs.lemmas.LinesInTurn.{after_line, at_end, before_line, at_line}
 use Rattle.commands.proofs.verify.answer_lines.Goals as goal
 

@@ -2,22 +2,22 @@
 use Rattle.std.proofs.Common.{◌≡◌, ◌⊎◌, inl, inr, ℕ, List, [], ◌∷◌, refl, arith}
 use Rattle.otp_core.specs.Attempt.{CodeTexts}
 use Rattle.scram_ends.specs.Verdict.{Due, accept, refuse, due_text}
-use Rattle.log_grammar.specs.Lines.{LogLine, said, gone, ended, cont, accepts, refuses}
+use Rattle.log_grammar.specs.Lines.{LogLine, said, gone, ended, cont, accepts, refuses, IsWritable}
 use Rattle.log_grammar.specs.Places.{Place, before_all, between, offered, asks_bare, waits_first, got_first, waits_final, got_final}
 use Rattle.log_grammar.specs.Places.{waits_code, got_code, leaving, over, halted}
 use Rattle.log_grammar.specs.Demands.{Accounts, AllCanBeChallenged, IsVerdictDue, demands}
 use Rattle.log_grammar.specs.state_machine.Steps.{IsTransition, told_at}
 use Rattle.log_grammar.specs.Numbered.{Numbered, MayBeNumbered, MayFollow}
 use Rattle.log_grammar.specs.NumberedLines.{MayHaveNumber}
-use Rattle.log_grammar.proofs.lemmas.completions.EachPlace.{Ground, Spelt, spelt_end, spelt_gone, spelt_refuses, spelt_cont, refusal_line}
-use Rattle.log_grammar.proofs.lemmas.completions.EachPlace.{acceptance_line, some_verdict}
+use Rattle.log_grammar.proofs.lemmas.completions.Verdicts.{Ground, refusal_line, acceptance_line, some_verdict}
+use Rattle.log_grammar.proofs.lemmas.lines.Written.{gone_written, end_written, cont_written, bare_no_written}
 use Rattle.log_grammar.proofs.lemmas.demands.StillChallenged.{Opened}
-use Rattle.log_grammar.proofs.lemmas.demands.Challenges.{offered_decided, login_decided, some_challenge}
+use Rattle.log_grammar.proofs.lemmas.demands.Challenges.{decided_offered, decided_login, some_challenge}
 use Rattle.log_grammar.proofs.lemmas.lines.TextBytes.{utf8_message}
 
 -- a line that may be written at any time, and that any line may follow
 pub record IsPlain (line : LogLine) : Type 0 where
-  pub spelt : Spelt line
+  pub writable : IsWritable line
   pub room : (limit : ℕ) (before : List (Numbered LogLine)) (n : ℕ) → MayBeNumbered limit before n line
   pub follow : (n m : ℕ) (next : LogLine) → MayFollow n line m next
   pub has_number : MayHaveNumber line
@@ -30,20 +30,20 @@ Closes accounts place (line ∷ more) =
 
 -- `E` can be written, has room after any lines, and any line may follow it
 pub plain_end : IsPlain ended
-plain_end = record { spelt = spelt_end; room = λ limit before n. tt; follow = λ n m next. tt; has_number = tt }
+plain_end = record { writable = end_written; room = λ limit before n. tt; follow = λ n m next. tt; has_number = tt }
 
 -- `C GONE`, and `S NO`, `S CONT` and `S OK` with a message that can be written, may be written at any time as well:
 plain_gone : IsPlain gone
-plain_gone = record { spelt = spelt_gone; room = λ limit before n. tt; follow = λ n m next. tt; has_number = tt }
+plain_gone = record { writable = gone_written; room = λ limit before n. tt; follow = λ n m next. tt; has_number = tt }
 
-plain_refuses : (message : List ℕ) → Spelt (said (refuses message)) → IsPlain (said (refuses message))
-plain_refuses message spelt = record { spelt = spelt; room = λ limit before n. tt; follow = λ n m next. tt; has_number = tt }
+plain_refuses : (message : List ℕ) → IsWritable (said (refuses message)) → IsPlain (said (refuses message))
+plain_refuses message writable = record { writable = writable; room = λ limit before n. tt; follow = λ n m next. tt; has_number = tt }
 
-plain_cont : (message : List ℕ) → Spelt (said (cont message)) → IsPlain (said (cont message))
-plain_cont message spelt = record { spelt = spelt; room = λ limit before n. tt; follow = λ n m next. tt; has_number = tt }
+plain_cont : (message : List ℕ) → IsWritable (said (cont message)) → IsPlain (said (cont message))
+plain_cont message writable = record { writable = writable; room = λ limit before n. tt; follow = λ n m next. tt; has_number = tt }
 
-plain_accepts : (message : List ℕ) → Spelt (said (accepts message)) → IsPlain (said (accepts message))
-plain_accepts message spelt = record { spelt = spelt; room = λ limit before n. tt; follow = λ n m next. tt; has_number = tt }
+plain_accepts : (message : List ℕ) → IsWritable (said (accepts message)) → IsPlain (said (accepts message))
+plain_accepts message writable = record { writable = writable; room = λ limit before n. tt; follow = λ n m next. tt; has_number = tt }
 
 -- some lines close a session at the place
 abbrev pub IsClosable : Accounts → Place → Type 0
@@ -53,17 +53,13 @@ IsClosable accounts place = (lines : List LogLine) × Closes accounts place line
 close_over : (accounts : Accounts) → IsClosable accounts over
 close_over accounts = (ended ∷ [], (plain_end, refl, between, refl, refl))
 
--- `S NO` with nothing after its colon can be written
-bare_no : Spelt (said (refuses []))
-bare_no = spelt_refuses [] tt (omega arith)
-
 -- a session is closed by a refusal and `E`, where the server may refuse
-close_refused : (accounts : Accounts) (place : Place) (text : List ℕ) → Spelt (said (refuses text))
+close_refused : (accounts : Accounts) (place : Place) (text : List ℕ) → IsWritable (said (refuses text))
     → told_at place (said (refuses text)) ≡ []
     → IsTransition (demands accounts) place (said (refuses text)) over → IsClosable accounts place
-close_refused accounts place text spelt quiet goes =
+close_refused accounts place text writable quiet goes =
     let end = close_over accounts in
-    (said (refuses text) ∷ end.0, (plain_refuses text spelt, quiet, over, goes, end.1))
+    (said (refuses text) ∷ end.0, (plain_refuses text writable, quiet, over, goes, end.1))
 
 -- a session can be closed where it is the client's turn, since the client may go away
 close_turn : (accounts : Accounts) (place : Place) → told_at place gone ≡ [] → IsTransition (demands accounts) place gone over
@@ -72,25 +68,25 @@ close_turn accounts place quiet goes = let end = close_over accounts in (gone �
 
 -- a session can be closed where a mechanism was asked for without a message
 close_bare : (accounts : Accounts) (m : List ℕ) → IsClosable accounts (asks_bare m)
-close_bare accounts m = elim (offered_decided m) [
-  | inr none ↦ close_refused accounts (asks_bare m) [] bare_no refl ((none, refl), refl)
+close_bare accounts m = elim (decided_offered m) [
+  | inr none ↦ close_refused accounts (asks_bare m) [] bare_no_written refl ((none, refl), refl)
   | inl is ↦
       let turn = close_turn accounts (waits_first m) refl refl in
-      (said (cont []) ∷ turn.0, (plain_cont [] (spelt_cont [] tt (omega arith)), refl, waits_first m, ((is, refl), refl), turn.1))
+      (said (cont []) ∷ turn.0, (plain_cont [] (cont_written [] tt (omega arith)), refl, waits_first m, ((is, refl), refl), turn.1))
 ]
 
 -- a session can be closed where a client-first message waits for its answer
 close_first : Ground → (accounts : Accounts) → AllCanBeChallenged accounts → (m first : List ℕ) → IsClosable accounts (got_first m first)
-close_first ground accounts fit m first = elim (login_decided ground.once ground.firsts ground.names m first) [
-  | inr none ↦ close_refused accounts (got_first m first) [] bare_no refl ((none, refl), refl)
+close_first ground accounts fit m first = elim (decided_login ground.once ground.firsts ground.names m first) [
+  | inr none ↦ close_refused accounts (got_first m first) [] bare_no_written refl ((none, refl), refl)
   | inl is ↦
       let challenge = some_challenge accounts fit m first is.0 is.1 in
       let text = challenge.0 in
       let next = waits_final m is.0 first text in
       let message = challenge.1.opens.is_challenge in
       let turn = close_turn accounts next refl refl in
-      let spelt = spelt_cont text (utf8_message text message.is_text.utf8) message.short in
-      (said (cont text) ∷ turn.0, (plain_cont text spelt, refl, next, (is.0, challenge.1, refl), turn.1))
+      let writable = cont_written text (utf8_message text message.utf8_text.utf8) message.short in
+      (said (cont text) ∷ turn.0, (plain_cont text writable, refl, next, (is.0, challenge.1, refl), turn.1))
 ]
 
 -- a session can be closed where a client-final message waits for the verdict that is due
@@ -128,6 +124,6 @@ exit_of ground accounts fit (got_final m account first challenge last) opened =
     inl (close_verdict accounts m account first challenge last due.0 due.1)
 exit_of ground accounts fit (waits_code account) opened = inl (close_turn accounts (waits_code account) refl refl)
 exit_of ground accounts fit (got_code account sent) opened = inr (inr (inl (account, sent, refl)))
-exit_of ground accounts fit leaving opened = inl (close_refused accounts leaving [] bare_no refl (refl, refl))
+exit_of ground accounts fit leaving opened = inl (close_refused accounts leaving [] bare_no_written refl (refl, refl))
 exit_of ground accounts fit over opened = inl (close_over accounts)
 exit_of ground accounts fit halted opened = inr (inr (inr refl))

@@ -1,70 +1,45 @@
 -- Each front of version 2 begins a clean log, whatever its last line is.
-use Rattle.std.proofs.Common.{◌≡◌, ◌⊎◌, inl, inr, ℕ, ◌+◌, false, List, [], ◌∷◌, ◌++◌, reverse, refl, sym, ◌∙◌, ap, subst, arith}
+use Rattle.std.proofs.Common.{◌≡◌, inl, inr, ℕ, ◌+◌, false, List, [], ◌∷◌, ◌++◌, reverse, refl, sym, ◌∙◌, ap, subst, arith}
 use Rattle.std.specs.Prelude.{codes}
 use Rattle.std.specs.List.{AllZip}
-use Rattle.log_grammar.specs.Lines.{LogLine, said, ended, halt, busy}
+use Rattle.log_grammar.specs.Lines.{LogLine, said, ended, busy}
 use Rattle.log_grammar.specs.Bytes.{ended_by_lf, IsSplit}
 use Rattle.log_grammar.specs.LoggedReply.{LoggedReply}
-use Rattle.log_grammar.specs.Places.{Place, before_all, between, got_code, over, halted, is_closed}
-use Rattle.log_grammar.specs.Demands.{Accounts, AllCanBeChallenged, Demands, demands, AreReplies}
+use Rattle.log_grammar.specs.Places.{Place, between, over, is_closed}
+use Rattle.log_grammar.specs.Demands.{Accounts, AllCanBeChallenged, demands, AreReplies}
 use Rattle.log_grammar.specs.state_machine.Steps.{IsTransition, told_at}
-use Rattle.log_grammar.specs.Numbered.{Numbered, numbered, visit_place, visit_lines, begun, MayFollow, SpellsNumbered}
+use Rattle.log_grammar.specs.Numbered.{Numbered, numbered, visit_place, visit_lines, given_in, MayFollow, SpellsNumbered}
 use Rattle.log_grammar.specs.NumberedLines.{IsSessionNumber, IsNumberedLine}
-use Rattle.log_grammar.specs.state_machine.NumberedSteps.{IsVisitTransition, put}
+use Rattle.log_grammar.specs.state_machine.NumberedSteps.{put}
 use Rattle.log_grammar.specs.LogKinds.{BeginsCleanOf}
 use Rattle.log_grammar.specs.VersionTwo.{version_two}
-use Rattle.log_grammar.proofs.lemmas.completions.EachPlace.{Ground, spelt_end}
+use Rattle.log_grammar.proofs.lemmas.completions.Verdicts.{Ground}
+use Rattle.log_grammar.proofs.lemmas.lines.Written.{end_written}
 use Rattle.log_grammar.proofs.lemmas.lines.Cuts.{cut_with}
 use Rattle.log_grammar.proofs.lemmas.kinds.FaultLines.{FrontsBeginCleanOf}
-use Rattle.log_grammar.proofs.lemmas.completions.OpenSessions.{CompletesTwo, finished, then, Free, free_after, Ranged, close_all}
+use Rattle.log_grammar.proofs.lemmas.completions.OpenSessions.{CompletesTwo, finished, then, Free, free_after, OpenInRange, close_all}
 use Rattle.log_grammar.proofs.lemmas.many_sessions.WithoutLast.{numbered_before}
-use Rattle.log_grammar.proofs.lemmas.many_sessions.Ends.{not_begun}
+use Rattle.log_grammar.proofs.lemmas.many_sessions.HaltAndBusy.{halt_leads_in, busy_leads_in, last_kind}
+use Rattle.log_grammar.proofs.lemmas.many_sessions.Ends.{not_given}
 use Rattle.log_grammar.proofs.lemmas.many_sessions.LogSteps.{given_first, numbered_on, no_line_yet}
-use Rattle.log_grammar.proofs.lemmas.many_sessions.Standings.{after_last}
+use Rattle.log_grammar.proofs.lemmas.many_sessions.Standings.{follows_last}
 use Rattle.log_grammar.proofs.lemmas.many_sessions.OpenCounts.{given_or_not}
-use Rattle.log_grammar.proofs.lemmas.many_sessions.LinesOfNumber.{at_each, put_here, put_other, of_number_stands, no_element}
-use Rattle.log_grammar.proofs.lemmas.ListEnds.{with_last}
-
--- `S HALT` leads from a place of a session only to where the log is halted
-pub halt_leads : (d : Demands) (place next : Place) → IsTransition d place (said halt) next → next ≡ halted
-halt_leads d (got_code account sent) next h = h
-halt_leads d place next h = absurd h
-
--- BUSY may stand at no place of a session
-pub no_busy_line : (d : Demands) (place next : Place) → IsTransition d place (said busy) next → ⊥
-no_busy_line d before_all next h = h
-no_busy_line d place next h = absurd h
-
--- HALT leads a number to the place where the log is halted
-pub halt_leads_in : (d : Demands) (place : Place) (line : LogLine) (next : Place) → line ≡ said halt → IsVisitTransition d place line next
-    → next ≡ halted
-halt_leads_in d place line next is (inl h) = halt_leads d place next (subst (λ (l : LogLine). IsTransition d place l next) is h)
-halt_leads_in d place line next is (inr b) = let wrong = sym is ∙ b.1 in absurd (cc wrong)
-
--- BUSY leads a number to the place where its `E` is due
-pub busy_leads_in : (d : Demands) (place : Place) (line : LogLine) (next : Place) → line ≡ said busy → IsVisitTransition d place line next
-    → next ≡ over
-busy_leads_in d place line next is (inl h) = absurd (no_busy_line d place next (subst (λ (l : LogLine). IsTransition d place l next) is h))
-busy_leads_in d place line next is (inr b) = b.2
-
--- a line is HALT, or BUSY, or any line may follow it
-pub last_kind : (line : LogLine) → (line ≡ said halt) ⊎ ((line ≡ said busy) ⊎ ((n m : ℕ) (next : LogLine) → MayFollow n line m next))
-last_kind (said halt) = inl refl
-last_kind (said busy) = inr (inl refl)
-last_kind line = inr (inr (λ n m next. tt))
+use Rattle.log_grammar.proofs.lemmas.many_sessions.LinesOfNumber.{at_each, put_here, put_other, of_number_stands}
+use Rattle.scram_text.proofs.lemmas.ListEnds.{with_last}
+use Rattle.log_grammar.proofs.lemmas.ListEnds.{no_element}
 
 -- a log whose last line lets any line follow can be completed by closing the open numbers
 complete_free : Ground → (limit : ℕ) (accounts : Accounts) → AllCanBeChallenged accounts
     → (log : List (Numbered LogLine)) (places : ℕ → Place) (told : List LoggedReply)
-    → SpellsNumbered limit (demands accounts) log places told → Free log → Ranged places → CompletesTwo limit accounts log
+    → SpellsNumbered limit (demands accounts) log places told → Free log → OpenInRange places → CompletesTwo limit accounts log
 complete_free ground limit accounts fit log places told s free ranged =
-    close_all ground limit accounts fit (begun log + 1) log places told s free ranged
-    (λ n most. not_begun limit (demands accounts) log places told s n (omega (arith, most)))
+    close_all ground limit accounts fit (given_in log + 1) log places told s free ranged
+    (λ n most. not_given limit (demands accounts) log places told s n (omega (arith, most)))
 
 -- a log whose last line is BUSY can be completed, as its `E` comes next
 complete_busy : Ground → (limit : ℕ) (accounts : Accounts) → AllCanBeChallenged accounts
     → (front : List (Numbered LogLine)) (last : Numbered LogLine) (places : ℕ → Place) (told : List LoggedReply)
-    → SpellsNumbered limit (demands accounts) (front ++ last ∷ []) places told → Ranged places → last.value ≡ said busy
+    → SpellsNumbered limit (demands accounts) (front ++ last ∷ []) places told → OpenInRange places → last.value ≡ said busy
     → places last.number ≡ over
     → CompletesTwo limit accounts (front ++ last ∷ [])
 complete_busy ground limit accounts fit front last places told s ranged is at =
@@ -72,21 +47,22 @@ complete_busy ground limit accounts fit front last places told s ranged is at =
     let n = last.number in
     let s' = numbered_on limit (demands accounts) log places told n ended between s (record {
       room = tt;
-      next = after_last front last n ended (subst (λ (l : LogLine). MayFollow n l n ended) (sym is) (refl, refl));
+      next = follows_last front last n ended (subst (λ (l : LogLine). MayFollow n l n ended) (sym is) (refl, refl));
       goes = inl (subst (λ (p : Place). IsTransition (demands accounts) p ended between) (sym at) refl);
       due = subst (λ (p : Place). AreReplies (demands accounts) (reverse told) (told_at p ended)) (sym at) tt;
     }) in
-    let ranged_on : Ranged (put n between places) = at_each (λ (m : ℕ). is_closed (put n between places m) ≡ false → IsSessionNumber m) n
+    let ranged_on : OpenInRange (put n between places) =
+    at_each (λ (m : ℕ). is_closed (put n between places m) ≡ false → IsSessionNumber m) n
     (λ open_is. let wrong = sym (ap is_closed (put_here n between places)) ∙ open_is in cc wrong)
     (λ m other open_is. ranged m (sym (ap is_closed (put_other n between places m other)) ∙ open_is)) in
-    then limit accounts log n ended (ranged n (ap is_closed at)) tt spelt_end
+    then limit accounts log n ended (ranged n (ap is_closed at)) tt end_written
     (complete_free ground limit accounts fit (log ++ numbered n ended ∷ []) (put n between places) (told ++ told_at (places n) ended) s'
     (free_after log n ended (λ m next. tt)) ranged_on)
 
--- a log with a last line can be completed, whatever that line is:
+-- a log with a last line can be completed, whatever that line is
 complete_last : Ground → (limit : ℕ) (accounts : Accounts) → AllCanBeChallenged accounts
     → (front : List (Numbered LogLine)) (last : Numbered LogLine) (places : ℕ → Place) (told : List LoggedReply)
-    → SpellsNumbered limit (demands accounts) (front ++ last ∷ []) places told → Ranged places
+    → SpellsNumbered limit (demands accounts) (front ++ last ∷ []) places told → OpenInRange places
     → CompletesTwo limit accounts (front ++ last ∷ [])
 complete_last ground limit accounts fit front last places told s ranged =
     let n = last.number in
@@ -102,9 +78,10 @@ complete_last ground limit accounts fit front last places told s ranged =
           complete_free ground limit accounts fit (front ++ last ∷ []) places told s (free_after front n last.value (follow n)) ranged
     ]
 
+-- a log of version 2 can be completed where each number that is open is in its range
 complete_two : Ground → (limit : ℕ) (accounts : Accounts) → AllCanBeChallenged accounts
     → (log : List (Numbered LogLine)) (places : ℕ → Place) (told : List LoggedReply)
-    → SpellsNumbered limit (demands accounts) log places told → Ranged places → CompletesTwo limit accounts log
+    → SpellsNumbered limit (demands accounts) log places told → OpenInRange places → CompletesTwo limit accounts log
 complete_two ground limit accounts fit [] places told s ranged =
     complete_free ground limit accounts fit [] places told s (λ before x e. absurd (no_element before x [] e)) ranged
 complete_two ground limit accounts fit (x ∷ log) places told s ranged =
@@ -124,7 +101,7 @@ read_at (t ∷ texts) (y ∷ before) x rest are = read_at texts before x rest ar
 -- the numbers that are open in lines that were read are in their range
 ranged_of : (limit : ℕ) (accounts : Accounts) (texts : List (List ℕ)) (log : List (Numbered LogLine)) (places : ℕ → Place)
     (told : List LoggedReply)
-    → AllZip IsNumberedLine texts log → SpellsNumbered limit (demands accounts) log places told → Ranged places
+    → AllZip IsNumberedLine texts log → SpellsNumbered limit (demands accounts) log places told → OpenInRange places
 ranged_of limit accounts texts log places told are s n is = elim (given_or_not (s.visit n)) [
   | inl none ↦ let wrong = sym (ap is_closed (s.after n ∙ ap visit_place none)) ∙ is in absurd (cc wrong)
   | inr given ↦

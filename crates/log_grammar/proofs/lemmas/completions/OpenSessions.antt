@@ -4,7 +4,7 @@ use Rattle.std.proofs.Common.{subst, arith, append_assoc, append-nil}
 use Rattle.std.specs.List.{AllByRecursion, AllZip}
 use Rattle.std.proofs.lemmas.Bool.{cases_Bool}
 use Rattle.std.proofs.lemmas.Bool.Decides.{eqb_tells}
-use Rattle.log_grammar.specs.Lines.{LogLine, said, halt, IsLogLine}
+use Rattle.log_grammar.specs.Lines.{LogLine, said, halt, IsWritable}
 use Rattle.log_grammar.specs.Bytes.{LacksLf}
 use Rattle.log_grammar.specs.LoggedReply.{LoggedReply}
 use Rattle.log_grammar.specs.Places.{Place, before_all, between, halted, is_closed}
@@ -14,13 +14,15 @@ use Rattle.log_grammar.specs.Numbered.{Numbered, numbered, MayFollow, SpellsNumb
 use Rattle.log_grammar.specs.NumberedLines.{IsSessionNumber, MayHaveNumber, numbered_text, IsNumberedLine}
 use Rattle.log_grammar.specs.state_machine.NumberedSteps.{IsVisitTransition, put}
 use Rattle.log_grammar.proofs.lemmas.completions.Closings.{Closes, exit_of}
-use Rattle.log_grammar.proofs.lemmas.completions.EachPlace.{Ground, Spelt, spelt_halt}
+use Rattle.log_grammar.proofs.lemmas.completions.Verdicts.{Ground}
+use Rattle.log_grammar.proofs.lemmas.lines.Written.{halt_written}
 use Rattle.log_grammar.proofs.lemmas.many_sessions.WithoutLast.{numbered_before}
 use Rattle.log_grammar.proofs.lemmas.lines.NumberedReadBack.{numbered_lacks, numbered_written}
 use Rattle.log_grammar.proofs.lemmas.many_sessions.LogSteps.{numbered_on, between_begins}
 use Rattle.log_grammar.proofs.lemmas.many_sessions.OneReading.{nothing_begun, opened_numbered}
 use Rattle.log_grammar.proofs.lemmas.many_sessions.LinesOfNumber.{at_each, put_here, put_other}
-use Rattle.log_grammar.proofs.lemmas.ListEnds.{last_same, with_last, length-last}
+use Rattle.scram_text.proofs.lemmas.ListEnds.{last_same, with_last}
+use Rattle.log_grammar.proofs.lemmas.ListEnds.{length-last}
 use Rattle.log_grammar.proofs.lemmas.state_machine.StepKinds.{kind_of_step}
 
 -- a log of version 2 can be completed: some lines after it, each with its text, let it end
@@ -48,14 +50,14 @@ finished limit accounts log places told s ends = record {
   ends = ends;
 }
 
--- a log can be completed where one more line can be spelled and the log with it can be completed
+-- a log can be completed where one more line can be written and the log with it can be completed
 pub then : (limit : ℕ) (accounts : Accounts) (log : List (Numbered LogLine)) (n : ℕ) (line : LogLine) → IsSessionNumber n
     → MayHaveNumber line
-    → Spelt line
+    → IsWritable line
     → CompletesTwo limit accounts (log ++ numbered n line ∷ []) → CompletesTwo limit accounts log
-then limit accounts log n line number has s c =
+then limit accounts log n line number has written c =
     let x = numbered n line in
-    let is = numbered_written x number has (subst (λ (t : List ℕ). IsLogLine t line) s.is_line.spelled s.is_line) in
+    let is = numbered_written x number has written in
     record {
       texts = numbered_text x ∷ c.texts;
       more = x ∷ c.more;
@@ -96,7 +98,7 @@ close_number limit accounts n number (line ∷ more) log places told s free (pla
       goes = inl goes;
       due = subst (AreReplies (demands accounts) (reverse told)) (sym quiet) tt;
     }) in
-    then limit accounts log n line number plain.has_number plain.spelt
+    then limit accounts log n line number plain.has_number plain.writable
     (close_number limit accounts n number more longer (put n next places) (told ++ told_at (places n) line) s'
     (free_after log n line (plain.follow n)) (subst (λ (p : Place). Closes accounts p more) (sym (put_here n next places)) closes)
     (λ after_log after all r free' at others. on after_log after all r free' at
@@ -136,8 +138,8 @@ not_before_all limit d (suc k) (x ∷ log) p told short s =
     (λ m other at. earlier m (sym (b.others m other) ∙ at))
 
 -- the numbers that are open are in their range
-abbrev pub Ranged : (ℕ → Place) → Type 0
-Ranged places = (n : ℕ) → is_closed (places n) ≡ false → IsSessionNumber n
+abbrev pub OpenInRange : (ℕ → Place) → Type 0
+OpenInRange places = (n : ℕ) → is_closed (places n) ≡ false → IsSessionNumber n
 
 -- a log can be completed by a halt, where the place of some number allows it
 by_halt : (limit : ℕ) (accounts : Accounts) (log : List (Numbered LogLine)) (places : ℕ → Place) (told : List LoggedReply) (n : ℕ)
@@ -151,14 +153,14 @@ by_halt limit accounts log places told n number s free goes quiet =
       goes = inl goes;
       due = subst (AreReplies (demands accounts) (reverse told)) (sym quiet) tt;
     }) in
-    then limit accounts log n (said halt) number tt spelt_halt
+    then limit accounts log n (said halt) number tt halt_written
     (finished limit accounts (log ++ numbered n (said halt) ∷ []) (put n halted places) (told ++ told_at (places n) (said halt)) s'
     (inr (n, put_here n halted places)))
 
 -- where the numbers from one on are closed, the log is completed by closing those below it
 pub close_all : Ground → (limit : ℕ) (accounts : Accounts) → AllCanBeChallenged accounts
     → (k : ℕ) (log : List (Numbered LogLine)) (places : ℕ → Place) (told : List LoggedReply)
-    → SpellsNumbered limit (demands accounts) log places told → Free log → Ranged places → ((n : ℕ) → k ≤ n → places n ≡ between)
+    → SpellsNumbered limit (demands accounts) log places told → Free log → OpenInRange places → ((n : ℕ) → k ≤ n → places n ≡ between)
     → CompletesTwo limit accounts log
 close_all ground limit accounts fit zero log places told s free ranged closed = finished limit accounts log places told s
     (inl (λ n. closed n (omega arith)))
@@ -169,7 +171,7 @@ close_all ground limit accounts fit (suc k) log places told s free ranged closed
       | inr other ↦ others n other.1 ∙ closed n (omega (arith, most, other.1))
     ]
     in
-    let ranged_on : (p : ℕ → Place) → p k ≡ between → ((m : ℕ) → (k ≡ m → ⊥) → p m ≡ places m) → Ranged p =
+    let ranged_on : (p : ℕ → Place) → p k ≡ between → ((m : ℕ) → (k ≡ m → ⊥) → p m ≡ places m) → OpenInRange p =
     λ p at others. at_each (λ (m : ℕ). is_closed (p m) ≡ false → IsSessionNumber m) k
     (λ is. let wrong = sym (ap is_closed at) ∙ is in cc wrong)
     (λ m other is. ranged m (sym (ap is_closed (others m other)) ∙ is))

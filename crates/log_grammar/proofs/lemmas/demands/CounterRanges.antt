@@ -4,7 +4,7 @@ use Rattle.std.specs.declared.option.Option.TheVariants.{Some}
 use Rattle.std.proofs.Math.Nat.{div-le_self}
 use Rattle.otp_core.specs.Attempt.{Attempt, CodeTexts, OneText, TwoTexts}
 use Rattle.otp_core.specs.Ranges.{IsMoment}
-use Rattle.otp_core.specs.Settings.{IsInRange}
+use Rattle.otp_core.specs.TokenRanges.{IsInRange}
 use Rattle.otp_core.specs.Reply.{IsDueReply}
 use Rattle.otp_core.specs.declared.token.answer.Reply.{Reply}
 use Rattle.otp_core.specs.declared.token.answer.Reply.TheVariants.{Pass, Fail, Locked}

@@ -63,22 +63,22 @@ either_wrong_once one two first second differ once also (t ∷ before) text w v 
 either_wrong_once one two first second differ once also (t ∷ before) text w v (inr a) (inr b) = also (t ∷ before) text w v a.1 b.1
 
 -- whether lines that stand are a clean log is decided, where it is so in each kind
-ends_decided : (one two : LogKind) (first second : List ℕ) → AreApart one two first second → IsSound one → IsSound two
+decided_ends : (one two : LogKind) (first second : List ℕ) → AreApart one two first second → IsSound one → IsSound two
     → (texts : List (List ℕ)) → (either one two first second).MayBegin texts → Decided ((either one two first second).AreClean texts)
-ends_decided one two first second a s z [] stands =
+decided_ends one two first second a s z [] stands =
     inr (λ ends. elim ends [ inl none ↦ a.one_headed.none_end none | inr none ↦ a.two_headed.none_end none ])
-ends_decided one two first second a s z (t ∷ texts) (inl stands) =
+decided_ends one two first second a s z (t ∷ texts) (inl stands) =
     let is = head_is one first a.one_shorter a.one_headed t texts stands in
-    elim (s.ends_decided (t ∷ texts) stands) [
+    elim (s.decided_ends (t ∷ texts) stands) [
       | inl ends ↦ inl (inl ends)
       | inr none ↦ inr (λ ends. elim ends [
         | inl here ↦ none here
         | inr other ↦ a.differ (sym is ∙ head_is two second a.two_shorter a.two_headed t texts (z.ends_stand (t ∷ texts) other))
       ])
     ]
-ends_decided one two first second a s z (t ∷ texts) (inr stands) =
+decided_ends one two first second a s z (t ∷ texts) (inr stands) =
     let is = head_is two second a.two_shorter a.two_headed t texts stands in
-    elim (z.ends_decided (t ∷ texts) stands) [
+    elim (z.decided_ends (t ∷ texts) stands) [
       | inl ends ↦ inl (inr ends)
       | inr none ↦ inr (λ ends. elim ends [
         | inl other ↦ a.differ (sym (head_is one first a.one_shorter a.one_headed t texts (s.ends_stand (t ∷ texts) other)) ∙ is)
@@ -126,7 +126,7 @@ either_sound one two first second a s z = record {
   nothing = inl s.nothing;
   shorter = either_shorter one two first second s.shorter z.shorter;
   ends_stand = either_ends_stand one two first second s.ends_stand z.ends_stand;
-  ends_decided = ends_decided one two first second a s z;
+  decided_ends = decided_ends one two first second a s z;
   wrong_once = either_wrong_once one two first second a.differ s.wrong_once z.wrong_once;
   judged = judged one two first second a s z;
 }

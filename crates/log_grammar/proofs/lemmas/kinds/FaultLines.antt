@@ -9,8 +9,8 @@ use Rattle.log_grammar.specs.Bytes.{LacksLf, ended_by_lf, IsSplit}
 use Rattle.log_grammar.specs.Why.{Why}
 use Rattle.log_grammar.specs.LogKinds.{LogKind, IsFrontOf, IsCleanOf, IsFaultLineOf, IsWrongNextOf, IsWhyOf, BeginsCleanOf}
 use Rattle.log_grammar.specs.LogKinds.{IsFirstOutsideCleanLogsOf}
-use Rattle.log_grammar.proofs.lemmas.lines.Cuts.{cut_one_way, cut_on, first_lack, up_to, whole}
-use Rattle.log_grammar.proofs.lemmas.ListEnds.{with_next, parted}
+use Rattle.log_grammar.proofs.lemmas.lines.Cuts.{cut_one_way, cut_on, up_to, whole}
+use Rattle.log_grammar.proofs.lemmas.ListEnds.{with_next, parted, each_first}
 use Rattle.log_grammar.proofs.lemmas.kinds.Judged.{IsShortened, EndsStand, first_stand, front_stands, front_at, fronts_front, text_at_fault}
 
 -- each front of the kind begins a clean log
@@ -44,7 +44,7 @@ those_begin kind completes texts j first same front =
 record IsFaultAmong (kind : LogKind) (bytes : List ℕ) (texts : List (List ℕ)) (k : ℕ) : Type 0 where
   below : (j : ℕ) → j < k → IsFrontOf kind (ended_by_lf (take j texts))
   within : k ≤ length texts → IsFrontOf kind (ended_by_lf (take k texts)) → ⊥
-  past : k ≤ length texts + 1
+  at_most : k ≤ length texts + 1
   unclean : k ≡ length texts + 1 → IsCleanOf kind bytes → ⊥
 
 -- a fault line of bytes is one among the lines that the bytes are cut into
@@ -52,8 +52,8 @@ among_these : (kind : LogKind) (bytes : List ℕ) (texts : List (List ℕ)) (res
     → IsFaultLineOf kind bytes k
     → IsFaultAmong kind bytes texts k
 among_these kind bytes texts rest k cut f =
-    subst (λ (ts : List (List ℕ)). IsFaultAmong kind bytes ts k) (cut_one_way bytes f.texts texts f.rest rest f.cut cut).0
-    (record { below = f.below; within = f.within; past = f.past; unclean = f.unclean })
+    subst (λ (ts : List (List ℕ)). IsFaultAmong kind bytes ts k) (cut_one_way bytes f.texts texts f.rest rest f.are_split cut).0
+    (record { below = f.below; within = f.within; at_most = f.at_most; unclean = f.unclean })
 
 -- a fault line that is one of the whole lines is the first that begins no clean log
 at_line : (kind : LogKind) → IsShortened kind → EndsStand kind → FrontsBeginCleanOf kind
@@ -93,7 +93,7 @@ of_fault kind nothing shorter stand completes bytes texts rest (suc n) cut f = e
       let (before, text, more, same, at) = parted texts n less in
       at_line kind shorter stand completes bytes texts rest (suc n) cut f before text more same (omega (arith, at))
   | inr not ↦
-      let last : suc n ≡ length texts + 1 = omega (arith, not, f.past) in
+      let last : suc n ≡ length texts + 1 = omega (arith, not, f.at_most) in
       let all = f.below (length texts) (omega (arith, last)) in
       inr (last, those_begin kind completes texts (length texts) texts (take-length texts) all, f.unclean last)
 ]
@@ -106,18 +106,18 @@ fault_at_line : (kind : LogKind) → IsShortened kind → EndsStand kind → Fro
 fault_at_line kind shorter stand completes bytes before text more rest cut begins none =
     let texts = before ++ text ∷ more in
     let long : length texts ≡ length before + suc (length more) = length-append before (text ∷ more) in
-    let lack = first_lack before (text ∷ more) cut.lines in
+    let lack = each_first LacksLf before (text ∷ more) cut.lines in
     let stands = begun_stand kind shorter stand (ended_by_lf before) before (whole before lack) begins in
     record {
       texts = texts;
       rest = rest;
-      cut = cut;
+      are_split = cut;
       below = λ j less. subst (λ (ts : List (List ℕ)). IsFrontOf kind (ended_by_lf ts))
           (sym (take-append-le j before (text ∷ more) (omega (arith, less))))
           (fronts_front kind shorter (ended_by_lf before) before j (front_at kind before lack stands) (whole before lack));
       within = λ few front. none (those_begin kind completes texts (length before + 1) (before ++ text ∷ [])
           (with_next before text more) front);
-      past = omega (arith, long);
+      at_most = omega (arith, long);
       unclean = λ last clean. omega (arith, last, long);
     }
 
@@ -131,10 +131,10 @@ fault_at_end kind shorter stand bytes texts rest cut begins unclean =
     record {
       texts = texts;
       rest = rest;
-      cut = cut;
+      are_split = cut;
       below = λ j less. fronts_front kind shorter (ended_by_lf texts) texts j (texts, all, stands) all;
       within = λ few front. omega (arith, few);
-      past = omega arith;
+      at_most = omega arith;
       unclean = λ last. unclean;
     }
 
@@ -171,12 +171,12 @@ at_text kind bytes before text more rest why cut w =
     let texts = before ++ text ∷ more in
     let with = before ++ text ∷ [] in
     let long : length texts ≡ length before + suc (length more) = length-append before (text ∷ more) in
-    let lack = first_lack before (text ∷ more) cut.lines in
+    let lack = each_first LacksLf before (text ∷ more) cut.lines in
     let lacks = up_to before text more cut.lines in
     let f = among_these kind bytes texts rest (length before + 1) cut w.fault in
     let front = subst (λ (ts : List (List ℕ)). IsFrontOf kind (ended_by_lf ts)) (take-append_seam before (text ∷ more))
     (f.below (length before) (omega arith)) in
-    let same = (cut_one_way bytes w.fault.texts texts w.fault.rest rest w.fault.cut cut).0 in
+    let same = (cut_one_way bytes w.fault.texts texts w.fault.rest rest w.fault.are_split cut).0 in
     let at : w.before ≡ length before = omega (arith, w.this) in
     let wrong = subst (λ (n : ℕ). IsWrongNextOf kind (take n w.fault.texts) (drop n w.fault.texts) w.fault.rest why) at w.wrong in
     let here = subst (λ (ts : List (List ℕ)). IsWrongNextOf kind (take (length before) ts)
@@ -235,7 +235,7 @@ after_last kind bytes texts rest why cut w =
     let f = among_these kind bytes texts rest (length texts + 1) cut w.fault in
     let front = subst (λ (ts : List (List ℕ)). IsFrontOf kind (ended_by_lf ts)) (take-length texts)
     (f.below (length texts) (omega arith)) in
-    let same = cut_one_way bytes w.fault.texts texts w.fault.rest rest w.fault.cut cut in
+    let same = cut_one_way bytes w.fault.texts texts w.fault.rest rest w.fault.are_split cut in
     let at : w.before ≡ length texts = omega (arith, w.this) in
     let wrong = subst (λ (n : ℕ). IsWrongNextOf kind (take n w.fault.texts) (drop n w.fault.texts) w.fault.rest why) at w.wrong in
     let here = subst (λ (ts : List (List ℕ)). IsWrongNextOf kind (take (length texts) ts)

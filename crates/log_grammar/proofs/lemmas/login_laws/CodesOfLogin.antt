@@ -7,11 +7,12 @@ use Rattle.log_grammar.specs.Lines.{LogLine, header, said, heard, mechs, cont, a
 use Rattle.log_grammar.specs.LoggedReply.{LoggedReply}
 use Rattle.log_grammar.specs.Places.{got_code}
 use Rattle.log_grammar.specs.Demands.{Accounts, IsFirstOf, demands}
-use Rattle.log_grammar.specs.Sessions.{closing, Farewell, parting, Quit, quitting, AfterOk, after_ok, AfterFinal, after_final, AfterChallenge}
-use Rattle.log_grammar.specs.Sessions.{after_challenge, AfterFirst, after_first, Session, session_lines, session_place, SessionMeets, silent}
-use Rattle.log_grammar.specs.Sessions.{farewell, goes_away, aborts, sends_bad, no_code, quits_codes, asked, replied, halted_at, unjudged, denied}
-use Rattle.log_grammar.specs.Sessions.{granted, no_proof, quits_proof, proves, no_answer, refused, challenged, no_first, quits_first}
-use Rattle.log_grammar.specs.Sessions.{begins, no_word, unoffered, invited, no_login, quits_login, with_first, without_first, session}
+use Rattle.log_grammar.specs.Sessions.{closing, Farewell, parting, Quit, quitting, AfterOk, after_ok, AfterFinal, after_final}
+use Rattle.log_grammar.specs.Sessions.{AfterChallenge, after_challenge, AfterFirst, after_first, Session, session_lines, session_place}
+use Rattle.log_grammar.specs.Sessions.{SessionMeets, no_farewell, farewell, goes_away, aborts, sends_bad, no_code, quits_codes, unreplied}
+use Rattle.log_grammar.specs.Sessions.{replied, halted_at, no_verdict, denied, granted, no_final, quits_final, sends_final, no_answer}
+use Rattle.log_grammar.specs.Sessions.{refused, challenged, no_first, quits_first, sends_first, no_invitation, unoffered, invited, no_login}
+use Rattle.log_grammar.specs.Sessions.{quits_login, with_first, without_first, session}
 use Rattle.log_grammar.specs.Begins.{place_after}
 use Rattle.log_grammar.specs.laws.BySessions.{HasFirst, IsLoginOf, EachCodeIsOfItsLogin, EndsInLoginOf, EachReplyDueFollowsItsLogin}
 use Rattle.log_grammar.proofs.lemmas.demands.Challenges.{login_of}
@@ -22,7 +23,7 @@ of_closing P true = tt
 of_closing P false = tt
 
 of_farewell : (P : LoggedReply → Type 0) (f : Farewell) → AllByRecursion P (parting f).told
-of_farewell P silent = tt
+of_farewell P no_farewell = tt
 of_farewell P (farewell text closed) = tt
 
 of_quit : (P : LoggedReply → Type 0) (q : Quit) → AllByRecursion P (quitting q).told
@@ -38,20 +39,20 @@ AllOf account told = AllByRecursion (λ t. t.account ≡ account) told
 by_codes : (account : List ℕ) (c : AfterOk) → AllOf account (after_ok account c).told
 by_codes account no_code = tt
 by_codes account (quits_codes q) = of_quit (λ t. t.account ≡ account) q
-by_codes account (asked sent) = tt
+by_codes account (unreplied sent) = tt
 by_codes account (replied sent moment reply more) = (refl, by_codes account more)
 by_codes account (halted_at sent) = tt
 
 by_judgement : (m account first challenge last : List ℕ) (j : AfterFinal)
     → AllOf account (after_final m account first challenge last j).told
-by_judgement m account first challenge last unjudged = tt
+by_judgement m account first challenge last no_verdict = tt
 by_judgement m account first challenge last (denied text closed) = tt
 by_judgement m account first challenge last (granted text c) = by_codes account c
 
 by_proof : (m account first challenge : List ℕ) (p : AfterChallenge) → AllOf account (after_challenge m account first challenge p).told
-by_proof m account first challenge no_proof = tt
-by_proof m account first challenge (quits_proof q) = of_quit (λ t. t.account ≡ account) q
-by_proof m account first challenge (proves last j) = by_judgement m account first challenge last j
+by_proof m account first challenge no_final = tt
+by_proof m account first challenge (quits_final q) = of_quit (λ t. t.account ≡ account) q
+by_proof m account first challenge (sends_final last j) = by_judgement m account first challenge last j
 
 -- where all replies are to the login's account, each code is of the login
 each_of : (s : Session) (mechanism first account : List ℕ) (told : List LoggedReply) → HasFirst s mechanism first
@@ -81,14 +82,14 @@ each_code accounts (session names (quits_login q)) meets = of_quit (λ t. IsLogi
 each_code accounts (session names (with_first m first a)) meets =
     by_answer accounts (session names (with_first m first a)) m first a
     (names, heard (auth_with m first) ∷ [], (after_first m first a).lines, inl refl, refl) meets.1
-each_code accounts (session names (without_first m no_word)) meets = tt
+each_code accounts (session names (without_first m no_invitation)) meets = tt
 each_code accounts (session names (without_first m (unoffered text closed))) meets = tt
 each_code accounts (session names (without_first m (invited text no_first))) meets = tt
 each_code accounts (session names (without_first m (invited text (quits_first q)))) meets =
     of_quit (λ t. IsLoginOf (session names (without_first m (invited text (quits_first q)))) t.account) q
-each_code accounts (session names (without_first m (invited text (begins first a)))) meets =
+each_code accounts (session names (without_first m (invited text (sends_first first a)))) meets =
     let lines = λ (t : List ℕ). said (mechs names) ∷ heard (auth m) ∷ said (cont t) ∷ heard (resp first) ∷ (after_first m first a).lines in
-    by_answer accounts (session names (without_first m (invited text (begins first a)))) m first a (
+    by_answer accounts (session names (without_first m (invited text (sends_first first a)))) m first a (
       names,
       heard (auth m) ∷ said (cont []) ∷ heard (resp first)
           ∷ [],
@@ -99,7 +100,7 @@ each_code accounts (session names (without_first m (invited text (begins first a
 
 -- after a client that ends the session no code waits for its reply:
 farewell_no_code : (f : Farewell) (account : List ℕ) (sent : CodeTexts) → (parting f).place ≡ got_code account sent → ⊥
-farewell_no_code silent account sent e = cc e
+farewell_no_code no_farewell account sent e = cc e
 farewell_no_code (farewell message true) account sent e = cc e
 farewell_no_code (farewell message false) account sent e = cc e
 
@@ -114,23 +115,23 @@ last_code : (own : List ℕ) (c : AfterOk) (account : List ℕ) (sent : CodeText
     → own ≡ account
 last_code own no_code account sent e = absurd (cc e)
 last_code own (quits_codes q) account sent e = absurd (quit_no_code q account sent e)
-last_code own (asked word) account sent e = cc e
+last_code own (unreplied word) account sent e = cc e
 last_code own (replied word moment reply more) account sent e = last_code own more account sent e
 last_code own (halted_at word) account sent e = absurd (cc e)
 
 last_judged : (m own first challenge last : List ℕ) (j : AfterFinal) (account : List ℕ) (sent : CodeTexts)
     → (after_final m own first challenge last j).place ≡ got_code account sent
     → own ≡ account
-last_judged m own first challenge last unjudged account sent e = absurd (cc e)
+last_judged m own first challenge last no_verdict account sent e = absurd (cc e)
 last_judged m own first challenge last (denied message true) account sent e = absurd (cc e)
 last_judged m own first challenge last (denied message false) account sent e = absurd (cc e)
 last_judged m own first challenge last (granted message c) account sent e = last_code own c account sent e
 
 last_proved : (m own first challenge : List ℕ) (p : AfterChallenge) (account : List ℕ) (sent : CodeTexts)
     → (after_challenge m own first challenge p).place ≡ got_code account sent → own ≡ account
-last_proved m own first challenge no_proof account sent e = absurd (cc e)
-last_proved m own first challenge (quits_proof q) account sent e = absurd (quit_no_code q account sent e)
-last_proved m own first challenge (proves last j) account sent e = last_judged m own first challenge last j account sent e
+last_proved m own first challenge no_final account sent e = absurd (cc e)
+last_proved m own first challenge (quits_final q) account sent e = absurd (quit_no_code q account sent e)
+last_proved m own first challenge (sends_final last j) account sent e = last_judged m own first challenge last j account sent e
 
 -- a code that waits for its reply is of the account that the client-first message names
 last_answered : (accounts : Accounts) (m first : List ℕ) (a : AfterFirst) (account : List ℕ) (sent : CodeTexts)
@@ -161,13 +162,13 @@ login_at accounts (session names (with_first m first a)) account sent meets e = 
   ),
   last_answered accounts m first a account sent meets.1 e,
 )
-login_at accounts (session names (without_first m no_word)) account sent meets e = absurd (cc e)
+login_at accounts (session names (without_first m no_invitation)) account sent meets e = absurd (cc e)
 login_at accounts (session names (without_first m (unoffered message true))) account sent meets e = absurd (cc e)
 login_at accounts (session names (without_first m (unoffered message false))) account sent meets e = absurd (cc e)
 login_at accounts (session names (without_first m (invited message no_first))) account sent meets e = absurd (cc e)
 login_at accounts (session names (without_first m (invited message (quits_first q)))) account sent meets e = absurd
     (quit_no_code q account sent e)
-login_at accounts (session names (without_first m (invited message (begins first a)))) account sent meets e =
+login_at accounts (session names (without_first m (invited message (sends_first first a)))) account sent meets e =
     let lines = λ (t : List ℕ). said (mechs names) ∷ heard (auth m) ∷ said (cont t) ∷ heard (resp first)
     ∷ (after_first m first a).lines in (
       m,

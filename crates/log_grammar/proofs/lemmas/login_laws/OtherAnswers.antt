@@ -9,12 +9,13 @@ use Rattle.scram_ends.specs.Laws.{AcceptsExactlyValid}
 use Rattle.otp_core.specs.Attempt.{CodeTexts}
 use Rattle.otp_core.specs.Ranges.{IsMoment}
 use Rattle.otp_core.specs.declared.token.answer.Reply.{Reply}
-use Rattle.log_grammar.specs.Lines.{header, said, heard, refuses, replies, asking, log_line_text, IsReplyInRange, IsClientInRange, IsLogLine}
+use Rattle.log_grammar.specs.Lines.{header, said, heard, refuses, replies, asking, log_line_text, IsReplyInRange, IsClientInRange}
+use Rattle.log_grammar.specs.Lines.{IsLogLine}
 use Rattle.log_grammar.specs.Places.{got_final, got_code}
 use Rattle.log_grammar.specs.Demands.{Accounts, IsReplyDueBy}
 use Rattle.log_grammar.specs.Why.{other_outcome, other_reply, accepted, of_login_answers, of_replies}
 use Rattle.log_grammar.specs.Versions.{IsWhy}
-use Rattle.log_grammar.specs.Upgrades.{original_text}
+use Rattle.log_grammar.specs.Upgrades.{original_bytes}
 use Rattle.log_grammar.specs.laws.Logins.{Exchange, IsLoginTo, login_session, tried_session, RefusedLoginsAreAtFault}
 use Rattle.log_grammar.specs.laws.Logins.{OtherRepliesAreAtFault}
 use Rattle.log_grammar.proofs.lemmas.state_machine.DueClasses.{classes_due}
@@ -28,7 +29,7 @@ refused_by : Known → AcceptsExactlyValid → (accounts : Accounts) (m : Mechan
     → IsLoginTo accounts (name_of m) name exchange
     → IsLogLine (log_line_text (said (refuses message))) (said (refuses message))
     → (signature : List ℕ) × IsAuthentic exchange.server_final signature
-    × IsWhy accounts (original_text (tried_session (name_of m) exchange ++ said (refuses message) ∷ [])) 6
+    × IsWhy accounts (original_bytes (tried_session (name_of m) exchange ++ said (refuses message) ∷ [])) 6
     (other_outcome (accepted signature))
 refused_by known valid accounts m name exchange message l is =
     let (signature, due, authentic) = granted valid accounts (name_of m) name exchange l in
@@ -46,10 +47,10 @@ refused_by known valid accounts m name exchange message l is =
     )
 
 -- the law: a valid login that a log of version 1 has as refused is at fault at the `S NO`, and the reason names the acceptance due
-pub refused_logins : Known → AcceptsExactlyValid → RefusedLoginsAreAtFault original_text
+pub refused_logins : Known → AcceptsExactlyValid → RefusedLoginsAreAtFault original_bytes
 refused_logins known valid accounts mechanism name exchange message l is =
     subst (λ (mech : List ℕ). (signature : List ℕ) × IsAuthentic exchange.server_final signature
-    × IsWhy accounts (original_text (tried_session mech exchange ++ said (refuses message) ∷ [])) 6 (other_outcome (accepted signature)))
+    × IsWhy accounts (original_bytes (tried_session mech exchange ++ said (refuses message) ∷ [])) 6 (other_outcome (accepted signature)))
     (sym l.offered)
     (refused_by known valid accounts l.m name exchange message (by_name accounts mechanism name exchange l) is)
 
@@ -58,7 +59,7 @@ answered_by : Known → AcceptsExactlyValid
     → (accounts : Accounts) (m : Mechanism) (name : List ℕ) (exchange : Exchange) (sent : CodeTexts) (moment : ℕ) (reply due : Option Reply)
     → IsLoginTo accounts (name_of m) name exchange → IsClientInRange (asking sent) → IsMoment moment → IsReplyInRange reply
     → IsReplyDueBy (accounts.token name) [] moment sent due → (reply ≡ due → ⊥)
-    → IsWhy accounts (original_text (login_session (name_of m) exchange ++ heard (asking sent) ∷ said (replies moment reply) ∷ [])) 8
+    → IsWhy accounts (original_bytes (login_session (name_of m) exchange ++ heard (asking sent) ∷ said (replies moment reply) ∷ [])) 8
     (other_reply moment due)
 answered_by known valid accounts m name exchange sent moment reply due l is at range by other =
     let lead = lead_asked valid accounts m name exchange sent l is in
@@ -71,10 +72,10 @@ answered_by known valid accounts m name exchange sent moment reply due l is at r
     (inr ((classes_due accounts _ place [] of_replies lead.begins).1 refl, place, [], lead.begins, (due, by, refl)))
 
 -- the law: a code after a valid login is at fault where a log of version 1 has another reply than the one due, which the reason names
-pub other_replies : Known → AcceptsExactlyValid → OtherRepliesAreAtFault original_text
+pub other_replies : Known → AcceptsExactlyValid → OtherRepliesAreAtFault original_bytes
 other_replies known valid accounts mechanism name exchange sent moment reply due l is at range by other =
     subst (λ (mech : List ℕ). IsWhy accounts
-    (original_text (login_session mech exchange ++ heard (asking sent) ∷ said (replies moment reply) ∷ [])) 8 (other_reply moment due))
+    (original_bytes (login_session mech exchange ++ heard (asking sent) ∷ said (replies moment reply) ∷ [])) 8 (other_reply moment due))
     (sym l.offered)
     (answered_by known valid accounts l.m name exchange sent moment reply due
     (by_name accounts mechanism name exchange l) is at range by other)

@@ -8,7 +8,7 @@ use Rattle.log_grammar.specs.Lines.{LogLine, said, busy}
 use Rattle.log_grammar.specs.LoggedReply.{LoggedReply}
 use Rattle.log_grammar.specs.Places.{Place}
 use Rattle.log_grammar.specs.Demands.{Demands, no_demands}
-use Rattle.log_grammar.specs.Numbered.{Numbered, numbered, of_number, Visit, let_in, sent_away, visit_part, SpellsNumbered}
+use Rattle.log_grammar.specs.Numbered.{Numbered, numbered, of_number, Visit, let_in, turned_away, visit_part, SpellsNumbered}
 use Rattle.log_grammar.proofs.lemmas.state_machine.DemandsAside.{bare, bare_place, bare_told, IsBareOf, bare_line, bare_closing, of_session}
 use Rattle.log_grammar.proofs.lemmas.state_machine.DemandsAside.{no_demand}
 use Rattle.log_grammar.proofs.lemmas.many_sessions.NumberedReplies.{numbers_of, values_of}
@@ -17,13 +17,13 @@ use Rattle.log_grammar.proofs.lemmas.many_sessions.NumberedReplies.{numbers_of, 
 abbrev bare_visit : Option Visit → Option Visit
 bare_visit None = None
 bare_visit (Some (let_in s)) = Some (let_in (bare s))
-bare_visit (Some (sent_away closed)) = Some (sent_away closed)
+bare_visit (Some (turned_away closed)) = Some (turned_away closed)
 
 -- what a number stands for is the same with no account named
 of_visit : (p : Option Visit) → IsBareOf (visit_part (bare_visit p)) (visit_part p)
 of_visit None = record { lines = refl; place = refl; told = refl; meets = tt }
 of_visit (Some (let_in s)) = of_session s
-of_visit (Some (sent_away closed)) = bare_line (said busy) _ _ (bare_closing closed)
+of_visit (Some (turned_away closed)) = bare_line (said busy) _ _ (bare_closing closed)
 
 -- replies, each with its number, with no account named
 abbrev bare_numbered : List (Numbered LoggedReply) → List (Numbered LoggedReply)

@@ -11,23 +11,24 @@ use Rattle.log_grammar.specs.state_machine.Steps.{IsTransition, told_at}
 use Rattle.log_grammar.specs.Numbered.{Numbered, numbered, of_number, is_reply, reply_numbers}
 use Rattle.log_grammar.specs.state_machine.NumberedSteps.{IsVisitTransition}
 use Rattle.log_grammar.proofs.lemmas.many_sessions.LinesOfNumber.{of_number_append, same_numbered}
-use Rattle.log_grammar.proofs.lemmas.ListEnds.{some_last, last_same, with_last}
+use Rattle.scram_text.proofs.lemmas.ListEnds.{some_last, last_same, with_last}
 
 -- a line tells of a code exactly where it is a reply
-abbrev pub Tells : Place → LogLine → Type 0
-Tells place line = ((told_at place line ≡ []) × (is_reply line ≡ false))
+abbrev pub TellsOfReply : Place → LogLine → Type 0
+TellsOfReply place line = ((told_at place line ≡ []) × (is_reply line ≡ false))
     ⊎ ((t : LoggedReply) × (told_at place line ≡ t ∷ []) × (is_reply line ≡ true))
 
 -- a line that may stand at a session's place tells of one code where it is a reply, and else of none
-telling : (d : Demands) (place : Place) (line : LogLine) (next : Place) → IsTransition d place line next → Tells place line
-telling d (got_code account sent) (said (replies moment reply)) next h = inr (logged_reply_of account moment sent reply, refl, refl)
-telling d place (said (replies moment reply)) next h = absurd h
-telling d place line next h = inl (refl, refl)
+told_of_reply : (d : Demands) (place : Place) (line : LogLine) (next : Place) → IsTransition d place line next → TellsOfReply place line
+told_of_reply d (got_code account sent) (said (replies moment reply)) next h = inr (logged_reply_of account moment sent reply, refl, refl)
+told_of_reply d place (said (replies moment reply)) next h = absurd h
+told_of_reply d place line next h = inl (refl, refl)
 
 -- a line that may stand at a number's place tells of one code where it is a reply, and else of none
-pub telling_in : (d : Demands) (place : Place) (line : LogLine) (next : Place) → IsVisitTransition d place line next → Tells place line
-telling_in d place line next (inl h) = telling d place line next h
-telling_in d place line next (inr b) = inl (ap (λ (p : Place). told_at p line) b.0, ap is_reply b.1)
+pub told_of_reply_in_number : (d : Demands) (place : Place) (line : LogLine) (next : Place) → IsVisitTransition d place line next
+    → TellsOfReply place line
+told_of_reply_in_number d place line next (inl h) = told_of_reply d place line next h
+told_of_reply_in_number d place line next (inr b) = inl (ap (λ (p : Place). told_at p line) b.0, ap is_reply b.1)
 
 -- what was told, each with this number
 abbrev pub numbered_told_of : ℕ → List LoggedReply → List (Numbered LoggedReply)
@@ -47,7 +48,7 @@ values_numbered n [] = refl
 values_numbered n (t ∷ told) = ap (λ l. t ∷ l) (values_numbered n told)
 
 -- what a line tells has the number of the line, where the line is a reply
-pub numbers_told : (n : ℕ) (place : Place) (line : LogLine) → Tells place line
+pub numbers_told : (n : ℕ) (place : Place) (line : LogLine) → TellsOfReply place line
     → numbers_of (numbered_told_of n (told_at place line)) ≡ reply_numbers (numbered n line ∷ [])
 numbers_told n place line (inl none) = rw (none.0, none.1) refl
 numbers_told n place line (inr one) = rw (one.1, one.2) refl
@@ -112,7 +113,7 @@ told_before_one n t (m ∷ numbered_told) numbers before order mine =
 
 -- what was told is what was told before a line, and then what the line tells
 pub told_before_line : (n : ℕ) (place : Place) (line : LogLine) (numbered_told : List (Numbered LoggedReply)) (numbers : List ℕ)
-    (before : List LoggedReply) → Tells place line
+    (before : List LoggedReply) → TellsOfReply place line
     → numbers_of numbered_told ≡ numbers ++ reply_numbers (numbered n line ∷ []) → of_number n numbered_told ≡ before ++ told_at place line
     → ToldBefore n numbered_told numbers before (told_at place line)
 told_before_line n place line numbered_told numbers before (inl none) order mine =

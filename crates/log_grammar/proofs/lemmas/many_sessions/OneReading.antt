@@ -2,32 +2,29 @@
 -- the lines of this number alone.
 use Rattle.std.proofs.Common.{◌≡◌, inl, inr, ℕ, zero, suc, ◌≤◌, List, [], ◌∷◌, ◌++◌, length, reverse, refl, sym, ◌∙◌, ap, subst, arith}
 use Rattle.std.proofs.Common.{append_assoc, append-nil}
-use Rattle.log_grammar.specs.Lines.{LogLine, said, busy}
+use Rattle.log_grammar.specs.Lines.{LogLine}
 use Rattle.log_grammar.specs.LoggedReply.{LoggedReply}
 use Rattle.log_grammar.specs.Places.{Place, between}
 use Rattle.log_grammar.specs.Demands.{Demands, AreReplies}
 use Rattle.log_grammar.specs.state_machine.Steps.{IsTransition, told_at}
 use Rattle.log_grammar.specs.Numbered.{Numbered, SpellsNumbered}
 use Rattle.log_grammar.specs.state_machine.NumberedSteps.{IsVisitTransition, IsNumberedTransition}
+use Rattle.log_grammar.proofs.lemmas.many_sessions.HaltAndBusy.{no_busy_line}
 use Rattle.log_grammar.proofs.lemmas.many_sessions.WithoutLast.{numbered_before}
 use Rattle.log_grammar.proofs.lemmas.many_sessions.NumberedReplies.{values_of, none_numbered}
 use Rattle.log_grammar.proofs.lemmas.demands.StillChallenged.{Opened, opened_by}
 use Rattle.log_grammar.proofs.lemmas.many_sessions.LinesOfNumber.{at_each}
 use Rattle.log_grammar.proofs.lemmas.state_machine.OneReading.{OneAccount, goes_once, told_same}
-use Rattle.log_grammar.proofs.lemmas.ListEnds.{with_last, length-last}
+use Rattle.scram_text.proofs.lemmas.ListEnds.{with_last}
+use Rattle.log_grammar.proofs.lemmas.ListEnds.{length-last}
 use Rattle.log_grammar.proofs.lemmas.many_sessions.Visits.{no_lines_at}
-
--- no session begins with BUSY
-no_busy : (d : Demands) (at next : Place) (line : LogLine) → at ≡ between → line ≡ said busy → IsTransition d at line next → ⊥
-no_busy d at next line between_is busy_is h =
-    subst (λ (l : LogLine). IsTransition d between l next) busy_is (subst (λ (p : Place). IsTransition d p line next) between_is h)
 
 -- a line leads from a number's place to one place
 pub goes_in_once : (d : Demands) → OneAccount d → (at : Place) (line : LogLine) (p q : Place) → IsVisitTransition d at line p
     → IsVisitTransition d at line q → p ≡ q
 goes_in_once d one at line p q (inl h) (inl k) = goes_once d one at line p q h k
-goes_in_once d one at line p q (inl h) (inr b) = absurd (no_busy d at p line b.0 b.1 h)
-goes_in_once d one at line p q (inr b) (inl k) = absurd (no_busy d at q line b.0 b.1 k)
+goes_in_once d one at line p q (inl h) (inr b) = absurd (no_busy_line d at p (subst (λ (l : LogLine). IsTransition d at l p) b.1 h))
+goes_in_once d one at line p q (inr b) (inl k) = absurd (no_busy_line d at q (subst (λ (l : LogLine). IsTransition d at l q) b.1 k))
 goes_in_once d one at line p q (inr b) (inr c) = b.2 ∙ sym c.2
 
 -- where there is no line, no session is open and nothing was told
@@ -64,20 +61,42 @@ numbered_once limit d one (suc k) (x ∷ log) p q told other short s r =
       a.tells ∙ told_same a.told b.told (a.before n) (b.before n) line line earlier.1 (earlier.0 n) refl ∙ sym b.tells,
     )
 
--- the first lines of a log of version 2 are such a log
-pub numbered_front : (limit : ℕ) (d : Demands) (k : ℕ) (log more : List (Numbered LogLine)) (p : ℕ → Place) (told : List LoggedReply)
+-- these lines are a log of version 2, and what was told in them is the first of what was told in all
+pub record Front (limit : ℕ) (d : Demands) (log : List (Numbered LogLine)) (told : List LoggedReply) : Type 0 where
+  pub places : ℕ → Place
+  pub earlier : List LoggedReply
+  pub rest : List LoggedReply
+  pub spells : SpellsNumbered limit d log places earlier
+  pub tells : told ≡ earlier ++ rest
+
+-- the first lines of a log of version 2 are such a log, and what was told in them comes first
+pub told_front : (limit : ℕ) (d : Demands) (k : ℕ) (log more : List (Numbered LogLine)) (p : ℕ → Place) (told : List LoggedReply)
     → length more ≤ k
-    → SpellsNumbered limit d (log ++ more) p told → (q : ℕ → Place) × (other : List LoggedReply) × SpellsNumbered limit d log q other
-numbered_front limit d k log [] p told short s =
-    (p, told, subst (λ (l : List (Numbered LogLine)). SpellsNumbered limit d l p told) (append-nil log) s)
-numbered_front limit d zero log (x ∷ more) p told short s = absurd (omega (arith, short))
-numbered_front limit d (suc k) log (x ∷ more) p told short s =
+    → SpellsNumbered limit d (log ++ more) p told → Front limit d log told
+told_front limit d k log [] p told short s = record {
+  places = p;
+  earlier = told;
+  rest = [];
+  spells = subst (λ (l : List (Numbered LogLine)). SpellsNumbered limit d l p told) (append-nil log) s;
+  tells = sym (append-nil told);
+}
+told_front limit d zero log (x ∷ more) p told short s = absurd (omega (arith, short))
+told_front limit d (suc k) log (x ∷ more) p told short s =
     let last = with_last x more in
+    let n = last.1.number in
     let shorter : length last.0 ≤ k = omega (arith, short, ap length last.2, length-last last.0 last.1) in
     let moved = ap (λ (l : List (Numbered LogLine)). log ++ l) last.2 ∙ sym (append_assoc log last.0 (last.1 ∷ [])) in
-    let b = numbered_before limit d (log ++ last.0) last.1.number last.1.value p told
+    let b = numbered_before limit d (log ++ last.0) n last.1.value p told
     (subst (λ (l : List (Numbered LogLine)). SpellsNumbered limit d l p told) moved s) in
-    numbered_front limit d k log last.0 b.before b.told shorter b.spells
+    let f = told_front limit d k log last.0 b.before b.told shorter b.spells in
+    let this = told_at (b.before n) last.1.value in
+    record {
+      places = f.places;
+      earlier = f.earlier;
+      rest = f.rest ++ this;
+      spells = f.spells;
+      tells = b.tells ∙ ap (λ (t : List LoggedReply). t ++ this) f.tells ∙ append_assoc f.earlier f.rest this;
+    }
 
 -- where the place of a number has a challenge that meets its demand, so has the place to which a line leads from there
 opened_in : (d : Demands) (at : Place) (line : LogLine) (next : Place) → Opened d at → IsVisitTransition d at line next → Opened d next
@@ -100,7 +119,7 @@ opened_numbered limit d (suc k) (x ∷ log) p told short s =
     at_each (λ (m : ℕ). Opened d (p m)) n (opened_in d (b.before n) last.1.value (p n) (earlier n) b.goes.goes)
     (λ m differ. subst (Opened d) (sym (b.others m differ)) (earlier m))
 
--- whether a number may have a line depends on its own place, and on what was told
+-- a line that a number may have in a log it may have whatever the places of the others, where its own place and what was told are the same
 pub goes_moved : (limit : ℕ) (d : Demands) (log : List (Numbered LogLine)) (places other : ℕ → Place) (told also : List LoggedReply) (n : ℕ)
     (line : LogLine) (to : Place)
     → IsNumberedTransition limit d log places told n line to → places n ≡ other n → told ≡ also

@@ -9,7 +9,8 @@ use Rattle.log_grammar.specs.Numbered.{Numbered, Visit, of_number, visit_lines, 
 use Rattle.log_grammar.specs.state_machine.NumberedSteps.{IsVisitTransition}
 use Rattle.log_grammar.proofs.lemmas.many_sessions.OneReading.{goes_in_once}
 use Rattle.log_grammar.proofs.lemmas.state_machine.OneReading.{OneAccount}
-use Rattle.log_grammar.proofs.lemmas.ListEnds.{last_same, length-last}
+use Rattle.scram_text.proofs.lemmas.ListEnds.{last_same}
+use Rattle.log_grammar.proofs.lemmas.ListEnds.{length-last}
 use Rattle.log_grammar.proofs.lemmas.many_sessions.Visits.{Lessened, number_cut, no_lines_at}
 
 -- two numbers with the same lines are at the same place, where they were so before the last of them

@@ -103,8 +103,8 @@ each_ok : FrontsBeginClean → (accounts : Accounts) → AllCanBeChallenged acco
     → BeginsClean accounts (ended_by_lf (before ++ log_line_text (said (accepts message)) ∷ []))
 each_ok completes accounts fit before text lines place told signature message lead wrong bears writable =
     let o = ok_is_due accounts lines text signature wrong in
-    let (next, goes, silent) = goes_ok accounts o.at signature message o.word bears in
-    let due = subst (λ (t : List LoggedReply). AreReplies (demands accounts) (reverse o.tells) t) (sym silent) tt in
+    let (next, goes, no_farewell) = goes_ok accounts o.at signature message o.word bears in
+    let due = subst (λ (t : List LoggedReply). AreReplies (demands accounts) (reverse o.tells) t) (sym no_farewell) tt in
     begins_with completes accounts fit before lines place told o.at o.tells (said (accepts message)) next lead o.begins writable goes due
 
 -- the lines before a text at fault begin a clean log with the only line that says what is due

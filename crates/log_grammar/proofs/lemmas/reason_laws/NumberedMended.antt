@@ -21,8 +21,9 @@ use Rattle.log_grammar.specs.NumberedLines.{MayHaveNumber, numbered_text, IsNumb
 use Rattle.log_grammar.specs.laws.NumberedLogLaws.{NumberedFrontsBeginClean}
 use Rattle.log_grammar.specs.state_machine.NumberedSteps.{put, IsNumberedTransition}
 use Rattle.log_grammar.specs.laws.Reasons.{SaysWhatIsDue, NamesWhatIsDue}
-use Rattle.log_grammar.specs.laws.NumberedReasons.{HasNumberedLineThatMayStand, WhatIsDueMayStandUnderItsNumber, EachNumberedLineThatIsDueMayStand}
-use Rattle.log_grammar.proofs.lemmas.lines.Cuts.{cut_one_way, first_lack}
+use Rattle.log_grammar.specs.laws.NumberedReasons.{HasNumberedLineThatMayStand, WhatIsDueMayStandUnderItsNumber}
+use Rattle.log_grammar.specs.laws.NumberedReasons.{EachNumberedLineThatIsDueMayStand}
+use Rattle.log_grammar.proofs.lemmas.lines.Cuts.{cut_one_way}
 use Rattle.log_grammar.proofs.lemmas.reason_laws.DueLines.{NamesOneLine, says_once, named, goes_ok, word_of}
 use Rattle.log_grammar.proofs.lemmas.kinds.FaultLines.{FaultText, at_text}
 use Rattle.log_grammar.proofs.lemmas.kinds.Judged.{front_at}
@@ -31,7 +32,8 @@ use Rattle.log_grammar.proofs.lemmas.many_sessions.DueClasses.{room_line, next_l
 use Rattle.log_grammar.proofs.lemmas.lines.NumberedReadBack.{one_numbered_line, numbered_lacks, numbered_written}
 use Rattle.log_grammar.proofs.lemmas.many_sessions.LogSteps.{numbered_on}
 use Rattle.log_grammar.proofs.lemmas.many_sessions.Standings.{busy_line}
-use Rattle.log_grammar.proofs.lemmas.ListEnds.{parted, all_append}
+use Rattle.log_grammar.proofs.lemmas.state_machine.Standings.{Follows}
+use Rattle.log_grammar.proofs.lemmas.ListEnds.{parted, all_append, each_first}
 
 -- a numbered line is at fault after lines of version 2, for a reason that names what is due at its number
 record FaultOf (limit : ℕ) (accounts : Accounts) (before : List (List ℕ)) (x : Numbered LogLine) (why : Why) : Type 0 where
@@ -229,14 +231,14 @@ mended_at completes limit accounts fit bytes before text more rest why cut w nam
       says = m.says;
       writable = writable;
       begins = begins_with completes limit accounts fit before x why f m.line m.next
-          (first_lack before (text ∷ more) cut.lines) m.says writable m.goes m.due;
+          (each_first LacksLf before (text ∷ more) cut.lines) m.says writable m.goes m.due;
     }
 
 -- what a reason names as due may stand in place of the line at fault, under its number, where fronts of version 2 begin clean logs
 pub numbered_what_is_due : NumberedFrontsBeginClean → WhatIsDueMayStandUnderItsNumber
 numbered_what_is_due completes limit accounts fit bytes texts rest k why cut w names = elim (cases_lt w.before (length texts)) [
   | inr past ↦
-      let same = (cut_one_way bytes w.fault.texts texts w.fault.rest rest w.fault.cut cut).0 in
+      let same = (cut_one_way bytes w.fault.texts texts w.fault.rest rest w.fault.are_split cut).0 in
       absurd (none_named (version_two limit accounts) (take w.before w.fault.texts) w.fault.texts w.before w.fault.rest why
       (subst (λ (ts : List (List ℕ)). length ts ≤ w.before) (sym same) past) w.wrong names)
   | inl less ↦
@@ -249,20 +251,14 @@ numbered_what_is_due completes limit accounts fit bytes texts rest k why cut w n
       (subst (λ (i : ℕ). IsWhyOf (version_two limit accounts) bytes i why) this w) names))
 ]
 
--- a line may stand at a place, and its reply, if it is one, is due
-record LeadsOn (accounts : Accounts) (place : Place) (told : List LoggedReply) (line : LogLine) : Type 0 where
-  next : Place
-  goes : IsTransition (demands accounts) place line next
-  due : AreReplies (demands accounts) (reverse told) (told_at place line)
-
 -- the only line that says what is due may stand at the place
 the_line : (accounts : Accounts) → AllCanBeChallenged accounts
     → (place : Place) (told : List LoggedReply) (x : LogLine) (why : Why) (line : LogLine) → IsWritable x
     → IsDueAt place (class_of x) → IsWrong accounts place told x why → NamesOneLine why → SaysWhatIsDue why line → IsWritable line
-    → LeadsOn accounts place told line
+    → Follows accounts place told line
 the_line accounts fit place told x why line is due wrong single says writable =
     let m = by_line accounts fit place told (log_line_text x) x why is due (named why line says writable) wrong in
-    subst (LeadsOn accounts place told) (says_once why m.line line single m.says says)
+    subst (Follows accounts place told) (says_once why m.line line single m.says says)
     (record { next = m.next; goes = m.goes; due = m.due })
 
 -- each line that says what is due, except a challenge, may stand at the place
@@ -270,7 +266,7 @@ leads_on : (accounts : Accounts) → AllCanBeChallenged accounts
     → (place : Place) (told : List LoggedReply) (x : LogLine) (why : Why) (line : LogLine) → IsWritable x
     → IsDueAt place (class_of x) → IsWrong accounts place told x why → (why ≡ other_challenge → ⊥) → SaysWhatIsDue why line
     → IsWritable line
-    → LeadsOn accounts place told line
+    → Follows accounts place told line
 leads_on accounts fit place told x is_cut line is due wrong other says writable = absurd says
 leads_on accounts fit place told x no_line line is due wrong other says writable = absurd says
 leads_on accounts fit place told x out_of_order line is due wrong other says writable = absurd says
@@ -278,13 +274,13 @@ leads_on accounts fit place told x other_mechs line is due wrong other says writ
     is due wrong tt says writable
 leads_on accounts fit place told x other_challenge line is due wrong other says writable = absurd (other refl)
 leads_on accounts fit place told x (other_outcome (accepted signature)) line is due wrong other (message, bears, same) writable =
-    let (next, goes, silent) = goes_ok accounts place signature message (word_of accounts place told x signature wrong) bears in
-    subst (LeadsOn accounts place told) (sym same)
+    let (next, goes, no_farewell) = goes_ok accounts place signature message (word_of accounts place told x signature wrong) bears in
+    subst (Follows accounts place told) (sym same)
     (record {
       next = next;
       goes = goes;
       due = subst (λ (t : List LoggedReply). AreReplies (demands accounts) (reverse told) t)
-          (sym silent) tt;
+          (sym no_farewell) tt;
     })
 leads_on accounts fit place told x (other_outcome (refused_with message)) line is due wrong other says writable =
     the_line accounts fit place told x (other_outcome (refused_with message)) line is due wrong tt says writable
@@ -300,4 +296,4 @@ each_numbered_line completes limit accounts fit bytes before text more rest why 
     let l = leads_on accounts fit (f.places x.number) f.told x.value why line is.line
     (due_at limit accounts before x why f) f.wrong other says writable.line in
     begins_with completes limit accounts fit before x why f line l.next
-    (first_lack before (text ∷ more) cut.lines) says writable l.goes l.due
+    (each_first LacksLf before (text ∷ more) cut.lines) says writable l.goes l.due

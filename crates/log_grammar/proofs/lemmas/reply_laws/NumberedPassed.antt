@@ -1,5 +1,5 @@
 -- Codes that passed in a log of version 2.
-use Rattle.std.proofs.Common.{◌≡◌, inl, inr, ℕ, zero, suc, ◌≤◌, List, [], ◌∷◌, ◌++◌, length, reverse, refl, sym, ◌∙◌, ap, subst, arith}
+use Rattle.std.proofs.Common.{◌≡◌, inl, inr, ℕ, List, [], ◌∷◌, ◌++◌, length, reverse, refl, sym, ◌∙◌, ap, subst, arith}
 use Rattle.std.proofs.Common.{append-nil, append_assoc}
 use Rattle.std.specs.declared.option.Option.{Option}
 use Rattle.std.specs.declared.option.Option.TheVariants.{None, Some}
@@ -22,9 +22,8 @@ use Rattle.log_grammar.specs.laws.NumberedReplies.{IsNumberedCodeOf, EachNumbere
 use Rattle.log_grammar.specs.laws.NumberedReplies.{NoNumberedCounterIsUsedTwice}
 use Rattle.log_grammar.proofs.lemmas.state_machine.PlaceBefore.{one_account}
 use Rattle.log_grammar.proofs.lemmas.many_sessions.WithoutLast.{numbered_before}
-use Rattle.log_grammar.proofs.lemmas.many_sessions.OneReading.{numbered_once}
+use Rattle.log_grammar.proofs.lemmas.many_sessions.OneReading.{numbered_once, told_front}
 use Rattle.log_grammar.proofs.lemmas.reply_laws.Passed.{later}
-use Rattle.log_grammar.proofs.lemmas.ListEnds.{with_last, length-last}
 use Rattle.log_grammar.proofs.lemmas.reply_laws.UsedCounters.{all_rise}
 
 -- a PASS stands where a code, or two in a row, wait for their reply
@@ -68,43 +67,6 @@ each_numbered_pass limit accounts log n moment counter places told s =
     let due = subst (λ (p : Place). AreReplies (demands accounts) (reverse b.told) (told_at p (passes moment counter))) at b.goes.due in
     of_reply limit accounts log n moment counter (places n) account sent b.before b.told
     (accounts.token account) refl b.spells at next due.0
-
--- the first lines of a log of version 2 are such a log, and what was told in them comes first
-record Front (limit : ℕ) (d : Demands) (log : List (Numbered LogLine)) (told : List LoggedReply) : Type 0 where
-  places : ℕ → Place
-  earlier : List LoggedReply
-  rest : List LoggedReply
-  spells : SpellsNumbered limit d log places earlier
-  tells : told ≡ earlier ++ rest
-
--- a log's first lines are a log, and what was told in them comes first
-told_front : (limit : ℕ) (d : Demands) (k : ℕ) (log more : List (Numbered LogLine)) (p : ℕ → Place) (told : List LoggedReply)
-    → length more ≤ k
-    → SpellsNumbered limit d (log ++ more) p told → Front limit d log told
-told_front limit d k log [] p told short s = record {
-  places = p;
-  earlier = told;
-  rest = [];
-  spells = subst (λ (l : List (Numbered LogLine)). SpellsNumbered limit d l p told) (append-nil log) s;
-  tells = sym (append-nil told);
-}
-told_front limit d zero log (x ∷ more) p told short s = absurd (omega (arith, short))
-told_front limit d (suc k) log (x ∷ more) p told short s =
-    let last = with_last x more in
-    let n = last.1.number in
-    let shorter : length last.0 ≤ k = omega (arith, short, ap length last.2, length-last last.0 last.1) in
-    let moved = ap (λ (l : List (Numbered LogLine)). log ++ l) last.2 ∙ sym (append_assoc log last.0 (last.1 ∷ [])) in
-    let b = numbered_before limit d (log ++ last.0) n last.1.value p told
-    (subst (λ (l : List (Numbered LogLine)). SpellsNumbered limit d l p told) moved s) in
-    let f = told_front limit d k log last.0 b.before b.told shorter b.spells in
-    let this = told_at (b.before n) last.1.value in
-    record {
-      places = f.places;
-      earlier = f.earlier;
-      rest = f.rest ++ this;
-      spells = f.spells;
-      tells = b.tells ∙ ap (λ (t : List LoggedReply). t ++ this) f.tells ∙ append_assoc f.earlier f.rest this;
-    }
 
 -- of two passes of one account in a log of version 2, under whichever numbers, the later has the greater counter, where a
 -- client-first message has one list of parts, a saslname one name, and a counter that can pass is above those that passed

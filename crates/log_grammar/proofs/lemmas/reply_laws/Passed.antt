@@ -14,7 +14,7 @@ use Rattle.otp_core.proofs.lemmas.Digits.{IsCodeText-last_digits}
 use Rattle.otp_core.specs.declared.token.kinds.TokenFields.TheVariants.{Hotp}
 use Rattle.otp_core.specs.declared.token.kinds.HotpFields.{HotpFields}
 use Rattle.log_grammar.specs.Words.{is_code_char, IsCodeWord, IsCounter}
-use Rattle.log_grammar.specs.Upgrades.{original_text}
+use Rattle.log_grammar.specs.Upgrades.{original_bytes}
 use Rattle.log_grammar.specs.laws.Logins.{LoginsAreAnswered}
 use Rattle.otp_core.specs.Attempt.{Attempt, CodeTexts, OneText, TwoTexts, counters_of, used_in}
 use Rattle.otp_core.specs.Window.{IsAbove, IsInHotpWindow}
@@ -177,7 +177,7 @@ next_is_due t moment unlocked counter =
 
 -- after a valid login the code of a HOTP token's next counter passes, where failures do not lock it, the counter is not used up, and
 -- a log of version 1 is clean in which the code after a valid login has the reply that is due
-pub next_hotp_code_passes : LoginsAreAnswered original_text → NextHotpCodePasses
+pub next_hotp_code_passes : LoginsAreAnswered original_bytes → NextHotpCodePasses
 next_hotp_code_passes answered accounts mechanism name exchange moment t login at has unlocked digits counter =
     let text = code_text (Hotp t) t.next in
     let due = next_is_due t moment unlocked counter in
@@ -204,7 +204,7 @@ two_words t digits = (
 
 -- after a valid login the codes of a HOTP token's next two counters, sent in a row, pass by that of the second, where failures do
 -- not lock it, neither is used up, and a log of version 1 is clean in which codes after a valid login have the reply that is due
-pub next_two_hotp_codes_pass : LoginsAreAnswered original_text → NextTwoHotpCodesPass
+pub next_two_hotp_codes_pass : LoginsAreAnswered original_bytes → NextTwoHotpCodesPass
 next_two_hotp_codes_pass answered accounts mechanism name exchange moment t login at has unlocked digits counter =
     let sent = TwoTexts (code_text (Hotp t) t.next) (code_text (Hotp t) (t.next + 1)) in
     let by = subst (λ (o : Option TokenFields). IsReplyDueBy o [] moment sent (Some (Pass (t.next + 1)))) (sym has)

@@ -5,7 +5,7 @@ use Rattle.std.specs.declared.option.Option.{Option}
 use Rattle.mac_core.specs.declared.mechanism.Mechanism.{Mechanism}
 use Rattle.scram_ends.specs.Stages.{challenged_login}
 use Rattle.scram_ends.specs.Verdict.{accept, refuse, IsDue}
-use Rattle.scram_ends.specs.Laws.{AtMostOneIsDue, AcceptsExactlyValid}
+use Rattle.scram_ends.specs.Laws.{AtMostOneVerdictIsDue, AcceptsExactlyValid}
 use Rattle.scram_ends.specs.declared.verdict.Refusal.{Refusal}
 use Rattle.otp_core.specs.Attempt.{CodeTexts}
 use Rattle.otp_core.specs.declared.token.answer.Reply.{Reply}
@@ -19,7 +19,8 @@ use Rattle.log_grammar.specs.laws.Logins.{IsLoginTo, exchange_of}
 use Rattle.log_grammar.specs.laws.Outcomes.{FirstLinesBeginLogs, EachOfferIsDue, IsChallengeDue, EachChallengeIsDue, IsRefusalDue}
 use Rattle.log_grammar.specs.laws.Outcomes.{EachRefusalIsDue, IsReplied, EachReplyIsDue, EachHaltEndsACode}
 use Rattle.log_grammar.proofs.lemmas.state_machine.LogSteps.{goes_on}
-use Rattle.log_grammar.proofs.lemmas.ListEnds.{with_last, length-last}
+use Rattle.scram_text.proofs.lemmas.ListEnds.{with_last}
+use Rattle.log_grammar.proofs.lemmas.ListEnds.{length-last}
 use Rattle.log_grammar.proofs.lemmas.state_machine.PlaceBefore.{stood_before}
 use Rattle.log_grammar.proofs.lemmas.kinds.OneWhy.{mechanism_once}
 
@@ -116,7 +117,7 @@ each_challenge accounts log text next told = (
 )
 
 -- messages whose verdict is a refusal are those of no valid login
-invalid : AtMostOneIsDue → AcceptsExactlyValid
+invalid : AtMostOneVerdictIsDue → AcceptsExactlyValid
     → (accounts : Accounts) (mechanism name client_first server_first client_final : List ℕ) (why : Refusal)
     → IsVerdictDue accounts mechanism name client_first server_first client_final (refuse why) → (server_final : List ℕ)
     → IsLoginTo accounts mechanism name (exchange_of client_first server_first client_final server_final) → ⊥
@@ -129,7 +130,7 @@ invalid once valid accounts mechanism name client_first server_first client_fina
     (accept accepted.0) due here in cc wrong
 
 -- `S NO` may stand only where it is the refusal that is due
-no_from : AtMostOneIsDue → AcceptsExactlyValid
+no_from : AtMostOneVerdictIsDue → AcceptsExactlyValid
     → (accounts : Accounts) (log : List LogLine) (text : List ℕ) (next at : Place) (all told : List LoggedReply)
     → all ≡ told ++ told_at at (said (refuses text)) → Begins (demands accounts) log at told
     → IsTransition (demands accounts) at (said (refuses text)) next
@@ -172,7 +173,7 @@ no_on accounts log text next told (inr (inr (inr (begins, bare)))) at =
 
 -- `S NO` may stand exactly where it is the refusal that is due, which no valid login gets, where at most one verdict is due to a
 -- text, and acceptance to the valid logins alone
-pub each_refusal : AtMostOneIsDue → AcceptsExactlyValid → EachRefusalIsDue
+pub each_refusal : AtMostOneVerdictIsDue → AcceptsExactlyValid → EachRefusalIsDue
 each_refusal once valid accounts log text next told = (
   λ begins.
       let s = stood_before accounts log (said (refuses text)) next told begins in

@@ -1,5 +1,5 @@
 -- The moments of a log's replies are in their range, since its lines are.
-use Rattle.std.proofs.Common.{inl, inr, ℕ, Bool, true, false, List, [], ◌∷◌, ◌++◌, sym, subst}
+use Rattle.std.proofs.Common.{inl, inr, ℕ, Bool, true, false, List, [], ◌∷◌, sym, subst}
 use Rattle.std.specs.Prelude.{flat_map}
 use Rattle.std.specs.List.{AllByRecursion, AllZip}
 use Rattle.otp_core.specs.Ranges.{IsMoment}
@@ -7,14 +7,15 @@ use Rattle.log_grammar.specs.Lines.{LogLine, IsLogLineInRange, IsLogLine}
 use Rattle.log_grammar.specs.LoggedReply.{LoggedReply}
 use Rattle.log_grammar.specs.Places.{Place}
 use Rattle.log_grammar.specs.Demands.{Accounts, demands}
-use Rattle.log_grammar.specs.Sessions.{Part, closing, Farewell, parting, Quit, quitting, AfterOk, after_ok, AfterFinal, after_final, AfterChallenge}
-use Rattle.log_grammar.specs.Sessions.{after_challenge, AfterFirst, after_first, AfterEmpty, after_empty, AfterAuth, after_auth, AfterMechs, after_mechs}
-use Rattle.log_grammar.specs.Sessions.{Session, session_part, session_lines, session_told, silent, farewell, goes_away, aborts, sends_bad}
-use Rattle.log_grammar.specs.Sessions.{no_code, quits_codes, asked, replied, halted_at, unjudged, denied, granted, no_proof, quits_proof}
-use Rattle.log_grammar.specs.Sessions.{proves, no_answer, refused, challenged, no_first, quits_first, begins, no_word, unoffered, invited}
-use Rattle.log_grammar.specs.Sessions.{no_login, quits_login, with_first, without_first, session}
+use Rattle.log_grammar.specs.Sessions.{Part, closing, Farewell, parting, Quit, quitting, AfterOk, after_ok, AfterFinal, after_final}
+use Rattle.log_grammar.specs.Sessions.{AfterChallenge, after_challenge, AfterFirst, after_first, AfterEmpty, after_empty, AfterAuth}
+use Rattle.log_grammar.specs.Sessions.{after_auth, AfterMechs, after_mechs, Session, session_part, session_lines, session_told, no_farewell}
+use Rattle.log_grammar.specs.Sessions.{farewell, goes_away, aborts, sends_bad, no_code, quits_codes, unreplied, replied, halted_at}
+use Rattle.log_grammar.specs.Sessions.{no_verdict, denied, granted, no_final, quits_final, sends_final, no_answer, refused, challenged}
+use Rattle.log_grammar.specs.Sessions.{no_first, quits_first, sends_first, no_invitation, unoffered, invited, no_login, quits_login}
+use Rattle.log_grammar.specs.Sessions.{with_first, without_first, session}
 use Rattle.log_grammar.specs.Begins.{Begins, AreLines}
-use Rattle.log_grammar.proofs.lemmas.ListEnds.{all_append}
+use Rattle.log_grammar.proofs.lemmas.ListEnds.{all_append, each_first, each_rest}
 
 -- all lines are in their ranges
 abbrev pub Ranged : List LogLine → Type 0
@@ -30,7 +31,7 @@ InTime part = Ranged part.lines → Timed part.told
 
 -- what follows `C ABORT` or `C BAD` tells of no moment out of its range, since it tells nothing
 of_farewell : (f : Farewell) → InTime (parting f)
-of_farewell silent h = tt
+of_farewell no_farewell h = tt
 of_farewell (farewell text closed) h = tt
 
 -- the end of a session tells of no moment out of its range, since it tells nothing
@@ -47,19 +48,19 @@ of_quit (sends_bad f) h = of_farewell f h.1
 of_codes : (account : List ℕ) (c : AfterOk) → InTime (after_ok account c)
 of_codes account no_code h = tt
 of_codes account (quits_codes q) h = of_quit q h
-of_codes account (asked sent) h = tt
+of_codes account (unreplied sent) h = tt
 of_codes account (replied sent moment reply more) h = (h.1.0.0, of_codes account more h.1.1)
 of_codes account (halted_at sent) h = tt
 
 of_judgement : (m account first challenge last : List ℕ) (j : AfterFinal) → InTime (after_final m account first challenge last j)
-of_judgement m account first challenge last unjudged h = tt
+of_judgement m account first challenge last no_verdict h = tt
 of_judgement m account first challenge last (denied text closed) h = tt
 of_judgement m account first challenge last (granted text c) h = of_codes account c h.1
 
 of_proof : (m account first challenge : List ℕ) (p : AfterChallenge) → InTime (after_challenge m account first challenge p)
-of_proof m account first challenge no_proof h = tt
-of_proof m account first challenge (quits_proof q) h = of_quit q h
-of_proof m account first challenge (proves last j) h = of_judgement m account first challenge last j h.1
+of_proof m account first challenge no_final h = tt
+of_proof m account first challenge (quits_final q) h = of_quit q h
+of_proof m account first challenge (sends_final last j) h = of_judgement m account first challenge last j h.1
 
 of_answer : (m first : List ℕ) (a : AfterFirst) → InTime (after_first m first a)
 of_answer m first no_answer h = tt
@@ -69,10 +70,10 @@ of_answer m first (challenged account text p) h = of_proof m account first text 
 of_first : (m : List ℕ) (f : AfterEmpty) → InTime (after_empty m f)
 of_first m no_first h = tt
 of_first m (quits_first q) h = of_quit q h
-of_first m (begins first a) h = of_answer m first a h.1
+of_first m (sends_first first a) h = of_answer m first a h.1
 
 of_invitation : (m : List ℕ) (i : AfterAuth) → InTime (after_auth m i)
-of_invitation m no_word h = tt
+of_invitation m no_invitation h = tt
 of_invitation m (unoffered text closed) h = tt
 of_invitation m (invited text f) h = of_first m f h.1
 
@@ -86,19 +87,14 @@ of_login (without_first m i) h = of_invitation m i h.1
 pub of_session : (s : Session) → InTime (session_part s)
 of_session (session names l) h = of_login l h.1
 
--- what holds of each of two lists joined holds of each of the first, and of each of the second
-parted : {A : Type 0} (P : A → Type 0) (front back : List A) → AllByRecursion P (front ++ back) → AllByRecursion P front
-    × AllByRecursion P back
-parted P [] back h = (tt, h)
-parted P (a ∷ front) back h = let more = parted P front back h.1 in ((h.0, more.0), more.1)
-
 -- what sessions tell, one after another, is at moments in their range, where the lines of all are in their ranges
 pub of_sessions : (sessions : List Session) → Ranged (flat_map session_lines sessions) → Timed (flat_map session_told sessions)
 of_sessions [] h = tt
 of_sessions (s ∷ sessions) h =
-    let both = parted IsLogLineInRange (session_lines s) (flat_map session_lines sessions) h in
-    all_append (λ t. IsMoment t.moment) (session_told s) (flat_map session_told sessions) (of_session s both.0)
-    (of_sessions sessions both.1)
+    let own = each_first IsLogLineInRange (session_lines s) (flat_map session_lines sessions) h in
+    let others = each_rest IsLogLineInRange (session_lines s) (flat_map session_lines sessions) h in
+    all_append (λ t. IsMoment t.moment) (session_told s) (flat_map session_told sessions) (of_session s own)
+    (of_sessions sessions others)
 
 -- lines that were read are in their ranges
 ranged : (texts : List (List ℕ)) (lines : List LogLine) → AllZip IsLogLine texts lines → Ranged lines

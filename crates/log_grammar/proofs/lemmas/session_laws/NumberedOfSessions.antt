@@ -12,8 +12,8 @@ use Rattle.log_grammar.specs.Places.{between, halted}
 use Rattle.log_grammar.specs.Demands.{Accounts, demands}
 use Rattle.log_grammar.specs.Sessions.{closing}
 use Rattle.log_grammar.specs.laws.Histories.{IsHistory}
-use Rattle.log_grammar.specs.Numbered.{Numbered, of_number, Visit, let_in, sent_away, visit_lines, visit_told, visit_place, SpellsNumbered}
-use Rattle.log_grammar.specs.Numbered.{MayEndNumbered}
+use Rattle.log_grammar.specs.Numbered.{Numbered, of_number, Visit, let_in, turned_away, visit_lines, visit_told, visit_place}
+use Rattle.log_grammar.specs.Numbered.{SpellsNumbered, MayEndNumbered}
 use Rattle.log_grammar.specs.NumberedLines.{numbered_text, IsNumberedLine, IsNumberedWritable}
 use Rattle.log_grammar.specs.LogKinds.{IsCleanOf}
 use Rattle.log_grammar.specs.VersionTwo.{AreCleanVersionTwo, version_two}
@@ -22,7 +22,7 @@ use Rattle.log_grammar.proofs.lemmas.demands.EachAccount.{each_account}
 use Rattle.log_grammar.proofs.lemmas.session_laws.OfSessions.{closed_at, session_closed, halted_at_end, session_halted}
 use Rattle.log_grammar.proofs.lemmas.session_laws.MomentRanges.{Ranged, Timed, of_session, of_closing}
 use Rattle.log_grammar.proofs.lemmas.lines.NumberedReadBack.{numbered_lacks}
-use Rattle.log_grammar.proofs.lemmas.ListEnds.{last_same}
+use Rattle.scram_text.proofs.lemmas.ListEnds.{last_same}
 
 -- texts that are numbered lines are the texts that these lines are written as
 texts_of : (texts : List (List ℕ)) (log : List (Numbered LogLine)) → AllZip IsNumberedLine texts log → texts ≡ map numbered_text log
@@ -64,7 +64,7 @@ of_number_ranged n (x ∷ log) all = elim (eqb_tells n x.number) [
 timed_in : (o : Option Visit) → Ranged (visit_lines o) → Timed (visit_told o)
 timed_in None h = tt
 timed_in (Some (let_in s)) h = of_session s h
-timed_in (Some (sent_away closed)) h = of_closing closed h.1
+timed_in (Some (turned_away closed)) h = of_closing closed h.1
 
 -- where what was told under a number is at moments, so is it without the first that was told
 timed_rest : (n : ℕ) (t : Numbered LoggedReply) (numbered_told : List (Numbered LoggedReply)) → Timed (of_number n (t ∷ numbered_told))
@@ -114,25 +114,25 @@ no_halt false (before, same) = let wrong = (last_same [] before (said busy) (sai
 closed_place : (o : Option Visit) → IsClosedVisit o → visit_place o ≡ between
 closed_place None is = refl
 closed_place (Some (let_in s)) is = closed_at s is
-closed_place (Some (sent_away true)) is = refl
-closed_place (Some (sent_away false)) is = absurd (no_end_yet is)
+closed_place (Some (turned_away true)) is = refl
+closed_place (Some (turned_away false)) is = absurd (no_end_yet is)
 
 closed_lines : (o : Option Visit) → visit_place o ≡ between → IsClosedVisit o
 closed_lines None is = tt
 closed_lines (Some (let_in s)) is = session_closed s is
-closed_lines (Some (sent_away true)) is = (said busy ∷ [], refl)
-closed_lines (Some (sent_away false)) is = absurd (cc is)
+closed_lines (Some (turned_away true)) is = (said busy ∷ [], refl)
+closed_lines (Some (turned_away false)) is = absurd (cc is)
 
 halted_place : (o : Option Visit) → IsHaltedVisit o → visit_place o ≡ halted
 halted_place None is = absurd is
 halted_place (Some (let_in s)) is = halted_at_end s is
-halted_place (Some (sent_away closed)) is = absurd (no_halt closed is)
+halted_place (Some (turned_away closed)) is = absurd (no_halt closed is)
 
 halted_lines : (o : Option Visit) → visit_place o ≡ halted → IsHaltedVisit o
 halted_lines None is = absurd (cc is)
 halted_lines (Some (let_in s)) is = session_halted s is
-halted_lines (Some (sent_away true)) is = absurd (cc is)
-halted_lines (Some (sent_away false)) is = absurd (cc is)
+halted_lines (Some (turned_away true)) is = absurd (cc is)
+halted_lines (Some (turned_away false)) is = absurd (cc is)
 
 -- a clean log of version 2 is one of some sessions
 of_ends : (limit : ℕ) (accounts : Accounts) (bytes : List ℕ) (texts : List (List ℕ)) → IsSplit bytes texts []
@@ -144,7 +144,7 @@ of_ends limit accounts bytes (first ∷ texts) cut (is, log, places, told, are, 
     let moments = timed_numbers log s.visit s.numbered_told written s.sessions.lines s.sessions.told_of_each in
     let replies = subst (λ (t : List LoggedReply). (account : List ℕ) → IsHistory (accounts.token account) account t) s.tells
     ((each_account accounts told (subst Timed (sym s.tells) moments)).0 s.replies) in
-    let over = elim may as (λ m. ((n : ℕ) → IsClosedVisit (s.visit n)) ⊎ ((n : ℕ) × IsHaltedVisit (s.visit n))) [
+    let finished = elim may as (λ m. ((n : ℕ) → IsClosedVisit (s.visit n)) ⊎ ((n : ℕ) × IsHaltedVisit (s.visit n))) [
       | inl all ↦ inl (λ n. closed_lines (s.visit n) (sym (s.after n) ∙ all n))
       | inr halts ↦ inr (halts.0, halted_lines (s.visit halts.0) (sym (s.after halts.0) ∙ halts.1))
     ] in
@@ -156,7 +156,7 @@ of_ends limit accounts bytes (first ∷ texts) cut (is, log, places, told, are, 
         visit = s.visit;
         numbered_told = s.numbered_told;
         sessions = s.sessions;
-        over = over;
+        finished = finished;
         histories = replies;
       },
     )
@@ -179,7 +179,7 @@ clean_of limit accounts bytes log l =
       replies = (each_account accounts told moments).1 l.histories;
       after = λ n. refl;
     } in
-    let may = elim l.over as (λ o. MayEndNumbered places) [
+    let may = elim l.finished as (λ o. MayEndNumbered places) [
       | inl all ↦ inl (λ n. closed_place (l.visit n) (all n))
       | inr halts ↦ inr (halts.0, halted_place (l.visit halts.0) halts.1)
     ] in

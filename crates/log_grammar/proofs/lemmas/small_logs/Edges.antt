@@ -11,11 +11,12 @@ use Rattle.log_grammar.specs.Begins.{Begins}
 use Rattle.log_grammar.specs.Why.{is_cut, no_line, out_of_order, class_of, LineClass, IsClassDue}
 use Rattle.log_grammar.specs.laws.LogLaws.{ClassesFollowThePlace}
 use Rattle.log_grammar.specs.laws.Examples.{AreWhole}
-use Rattle.log_grammar.proofs.lemmas.lines.Cuts.{cut_one_way, first_lack, among, whole}
+use Rattle.log_grammar.proofs.lemmas.lines.Cuts.{cut_one_way, whole}
 use Rattle.log_grammar.proofs.lemmas.kinds.ShownByLines.{Lead, start, clean_at, end_is_cut, rest_is_cut, rest_is_long, long_text_why}
 use Rattle.log_grammar.proofs.lemmas.kinds.ShownByLines.{last_why}
 use Rattle.log_grammar.specs.Versions.{any_version, IsClean, IsWhy}
-use Rattle.log_grammar.proofs.lemmas.ListEnds.{last_same, split_last, all_append}
+use Rattle.scram_text.proofs.lemmas.ListEnds.{last_same}
+use Rattle.log_grammar.proofs.lemmas.ListEnds.{split_last, all_append, each_first, each_at}
 use Rattle.log_grammar.proofs.lemmas.kinds.AllVersions.{none_end_both}
 
 -- whole lines that lead to the place after `S HALT` are a clean log
@@ -47,8 +48,9 @@ more_after_halt once names classes accounts texts (first ∷ log) told text line
     let are = subst (λ (ls : List LogLine). AllZip IsLogLine texts ls) (sym own.0) those in
     let is = subst (λ (l : LogLine). IsLogLine text l) (sym own.1) this in
     last_why once names accounts texts first log halted told text line out_of_order
-    (record { are = are; lack = first_lack texts (text ∷ []) whole.1; begins = begins })
-    is (among texts text [] whole.1) (λ f. f.goes) (inl (none_after_halt classes accounts (first ∷ log) told (class_of line) begins, refl))
+    (record { are = are; lack = each_first LacksLf texts (text ∷ []) whole.1; begins = begins })
+    is (each_at LacksLf texts text [] whole.1) (λ f. f.goes)
+    (inl (none_after_halt classes accounts (first ∷ log) told (class_of line) begins, refl))
 
 -- bytes without an LF are cut into no line, and all of them are left
 alone : (rest : List ℕ) → LacksLf rest → IsSplit rest [] rest

@@ -25,10 +25,6 @@ use Rattle.log_grammar.proofs.lemmas.small_logs.Edges.{part_is_cut, long_part_is
 use Rattle.log_grammar.proofs.lemmas.kinds.ShownByLines.{Lead, start, lead_on, clean_at, unended_is_cut, first_text_why, last_why}
 use Rattle.log_grammar.proofs.lemmas.lines.Cuts.{whole}
 
--- the names of the two mechanisms, as the first `S MECHS` gives them
-names : List ℕ
-names = codes "SCRAM-SHA-256 SCRAM-SHA-1"
-
 -- `SCRAM-SHA-256` and `SCRAM-SHA-1` are names of mechanisms, by their length and their characters:
 pub is_sha_256 : IsMechName (codes "SCRAM-SHA-256")
 is_sha_256 = record { at_least = omega arith; at_most = omega arith; each = refl }
@@ -104,18 +100,19 @@ first_is_clean accounts = clean_by accounts _ _ between [] (lead_first accounts)
 lead_no : (accounts : Accounts) (texts : List (List ℕ)) (lines : List LogLine) (place : Place) → Lead accounts texts lines place []
     → IsTransition (demands accounts) place (said (refuses [])) over → told_at place (said (refuses [])) ≡ []
     → Lead accounts (texts ++ codes "S NO :" ∷ []) (lines ++ said (refuses []) ∷ []) over []
-lead_no accounts texts lines place l goes silent =
-    let due = subst (λ (t : List LoggedReply). AreReplies (demands accounts) [] t) (sym silent) tt in
+lead_no accounts texts lines place l goes no_farewell =
+    let due = subst (λ (t : List LoggedReply). AreReplies (demands accounts) [] t) (sym no_farewell) tt in
     let refusal = lead_on accounts texts lines place [] (codes "S NO :") (said (refuses [])) over l is_no refl goes due in
-    subst (λ (t : List LoggedReply). Lead accounts (texts ++ codes "S NO :" ∷ []) (lines ++ said (refuses []) ∷ []) over t) silent refusal
+    subst (λ (t : List LoggedReply). Lead accounts (texts ++ codes "S NO :" ∷ []) (lines ++ said (refuses []) ∷ []) over t) no_farewell
+    refusal
 
 -- a log is clean that ends with `S NO` and `E`, where the server may refuse
 closed : (accounts : Accounts) (texts : List (List ℕ)) (lines : List LogLine) (place : Place) → Lead accounts texts lines place []
     → IsTransition (demands accounts) place (said (refuses [])) over → told_at place (said (refuses [])) ≡ []
     → IsClean accounts (ended_by_lf ((texts ++ codes "S NO :" ∷ []) ++ codes "E" ∷ []))
-closed accounts texts lines place l goes silent =
+closed accounts texts lines place l goes no_farewell =
     clean_by accounts _ _ between [] (lead_on accounts _ _ over [] (codes "E") ended between
-    (lead_no accounts texts lines place l goes silent) is_end refl refl tt) tt
+    (lead_no accounts texts lines place l goes no_farewell) is_end refl refl tt) tt
 
 -- a log of one session in which `S NO` answers `C ABORT` is clean
 pub aborted_is_clean : (accounts : Accounts) → IsClean accounts (one_session (codes "C ABORT" ∷ bare_no))

@@ -10,13 +10,9 @@ use Rattle.log_grammar.specs.Numbered.{Numbered, numbered, MayBeNumbered, MayFol
 use Rattle.log_grammar.specs.state_machine.NumberedSteps.{IsVisitTransition, put, IsNumberedTransition}
 use Rattle.log_grammar.specs.laws.NumberedExamples.{offer, turns_away, two_at_once, IsWholeForTwo, BeginsNoneForTwo}
 use Rattle.log_grammar.proofs.lemmas.many_sessions.LogSteps.{numbered_on, no_line_yet}
-use Rattle.log_grammar.proofs.lemmas.many_sessions.LinesOfNumber.{put_other, no_element}
-use Rattle.log_grammar.proofs.lemmas.ListEnds.{last_same}
-
--- what may come right after a line may follow the log that it ends
-follows : (log : List (Numbered LogLine)) (y : Numbered LogLine) (n : ℕ) (line : LogLine) → MayFollow y.number y.value n line
-    → (before : List (Numbered LogLine)) (x : Numbered LogLine) → log ++ y ∷ [] ≡ before ++ x ∷ [] → MayFollow x.number x.value n line
-follows log y n line may before x e = subst (λ (z : Numbered LogLine). MayFollow z.number z.value n line) (last_same log before y x e).1 may
+use Rattle.log_grammar.proofs.lemmas.many_sessions.LinesOfNumber.{put_other}
+use Rattle.log_grammar.proofs.lemmas.ListEnds.{no_element}
+use Rattle.log_grammar.proofs.lemmas.many_sessions.Standings.{follows_last}
 
 -- a log goes on by a line that tells nothing, at its number's place
 step : (limit : ℕ) (d : Demands) (log : List (Numbered LogLine)) (y : Numbered LogLine) (places : ℕ → Place) (n : ℕ) (line : LogLine)
@@ -28,7 +24,7 @@ step limit d log y places n line to s room may goes quiet =
     let g : IsNumberedTransition limit d (log ++ y ∷ []) places [] n line to =
     record {
       room = room;
-      next = follows log y n line may;
+      next = follows_last log y n line may;
       goes = goes;
       due = subst (λ (t : List LoggedReply). AreReplies d [] t) (sym quiet) tt;
     } in

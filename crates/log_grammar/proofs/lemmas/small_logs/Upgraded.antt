@@ -4,8 +4,8 @@ use Rattle.std.specs.Prelude.{codes, decimal, if◌then◌else◌}
 use Rattle.std.proofs.lemmas.Fmt.{decimal_digit}
 use Rattle.std.specs.List.{AllByRecursion}
 use Rattle.scram_text.specs.Laws.{SpellsOneName, HasOneClientFirst}
-use Rattle.log_grammar.specs.Lines.{LogLine, header, header_two, log_line_text, said, heard, bad, gone, ended, mechs, cont, accepts, refuses}
-use Rattle.log_grammar.specs.Lines.{halt, auth, auth_with, abort, IsLogLine, IsWritable, log_bytes}
+use Rattle.log_grammar.specs.Lines.{LogLine, header, header_two, log_line_text, said, heard, bad, gone, ended, mechs, cont, accepts}
+use Rattle.log_grammar.specs.Lines.{refuses, halt, auth, auth_with, abort, IsLogLine, IsWritable, log_bytes}
 use Rattle.log_grammar.specs.Bytes.{LacksLf, ended_by_lf}
 use Rattle.log_grammar.specs.Demands.{Accounts}
 use Rattle.log_grammar.specs.Why.{Why, is_cut, no_line, out_of_order, other_mechs, other_challenge, other_outcome, refused_with}
@@ -13,7 +13,7 @@ use Rattle.log_grammar.specs.VersionTwo.{IsFirstText, IsWrongAfterFirst}
 use Rattle.log_grammar.specs.Versions.{most_open, any_version, IsClean, IsWhy}
 use Rattle.log_grammar.specs.Numbered.{is_end as closes}
 use Rattle.log_grammar.specs.NumberedLines.{MayHaveNumber, numbered_text, IsNoNumberedLine}
-use Rattle.log_grammar.specs.Upgrades.{with_numbers, upgraded_text, CanBeNumbered}
+use Rattle.log_grammar.specs.Upgrades.{with_numbers, upgraded_bytes, CanBeNumbered}
 use Rattle.log_grammar.specs.laws.Examples.{header_one_text}
 use Rattle.log_grammar.specs.laws.UpgradedExamples.{header_two_text, one_numbered, numbered_no}
 use Rattle.log_grammar.proofs.lemmas.small_logs.SmallLogs.{abort_is_cut, abort_is_early, aborted_is_clean, accepted_why, auth_is_cut}
@@ -25,12 +25,12 @@ use Rattle.log_grammar.proofs.lemmas.small_logs.SmallLogs.{left_is_cut, message_
 use Rattle.log_grammar.proofs.lemmas.small_logs.SmallLogs.{offer_is_cut, other_offer_why, plain_is_cut, plain_no_is_cut, refused_is_clean}
 use Rattle.log_grammar.proofs.lemmas.small_logs.SmallLogs.{refused_is_cut, refused_no_is_cut, turned_away_why, two_are_clean}
 use Rattle.log_grammar.proofs.lemmas.lines.Cuts.{whole}
-use Rattle.log_grammar.proofs.lemmas.session_laws.OfSessions.{is_header}
+use Rattle.log_grammar.proofs.lemmas.lines.Written.{header_written}
 use Rattle.log_grammar.proofs.lemmas.kinds.Judged.{text_at_fault}
 use Rattle.log_grammar.proofs.lemmas.kinds.VersionTwo.{headed_two, last_is_numbered}
 use Rattle.log_grammar.proofs.lemmas.lines.ReadBack.{one_log_line}
 use Rattle.log_grammar.proofs.lemmas.lines.NumberedReadBack.{unnumbered_is_none}
-use Rattle.log_grammar.proofs.lemmas.ListEnds.{same_cons}
+use Rattle.scram_text.proofs.lemmas.ListEnds.{same_cons}
 use Rattle.log_grammar.proofs.lemmas.upgraded_logs.SameFault.{upgraded_clean, same_fault}
 use Rattle.log_grammar.proofs.lemmas.upgraded_logs.Texts.{next_within}
 use Rattle.log_grammar.proofs.lemmas.kinds.AllVersions.{shorter_both, second_stands}
@@ -57,7 +57,7 @@ abbrev digit_log : List LogLine → List ℕ
 digit_log lines = ended_by_lf (log_line_text header_two ∷ digit_texts 1 lines)
 
 -- the upgraded log of a few lines is that log
-same_log : (lines : List LogLine) → 1 + length lines ≤ 9 → upgraded_text lines ≡ digit_log lines
+same_log : (lines : List LogLine) → 1 + length lines ≤ 9 → upgraded_bytes lines ≡ digit_log lines
 same_log lines few = ap (λ (ts : List (List ℕ)). ended_by_lf (log_line_text header_two ∷ ts)) (are_digits 1 lines few)
 
 -- a few lines that can be written can be numbered
@@ -300,7 +300,7 @@ no_numbered_first x is =
     sym (after-word (decimal 1) (log_line_text header) word) ∙ ap after_space spelled ∙ after-word (decimal x.number)
     (log_line_text x.value) also in
     let value = one_log_line (log_line_text header) x.value header (subst (λ (t : List ℕ). IsLogLine t x.value) (sym same) is.line)
-    is_header in
+    header_written in
     subst MayHaveNumber value is.has_number
 
 no_first_either : IsFirstText (codes "1 SCRAMLOG 1") → ⊥

@@ -8,13 +8,13 @@ use Rattle.log_grammar.specs.LoggedReply.{LoggedReply, logged_reply_of}
 use Rattle.log_grammar.specs.Places.{Place, before_all, between, offered, asks_bare, waits_first, got_first, waits_final, got_final}
 use Rattle.log_grammar.specs.Places.{waits_code, got_code, leaving, over, halted}
 use Rattle.log_grammar.specs.Demands.{Demands, no_demands, AreReplies}
-use Rattle.log_grammar.specs.Sessions.{Part, next_line, due_line, telling_line, closing, refusal, Farewell, parting, Quit, quitting, AfterOk}
-use Rattle.log_grammar.specs.Sessions.{after_ok, AfterFinal, after_final, AfterChallenge, after_challenge, AfterFirst, after_first, AfterEmpty, after_empty}
-use Rattle.log_grammar.specs.Sessions.{AfterAuth, after_auth, AfterMechs, after_mechs, Session, session_part, session_lines, session_told}
-use Rattle.log_grammar.specs.Sessions.{SessionMeets, silent, farewell, goes_away, aborts, sends_bad, no_code, quits_codes, asked, replied}
-use Rattle.log_grammar.specs.Sessions.{halted_at, unjudged, denied, granted, no_proof, quits_proof, proves, no_answer, refused, challenged}
-use Rattle.log_grammar.specs.Sessions.{no_first, quits_first, begins, no_word, unoffered, invited, no_login, quits_login, with_first}
-use Rattle.log_grammar.specs.Sessions.{without_first, session}
+use Rattle.log_grammar.specs.Sessions.{Part, next_line, due_line, telling_line, closing, refusal, Farewell, parting, Quit, quitting}
+use Rattle.log_grammar.specs.Sessions.{AfterOk, after_ok, AfterFinal, after_final, AfterChallenge, after_challenge, AfterFirst, after_first}
+use Rattle.log_grammar.specs.Sessions.{AfterEmpty, after_empty, AfterAuth, after_auth, AfterMechs, after_mechs, Session, session_part}
+use Rattle.log_grammar.specs.Sessions.{session_lines, session_told, SessionMeets, no_farewell, farewell, goes_away, aborts, sends_bad}
+use Rattle.log_grammar.specs.Sessions.{no_code, quits_codes, unreplied, replied, halted_at, no_verdict, denied, granted, no_final}
+use Rattle.log_grammar.specs.Sessions.{quits_final, sends_final, no_answer, refused, challenged, no_first, quits_first, sends_first}
+use Rattle.log_grammar.specs.Sessions.{no_invitation, unoffered, invited, no_login, quits_login, with_first, without_first, session}
 use Rattle.log_grammar.specs.Begins.{OnlyLastOpen, place_after, Begins}
 
 -- a place with no account named
@@ -42,10 +42,10 @@ bare_answer (challenged account text p) = challenged [] text p
 abbrev bare_first : AfterEmpty → AfterEmpty
 bare_first no_first = no_first
 bare_first (quits_first q) = quits_first q
-bare_first (begins first a) = begins first (bare_answer a)
+bare_first (sends_first first a) = sends_first first (bare_answer a)
 
 abbrev bare_invitation : AfterAuth → AfterAuth
-bare_invitation no_word = no_word
+bare_invitation no_invitation = no_invitation
 bare_invitation (unoffered text closed) = unoffered text closed
 bare_invitation (invited text f) = invited text (bare_first f)
 
@@ -100,7 +100,7 @@ bare_refusal : (B Own : Demands → Type 0) (text : List ℕ) (closed : Bool) �
 bare_refusal B Own text closed due = record { lines = refl; place = (bare_closing closed).place; told = refl; meets = due }
 
 bare_farewell : (f : Farewell) → IsBareOf (parting f) (parting f)
-bare_farewell silent = record { lines = refl; place = refl; told = refl; meets = tt }
+bare_farewell no_farewell = record { lines = refl; place = refl; told = refl; meets = tt }
 bare_farewell (farewell text closed) = bare_refusal (λ d. d.farewell text) (λ d. d.farewell text) text closed tt
 
 bare_quit : (q : Quit) → IsBareOf (quitting q) (quitting q)
@@ -111,7 +111,7 @@ bare_quit (sends_bad f) = bare_line bad _ _ (bare_farewell f)
 bare_codes : (account : List ℕ) (c : AfterOk) → IsBareOf (after_ok [] c) (after_ok account c)
 bare_codes account no_code = record { lines = refl; place = refl; told = refl; meets = tt }
 bare_codes account (quits_codes q) = bare_quit q
-bare_codes account (asked sent) = record { lines = refl; place = refl; told = refl; meets = tt }
+bare_codes account (unreplied sent) = record { lines = refl; place = refl; told = refl; meets = tt }
 bare_codes account (replied sent moment reply more) =
     bare_line (heard (asking sent)) _ _ (bare_telling (logged_reply_of account moment sent reply) (said (replies moment reply)) _ _
     (bare_codes account more))
@@ -120,7 +120,7 @@ bare_codes account (halted_at sent) = record { lines = refl; place = refl; told 
 -- each part of a session, from the verdict to the whole of it, is the same with no account named:
 bare_judgement : (m account first challenge last : List ℕ) (j : AfterFinal)
     → IsBareOf (after_final m [] first challenge last j) (after_final m account first challenge last j)
-bare_judgement m account first challenge last unjudged = record { lines = refl; place = refl; told = refl; meets = tt }
+bare_judgement m account first challenge last no_verdict = record { lines = refl; place = refl; told = refl; meets = tt }
 bare_judgement m account first challenge last (denied text closed) =
     bare_refusal (λ d. d.denied m [] first challenge last text) (λ d. d.denied m account first challenge last text) text closed tt
 bare_judgement m account first challenge last (granted text c) =
@@ -130,9 +130,10 @@ bare_judgement m account first challenge last (granted text c) =
 
 bare_proof : (m account first challenge : List ℕ) (p : AfterChallenge)
     → IsBareOf (after_challenge m [] first challenge p) (after_challenge m account first challenge p)
-bare_proof m account first challenge no_proof = record { lines = refl; place = refl; told = refl; meets = tt }
-bare_proof m account first challenge (quits_proof q) = bare_quit q
-bare_proof m account first challenge (proves last j) = bare_line (heard (resp last)) _ _ (bare_judgement m account first challenge last j)
+bare_proof m account first challenge no_final = record { lines = refl; place = refl; told = refl; meets = tt }
+bare_proof m account first challenge (quits_final q) = bare_quit q
+bare_proof m account first challenge (sends_final last j) =
+    bare_line (heard (resp last)) _ _ (bare_judgement m account first challenge last j)
 
 of_answer : (m first : List ℕ) (a : AfterFirst) → IsBareOf (after_first m first (bare_answer a)) (after_first m first a)
 of_answer m first no_answer = record { lines = refl; place = refl; told = refl; meets = tt }
@@ -144,10 +145,10 @@ of_answer m first (challenged account text p) =
 of_first : (m : List ℕ) (f : AfterEmpty) → IsBareOf (after_empty m (bare_first f)) (after_empty m f)
 of_first m no_first = record { lines = refl; place = refl; told = refl; meets = tt }
 of_first m (quits_first q) = bare_quit q
-of_first m (begins first a) = bare_line (heard (resp first)) _ _ (of_answer m first a)
+of_first m (sends_first first a) = bare_line (heard (resp first)) _ _ (of_answer m first a)
 
 of_invitation : (m : List ℕ) (i : AfterAuth) → IsBareOf (after_auth m (bare_invitation i)) (after_auth m i)
-of_invitation m no_word = record { lines = refl; place = refl; told = refl; meets = tt }
+of_invitation m no_invitation = record { lines = refl; place = refl; told = refl; meets = tt }
 of_invitation m (unoffered text closed) = bare_refusal (λ d. d.unoffered m text) (λ d. d.unoffered m text) text closed tt
 of_invitation m (invited text f) = bare_due (λ d. d.invited m text) (λ d. d.invited m text) (said (cont text)) _ _ tt (of_first m f)
 

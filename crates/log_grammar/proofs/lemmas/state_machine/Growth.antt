@@ -8,11 +8,11 @@ use Rattle.log_grammar.specs.LoggedReply.{LoggedReply, logged_reply_of}
 use Rattle.log_grammar.specs.Places.{Place, between}
 use Rattle.log_grammar.specs.Demands.{Demands}
 use Rattle.log_grammar.specs.Sessions.{Part, Farewell, parting, Quit, quitting, AfterOk, after_ok, AfterFinal, after_final, AfterChallenge}
-use Rattle.log_grammar.specs.Sessions.{after_challenge, AfterFirst, after_first, AfterEmpty, after_empty, AfterAuth, after_auth, AfterMechs, after_mechs}
-use Rattle.log_grammar.specs.Sessions.{Session, session_part, silent, farewell, goes_away, aborts, sends_bad, no_code, quits_codes, asked}
-use Rattle.log_grammar.specs.Sessions.{replied, halted_at, unjudged, denied, granted, no_proof, quits_proof, proves, no_answer, refused}
-use Rattle.log_grammar.specs.Sessions.{challenged, no_first, quits_first, begins, no_word, unoffered, invited, no_login, quits_login}
-use Rattle.log_grammar.specs.Sessions.{with_first, without_first, session}
+use Rattle.log_grammar.specs.Sessions.{after_challenge, AfterFirst, after_first, AfterEmpty, after_empty, AfterAuth, after_auth, AfterMechs}
+use Rattle.log_grammar.specs.Sessions.{after_mechs, Session, session_part, no_farewell, farewell, goes_away, aborts, sends_bad, no_code}
+use Rattle.log_grammar.specs.Sessions.{quits_codes, unreplied, replied, halted_at, no_verdict, denied, granted, no_final, quits_final}
+use Rattle.log_grammar.specs.Sessions.{sends_final, no_answer, refused, challenged, no_first, quits_first, sends_first, no_invitation}
+use Rattle.log_grammar.specs.Sessions.{unoffered, invited, no_login, quits_login, with_first, without_first, session}
 use Rattle.log_grammar.specs.state_machine.Steps.{IsTransition, told_at}
 
 -- a part of a session goes on by one line, which leads to this place and tells this
@@ -58,9 +58,9 @@ within d inner outer wrap front before ls ps ts ms old line next (inr g) =
 farewell_on : (d : Demands) (t : Farewell) (line : LogLine) (next : Place) → (parting t).Meets d
     → IsTransition d (parting t).place line next
     → GoesOn d parting t line next
-farewell_on d silent (said (refuses text)) next meets h = inr
+farewell_on d no_farewell (said (refuses text)) next meets h = inr
     (record { tree = farewell text false; lines = refl; at = sym h.1; tells = refl; good = h.0 })
-farewell_on d silent line next meets h = absurd h
+farewell_on d no_farewell line next meets h = absurd h
 farewell_on d (farewell text true) line next meets h = inl refl
 farewell_on d (farewell text false) ended next meets h = inr
     (record { tree = farewell text true; lines = refl; at = sym h; tells = refl; good = meets })
@@ -88,24 +88,24 @@ codes_on : (d : Demands) (account : List ℕ) (t : AfterOk) (line : LogLine) (ne
     → IsTransition d (after_ok account t).place line next
     → GoesOn d (after_ok account) t line next
 codes_on d account no_code (heard (code text)) next meets h = inr
-    (record { tree = asked (OneText text); lines = refl; at = sym h; tells = refl; good = tt })
+    (record { tree = unreplied (OneText text); lines = refl; at = sym h; tells = refl; good = tt })
 codes_on d account no_code (heard (sync first second)) next meets h = inr
-    (record { tree = asked (TwoTexts first second); lines = refl; at = sym h; tells = refl; good = tt })
+    (record { tree = unreplied (TwoTexts first second); lines = refl; at = sym h; tells = refl; good = tt })
 codes_on d account no_code (heard abort) next meets h = inr
-    (record { tree = quits_codes (aborts silent); lines = refl; at = sym h; tells = refl; good = tt })
+    (record { tree = quits_codes (aborts no_farewell); lines = refl; at = sym h; tells = refl; good = tt })
 codes_on d account no_code bad next meets h = inr
-    (record { tree = quits_codes (sends_bad silent); lines = refl; at = sym h; tells = refl; good = tt })
+    (record { tree = quits_codes (sends_bad no_farewell); lines = refl; at = sym h; tells = refl; good = tt })
 codes_on d account no_code gone next meets h = inr
     (record { tree = quits_codes (goes_away false); lines = refl; at = sym h; tells = refl; good = tt })
 codes_on d account no_code line next meets h = absurd h
 codes_on d account (quits_codes q) line next meets h =
     within d quitting (after_ok account) quits_codes [] [] (λ t. refl) (λ t. refl) (λ t. refl) (λ t m. m) q line next
     (quit_on d q line next meets h)
-codes_on d account (asked sent) (said (replies moment reply)) next meets h = inr
+codes_on d account (unreplied sent) (said (replies moment reply)) next meets h = inr
     (record { tree = replied sent moment reply no_code; lines = refl; at = sym h; tells = refl; good = tt })
-codes_on d account (asked sent) (said halt) next meets h = inr
+codes_on d account (unreplied sent) (said halt) next meets h = inr
     (record { tree = halted_at sent; lines = refl; at = sym h; tells = refl; good = tt })
-codes_on d account (asked sent) line next meets h = absurd h
+codes_on d account (unreplied sent) line next meets h = absurd h
 codes_on d account (replied sent moment reply more) line next meets h =
     within d (after_ok account) (after_ok account) (replied sent moment reply) (heard (asking sent) ∷ said (replies moment reply) ∷ [])
     (logged_reply_of account moment sent reply ∷ []) (λ t. refl) (λ t. refl) (λ t. refl) (λ t m. m) more line next
@@ -115,11 +115,11 @@ codes_on d account (halted_at sent) line next meets h = absurd h
 judgement_on : (d : Demands) (m account first challenge last : List ℕ) (t : AfterFinal) (line : LogLine) (next : Place)
     → (after_final m account first challenge last t).Meets d → IsTransition d (after_final m account first challenge last t).place line next
     → GoesOn d (after_final m account first challenge last) t line next
-judgement_on d m account first challenge last unjudged (said (refuses text)) next meets h = inr
+judgement_on d m account first challenge last no_verdict (said (refuses text)) next meets h = inr
     (record { tree = denied text false; lines = refl; at = sym h.1; tells = refl; good = h.0 })
-judgement_on d m account first challenge last unjudged (said (accepts text)) next meets h = inr
+judgement_on d m account first challenge last no_verdict (said (accepts text)) next meets h = inr
     (record { tree = granted text no_code; lines = refl; at = sym h.1; tells = refl; good = (h.0, tt) })
-judgement_on d m account first challenge last unjudged line next meets h = absurd h
+judgement_on d m account first challenge last no_verdict line next meets h = absurd h
 judgement_on d m account first challenge last (denied text true) line next meets h = inl refl
 judgement_on d m account first challenge last (denied text false) ended next meets h = inr
     (record { tree = denied text true; lines = refl; at = sym h; tells = refl; good = meets })
@@ -132,21 +132,21 @@ judgement_on d m account first challenge last (granted text c) line next meets h
 proof_on : (d : Demands) (m account first challenge : List ℕ) (t : AfterChallenge) (line : LogLine) (next : Place)
     → (after_challenge m account first challenge t).Meets d → IsTransition d (after_challenge m account first challenge t).place line next
     → GoesOn d (after_challenge m account first challenge) t line next
-proof_on d m account first challenge no_proof (heard (resp last)) next meets h = inr
-    (record { tree = proves last unjudged; lines = refl; at = sym h; tells = refl; good = tt })
-proof_on d m account first challenge no_proof (heard abort) next meets h = inr
-    (record { tree = quits_proof (aborts silent); lines = refl; at = sym h; tells = refl; good = tt })
-proof_on d m account first challenge no_proof bad next meets h = inr
-    (record { tree = quits_proof (sends_bad silent); lines = refl; at = sym h; tells = refl; good = tt })
-proof_on d m account first challenge no_proof gone next meets h = inr
-    (record { tree = quits_proof (goes_away false); lines = refl; at = sym h; tells = refl; good = tt })
-proof_on d m account first challenge no_proof line next meets h = absurd h
-proof_on d m account first challenge (quits_proof q) line next meets h =
-    within d quitting (after_challenge m account first challenge) quits_proof [] [] (λ t. refl) (λ t. refl) (λ t. refl)
+proof_on d m account first challenge no_final (heard (resp last)) next meets h = inr
+    (record { tree = sends_final last no_verdict; lines = refl; at = sym h; tells = refl; good = tt })
+proof_on d m account first challenge no_final (heard abort) next meets h = inr
+    (record { tree = quits_final (aborts no_farewell); lines = refl; at = sym h; tells = refl; good = tt })
+proof_on d m account first challenge no_final bad next meets h = inr
+    (record { tree = quits_final (sends_bad no_farewell); lines = refl; at = sym h; tells = refl; good = tt })
+proof_on d m account first challenge no_final gone next meets h = inr
+    (record { tree = quits_final (goes_away false); lines = refl; at = sym h; tells = refl; good = tt })
+proof_on d m account first challenge no_final line next meets h = absurd h
+proof_on d m account first challenge (quits_final q) line next meets h =
+    within d quitting (after_challenge m account first challenge) quits_final [] [] (λ t. refl) (λ t. refl) (λ t. refl)
     (λ t m. m) q line next
     (quit_on d q line next meets h)
-proof_on d m account first challenge (proves last j) line next meets h =
-    within d (after_final m account first challenge last) (after_challenge m account first challenge) (proves last)
+proof_on d m account first challenge (sends_final last j) line next meets h =
+    within d (after_final m account first challenge last) (after_challenge m account first challenge) (sends_final last)
     (heard (resp last) ∷ []) [] (λ t. refl) (λ t. refl) (λ t. refl) (λ t m. m) j line next
     (judgement_on d m account first challenge last j line next meets h)
 
@@ -156,7 +156,7 @@ answer_on : (d : Demands) (m first : List ℕ) (t : AfterFirst) (line : LogLine)
 answer_on d m first no_answer (said (refuses text)) next meets h = inr
     (record { tree = refused text false; lines = refl; at = sym h.1; tells = refl; good = h.0 })
 answer_on d m first no_answer (said (cont text)) next meets h = inr
-    (record { tree = challenged h.0 text no_proof; lines = refl; at = sym h.2; tells = refl; good = (h.1, tt) })
+    (record { tree = challenged h.0 text no_final; lines = refl; at = sym h.2; tells = refl; good = (h.1, tt) })
 answer_on d m first no_answer line next meets h = absurd h
 answer_on d m first (refused text true) line next meets h = inl refl
 answer_on d m first (refused text false) ended next meets h = inr
@@ -171,30 +171,30 @@ first_on : (d : Demands) (m : List ℕ) (t : AfterEmpty) (line : LogLine) (next 
     → IsTransition d (after_empty m t).place line next
     → GoesOn d (after_empty m) t line next
 first_on d m no_first (heard (resp first)) next meets h = inr
-    (record { tree = begins first no_answer; lines = refl; at = sym h; tells = refl; good = tt })
+    (record { tree = sends_first first no_answer; lines = refl; at = sym h; tells = refl; good = tt })
 first_on d m no_first (heard abort) next meets h = inr
-    (record { tree = quits_first (aborts silent); lines = refl; at = sym h; tells = refl; good = tt })
+    (record { tree = quits_first (aborts no_farewell); lines = refl; at = sym h; tells = refl; good = tt })
 first_on d m no_first bad next meets h = inr
-    (record { tree = quits_first (sends_bad silent); lines = refl; at = sym h; tells = refl; good = tt })
+    (record { tree = quits_first (sends_bad no_farewell); lines = refl; at = sym h; tells = refl; good = tt })
 first_on d m no_first gone next meets h = inr
     (record { tree = quits_first (goes_away false); lines = refl; at = sym h; tells = refl; good = tt })
 first_on d m no_first line next meets h = absurd h
 first_on d m (quits_first q) line next meets h =
     within d quitting (after_empty m) quits_first [] [] (λ t. refl) (λ t. refl) (λ t. refl) (λ t m. m) q line next
     (quit_on d q line next meets h)
-first_on d m (begins first a) line next meets h =
-    within d (after_first m first) (after_empty m) (begins first) (heard (resp first) ∷ []) [] (λ t. refl) (λ t. refl) (λ t. refl)
+first_on d m (sends_first first a) line next meets h =
+    within d (after_first m first) (after_empty m) (sends_first first) (heard (resp first) ∷ []) [] (λ t. refl) (λ t. refl) (λ t. refl)
     (λ t m. m) a line next
     (answer_on d m first a line next meets h)
 
 invitation_on : (d : Demands) (m : List ℕ) (t : AfterAuth) (line : LogLine) (next : Place) → (after_auth m t).Meets d
     → IsTransition d (after_auth m t).place line next
     → GoesOn d (after_auth m) t line next
-invitation_on d m no_word (said (refuses text)) next meets h = inr
+invitation_on d m no_invitation (said (refuses text)) next meets h = inr
     (record { tree = unoffered text false; lines = refl; at = sym h.1; tells = refl; good = h.0 })
-invitation_on d m no_word (said (cont text)) next meets h = inr
+invitation_on d m no_invitation (said (cont text)) next meets h = inr
     (record { tree = invited text no_first; lines = refl; at = sym h.1; tells = refl; good = (h.0, tt) })
-invitation_on d m no_word line next meets h = absurd h
+invitation_on d m no_invitation line next meets h = absurd h
 invitation_on d m (unoffered text true) line next meets h = inl refl
 invitation_on d m (unoffered text false) ended next meets h = inr
     (record { tree = unoffered text true; lines = refl; at = sym h; tells = refl; good = meets })
@@ -208,13 +208,13 @@ login_on : (d : Demands) (t : AfterMechs) (line : LogLine) (next : Place) → (a
     → IsTransition d (after_mechs t).place line next
     → GoesOn d after_mechs t line next
 login_on d no_login (heard (auth m)) next meets h = inr
-    (record { tree = without_first m no_word; lines = refl; at = sym h; tells = refl; good = tt })
+    (record { tree = without_first m no_invitation; lines = refl; at = sym h; tells = refl; good = tt })
 login_on d no_login (heard (auth_with m first)) next meets h = inr
     (record { tree = with_first m first no_answer; lines = refl; at = sym h; tells = refl; good = tt })
 login_on d no_login (heard abort) next meets h = inr
-    (record { tree = quits_login (aborts silent); lines = refl; at = sym h; tells = refl; good = tt })
+    (record { tree = quits_login (aborts no_farewell); lines = refl; at = sym h; tells = refl; good = tt })
 login_on d no_login bad next meets h = inr
-    (record { tree = quits_login (sends_bad silent); lines = refl; at = sym h; tells = refl; good = tt })
+    (record { tree = quits_login (sends_bad no_farewell); lines = refl; at = sym h; tells = refl; good = tt })
 login_on d no_login gone next meets h = inr
     (record { tree = quits_login (goes_away false); lines = refl; at = sym h; tells = refl; good = tt })
 login_on d no_login line next meets h = absurd h

@@ -8,11 +8,12 @@ use Rattle.log_grammar.specs.Places.{Place, before_all, between, offered, asks_b
 use Rattle.log_grammar.specs.Places.{waits_code, got_code, leaving, over, halted}
 use Rattle.log_grammar.specs.Demands.{Demands}
 use Rattle.log_grammar.specs.state_machine.Steps.{FromOffered, FromAsksBare, FromWaitsFirst, FromGotFirst, FromWaitsFinal, FromGotFinal}
-use Rattle.log_grammar.specs.state_machine.Steps.{FromWaitsCode, FromGotCode, FromLeaving, FromBetween, FromOver, FromBeforeAll, IsTransition}
-use Rattle.log_grammar.specs.state_machine.Steps.{told_at}
+use Rattle.log_grammar.specs.state_machine.Steps.{FromWaitsCode, FromGotCode, FromLeaving, FromBetween, FromOver, FromBeforeAll}
+use Rattle.log_grammar.specs.state_machine.Steps.{IsTransition, told_at}
 use Rattle.log_grammar.specs.Begins.{Begins}
 use Rattle.log_grammar.proofs.lemmas.state_machine.LogSteps.{before_last}
-use Rattle.log_grammar.proofs.lemmas.ListEnds.{some_last, last_same, length-last}
+use Rattle.scram_text.proofs.lemmas.ListEnds.{some_last, last_same}
+use Rattle.log_grammar.proofs.lemmas.ListEnds.{no_element, length-last}
 
 -- a challenge is that of one account
 abbrev pub OneAccount : Demands → Type 0
@@ -112,18 +113,14 @@ pub told_same : (told other : List LoggedReply) (p q : Place) (x y : LogLine) �
 told_same told other p q x y a b c = ap (λ (t : List LoggedReply). t ++ told_at p x) a ∙ ap (λ (r : Place). other ++ told_at r x) b ∙ ap
     (λ (l : LogLine). other ++ told_at q l) c
 
--- an empty list of lines does not end with a line
-no_lines : (lines : List LogLine) (line : LogLine) → [] ≡ lines ++ line ∷ [] → ⊥
-no_lines lines line e = some_last lines line (sym e)
-
 -- the place and what was told follow from the lines
 pub read_once : (d : Demands) → OneAccount d → (n : ℕ) (log : List LogLine) (p q : Place) (told other : List LoggedReply) → length log ≤ n
     → Begins d log p told → Begins d log q other → (p ≡ q) × (told ≡ other)
 read_once d one n log p q told other short (inl a) (inl b) = (a.1 ∙ sym b.1, a.2 ∙ sym b.2)
 read_once d one n log p q told other short (inl a) (inr s) =
-    let b = before_last d log q other s in absurd (no_lines b.lines b.line (sym a.0 ∙ b.same))
+    let b = before_last d log q other s in absurd (no_element b.lines b.line [] (sym a.0 ∙ b.same))
 read_once d one n log p q told other short (inr s) (inl a) =
-    let b = before_last d log p told s in absurd (no_lines b.lines b.line (sym a.0 ∙ b.same))
+    let b = before_last d log p told s in absurd (no_element b.lines b.line [] (sym a.0 ∙ b.same))
 read_once d one zero log p q told other short (inr s) (inr r) =
     let b = before_last d log p told s in absurd (omega (arith, short, ap length b.same, length-last b.lines b.line))
 read_once d one (suc n) log p q told other short (inr s) (inr r) =

@@ -8,7 +8,7 @@ use Rattle.log_grammar.specs.Demands.{Accounts, demands, AreReplies}
 use Rattle.log_grammar.specs.Begins.{Begins}
 use Rattle.log_grammar.specs.state_machine.Steps.{IsTransition, told_at}
 use Rattle.log_grammar.specs.laws.LogLaws.{HasLastTransition}
-use Rattle.log_grammar.proofs.lemmas.ListEnds.{some_last, last_same}
+use Rattle.scram_text.proofs.lemmas.ListEnds.{some_last, last_same}
 use Rattle.log_grammar.proofs.lemmas.state_machine.LogSteps.{before_last}
 use Rattle.log_grammar.proofs.lemmas.state_machine.OneReading.{OneAccount, read_once}
 use Rattle.log_grammar.proofs.lemmas.demands.Challenges.{one_name, login_of}

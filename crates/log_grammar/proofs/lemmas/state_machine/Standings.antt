@@ -14,11 +14,11 @@ use Rattle.log_grammar.specs.state_machine.Steps.{IsTransition, told_at}
 use Rattle.log_grammar.specs.Why.{Why, other_mechs, other_challenge, other_outcome, other_reply, refused_with, outcome_of, LineClass}
 use Rattle.log_grammar.specs.Why.{of_abort, of_code, of_sync, of_bad, of_gone, class_of, IsWrongAnswer, IsWrongReply, IsWrong}
 use Rattle.log_grammar.specs.state_machine.DueClasses.{IsQuitting, IsDueAt}
-use Rattle.log_grammar.proofs.lemmas.demands.Challenges.{offered_decided, login_decided}
+use Rattle.log_grammar.proofs.lemmas.demands.Challenges.{decided_offered, decided_login}
 use Rattle.log_grammar.proofs.lemmas.demands.StillChallenged.{Opened}
-use Rattle.log_grammar.proofs.lemmas.completions.EachPlace.{some_verdict}
-use Rattle.log_grammar.proofs.lemmas.demands.DemandsDecided.{Settled, challenged_decided, denied_decided, granted_decided, some_reply}
-use Rattle.log_grammar.proofs.lemmas.demands.DemandsDecided.{reply_decided}
+use Rattle.log_grammar.proofs.lemmas.completions.Verdicts.{some_verdict}
+use Rattle.log_grammar.proofs.lemmas.demands.DemandsDecided.{Settled, decided_challenged, decided_denied, decided_granted, some_reply}
+use Rattle.log_grammar.proofs.lemmas.demands.DemandsDecided.{decided_reply_due}
 
 -- a line goes on from a place, with the reply due where it is one
 pub record Follows (accounts : Accounts) (place : Place) (told : List LoggedReply) (line : LogLine) : Type 0 where
@@ -66,13 +66,13 @@ no_code_due class no_code no_sync no_abort no_bad no_gone (inl is) = no_code is
 no_code_due class no_code no_sync no_abort no_bad no_gone (inr other) = no_turn class of_sync no_sync no_abort no_bad no_gone other
 
 -- where it is decided whether something exists, that is a decided fact, and so is its contrary:
-there_decided : {A : Type 0} {P : A → Type 0} → ((a : A) × P a) ⊎ ((a : A) → P a → ⊥) → Decided ((a : A) × P a)
-there_decided (inl is) = inl is
-there_decided (inr none) = inr (λ is. none is.0 is.1)
+decided_there : {A : Type 0} {P : A → Type 0} → ((a : A) × P a) ⊎ ((a : A) → P a → ⊥) → Decided ((a : A) × P a)
+decided_there (inl is) = inl is
+decided_there (inr none) = inr (λ is. none is.0 is.1)
 
-none_decided : {A : Type 0} {P : A → Type 0} → ((a : A) × P a) ⊎ ((a : A) → P a → ⊥) → Decided ((a : A) → P a → ⊥)
-none_decided (inl is) = inr (λ none. none is.0 is.1)
-none_decided (inr none) = inl none
+decided_none : {A : Type 0} {P : A → Type 0} → ((a : A) × P a) ⊎ ((a : A) → P a → ⊥) → Decided ((a : A) → P a → ⊥)
+decided_none (inl is) = inr (λ none. none is.0 is.1)
+decided_none (inr none) = inl none
 
 -- a line stands at each place in one of the three ways. The clauses for `S HALT` and `C ABORT` say what the last clause says too: with them
 -- the prover goes through the lines of the last clause one by one:
@@ -100,7 +100,7 @@ at_offered accounts told line = inr (inl (no_turn _ _ (λ e. cc e) (λ e. cc e) 
 
 -- after `C AUTH` without a message there is a reason for which a word is wrong
 bare_why : (accounts : Accounts) (m : List ℕ) → (why : Why) × IsWrongAnswer accounts (asks_bare m) why
-bare_why accounts m = elim (offered_decided m) [
+bare_why accounts m = elim (decided_offered m) [
   | inl is ↦ (other_challenge, inl (is, refl))
   | inr none ↦ (other_outcome (refused_with []), inr (none, refl))
 ]
@@ -110,11 +110,11 @@ at_asks_bare : (accounts : Accounts) (told : List LoggedReply) (m : List ℕ) (l
 at_asks_bare accounts told m (said (refuses text)) =
     by_demand accounts (asks_bare m) told (said (refuses text)) _ refl (bare_why accounts m)
     (λ is. record { next = over; goes = (is, refl); due = tt }) (λ f. f.goes.0)
-    (decided_both _ _ (none_decided (offered_decided m)) (decided_same text []))
+    (decided_both _ _ (decided_none (decided_offered m)) (decided_same text []))
 at_asks_bare accounts told m (said (cont text)) =
     by_demand accounts (asks_bare m) told (said (cont text)) _ refl (bare_why accounts m)
     (λ is. record { next = waits_first m; goes = (is, refl); due = tt }) (λ f. f.goes.0)
-    (decided_both _ _ (there_decided (offered_decided m)) (decided_same text []))
+    (decided_both _ _ (decided_there (decided_offered m)) (decided_same text []))
 at_asks_bare accounts told m (said (accepts text)) = never accounts (asks_bare m) told (said (accepts text)) refl (bare_why accounts m)
     (λ f. f.goes)
 at_asks_bare accounts told m (heard abort) = inr (inl (λ is. cc is))
@@ -130,7 +130,7 @@ at_waits_first accounts told m line = inr (inl (no_turn _ _ (λ e. cc e) (λ e. 
 
 -- after a client-first message there is a reason for which a word is wrong
 first_why : Settled → (accounts : Accounts) (m first : List ℕ) → (why : Why) × IsWrongAnswer accounts (got_first m first) why
-first_why s accounts m first = elim (login_decided s.ground.once s.ground.firsts s.ground.names m first) [
+first_why s accounts m first = elim (decided_login s.ground.once s.ground.firsts s.ground.names m first) [
   | inl is ↦ (other_challenge, inl (is, refl))
   | inr none ↦ (other_outcome (refused_with []), inr (none, refl))
 ]
@@ -141,11 +141,11 @@ at_got_first : Settled → (accounts : Accounts) (told : List LoggedReply) (m fi
 at_got_first s accounts told m first (said (refuses text)) =
     by_demand accounts (got_first m first) told (said (refuses text)) _ refl (first_why s accounts m first)
     (λ is. record { next = over; goes = (is, refl); due = tt }) (λ f. f.goes.0)
-    (decided_both _ _ (none_decided (login_decided s.ground.once s.ground.firsts s.ground.names m first)) (decided_same text []))
+    (decided_both _ _ (decided_none (decided_login s.ground.once s.ground.firsts s.ground.names m first)) (decided_same text []))
 at_got_first s accounts told m first (said (cont text)) =
     by_demand accounts (got_first m first) told (said (cont text)) _ refl (first_why s accounts m first)
     (λ is. record { next = waits_final m is.0 first text; goes = (is.0, is.1, refl); due = tt }) (λ f. (f.goes.0, f.goes.1))
-    (challenged_decided s accounts m first text)
+    (decided_challenged s accounts m first text)
 at_got_first s accounts told m first (said (accepts text)) =
     never accounts (got_first m first) told (said (accepts text)) refl (first_why s accounts m first) (λ f. f.goes)
 at_got_first s accounts told m first (heard abort) = inr (inl (λ is. cc is))
@@ -169,12 +169,12 @@ at_got_final s accounts told m account first challenge last (due, is) (said (ref
     by_demand accounts (got_final m account first challenge last) told (said (refuses text)) _ refl
     (other_outcome (outcome_of due), (due, is, refl))
     (λ denied. record { next = over; goes = (denied, refl); due = tt }) (λ f. f.goes.0)
-    (denied_decided s accounts m account first challenge last text due is)
+    (decided_denied s accounts m account first challenge last text due is)
 at_got_final s accounts told m account first challenge last (due, is) (said (accepts text)) =
     by_demand accounts (got_final m account first challenge last) told (said (accepts text)) _ refl
     (other_outcome (outcome_of due), (due, is, refl))
     (λ granted. record { next = waits_code account; goes = (granted, refl); due = tt }) (λ f. f.goes.0)
-    (granted_decided s accounts m account first challenge last text due is)
+    (decided_granted s accounts m account first challenge last text due is)
 at_got_final s accounts told m account first challenge last (due, is) (said (cont text)) =
     never accounts (got_final m account first challenge last) told (said (cont text)) refl (other_outcome (outcome_of due), (due, is, refl))
     (λ f. f.goes)
@@ -207,7 +207,7 @@ at_got_code s accounts told account sent (said (replies moment reply)) =
     (IsLoggedReplyDue accounts (reverse told) (logged_reply_of account moment sent reply))
     refl (reply_why s accounts account sent told moment)
     (λ is. record { next = waits_code account; goes = refl; due = (is, tt) }) (λ f. f.due.0)
-    (reply_decided s (accounts.token account) (attempts_of account (reverse told)) moment sent reply)
+    (decided_reply_due s (accounts.token account) (attempts_of account (reverse told)) moment sent reply)
 at_got_code s accounts told account sent (said halt) = inl (record { next = halted; goes = refl; due = tt })
 at_got_code s accounts told account sent (heard abort) = inr (inl (λ is. cc is))
 at_got_code s accounts told account sent line = inr (inl (λ is. cc is))

@@ -10,12 +10,13 @@ use Rattle.log_grammar.specs.Bytes.{LacksLf}
 use Rattle.log_grammar.specs.LoggedReply.{LoggedReply}
 use Rattle.log_grammar.specs.Places.{Place}
 use Rattle.log_grammar.specs.Demands.{Demands}
-use Rattle.log_grammar.specs.Sessions.{closing, Farewell, parting, Quit, quitting, AfterOk, after_ok, AfterFinal, after_final, AfterChallenge}
-use Rattle.log_grammar.specs.Sessions.{after_challenge, AfterFirst, after_first, AfterEmpty, after_empty, AfterAuth, after_auth, AfterMechs, after_mechs}
-use Rattle.log_grammar.specs.Sessions.{Session, session_lines, silent, farewell, goes_away, aborts, sends_bad, no_code, quits_codes, asked}
-use Rattle.log_grammar.specs.Sessions.{replied, halted_at, unjudged, denied, granted, no_proof, quits_proof, proves, no_answer, refused}
-use Rattle.log_grammar.specs.Sessions.{challenged, no_first, quits_first, begins, no_word, unoffered, invited, no_login, quits_login}
-use Rattle.log_grammar.specs.Sessions.{with_first, without_first, session}
+use Rattle.log_grammar.specs.Sessions.{closing, Farewell, parting, Quit, quitting, AfterOk, after_ok, AfterFinal, after_final}
+use Rattle.log_grammar.specs.Sessions.{AfterChallenge, after_challenge, AfterFirst, after_first, AfterEmpty, after_empty, AfterAuth}
+use Rattle.log_grammar.specs.Sessions.{after_auth, AfterMechs, after_mechs, Session, session_lines, no_farewell, farewell, goes_away}
+use Rattle.log_grammar.specs.Sessions.{aborts, sends_bad, no_code, quits_codes, unreplied, replied, halted_at, no_verdict, denied, granted}
+use Rattle.log_grammar.specs.Sessions.{no_final, quits_final, sends_final, no_answer, refused, challenged, no_first, quits_first}
+use Rattle.log_grammar.specs.Sessions.{sends_first, no_invitation, unoffered, invited, no_login, quits_login, with_first, without_first}
+use Rattle.log_grammar.specs.Sessions.{session}
 use Rattle.log_grammar.specs.Begins.{Spells}
 use Rattle.log_grammar.specs.Counts.{counts_of}
 use Rattle.log_grammar.specs.Numbered.{Numbered, numbered, is_end}
@@ -26,7 +27,8 @@ use Rattle.log_grammar.proofs.lemmas.lines.LackLf.{number_lacks, log_lacks}
 use Rattle.log_grammar.proofs.lemmas.lines.ReadBack.{one_log_line}
 use Rattle.log_grammar.proofs.lemmas.lines.NumberedReadBack.{numbered_written, number_is}
 use Rattle.log_grammar.proofs.lemmas.many_sessions.LinesOfNumber.{same_numbered}
-use Rattle.log_grammar.proofs.lemmas.ListEnds.{heads, same_cons, all_append, each_first}
+use Rattle.scram_text.proofs.lemmas.ListEnds.{heads, same_cons}
+use Rattle.log_grammar.proofs.lemmas.ListEnds.{all_append, each_first}
 use Rattle.log_grammar.proofs.lemmas.lines.TextBytes.{lacks-append}
 use Rattle.log_grammar.proofs.lemmas.lines.Words.{after_space, after-word, spaceless_number}
 
@@ -40,7 +42,7 @@ of_closing true = (tt, tt)
 of_closing false = tt
 
 of_farewell : (f : Farewell) → AreSession (parting f).lines
-of_farewell silent = tt
+of_farewell no_farewell = tt
 of_farewell (farewell text closed) = (tt, of_closing closed)
 
 of_quit : (q : Quit) → AreSession (quitting q).lines
@@ -51,19 +53,19 @@ of_quit (sends_bad f) = (tt, of_farewell f)
 of_codes : (account : List ℕ) (c : AfterOk) → AreSession (after_ok account c).lines
 of_codes account no_code = tt
 of_codes account (quits_codes q) = of_quit q
-of_codes account (asked sent) = (tt, tt)
+of_codes account (unreplied sent) = (tt, tt)
 of_codes account (replied sent moment reply more) = (tt, (tt, of_codes account more))
 of_codes account (halted_at sent) = (tt, (tt, tt))
 
 of_judgement : (m account first challenge last : List ℕ) (j : AfterFinal) → AreSession (after_final m account first challenge last j).lines
-of_judgement m account first challenge last unjudged = tt
+of_judgement m account first challenge last no_verdict = tt
 of_judgement m account first challenge last (denied text closed) = (tt, of_closing closed)
 of_judgement m account first challenge last (granted text c) = (tt, of_codes account c)
 
 of_proof : (m account first challenge : List ℕ) (p : AfterChallenge) → AreSession (after_challenge m account first challenge p).lines
-of_proof m account first challenge no_proof = tt
-of_proof m account first challenge (quits_proof q) = of_quit q
-of_proof m account first challenge (proves last j) = (tt, of_judgement m account first challenge last j)
+of_proof m account first challenge no_final = tt
+of_proof m account first challenge (quits_final q) = of_quit q
+of_proof m account first challenge (sends_final last j) = (tt, of_judgement m account first challenge last j)
 
 of_answer : (m first : List ℕ) (a : AfterFirst) → AreSession (after_first m first a).lines
 of_answer m first no_answer = tt
@@ -73,10 +75,10 @@ of_answer m first (challenged account text p) = (tt, of_proof m account first te
 of_first : (m : List ℕ) (f : AfterEmpty) → AreSession (after_empty m f).lines
 of_first m no_first = tt
 of_first m (quits_first q) = of_quit q
-of_first m (begins first a) = (tt, of_answer m first a)
+of_first m (sends_first first a) = (tt, of_answer m first a)
 
 of_invitation : (m : List ℕ) (i : AfterAuth) → AreSession (after_auth m i).lines
-of_invitation m no_word = tt
+of_invitation m no_invitation = tt
 of_invitation m (unoffered text closed) = (tt, of_closing closed)
 of_invitation m (invited text f) = (tt, of_first m f)
 
@@ -109,21 +111,22 @@ next_within n line = elim (cases_Bool (is_end line)) [
 ]
 
 -- numbers that are given to so many lines are in their range
-abbrev AreFew : ℕ → List LogLine → Type 0
-AreFew n lines = (1 ≤ n) × (n + length lines ≤ last_session_number)
+abbrev FitNumbers : ℕ → List LogLine → Type 0
+FitNumbers n lines = (1 ≤ n) × (n + length lines ≤ last_session_number)
 
 -- few lines are numbered from a session's number on, and stay few without the first of them:
-first_number : (n : ℕ) (lines : List LogLine) → AreFew n lines → IsSessionNumber n
+first_number : (n : ℕ) (lines : List LogLine) → FitNumbers n lines → IsSessionNumber n
 first_number n lines few = (few.0, omega (arith, few.1))
 
-few_left : (n : ℕ) (line : LogLine) (lines : List LogLine) → AreFew n (line ∷ lines) → AreFew (if is_end line then n + 1 else n) lines
+few_left : (n : ℕ) (line : LogLine) (lines : List LogLine) → FitNumbers n (line ∷ lines)
+    → FitNumbers (if is_end line then n + 1 else n) lines
 few_left n line lines few = let next = next_within n line in (omega (arith, few.0, next.0), omega (arith, few.1, next.1))
 
-few_from_one : (lines : List LogLine) → CanBeNumbered lines → AreFew 1 lines
+few_from_one : (lines : List LogLine) → CanBeNumbered lines → FitNumbers 1 lines
 few_from_one lines can = (omega arith, omega (arith, can.few.1))
 
 -- the texts of lines that are numbered are read as these numbered lines, where there are few
-written_from : (n : ℕ) (lines : List LogLine) → AreFew n lines → AllByRecursion IsWritable lines → AllByRecursion MayHaveNumber lines
+written_from : (n : ℕ) (lines : List LogLine) → FitNumbers n lines → AllByRecursion IsWritable lines → AllByRecursion MayHaveNumber lines
     → AllZip IsNumberedLine (map numbered_text (with_numbers n lines)) (with_numbers n lines)
 written_from n [] few each have = tt
 written_from n (line ∷ lines) few each have = (
@@ -138,7 +141,7 @@ pub new_written : (lines : List LogLine) → CanBeNumbered lines → AllByRecurs
 new_written lines can have = written_from 1 lines (few_from_one lines can) can.each have
 
 -- the texts of lines that are numbered have no LF, where there are few
-lack_from : (n : ℕ) (lines : List LogLine) → AreFew n lines → AllByRecursion IsWritable lines
+lack_from : (n : ℕ) (lines : List LogLine) → FitNumbers n lines → AllByRecursion IsWritable lines
     → AllByRecursion LacksLf (map numbered_text (with_numbers n lines))
 lack_from n [] few each = tt
 lack_from n (line ∷ lines) few each = (
@@ -165,7 +168,7 @@ one_back n line x number is read =
     let value = one_log_line (log_line_text line) x.value line (subst (λ (t : List ℕ). IsLogLine t x.value) (sym same) read.line) is in
     same_numbered x.number n x.value line same_number value
 
-back_from : (n : ℕ) (lines : List LogLine) (log : List (Numbered LogLine)) → AreFew n lines → AllByRecursion IsWritable lines
+back_from : (n : ℕ) (lines : List LogLine) (log : List (Numbered LogLine)) → FitNumbers n lines → AllByRecursion IsWritable lines
     → AllZip IsNumberedLine (map numbered_text (with_numbers n lines)) log → log ≡ with_numbers n lines
 back_from n [] [] few each read = refl
 back_from n [] (x ∷ log) few each read = absurd read

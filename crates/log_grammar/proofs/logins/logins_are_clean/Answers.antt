@@ -2,10 +2,10 @@ use Rattle.log_grammar.proofs.lemmas.login_laws.ValidLogins.{logins_are_clean, l
 use Rattle.log_grammar.proofs.logins.logins_are_clean.Goals as goal
 
 pub returns-clause-gone : goal.returns-clause-gone
-returns-clause-gone c = logins_are_clean c.acceptance_is_due_to_valid_logins.ensures
+returns-clause-gone c = logins_are_clean c.accepts_exactly_valid.ensures
 
 pub returns-clause-halted : goal.returns-clause-halted
-returns-clause-halted c = logins_may_halt c.acceptance_is_due_to_valid_logins.ensures
+returns-clause-halted c = logins_may_halt c.accepts_exactly_valid.ensures
 
 pub returns-clause-answered : goal.returns-clause-answered
-returns-clause-answered c = logins_are_answered c.acceptance_is_due_to_valid_logins.ensures
+returns-clause-answered c = logins_are_answered c.accepts_exactly_valid.ensures

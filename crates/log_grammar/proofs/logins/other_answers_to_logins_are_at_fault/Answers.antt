@@ -7,7 +7,7 @@ returns-clause-refused c = refused_logins (record {
   names = c.spells_one_name.ensures;
   verdicts = c.at_most_one_verdict_is_due.ensures;
   answers = c.only_one_reply_is_due.ensures;
-}) c.acceptance_is_due_to_valid_logins.ensures
+}) c.accepts_exactly_valid.ensures
 
 pub returns-clause-answered : goal.returns-clause-answered
 returns-clause-answered c = other_replies (record {
@@ -15,4 +15,4 @@ returns-clause-answered c = other_replies (record {
   names = c.spells_one_name.ensures;
   verdicts = c.at_most_one_verdict_is_due.ensures;
   answers = c.only_one_reply_is_due.ensures;
-}) c.acceptance_is_due_to_valid_logins.ensures
+}) c.accepts_exactly_valid.ensures

@@ -1,12 +1,12 @@
 use Rattle.std.proofs.Common.{◌≡◌, ◌⊎◌, inl, inr, ℕ, ◌+◌, ◌≤◌, List, ◌∷◌, ◌++◌, [], length, arith}
 use Rattle.log_grammar.specs.Lines.{LogLine, said, busy}
 use Rattle.log_grammar.specs.Demands.{demands}
-use Rattle.log_grammar.specs.Numbered.{Numbered, numbered, begun, closed_in}
+use Rattle.log_grammar.specs.Numbered.{Numbered, numbered, given_in, closed_in}
 use Rattle.log_grammar.proofs.lemmas.many_sessions.OpenCounts.{Few, few_are_open}
 use Rattle.log_grammar.proofs.numbered.few_sessions_are_open.Goals as goal
 
 -- at most `limit` sessions are open, or BUSY is the last line and one more is open, where the open and the closed are those given
-counted : (limit opens : ℕ) (log : List (Numbered LogLine)) → opens + closed_in log ≡ begun log → Few limit log
+counted : (limit opens : ℕ) (log : List (Numbered LogLine)) → opens + closed_in log ≡ given_in log → Few limit log
     → (opens ≤ limit) ⊎ ((before : List (Numbered LogLine)) × (n : ℕ) × (log ≡ before ++ numbered n (said busy) ∷ []) × (opens ≡ limit + 1))
 counted limit opens log all (inl few) = inl (omega (arith, all, few))
 counted limit opens log all (inr (before, n, last, many)) = inr (before, n, last, omega (arith, all, many))

@@ -5,8 +5,8 @@ use Rattle.log_grammar.specs.Places.{Place}
 use Rattle.log_grammar.specs.Demands.{Accounts, Demands, demands}
 use Rattle.log_grammar.specs.state_machine.Steps.{told_at}
 use Rattle.log_grammar.specs.Numbered.{Numbered, numbered, SpellsNumbered}
-use Rattle.log_grammar.specs.state_machine.NumberedSteps.{put, IsNumberedTransition, HasLastNumberedTransition}
-use Rattle.log_grammar.specs.laws.NumberedLaws.{GoesOnByANumberedLine}
+use Rattle.log_grammar.specs.state_machine.NumberedSteps.{put, IsNumberedTransition}
+use Rattle.log_grammar.specs.laws.NumberedLaws.{GoesOnByANumberedLine, HasLastNumberedTransition}
 use Rattle.log_grammar.proofs.lemmas.many_sessions.OneReading.{goes_moved}
 use Rattle.log_grammar.proofs.lemmas.many_sessions.LinesOfNumber.{at_each, put_here, put_other}
 use Rattle.log_grammar.proofs.numbered.numbered_logs_go_on_exactly_so.Goals as goal

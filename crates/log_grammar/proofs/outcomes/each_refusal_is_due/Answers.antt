@@ -2,4 +2,4 @@ use Rattle.log_grammar.proofs.lemmas.reply_laws.ServerLines.{each_refusal}
 use Rattle.log_grammar.proofs.outcomes.each_refusal_is_due.Goals as goal
 
 pub returns : goal.returns
-returns c = each_refusal c.at_most_one_verdict_is_due.ensures c.acceptance_is_due_to_valid_logins.ensures
+returns c = each_refusal c.at_most_one_verdict_is_due.ensures c.accepts_exactly_valid.ensures

@@ -1,5 +1,5 @@
 use Rattle.std.proofs.Common.{◌≡◌, length}
-use Rattle.mac_core.specs.Hmac.{hmac, IsPreparedFor}
+use Rattle.mac_core.specs.Hmac.{hmac}
 use Rattle.mac_core.specs.Keys.{iterated, xor_of_iterated}
 use Rattle.mac_core.proofs.keys.hi.Given as goal
 

@@ -24,10 +24,11 @@ use Rattle.log_grammar.specs.Numbered.{Numbered, numbered, of_number}
 use Rattle.log_grammar.specs.NumberedLines.{numbered_text}
 use Rattle.log_grammar.proofs.lemmas.lines.LackLf.{reply_line}
 use Rattle.log_grammar.proofs.lemmas.state_machine.Shortening.{code_goes}
-use Rattle.log_grammar.proofs.lemmas.ListEnds.{same_cons}
+use Rattle.scram_text.proofs.lemmas.ListEnds.{same_cons}
 use Rattle.log_grammar.specs.Versions.{most_open}
-use Rattle.log_grammar.proofs.lemmas.login_laws.Upgraded.{is_halt}
-use Rattle.sasl_desk.specs.Desks.{HoldsBook, IsAttemptOf, IsBookWith, spent_by_all, session_phase, is_saving}
+use Rattle.log_grammar.proofs.lemmas.lines.Written.{halt_written}
+use Rattle.sasl_desk.specs.Desks.{HoldsBook, IsBookWith, spent_by_all, session_phase}
+use Rattle.sasl_desk.specs.SavedCalls.{is_saving, IsAttemptOf}
 use Rattle.sasl_desk.specs.Events.{ClientEvent}
 use Rattle.sasl_desk.specs.Guests.{guest_of}
 use Rattle.sasl_desk.specs.Halls.{HallFields, hall_of, hall_lines, numbered_bytes, IsSessionRun, IsPhaseOf, IsHallAfter, AnswersIn}
@@ -35,10 +36,10 @@ use Rattle.sasl_desk.specs.Halls.{IsSameHall}
 use Rattle.sasl_desk.specs.Keeper.{IsAttemptJudged, IsJudged, IsJudgedInRange}
 use Rattle.sasl_desk.specs.TurnResults.{after_turn_of, judged_lines, after_judged, SessionAnswers, AsksJudgement, IsTurnOf, IsTurnWritten}
 use Rattle.sasl_desk.specs.Prefix.{prefix, prefixed_bytes}
-use Rattle.sasl_desk.specs.Runs.{Asked, hears, Call, call_of, server_nonce_of, IsTurnTaken, IsRun}
+use Rattle.sasl_desk.specs.Runs.{Request, hears, Call, call_of, server_nonce_of, IsTurnTaken, IsRun}
 use Rattle.sasl_desk.specs.Sessions.{IsSessionAt, IsLeftAt, IsRecord, turn_lines}
 use Rattle.sasl_desk.specs.Spent.{AreSpent, SpentStaysSpent}
-use Rattle.sasl_desk.specs.Turns.{IsPath}
+use Rattle.sasl_desk.specs.DueLines.{IsPath}
 use Rattle.sasl_desk.specs.declared.hall.guest.Guest.{Guest}
 use Rattle.sasl_desk.specs.declared.keeper.Keeper.{Keeper}
 use Rattle.sasl_desk.specs.declared.keeper.CodeJudged.{CodeJudged}
@@ -54,8 +55,7 @@ use Rattle.sasl_desk.proofs.lemmas.halls.Turns.{turn_is_open, any_follows, holds
 use Rattle.sasl_desk.proofs.lemmas.halls.Turns.{halted_after, HallStep, stands_by_step}
 use Rattle.sasl_desk.proofs.lemmas.turns.Keepers.{told_due}
 use Rattle.sasl_desk.proofs.lemmas.turns.Paths.{client_turn, turn_path, turn_no_reply}
-use Rattle.sasl_desk.proofs.lemmas.runs.Bytes.{left_rests}
-use Rattle.sasl_desk.proofs.lemmas.runs.IsDeskAfter.{book_after_told, held_at_turn, left_going, kept_held, spent_after}
+use Rattle.sasl_desk.proofs.lemmas.runs.IsDeskAfter.{book_after_told, stored_unless, left_going, kept_held, spent_after}
 use Rattle.sasl_desk.proofs.lemmas.runs.IsDeskAfter.{taken_by_turn, taken_by_reply, taken_by_halt, stored_by_halt}
 use Rattle.sasl_desk.proofs.lemmas.runs.Calls.{turn_saves, saves_by_code, asked_by_code, quiet_by_code, failed_by, open_goes_on}
 
@@ -73,7 +73,7 @@ prefixed_numbered n lines = ap ended_by_lf (prefixed_texts n lines)
 run_of : (accounts : Accounts) (calls : List Call) (at : Place) → is_closed at ≡ false → IsSessionRun accounts calls at
     → IsRun accounts calls at
 run_of accounts calls at is_open (inl run) = run
-run_of accounts calls at is_open (inr (server_nonce, turned, same)) =
+run_of accounts calls at is_open (inr (turned, same)) =
     let never : is_closed between ≡ false = subst (λ (p : Place). is_closed p ≡ false) same is_open in absurd (cc never)
 
 -- a turn that leaves its session at a place, or ends it, leaves it so in a hall
@@ -111,9 +111,8 @@ step_by_answer itself facts IsStored start calls keeper n going server_nonce oth
       writable = rw t.lines_are at t.writable;
       leaves = leaves_left accounts next _ t.turn.answer.session turn.is_answer.left (turn_closed n t.turn t.message);
       is_book = s.is_book;
-      stored = held_at_turn IsStored accounts
+      stored = stored_unless IsStored accounts
           (call_of (hears event moment) (turn_lines t.turn t.message) ∷ of_number n calls) next keeper.book (facts keeper.store)
-          (left_rests accounts next t.turn.answer.session turn.is_answer.left)
           (left_going accounts next t.turn.answer.session turn.is_answer.left)
           (holds_book facts IsStored start calls hall s refl);
       spent = s.spent;
@@ -191,7 +190,7 @@ step_by_halt itself facts IsStored start calls old new n going server_nonce othe
           (λ line to goes. any_follows facts IsStored start calls hall s refl n line)
           (subst (λ (p : Place). IsPath (demands accounts) p lines halted) (sym asks.place) path);
       turns = (tt, (tt, tt));
-      writable = (asked.writable, (is_halt, tt));
+      writable = (asked.writable, (halt_written, tt));
       leaves = (refl, refl);
       is_book = subst (λ (b : BookFields). IsBookWith start (reverse s.told) b) (sym judged.0) s.is_book;
       stored = stored_by_halt IsStored accounts (of_number n calls) old.book new.book (facts old.store)
@@ -373,14 +372,14 @@ answers_by_taken_in itself stays facts IsStored old new n going server_nonce oth
 
 -- a call does the same where the guests before it are in another order
 pub answers_reordered : {S : Type 0} (facts : S → StoreFacts) (IsStored : List ℕ → Type 0) (keeper : Keeper S) (guests others : List Guest)
-    (given : ℕ) (is_halted : Bool) (m n : ℕ) (asked : Asked)
+    (given : ℕ) (is_halted : Bool) (m n : ℕ) (request : Request)
     (answered : Phase) (wire wire' log log' : List ℕ) (new : HallFields S) → IsPermutation guests others → m ≡ n
-    → AnswersIn facts IsStored (hall_of keeper others given is_halted) m asked answered wire wire' log log' new
-    → AnswersIn facts IsStored (hall_of keeper guests given is_halted) n asked answered wire wire' log log' new
+    → AnswersIn facts IsStored (hall_of keeper others given is_halted) m request answered wire wire' log log' new
+    → AnswersIn facts IsStored (hall_of keeper guests given is_halted) n request answered wire wire' log log' new
 unfolding stands_reordered
-answers_reordered facts IsStored keeper guests others given is_halted m n asked answered wire wire' log log' new same is was =
+answers_reordered facts IsStored keeper guests others given is_halted m n request answered wire wire' log log' new same is was =
     let a = subst (λ (k : ℕ). AnswersIn facts IsStored
-    (hall_of keeper others given is_halted) k asked answered wire wire' log log' new) is was in
+    (hall_of keeper others given is_halted) k request answered wire wire' log log' new) is was in
     record {
       lines = a.lines;
       logged = a.logged;
@@ -404,6 +403,6 @@ same_reordered keeper guests others given is_halted new same is = record {
   book = is.book;
   store = is.store;
   guests = IsPermutation-trans guests others new.guests same is.guests;
-  begun = is.begun;
+  given = is.given;
   halted = is.halted;
 }

@@ -11,7 +11,7 @@ use Rattle.std.proofs.lemmas.Option.{slice_get_cases}
 use Rattle.std.proofs.lemmas.List.Sums.{sum_by-append}
 use Rattle.sasl_desk.specs.Guests.{is_of}
 use Rattle.sasl_desk.specs.declared.hall.guest.Guest.{Guest}
-use Rattle.sasl_log.proofs.lemmas.steps.PermutedSlots.{count_one, count_no, count_cons}
+use Rattle.sasl_log.proofs.lemmas.ListCounts.{count_one, count_no, count_cons}
 
 -- as many pass a test in two lists joined as in both
 count_append : {X : Type 0} (p : X → Bool) (xs ys : List X) → count_by p (xs ++ ys) ≡ count_by p xs + count_by p ys

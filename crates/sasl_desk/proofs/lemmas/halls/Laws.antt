@@ -18,15 +18,15 @@ use Rattle.log_grammar.specs.Bytes.{ended_by_lf, IsSplit}
 use Rattle.log_grammar.specs.Versions.{most_open, IsFront, IsClean}
 use Rattle.log_grammar.specs.Lines.{LogLine, header_two, said, halt, log_line_text}
 use Rattle.log_grammar.specs.LoggedReply.{LoggedReply}
-use Rattle.log_grammar.specs.Places.{Place, before_all, between, halted, is_closed}
+use Rattle.log_grammar.specs.Places.{Place, before_all, between, is_closed}
 use Rattle.log_grammar.specs.Demands.{Accounts, demands}
 use Rattle.log_grammar.specs.Numbered.{Numbered, numbered, of_number, SpellsNumbered, MayEndNumbered}
 use Rattle.log_grammar.specs.NumberedLines.{numbered_text, IsNumberedWritable}
 use Rattle.log_grammar.proofs.lemmas.many_sessions.WithoutLast.{numbered_before}
 use Rattle.log_grammar.proofs.lemmas.many_sessions.LinesOfNumber.{of_number_append, of_number_all, of_number_none}
 use Rattle.log_grammar.proofs.lemmas.session_laws.NumberedOfSessions.{are_written, each_lacks}
-use Rattle.log_grammar.proofs.lemmas.completions.NumberedFronts.{halt_leads_in}
-use Rattle.sasl_desk.specs.Desks.{HoldsBook, IsLostAfter, IsStoredAt, session_phase, spent_by_all}
+use Rattle.log_grammar.proofs.lemmas.many_sessions.HaltAndBusy.{halt_leads_in}
+use Rattle.sasl_desk.specs.Desks.{HoldsBook, IsLostAfter, session_phase, spent_by_all}
 use Rattle.sasl_desk.specs.Guests.{is_of}
 use Rattle.sasl_desk.specs.Saved.{AreLinesSaved}
 use Rattle.sasl_desk.specs.Halls.{HallFields, hall_lines, hall_bytes, numbered_bytes, IsSessionRun, IsSeated, IsStoredAfter, IsHallAfter}
@@ -34,13 +34,14 @@ use Rattle.sasl_desk.specs.Halls.{guest_phase, phase_in, IsPhaseOf, IsPhaseIn}
 use Rattle.sasl_desk.specs.Keeper.{IsAttemptJudged}
 use Rattle.sasl_desk.specs.Records.{HasSessionRecords}
 use Rattle.sasl_desk.specs.Restarts.{IsHallRunLeaving}
-use Rattle.sasl_desk.specs.Runs.{Asked, greets, hears, Call, IsAtRest, IsAnsweredBy, IsRun, wire_bytes, server_nonce_of}
+use Rattle.sasl_desk.specs.Runs.{Request, greets, hears, Call, IsAtRest, IsAnsweredBy, IsRun, wire_bytes, server_nonce_of}
 use Rattle.sasl_desk.specs.Serves.{call_lines}
 use Rattle.sasl_desk.specs.Spent.{AreSpent, SpentStaysSpent}
 use Rattle.sasl_desk.specs.declared.hall.guest.Guest.{Guest}
 use Rattle.sasl_desk.proofs.lemmas.halls.Guests.{counted_none, found_holds, found_counted}
 use Rattle.sasl_desk.proofs.lemmas.halls.Calls.{session_phase_at}
 use Rattle.sasl_desk.proofs.lemmas.halls.Turns.{opened, closed}
+use Rattle.sasl_desk.proofs.lemmas.runs.IsDeskAfter.{lost_at}
 use Rattle.sasl_desk.proofs.lemmas.runs.Records.{run_offers, run_records}
 use Rattle.sasl_desk.proofs.lemmas.runs.Restarts.{held_or_lost, was_saved, told_spent}
 use Rattle.sasl_desk.proofs.lemmas.runs.Bytes.{wire_bytes-append}
@@ -76,19 +77,20 @@ hall_ends facts IsStored start calls hall s ends = (
 )
 
 -- after a call nothing is left to be said at its session's place:
-answered_rests : (accounts : Accounts) (server_nonce : List ℕ) (asked : Asked) (place at : Place) (lines : List LogLine)
-    → IsAnsweredBy accounts server_nonce asked place lines at
+answered_rests : (accounts : Accounts) (server_nonce : List ℕ) (request : Request) (place at : Place) (lines : List LogLine)
+    → IsAnsweredBy accounts server_nonce request place lines at
     → IsAtRest at
 answered_rests accounts server_nonce (greets new) place at lines greeting = rw greeting.waits refl
 answered_rests accounts server_nonce (hears event moment) place at lines turn = turn.rests
 
 run_rests : (accounts : Accounts) (calls : List Call) (at : Place) → IsRun accounts calls at → IsAtRest at
 run_rests accounts [] at run = rw run tt
-run_rests accounts (c ∷ calls) at (place, run, answered) = answered_rests accounts (server_nonce_of calls) c.asked place at c.lines answered
+run_rests accounts (c ∷ calls) at (place, run, answered) =
+    answered_rests accounts (server_nonce_of calls) c.request place at c.lines answered
 
 session_run_rests : (accounts : Accounts) (calls : List Call) (at : Place) → IsSessionRun accounts calls at → IsAtRest at
 session_run_rests accounts calls at (inl run) = run_rests accounts calls at run
-session_run_rests accounts calls at (inr (server_nonce, turned, is)) = rw is tt
+session_run_rests accounts calls at (inr (turned, is)) = rw is tt
 
 -- a closed place at which nothing is left to be said is between sessions
 closed_between : (at : Place) → is_closed at ≡ true → IsAtRest at → at ≡ between
@@ -125,13 +127,6 @@ pub closed_is_clean : {S : Type 0} (facts : S → StoreFacts) (IsStored : List �
 closed_is_clean facts IsStored start calls hall s none =
     hall_ends facts IsStored start calls hall s
     (inl (λ n. none_between facts IsStored start calls hall s n (no_guest hall.is_halted (find (is_of n) hall.guests) (none n))))
-
--- where the store has failed, the place is that of the halt
-lost_at : (IsStored : List ℕ → Type 0) (accounts : Accounts) (calls : List Call) (place : Place) (book : BookFields) (store : StoreFacts)
-    → IsStoredAt IsStored accounts calls place book store
-    → store.failed ≡ true → place ≡ halted
-lost_at IsStored accounts calls halted book store lost failed = refl
-lost_at IsStored accounts calls place book store held failed = absurd (cc (held.working, failed))
 
 -- where the store of a hall has failed, its log may end
 failed_ends : {S : Type 0} (facts : S → StoreFacts) (IsStored : List ℕ → Type 0) (start : BookFields) (calls : List (Numbered Call))
@@ -192,7 +187,7 @@ session_run_records : (accounts : Accounts) (calls : List Call) (at : Place) →
     → HasSessionRecords accounts calls
 session_run_records accounts calls at (inl run) = inl
     (record { offers = run_offers accounts calls at run; records = run_records accounts calls at run })
-session_run_records accounts calls at (inr (server_nonce, turned, is)) = inr (server_nonce, turned)
+session_run_records accounts calls at (inr (turned, is)) = inr turned
 
 -- the calls of each number have their records, as at a desk; or its session was turned away and asked nothing more
 pub session_records : {S : Type 0} (facts : S → StoreFacts) (IsStored : List ℕ → Type 0) (start : BookFields) (calls : List (Numbered Call))
@@ -283,34 +278,34 @@ run_to facts IsStored start calls hall s left leaves = (
 )
 
 -- the text that the store of a hall holds is that of a book which the run leaves where it stops here
-pub left_by_hall : {S : Type 0} (facts : S → StoreFacts) (IsStored : List ℕ → Type 0) (start : BookFields) (calls : List (Numbered Call))
+pub left_book : {S : Type 0} (facts : S → StoreFacts) (IsStored : List ℕ → Type 0) (start : BookFields) (calls : List (Numbered Call))
     (hall : HallFields S)
     → IsHallAfter facts IsStored start calls hall
     → (left : BookFields) × IsHallRunLeaving facts IsStored start calls left × IsBookText (facts hall.keeper.store).saved left
-left_by_hall facts IsStored start calls hall s =
+left_book facts IsStored start calls hall s =
     let book = hall.keeper.book in
     elim (held_or_lost_after IsStored (accounts_in start) calls s.places book (facts hall.keeper.store) s.is_stored) [
       | inl held ↦ (book, run_to facts IsStored start calls hall s book (inl refl), held.saved)
       | inr (own_calls, lost) ↦ elim lost.saved [
         | inl before ↦ (book, run_to facts IsStored start calls hall s book (inl refl), before.0)
-        | inr after ↦ (lost.next, run_to facts IsStored start calls hall s lost.next (inr (lost.t, lost.is_told)), after)
+        | inr after ↦ (lost.next, run_to facts IsStored start calls hall s lost.next (inr (lost.t, lost.is_judged)), after)
       ]
     ]
 
 -- a run that stops as the hall saves one more attempt may leave the book with that attempt
-pub stopped_hall : {S : Type 0} (facts : S → StoreFacts) (IsStored : List ℕ → Type 0) (start : BookFields) (calls : List (Numbered Call))
+pub stopped_run : {S : Type 0} (facts : S → StoreFacts) (IsStored : List ℕ → Type 0) (start : BookFields) (calls : List (Numbered Call))
     (hall : HallFields S) (t : LoggedReply) (next : BookFields)
     → IsHallAfter facts IsStored start calls hall → IsAttemptJudged hall.keeper.book t next
     → IsHallRunLeaving facts IsStored start calls next
-stopped_hall facts IsStored start calls hall t next s one = run_to facts IsStored start calls hall s next (inr (t, one))
+stopped_run facts IsStored start calls hall t next s one = run_to facts IsStored start calls hall s next (inr (t, one))
 
 -- in the book whose text the store of a hall holds, what was spent before is spent, and so is each counter that a reply used
-pub saved_by_hall : BeginsWithItself → SpentStaysSpent
+pub saved_spent : BeginsWithItself → SpentStaysSpent
     → {S : Type 0} (facts : S → StoreFacts) (IsStored : List ℕ → Type 0) (start : BookFields) (calls : List (Numbered Call))
     (hall : HallFields S)
     (s : IsHallAfter facts IsStored start calls hall) (ps : List (List ℕ × ℕ)) → AreSpent ps start
     → (saved : BookFields) × IsBookText (facts hall.keeper.store).saved saved × AreSpent (spent_by_all (reverse s.told) ++ ps) saved
-saved_by_hall itself stays facts IsStored start calls hall s ps spent =
+saved_spent itself stays facts IsStored start calls hall s ps spent =
     let book = hall.keeper.book in
     let mine = s.spent ps spent in
     elim (held_or_lost_after IsStored (accounts_in start) calls s.places book (facts hall.keeper.store) s.is_stored) [
@@ -320,17 +315,17 @@ saved_by_hall itself stays facts IsStored start calls hall s ps spent =
         | inr after ↦ (
           lost.next,
           after,
-          told_spent itself stays book lost.next lost.t (spent_by_all (reverse s.told) ++ ps) lost.is_told
+          told_spent itself stays book lost.next lost.t (spent_by_all (reverse s.told) ++ ps) lost.is_judged
               mine,
         )
       ]
     ]
 
 -- in the hall's book with one more attempt, what was spent before is spent, and so is each counter that a reply in its log used
-pub stopped_by_hall : BeginsWithItself → SpentStaysSpent
+pub stopped_spent : BeginsWithItself → SpentStaysSpent
     → {S : Type 0} (facts : S → StoreFacts) (IsStored : List ℕ → Type 0) (start : BookFields) (calls : List (Numbered Call))
     (hall : HallFields S) (s : IsHallAfter facts IsStored start calls hall) (ps : List (List ℕ × ℕ)) (t : LoggedReply) (next : BookFields)
     → AreSpent ps start
     → IsAttemptJudged hall.keeper.book t next → AreSpent (spent_by_all (reverse s.told) ++ ps) next
-stopped_by_hall itself stays facts IsStored start calls hall s ps t next spent one =
+stopped_spent itself stays facts IsStored start calls hall s ps t next spent one =
     told_spent itself stays hall.keeper.book next t (spent_by_all (reverse s.told) ++ ps) one (s.spent ps spent)

@@ -18,11 +18,11 @@ use Rattle.log_grammar.specs.Numbered.{Numbered, numbered, of_number, closed_in,
 use Rattle.log_grammar.specs.NumberedLines.{IsSessionNumber, IsNumberedWritable}
 use Rattle.log_grammar.specs.state_machine.NumberedSteps.{put, IsVisitTransition}
 use Rattle.log_grammar.proofs.lemmas.many_sessions.WithoutLast.{numbered_before}
-use Rattle.log_grammar.proofs.lemmas.many_sessions.OpenCounts.{open_was_begun}
-use Rattle.log_grammar.proofs.lemmas.many_sessions.LinesOfNumber.{at_each, put_here, put_other, begun_append, closed_append}
+use Rattle.log_grammar.proofs.lemmas.many_sessions.OpenCounts.{open_was_given}
+use Rattle.log_grammar.proofs.lemmas.many_sessions.LinesOfNumber.{at_each, put_here, put_other, given_append, closed_append}
 use Rattle.log_grammar.proofs.lemmas.ListEnds.{all_append}
-use Rattle.log_grammar.proofs.lemmas.completions.NumberedFronts.{halt_leads_in, busy_leads_in}
-use Rattle.sasl_log.proofs.lemmas.steps.PermutedSlots.{all_permuted, count_permuted}
+use Rattle.log_grammar.proofs.lemmas.many_sessions.HaltAndBusy.{halt_leads_in, busy_leads_in}
+use Rattle.sasl_log.proofs.lemmas.ListCounts.{all_permuted, count_permuted}
 use Rattle.log_grammar.specs.Versions.{most_open}
 use Rattle.sasl_desk.specs.Desks.{HoldsBook, IsStoredAt, IsBookWith, spent_by_all}
 use Rattle.sasl_desk.specs.Events.{ClientEvent}
@@ -31,7 +31,7 @@ use Rattle.sasl_desk.specs.Halls.{HallFields, hall_of, hall_lines, IsSessionRun,
 use Rattle.sasl_desk.specs.Runs.{hears, Call, call_of, server_nonce_of, IsTurnTaken}
 use Rattle.sasl_desk.specs.Sessions.{IsSessionAt, CanBeWritten}
 use Rattle.sasl_desk.specs.Spent.{AreSpent}
-use Rattle.sasl_desk.specs.Turns.{is_client_turn}
+use Rattle.sasl_desk.specs.DueLines.{is_client_turn}
 use Rattle.sasl_desk.specs.declared.hall.guest.Guest.{Guest}
 use Rattle.sasl_desk.specs.declared.keeper.Keeper.{Keeper}
 use Rattle.sasl_desk.specs.declared.session.Session.{Session}
@@ -40,6 +40,7 @@ use Rattle.sasl_desk.specs.declared.turn.AfterTurn.TheVariants.{Going, Over, Hal
 use Rattle.sasl_desk.proofs.lemmas.halls.Guests.{count_here, count_other, count_last, one_of, none_of, all_with}
 use Rattle.sasl_desk.proofs.lemmas.halls.Paths.{IsTurnLine, turn_number, turn_begun}
 use Rattle.sasl_desk.proofs.lemmas.turns.Paths.{client_turn}
+use Rattle.sasl_desk.proofs.lemmas.runs.IsDeskAfter.{held_unless}
 
 -- a call of a number is the latest of that number's calls
 pub of_number_here : {X : Type 0} (n : ℕ) (x : X) (xs : List (Numbered X)) → of_number n (numbered n x ∷ xs) ≡ x ∷ of_number n xs
@@ -121,13 +122,6 @@ any_follows facts IsStored start calls hall s working n line before x same =
     may_follow d (b.before x.number) (s.places x.number) x.number n x.value line b.goes.goes
     (at_rest facts IsStored start calls hall s working x.number)
 
--- a store that is as it has to be at a place that is no halt holds the book
-held_unless : (IsStored : List ℕ → Type 0) (accounts : Accounts) (calls : List Call) (at : Place) (book : BookFields) (store : StoreFacts)
-    → (at ≡ halted → ⊥)
-    → IsStoredAt IsStored accounts calls at book store → HoldsBook IsStored book store
-held_unless IsStored accounts calls halted book store going stored = absurd (going refl)
-held_unless IsStored accounts calls at book store going stored = stored
-
 -- where a hall has not halted, its store has not failed and holds the text of its book
 pub holds_book : {S : Type 0} (facts : S → StoreFacts) (IsStored : List ℕ → Type 0) (start : BookFields) (calls : List (Numbered Call))
     (hall : HallFields S)
@@ -167,7 +161,7 @@ LeavesAt accounts next ends (Going going) = IsSessionAt accounts next going × (
 LeavesAt accounts next ends Over = (next ≡ between) × (ends ≡ 1)
 LeavesAt accounts next ends (Halted going) = (next ≡ halted) × (ends ≡ 0)
 
--- the guests after a turn of the session of this number: it has a place again unless it ended
+-- the guests after a turn of the session of this number: it has a seat again unless it ended
 abbrev pub guests_after : (n : ℕ) (server_nonce : List ℕ) → AfterTurn → List Guest → List Guest
 guests_after n server_nonce (Going going) others = others ++ guest_of n going server_nonce ∷ []
 guests_after n server_nonce Over others = others
@@ -236,7 +230,7 @@ count_after_other n m server_nonce Over others other = refl
 count_after_other n m server_nonce (Halted going) others other = count_last (is_of m) others (guest_of n going server_nonce) ∙ count_other m
     (guest_of n going server_nonce) others other
 
--- numbered lines of a turn that can be written can be so in a log of version 2
+-- lines of a turn that can be written can be written under a session's number too
 pub turn_written : (n : ℕ) → IsSessionNumber n → (lines : List LogLine) → AllByRecursion IsTurnLine lines → CanBeWritten lines
     → AllByRecursion IsNumberedWritable (map (numbered n) lines)
 turn_written n number [] turns written = tt
@@ -309,12 +303,12 @@ stands_by_step facts IsStored start calls old new n going server_nonce others gi
     let mine = of_number_here n call calls in
     let is = s.seated refl in
     let is_open = turn_is_open (s.places n) (client_turn accounts (s.places n) going is.0.0) in
-    let range = open_was_begun most_open (demands accounts) (hall_lines calls) s.places s.told s.spelled n is_open in
+    let range = open_was_given most_open (demands accounts) (hall_lines calls) s.places s.told s.spelled n is_open in
     let number : IsSessionNumber n = (range.0, omega (arith, range.1, s.given, s.last_number)) in
     let counted = count_here n guest others refl in
     let alone : count_by (is_of n) others ≡ 0 = omega (arith, counted, s.guests n, opened (s.places n) is_open) in
     let none = turn_begun n lines step.turns in
-    let all_begun = begun_append (hall_lines calls) (map (numbered n) lines) in
+    let all_begun = given_append (hall_lines calls) (map (numbered n) lines) in
     let all_closed = closed_append (hall_lines calls) (map (numbered n) lines) in
     let leaves = subst (λ (p : Place). LeavesAt accounts p (closed_in (map (numbered n) lines)) left) (sym here) step.leaves in (
       record {
@@ -324,7 +318,7 @@ stands_by_step facts IsStored start calls old new n going server_nonce others gi
             (subst (λ (l : List Call). IsSessionRun accounts l (places n)) (sym mine)
             (subst (λ (p : Place). IsSessionRun accounts (call ∷ of_number n calls) p) (sym here) (elim (s.session_runs n) [
               | inl run ↦ inl (s.places n, run, step.taken)
-              | inr (own_was, turned, at) ↦ absurd
+              | inr (turned, at) ↦ absurd
                   (let same : is_closed between ≡ false = subst (λ (p : Place). is_closed p ≡ false) at is_open in cc same)
             ])))
             (λ m other. subst (λ (l : List Call). IsSessionRun accounts l (places m)) (sym (of_number_skip n m call calls other))

@@ -19,9 +19,10 @@ use Rattle.sasl_desk.specs.Keeper.{IsAttemptJudged, IsJudged}
 use Rattle.sasl_desk.specs.Sessions.{IsSessionAt, IsRecord, recorded_shown, said_lines, end_lines, lines_of_answer, turn_lines}
 use Rattle.sasl_desk.specs.Runs.{greets, hears, Call, wire_bytes}
 use Rattle.sasl_desk.specs.Spent.{SpentStaysSpent}
-use Rattle.sasl_desk.specs.TurnResults.{after_turn_of, judged_lines, after_judged, SessionAnswers, IsCodeJudged, AsksJudgement, AreSent}
+use Rattle.sasl_desk.specs.TurnResults.{after_turn_of, judged_lines, after_judged, SessionAnswers, KeeperReplies, AsksJudgement, AreLoggedAndSent}
 use Rattle.sasl_desk.specs.TurnResults.{IsTurnWritten}
-use Rattle.sasl_desk.specs.Desks.{HoldsBook, IsAttemptOf, IsDeskAfter, Answers, phase_of, session_phase, desk_of, state_after, is_saving}
+use Rattle.sasl_desk.specs.Desks.{HoldsBook, IsDeskAfter, Answers, phase_of, session_phase, desk_of, state_after}
+use Rattle.sasl_desk.specs.SavedCalls.{is_saving, IsAttemptOf}
 use Rattle.sasl_desk.specs.declared.turn.AfterTurn.{AfterTurn}
 use Rattle.sasl_desk.specs.declared.keeper.Keeper.{Keeper}
 use Rattle.sasl_desk.specs.declared.keeper.CodeJudged.{CodeJudged}
@@ -94,7 +95,7 @@ asked_by_code IsStored event moment sent name at (Replied (Some (Pass c))) old n
   record {
     event = event;
     answer = said (replies moment (Some (Pass c)));
-    is_asked = refl;
+    is_request = refl;
     place = here;
     lines_are = refl;
     to_save = refl;
@@ -105,7 +106,7 @@ asked_by_code IsStored event moment sent name at (Replied (Some (Pass c))) old n
 asked_by_code IsStored event moment sent name at (Replied (Some Fail)) old new was now here held (one, kept) some = (
   logged_reply_of name moment sent (Some Fail),
   new,
-  record { event = event; answer = said (replies moment (Some Fail)); is_asked = refl; place = here; lines_are = refl; to_save = refl },
+  record { event = event; answer = said (replies moment (Some Fail)); is_request = refl; place = here; lines_are = refl; to_save = refl },
   one,
   subst (λ (t : List ℕ). IsBookText t new) (sym kept.saved.begun.asked) kept.is_text,
 )
@@ -114,7 +115,7 @@ asked_by_code IsStored event moment sent name at (Replied None) old new was now 
 asked_by_code IsStored event moment sent name at Lost old new was now here held (same, (reply, next, needs, one, loses)) some = (
   logged_reply_of name moment sent reply,
   next,
-  record { event = event; answer = said halt; is_asked = refl; place = here; lines_are = refl; to_save = needs },
+  record { event = event; answer = said halt; is_request = refl; place = here; lines_are = refl; to_save = needs },
   one,
   subst (λ (t : List ℕ). IsBookText t next) (sym (lost_now was now loses.text held.working loses.lost).begun.asked) loses.is_text,
 )
@@ -166,8 +167,8 @@ answers_by_code : BeginsWithItself → SpentStaysSpent → GoesOnByALine
     (server_nonce : List ℕ) (event : ClientEvent) (moment : ℕ) (lines : List LogLine) (left : AfterTurn) (wire wire' log log' : List ℕ)
     (new : Desk S)
     (name : List ℕ) (sent : CodeTexts) → AsksJudgement old going event name sent
-    → IsCodeJudged facts IsStored old name moment sent lines left new.keeper
-    → AreSent None lines wire wire' log log' → new.state ≡ state_after left server_nonce
+    → KeeperReplies facts IsStored old name moment sent lines left new.keeper
+    → AreLoggedAndSent None lines wire wire' log log' → new.state ≡ state_after left server_nonce
     → Answers facts IsStored (desk_of old (Open going server_nonce)) (hears event moment) wire wire' log log' new
 answers_by_code itself stays law {S} facts IsStored old going server_nonce event moment lines left wire wire' log log' new name sent asked
     t written is_state =
@@ -212,7 +213,7 @@ answers_by_turn : BeginsWithItself → GoesOnByALine
     → {S : Type 0} (facts : S → StoreFacts) (IsStored : List ℕ → Type 0) (keeper : Keeper S) (going : Session) (server_nonce : List ℕ)
     (event : ClientEvent)
     (moment : ℕ) (lines : List LogLine) (left : AfterTurn) (wire wire' log log' : List ℕ) (new : Desk S)
-    → SessionAnswers keeper going server_nonce event lines left new.keeper → AreSent None lines wire wire' log log'
+    → SessionAnswers keeper going server_nonce event lines left new.keeper → AreLoggedAndSent None lines wire wire' log log'
     → new.state ≡ state_after left server_nonce
     → Answers facts IsStored (desk_of keeper (Open going server_nonce)) (hears event moment) wire wire' log log' new
 answers_by_turn itself law facts IsStored keeper going server_nonce event moment lines left wire wire' log log' new t written is_state =

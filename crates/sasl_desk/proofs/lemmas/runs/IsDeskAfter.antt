@@ -24,16 +24,15 @@ use Rattle.log_grammar.proofs.lemmas.lines.LackLf.{reply_line}
 use Rattle.log_grammar.proofs.lemmas.state_machine.Shortening.{code_goes}
 use Rattle.log_grammar.proofs.lemmas.ListEnds.{all_append}
 use Rattle.log_grammar.proofs.lemmas.reason_laws.Mended.{two_names}
-use Rattle.log_grammar.proofs.lemmas.session_laws.OfSessions.{is_header}
-use Rattle.log_grammar.proofs.lemmas.login_laws.Upgraded.{is_halt}
+use Rattle.log_grammar.proofs.lemmas.lines.Written.{header_written, halt_written}
 use Rattle.sasl_log.specs.Logins.{KeepsEntries}
 use Rattle.sasl_log.specs.Tokens.{IsBookAfter}
 use Rattle.sasl_desk.specs.Events.{ClientEvent}
-use Rattle.sasl_desk.specs.Turns.{is_client_turn, IsPath}
+use Rattle.sasl_desk.specs.DueLines.{is_client_turn, IsPath}
 use Rattle.sasl_desk.specs.Keeper.{IsAttemptJudged, IsKept, IsJudged, IsJudgedInRange}
 use Rattle.sasl_desk.specs.Sessions.{IsSessionAt, IsLeftAt, IsRecord, IsTurnOnEvent, recorded_shown, lines_of_answer, turn_lines}
 use Rattle.sasl_desk.specs.Sessions.{CanBeWritten, IsChallengeWith}
-use Rattle.sasl_desk.specs.Runs.{greets, hears, IsAtRest, IsTurnTaken, Call, call_of, run_lines, server_nonce_of, IsRun}
+use Rattle.sasl_desk.specs.Runs.{greets, hears, IsTurnTaken, Call, call_of, run_lines, server_nonce_of, IsRun}
 use Rattle.sasl_desk.specs.Spent.{AreSpent, spent_by, SpentStaysSpent}
 use Rattle.sasl_desk.specs.TurnResults.{after_turn_of, judged_lines, after_judged}
 use Rattle.sasl_desk.specs.Desks.{IsStateAt, HoldsBook, IsStoredAt, IsBookWith, spent_by_all, IsDeskAfter, desk_of, state_after}
@@ -58,7 +57,7 @@ with_after itself start (t ∷ before) book (old, with_old, one) =
     subst (λ (l : List LoggedReply). IsBookAfter (accounts_in start) l book) (sym (reverse_onto before t []))
     (told_after old book t one (accounts_in start) (reverse before) (with_after itself start before old with_old))
 
--- the book of a desk is the one after what was told
+-- a book with what was told, turned round, is the one after what was told
 pub book_after_told : BeginsWithItself → (start : BookFields) (told : List LoggedReply) (book : BookFields)
     → IsBookWith start (reverse told) book
     → IsBookAfter (accounts_in start) told book
@@ -66,19 +65,36 @@ book_after_told itself start told book is =
     subst (λ (l : List LoggedReply). IsBookAfter (accounts_in start) l book) (reverse-reverse told)
     (with_after itself start (reverse told) book is)
 
--- where it is the client's turn, the store has not failed
+-- where the store has failed, the place is that of the halt
+pub lost_at : (IsStored : List ℕ → Type 0) (accounts : Accounts) (calls : List Call) (place : Place) (book : BookFields)
+    (store : StoreFacts)
+    → IsStoredAt IsStored accounts calls place book store
+    → store.failed ≡ true → place ≡ halted
+lost_at IsStored accounts calls halted book store lost failed = refl
+lost_at IsStored accounts calls place book store held failed = absurd (cc (held.working, failed))
+
+-- a store that is as it has to be at a place that is no halt holds the book
+pub held_unless : (IsStored : List ℕ → Type 0) (accounts : Accounts) (calls : List Call) (at : Place) (book : BookFields)
+    (store : StoreFacts)
+    → (at ≡ halted → ⊥)
+    → IsStoredAt IsStored accounts calls at book store → HoldsBook IsStored book store
+held_unless IsStored accounts calls halted book store going stored = absurd (going refl)
+held_unless IsStored accounts calls at book store going stored = stored
+
+-- where it is the client's turn, the store has not failed and holds the text of the book
 pub held_in_turn : (IsStored : List ℕ → Type 0) (accounts : Accounts) (calls : List Call) (at : Place) (book : BookFields)
     (store : StoreFacts)
     → is_client_turn at ≡ true → IsStoredAt IsStored accounts calls at book store → HoldsBook IsStored book store
-held_in_turn IsStored accounts calls halted book store turn stored = absurd (cc turn)
-held_in_turn IsStored accounts calls at book store turn stored = stored
+held_in_turn IsStored accounts calls at book store turn stored =
+    held_unless IsStored accounts calls at book store
+    (λ is. let never : is_client_turn halted ≡ true = subst (λ (p : Place). is_client_turn p ≡ true) is turn in cc never) stored
 
--- at a place where a call leaves the log and that is no halt, a store that holds the book is as it has to be
-pub held_at_turn : (IsStored : List ℕ → Type 0) (accounts : Accounts) (calls : List Call) (at : Place) (book : BookFields)
+-- at a place that is no halt, a store that holds the book is as it has to be
+pub stored_unless : (IsStored : List ℕ → Type 0) (accounts : Accounts) (calls : List Call) (at : Place) (book : BookFields)
     (store : StoreFacts)
-    → IsAtRest at → (at ≡ halted → ⊥) → HoldsBook IsStored book store → IsStoredAt IsStored accounts calls at book store
-held_at_turn IsStored accounts calls halted book store rests going held = absurd (going refl)
-held_at_turn IsStored accounts calls at book store rests going held = held
+    → (at ≡ halted → ⊥) → HoldsBook IsStored book store → IsStoredAt IsStored accounts calls at book store
+stored_unless IsStored accounts calls halted book store going held = absurd (going refl)
+stored_unless IsStored accounts calls at book store going held = held
 
 -- a session is not left at a halt
 pub left_going : (accounts : Accounts) (at : Place) (going : Option Session) → IsLeftAt accounts at going → at ≡ halted → ⊥
@@ -112,7 +128,7 @@ stands_at_first itself law facts IsStored keeper was holds = record {
   told = [];
   is_run = refl;
   begins = law (accounts_in keeper.book) [] before_all [] header between (inl (refl, refl, refl)) refl tt;
-  writable = (is_header, tt);
+  writable = (header_written, tt);
   is_state = refl;
   is_book = refl;
   is_stored = saved_held IsStored keeper.book was (facts keeper.store) holds;
@@ -166,7 +182,7 @@ taken_by_turn accounts server_nonce kept event moment at going turn message same
   answers = answer_answers turn.answer.says turn.answer.session message;
   path = turn_path accounts kept event at going turn message is t;
   rests = left_rests accounts t.is_answer.next turn.answer.session t.is_answer.left;
-  challenge = subst (λ (o : List ℕ). IsChallengeWith accounts o t.is_answer.next) same t.is_answer.server_nonce_of;
+  challenge = subst (λ (o : List ℕ). IsChallengeWith accounts o t.is_answer.next) same t.is_answer.challenge;
   plain = t.is_answer.plain;
   moments = answer_bears moment turn.answer.says turn.answer.session message;
 }
@@ -237,9 +253,8 @@ stands_by_turn itself law facts IsStored start calls keeper going server_nonce e
       writable = all_append IsWritable (run_lines calls) lines s.writable written;
       is_state = left_state accounts (server_nonce_of calls) server_nonce t.is_answer.next turn.answer.session same t.is_answer.left;
       is_book = s.is_book;
-      is_stored = held_at_turn IsStored accounts (call_of (hears event moment) lines ∷ calls) t.is_answer.next keeper.book
+      is_stored = stored_unless IsStored accounts (call_of (hears event moment) lines ∷ calls) t.is_answer.next keeper.book
           (facts keeper.store)
-          (left_rests accounts t.is_answer.next turn.answer.session t.is_answer.left)
           (left_going accounts t.is_answer.next turn.answer.session t.is_answer.left)
           (held_in_turn IsStored accounts calls s.place keeper.book (facts keeper.store)
           (client_turn accounts s.place going is) s.is_stored);
@@ -350,9 +365,9 @@ stored_by_halt IsStored accounts calls old new was now name event moment sent ru
       is_latest = (
         waits_code name,
         run,
-        record { event = event; answer = said halt; is_asked = refl; place = refl; lines_are = refl; to_save = needs },
+        record { event = event; answer = said halt; is_request = refl; place = refl; lines_are = refl; to_save = needs },
       );
-      is_told = subst (λ (b : BookFields). IsAttemptJudged b (logged_reply_of name moment sent reply) next) (sym same) one;
+      is_judged = subst (λ (b : BookFields). IsAttemptJudged b (logged_reply_of name moment sent reply) next) (sym same) one;
       saved = subst (λ (b : BookFields). (IsBookText now.saved b × IsStored now.saved) ⊎ IsBookText now.saved next) (sym same) of_old;
       before = subst (λ (b : BookFields). HasStoredText IsStored b) (sym same) (was.saved, held.saved, held.stored);
     }
@@ -386,7 +401,7 @@ stands_by_halt law facts IsStored start calls old new name server_nonce event mo
         taken_by_halt accounts (server_nonce_of calls) event moment name sent is_record,
       );
       begins = goes_on_by_path law accounts (run_lines calls) (waits_code name) s.told lines halted begins path (tt, (tt, tt));
-      writable = all_append IsWritable (run_lines calls) lines s.writable (written, (is_halt, tt));
+      writable = all_append IsWritable (run_lines calls) lines s.writable (written, (halt_written, tt));
       is_state = tt;
       is_book = subst (λ (b : BookFields). IsBookWith start (reverse s.told) b) (sym same) s.is_book;
       is_stored = stored_by_halt IsStored accounts calls old.book new.book (facts old.store) (facts new.store)

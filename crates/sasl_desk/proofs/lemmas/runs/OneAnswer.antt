@@ -7,7 +7,7 @@ use Rattle.scram_text.specs.Messages.{ClientFirstParts, ServerFinalParts, server
 use Rattle.scram_text.specs.Written.{server_first_of}
 use Rattle.scram_ends.specs.Entry.{Entry}
 use Rattle.scram_ends.specs.First.{IsChallengeTo}
-use Rattle.scram_ends.specs.Laws.{AtMostOneIsDue}
+use Rattle.scram_ends.specs.Laws.{AtMostOneVerdictIsDue}
 use Rattle.scram_ends.specs.Login.{IsAuthentic}
 use Rattle.scram_ends.specs.Verdict.{Due, accept, refuse, due_text, final_due}
 use Rattle.scram_ends.specs.declared.verdict.Refusal.{Refusal}
@@ -22,9 +22,9 @@ use Rattle.log_grammar.proofs.lemmas.demands.Challenges.{one_name, login_of}
 use Rattle.log_grammar.proofs.lemmas.kinds.OneWhy.{mechanism_once, one_verdict}
 use Rattle.sasl_desk.specs.Alone.{IsSameRequest, up_to_acceptance}
 use Rattle.sasl_desk.specs.Events.{ClientEvent, sends, goes_away}
-use Rattle.sasl_desk.specs.Runs.{Asked, greets, hears, IsAtRest, IsAnswerLine, IsTurnTaken, IsAnsweredBy}
+use Rattle.sasl_desk.specs.Runs.{Request, greets, hears, IsAtRest, IsAnswerLine, IsTurnTaken, IsAnsweredBy}
 use Rattle.sasl_desk.specs.Sessions.{IsRecord, IsChallengeWith, LacksExtensions}
-use Rattle.sasl_desk.specs.Turns.{is_client_turn, is_due, heard_place, record_place, IsPath}
+use Rattle.sasl_desk.specs.DueLines.{is_client_turn, is_due, heard_place, record_place, IsPath}
 use Rattle.sasl_desk.proofs.lemmas.turns.HeardLines.{line_inside}
 use Rattle.sasl_desk.proofs.lemmas.turns.DueRecords.{goes_due, goes_bad, goes_gone}
 
@@ -33,7 +33,7 @@ pub record Texts : Type 0 where
   pub one_first : HasOneClientFirst
   pub one_last : HasOneServerFinal
   pub names : SpellsOneName
-  pub verdicts : AtMostOneIsDue
+  pub verdicts : AtMostOneVerdictIsDue
   pub lines : EachTextIsAtMostOneLine
 
 -- what is recorded of an event at a place is one line
@@ -93,7 +93,7 @@ tail_between d (said (mechs names) ∷ lines) next path all = absurd all.0
 tail_between d (line ∷ lines) next (middle, goes, path) all = absurd goes
 
 -- a path of an answer's lines from where `E` is due is `E` alone
-tail_over : (d : Demands) (lines : List LogLine) (next : Place) → IsPath d over lines next → AllByRecursion IsAnswerLine lines
+pub tail_over : (d : Demands) (lines : List LogLine) (next : Place) → IsPath d over lines next → AllByRecursion IsAnswerLine lines
     → IsAtRest next
     → (lines ≡ ended ∷ []) × (next ≡ between)
 tail_over d [] next path all rests = let turn : is_client_turn over ≡ true = subst IsAtRest path rests in absurd (cc turn)
@@ -242,7 +242,7 @@ plain_text : HasOneServerFinal → (text signature : List ℕ) → IsAuthentic t
     → text ≡ due_text (accept signature)
 plain_text one_last text signature is (other, plain) =
     let same = one_last text is.last (final_due (accept other)) is.is_last plain in
-    let outcome = sym is.verifier ∙ ap (λ (p : ServerFinalParts). p.outcome) same in
+    let outcome = sym is.is_verifier ∙ ap (λ (p : ServerFinalParts). p.outcome) same in
     let signatures : signature ≡ other = cc outcome in
     plain.spelled ∙ ap (λ (k : List ℕ). due_text (accept k)) (sym signatures)
 
@@ -413,11 +413,11 @@ turn_once t accounts server_nonce event moment later at lines others next also a
     )
 
 -- there is one answer to a call, at a place where no code is awaited
-pub call_once : Texts → (accounts : Accounts) (server_nonce theirs : List ℕ) (asked other : Asked) (at : Place)
+pub call_once : Texts → (accounts : Accounts) (server_nonce theirs : List ℕ) (request other : Request) (at : Place)
     (lines others : List LogLine)
     (next also : Place)
-    → ((account : List ℕ) → at ≡ waits_code account → ⊥) → server_nonce ≡ theirs → IsSameRequest asked other
-    → IsAnsweredBy accounts server_nonce asked at lines next
+    → ((account : List ℕ) → at ≡ waits_code account → ⊥) → server_nonce ≡ theirs → IsSameRequest request other
+    → IsAnsweredBy accounts server_nonce request at lines next
     → IsAnsweredBy accounts theirs other at others also
     → (lines ≡ others) × (next ≡ also) × ((has_acceptance lines ≡ true) ⊎ ((account : List ℕ) → next ≡ waits_code account → ⊥))
 call_once t accounts server_nonce theirs (greets one) (greets two) at lines others next also apart alike same a b = (
@@ -429,4 +429,4 @@ call_once t accounts server_nonce theirs (hears event moment) (hears other later
     turn_once t accounts server_nonce event moment later at lines others next also apart a
     (subst (λ (e : ClientEvent). IsTurnTaken accounts server_nonce e later at others also) (sym same)
     (subst (λ (o : List ℕ). IsTurnTaken accounts o other later at others also) (sym alike) b))
-call_once t accounts server_nonce theirs asked other at lines others next also apart alike same a b = absurd same
+call_once t accounts server_nonce theirs request other at lines others next also apart alike same a b = absurd same

@@ -12,7 +12,7 @@ use Rattle.log_grammar.specs.Demands.{Accounts}
 use Rattle.log_grammar.specs.Counts.{is_offer}
 use Rattle.sasl_desk.specs.Events.{ClientEvent, sends, goes_away}
 use Rattle.sasl_desk.specs.Sessions.{IsRecord}
-use Rattle.sasl_desk.specs.Runs.{Asked, greets, hears, Call, run_lines, server_nonce_of, IsAnswerLine, IsTurnTaken, IsAnsweredBy, IsRun}
+use Rattle.sasl_desk.specs.Runs.{Request, greets, hears, Call, run_lines, server_nonce_of, IsAnswerLine, IsTurnTaken, IsAnsweredBy, IsRun}
 use Rattle.sasl_desk.specs.Desks.{IsDeskAfter}
 use Rattle.sasl_desk.specs.Records.{is_record, nonces_in, nonces_with, HasRecordOf, AreRecords, HasItsRecords}
 use Rattle.sasl_desk.specs.declared.desk.Desk.{Desk}
@@ -71,10 +71,10 @@ turn_offers accounts server_nonce event moment at lines next t =
     ap (filter is_offer) t.lines_are ∙ rw (record_offers event at t.recorded t.is_record) (no_offers t.answered t.answers)
 
 -- a log with one more call has one offer more, where the call was a greeting, else as many as before
-offers_next : (accounts : Accounts) (server_nonce : List ℕ) (asked : Asked) (at : Place) (lines : List LogLine) (next : Place)
+offers_next : (accounts : Accounts) (server_nonce : List ℕ) (request : Request) (at : Place) (lines : List LogLine) (next : Place)
     (before : List LogLine) (nonces : List (List ℕ))
-    → IsAnsweredBy accounts server_nonce asked at lines next → length (filter is_offer before) ≡ length nonces
-    → length (filter is_offer (before ++ lines)) ≡ length (nonces_with asked nonces)
+    → IsAnsweredBy accounts server_nonce request at lines next → length (filter is_offer before) ≡ length nonces
+    → length (filter is_offer (before ++ lines)) ≡ length (nonces_with request nonces)
 offers_next accounts server_nonce (greets new) at lines next before nonces answered same =
     let added : filter is_offer lines ≡ said (mechs _) ∷ [] = ap (filter is_offer) answered.says in
     let whole = filter-append is_offer before lines ∙ ap (λ (l : List LogLine). filter is_offer before ++ l) added in
@@ -87,10 +87,10 @@ offers_next accounts server_nonce (hears event moment) at lines next before nonc
     ∙ same
 
 -- a log with one more call has one record more, where the call was an event, else those before
-records_next : (accounts : Accounts) (asked : Asked) (at : Place) (lines : List LogLine) (next : Place) (before : List Call)
-    → IsRun accounts before at → IsAnsweredBy accounts (server_nonce_of before) asked at lines next
+records_next : (accounts : Accounts) (request : Request) (at : Place) (lines : List LogLine) (next : Place) (before : List Call)
+    → IsRun accounts before at → IsAnsweredBy accounts (server_nonce_of before) request at lines next
     → AreRecords accounts before (filter is_record (run_lines before))
-    → HasRecordOf accounts asked before (AreRecords accounts before) (filter is_record (run_lines before ++ lines))
+    → HasRecordOf accounts request before (AreRecords accounts before) (filter is_record (run_lines before ++ lines))
 records_next accounts (greets server_nonce) at lines next before run answered records =
     let whole = filter-append is_record (run_lines before) lines
     ∙ ap (λ (l : List LogLine). filter is_record (run_lines before) ++ l) (ap (filter is_record) answered.says)
@@ -113,7 +113,7 @@ pub run_offers : (accounts : Accounts) (calls : List Call) (at : Place) → IsRu
     → length (filter is_offer (run_lines calls)) ≡ length (nonces_in calls)
 run_offers accounts [] at run = refl
 run_offers accounts (c ∷ before) at (place, run, answered) =
-    offers_next accounts (server_nonce_of before) c.asked place c.lines at (run_lines before) (nonces_in before) answered
+    offers_next accounts (server_nonce_of before) c.request place c.lines at (run_lines before) (nonces_in before) answered
     (run_offers accounts before place run)
 
 -- the records in the log of a run are those of what clients did in its calls, in their order
@@ -121,7 +121,7 @@ pub run_records : (accounts : Accounts) (calls : List Call) (at : Place) → IsR
     → AreRecords accounts calls (filter is_record (run_lines calls))
 run_records accounts [] at run = refl
 run_records accounts (c ∷ before) at (place, run, answered) =
-    records_next accounts c.asked place c.lines at before run answered (run_records accounts before place run)
+    records_next accounts c.request place c.lines at before run answered (run_records accounts before place run)
 
 -- the log of a desk has one offer for each greeting and one record for each thing that a client did, and no others
 pub log_has_its_records : {S : Type 0} (facts : S → StoreFacts) (IsStored : List ℕ → Type 0) (start : BookFields) (calls : List Call)

@@ -11,11 +11,12 @@ use Rattle.log_grammar.specs.Books.{accounts_in}
 use Rattle.log_grammar.specs.laws.LogLaws.{GoesOnByNoOther}
 use Rattle.log_grammar.specs.Lines.{LogLine, said, halt, log_line_text, log_bytes}
 use Rattle.log_grammar.specs.LoggedReply.{LoggedReply}
-use Rattle.log_grammar.specs.Places.{Place, MayEnd, got_code, halted}
-use Rattle.log_grammar.specs.Demands.{Accounts, Demands, demands}
-use Rattle.log_grammar.specs.state_machine.Steps.{IsTransition}
+use Rattle.log_grammar.specs.Places.{Place, MayEnd, halted}
+use Rattle.log_grammar.specs.Demands.{Accounts, demands}
 use Rattle.log_grammar.specs.Begins.{Begins, AreLines}
 use Rattle.log_grammar.specs.Versions.{IsFront, IsClean}
+use Rattle.log_grammar.proofs.lemmas.ListEnds.{each_rest}
+use Rattle.log_grammar.proofs.lemmas.many_sessions.HaltAndBusy.{halt_leads}
 use Rattle.log_grammar.proofs.lemmas.kinds.ShownByLines.{lines_front, lines_clean}
 use Rattle.log_grammar.proofs.lemmas.session_laws.OfSessions.{are_lines, each_lacks}
 use Rattle.sasl_desk.specs.Keeper.{IsAttemptJudged}
@@ -33,6 +34,7 @@ use Rattle.sasl_desk.specs.declared.session.phase.Phase.TheVariants as phase
 use Rattle.sasl_desk.specs.declared.session.Session.{Session}
 use Rattle.sasl_desk.specs.declared.session.Session.TheVariants.{WaitAuth, WaitFirst, WaitFinal, WaitCode}
 use Rattle.sasl_desk.proofs.lemmas.turns.Keepers.{told_due, told_after}
+use Rattle.sasl_desk.proofs.lemmas.runs.IsDeskAfter.{lost_at}
 use Rattle.sasl_desk.proofs.lemmas.runs.Unlocks.{unlocks_keep, added_keeps}
 use Rattle.sasl_log.proofs.lemmas.audits.AuditedLineByLine.{book_first}
 
@@ -68,19 +70,7 @@ closed_ends start server_nonce place Closed at is = rw at tt
 closed_ends start server_nonce place (Open going kept) at is = absurd (closed_open going is)
 closed_ends start server_nonce place Halted at is = absurd (cc is)
 
--- where the store has failed, a log may end
-lost_ends : (IsStored : List ℕ → Type 0) (accounts : Accounts) (calls : List Call) (place : Place) (book : BookFields) (store : StoreFacts)
-    → IsStoredAt IsStored accounts calls place book store
-    → store.failed ≡ true → MayEnd place
-lost_ends IsStored accounts calls halted book store lost failed = tt
-lost_ends IsStored accounts calls place book store held failed = absurd (cc (held.working, failed))
-
--- `S HALT` leads to a place where a log may end
-halt_leads : (d : Demands) (place next : Place) → IsTransition d place (said halt) next → MayEnd next
-halt_leads d (got_code account sent) next goes = rw goes tt
-halt_leads d place next goes = absurd goes
-
--- a desk's log is clean where no session is open, and where the store has failed
+-- a desk's log is clean where no session is open, or where the store has failed
 pub log_is_clean : {S : Type 0} (facts : S → StoreFacts) (IsStored : List ℕ → Type 0) (start : BookFields) (calls : List Call)
     (desk : Desk S) → IsDeskAfter facts IsStored start calls desk
     → (phase_of desk.state ≡ phase.Closed) ⊎ ((facts desk.keeper.store).failed ≡ true)
@@ -90,7 +80,8 @@ log_is_clean facts IsStored start calls desk s ends =
     (bytes_are_lines (run_lines calls) s.writable) s.begins
     (elim ends [
       | inl closed ↦ closed_ends start _ s.place desk.state s.is_state closed
-      | inr failed ↦ lost_ends IsStored (accounts_in start) calls s.place desk.keeper.book (facts desk.keeper.store) s.is_stored failed
+      | inr failed ↦ subst MayEnd (sym (lost_at IsStored (accounts_in start) calls s.place desk.keeper.book (facts desk.keeper.store)
+          s.is_stored failed)) tt
     ])
 
 -- a desk's log whose last line is `S HALT` is clean
@@ -102,23 +93,18 @@ halted_is_clean law facts IsStored start calls desk s lines last =
     (subst (λ (l : List LogLine). Begins (demands (accounts_in start)) l s.place s.told) last s.begins) in
     lines_clean (accounts_in start) (log_bytes (run_lines calls)) (run_lines calls) s.place s.told
     (bytes_are_lines (run_lines calls) s.writable) s.begins
-    (halt_leads (demands (accounts_in start)) before.place s.place before.goes)
+    (subst MayEnd (sym (halt_leads (demands (accounts_in start)) before.place s.place before.goes)) tt)
 
--- of spent counters that are all different, those in the last part of the list are so too:
+-- of spent counters that are all different, those in the last part of the list are so too
 different_at_end : (ps qs : List (List ℕ × ℕ)) → AreDifferent (ps ++ qs) → AreDifferent qs
 different_at_end [] qs all = all
 different_at_end (p ∷ ps) qs all = different_at_end ps qs all.1
 
-spent_each_at_end : (book : BookFields) (ps qs : List (List ℕ × ℕ)) → AllByRecursion (λ p. IsCounterSpent book p.0 p.1) (ps ++ qs)
-    → AllByRecursion (λ p. IsCounterSpent book p.0 p.1) qs
-spent_each_at_end book [] qs all = all
-spent_each_at_end book (p ∷ ps) qs all = spent_each_at_end book ps qs all.1
-
+-- of counters that are spent, those in the last part of the list are spent
 spent_at_end : (book : BookFields) (ps qs : List (List ℕ × ℕ)) → AreSpent (ps ++ qs) book → AreSpent qs book
 spent_at_end book ps qs spent = record {
   different = different_at_end ps qs spent.different;
-  spent = spent_each_at_end book ps qs
-      spent.spent;
+  spent = each_rest (λ (p : List ℕ × ℕ). IsCounterSpent book p.0 p.1) ps qs spent.spent;
 }
 
 -- what was spent, and what an attempt used, is spent in the book that judged it
@@ -136,13 +122,13 @@ spent_after_run : BeginsWithItself → SpentStaysSpent
     → IsDeskRunOf facts IsStored r → AreSpent ps r.start → AreSpent (spent_by_all (reverse r.told) ++ ps) r.left
 spent_after_run itself stays facts IsStored r ps run spent =
     let s = run.stands in
-    let server_nonce = subst (λ (t : List LoggedReply). AreSpent (spent_by_all (reverse t) ++ ps) run.desk.keeper.book) (sym run.tells)
+    let on = subst (λ (t : List LoggedReply). AreSpent (spent_by_all (reverse t) ++ ps) run.desk.keeper.book) (sym run.tells)
     (s.spent ps spent) in
     elim run.leaves [
-      | inl left ↦ subst (λ (b : BookFields). AreSpent (spent_by_all (reverse r.told) ++ ps) b) (sym left) server_nonce
+      | inl left ↦ subst (λ (b : BookFields). AreSpent (spent_by_all (reverse r.told) ++ ps) b) (sym left) on
       | inr (t, one) ↦
           spent_at_end r.left (spent_by t) (spent_by_all (reverse r.told) ++ ps)
-          (spent_after_told itself stays run.desk.keeper.book r.left t (spent_by_all (reverse r.told) ++ ps) one server_nonce)
+          (spent_after_told itself stays run.desk.keeper.book r.left t (spent_by_all (reverse r.told) ++ ps) one on)
     ]
 
 -- what was spent, and what was told in a hall's run, is spent in the book that it leaves
@@ -151,31 +137,31 @@ spent_after_hall : BeginsWithItself → SpentStaysSpent
     → IsHallRunOf facts IsStored r → AreSpent ps r.start → AreSpent (spent_by_all (reverse r.told) ++ ps) r.left
 spent_after_hall itself stays facts IsStored r ps run spent =
     let s = run.stands in
-    let server_nonce = subst (λ (t : List LoggedReply). AreSpent (spent_by_all (reverse t) ++ ps) run.hall.keeper.book) (sym run.tells)
+    let on = subst (λ (t : List LoggedReply). AreSpent (spent_by_all (reverse t) ++ ps) run.hall.keeper.book) (sym run.tells)
     (s.spent ps spent) in
     elim run.leaves [
-      | inl left ↦ subst (λ (b : BookFields). AreSpent (spent_by_all (reverse r.told) ++ ps) b) (sym left) server_nonce
+      | inl left ↦ subst (λ (b : BookFields). AreSpent (spent_by_all (reverse r.told) ++ ps) b) (sym left) on
       | inr (t, one) ↦
           spent_at_end r.left (spent_by t) (spent_by_all (reverse r.told) ++ ps)
-          (spent_after_told itself stays run.hall.keeper.book r.left t (spent_by_all (reverse r.told) ++ ps) one server_nonce)
+          (spent_after_told itself stays run.hall.keeper.book r.left t (spent_by_all (reverse r.told) ++ ps) one on)
     ]
 
 -- what was spent, and what a change tells, is spent in the book after it
-spent_after : BeginsWithItself → SpentStaysSpent → TokensAreApart → CandidatesAreNew
+spent_after_change : BeginsWithItself → SpentStaysSpent → TokensAreApart → CandidatesAreNew
     → AddedIsApart → {S : Type 0} (facts : S → StoreFacts) (IsStored : List ℕ → Type 0)
     (c : Change) (old new : BookFields) (ps : List (List ℕ × ℕ)) → IsChange facts IsStored c old new → AreSpent ps old
     → AreSpent (spent_by_change c ++ ps) new
-spent_after itself stays apart fresh added_apart facts IsStored (desk_ran r) old new ps (run, start, left) spent =
+spent_after_change itself stays apart fresh added_apart facts IsStored (desk_ran r) old new ps (run, start, left) spent =
     subst (λ (b : BookFields). AreSpent (spent_by_all (reverse r.told) ++ ps) b) left
     (spent_after_run itself stays facts IsStored r ps run (subst (λ (b : BookFields). AreSpent ps b) (sym start) spent))
-spent_after itself stays apart fresh added_apart facts IsStored (hall_ran r) old new ps (run, start, left) spent =
+spent_after_change itself stays apart fresh added_apart facts IsStored (hall_ran r) old new ps (run, start, left) spent =
     subst (λ (b : BookFields). AreSpent (spent_by_all (reverse r.told) ++ ps) b) left
     (spent_after_hall itself stays facts IsStored r ps run (subst (λ (b : BookFields). AreSpent ps b) (sym start) spent))
-spent_after itself stays apart fresh added_apart facts IsStored
+spent_after_change itself stays apart fresh added_apart facts IsStored
     (judged t) old new ps one spent = spent_after_told itself stays old new t ps one spent
-spent_after itself stays apart fresh added_apart facts IsStored
+spent_after_change itself stays apart fresh added_apart facts IsStored
     (unlocked name) old new ps changed spent = unlocks_keep apart fresh old new name ps changed spent
-spent_after itself stays apart fresh added_apart facts IsStored (added name account) old new ps is spent =
+spent_after_change itself stays apart fresh added_apart facts IsStored (added name account) old new ps is spent =
     added_keeps added_apart old new name account ps is spent
 
 -- what was spent, and what any number of changes tell, is spent in the book after them
@@ -190,7 +176,7 @@ spent_over_changes itself stays apart fresh added_apart facts IsStored first (c 
     (middle, earlier, change) spent =
     let until = spent_over_changes itself stays apart fresh added_apart facts IsStored first before middle ps earlier spent in
     subst (λ (l : List (List ℕ × ℕ)). AreSpent l last) (sym (append_assoc (spent_by_change c) (spent_by_changes before) ps))
-    (spent_after itself stays apart fresh added_apart facts IsStored c middle last (spent_by_changes before ++ ps) change until)
+    (spent_after_change itself stays apart fresh added_apart facts IsStored c middle last (spent_by_changes before ++ ps) change until)
 
 -- the store holds the book, or it failed in its last save
 pub held_or_lost : (IsStored : List ℕ → Type 0) (accounts : Accounts) (calls : List Call) (place : Place) (book : BookFields)
@@ -246,7 +232,7 @@ left_book facts IsStored start calls desk s =
       | inl held ↦ (book, run_to facts IsStored start calls desk s book (inl refl), held.saved)
       | inr lost ↦ elim lost.saved [
         | inl before ↦ (book, run_to facts IsStored start calls desk s book (inl refl), before.0)
-        | inr after ↦ (lost.next, run_to facts IsStored start calls desk s lost.next (inr (lost.t, lost.is_told)), after)
+        | inr after ↦ (lost.next, run_to facts IsStored start calls desk s lost.next (inr (lost.t, lost.is_judged)), after)
       ]
     ]
 
@@ -269,16 +255,16 @@ pub saved_spent : BeginsWithItself → SpentStaysSpent
     → (saved : BookFields) × IsBookText (facts desk.keeper.store).saved saved × AreSpent (spent_by_all (reverse s.told) ++ ps) saved
 saved_spent itself stays facts IsStored start calls desk s ps spent =
     let book = desk.keeper.book in
-    let server_nonce = s.spent ps spent in
+    let mine = s.spent ps spent in
     elim (held_or_lost IsStored (accounts_in start) calls s.place book (facts desk.keeper.store) s.is_stored) [
-      | inl held ↦ (book, held.saved, server_nonce)
+      | inl held ↦ (book, held.saved, mine)
       | inr lost ↦ elim lost.saved [
-        | inl before ↦ (book, before.0, server_nonce)
+        | inl before ↦ (book, before.0, mine)
         | inr after ↦ (
           lost.next,
           after,
-          told_spent itself stays book lost.next lost.t (spent_by_all (reverse s.told) ++ ps) lost.is_told
-              server_nonce,
+          told_spent itself stays book lost.next lost.t (spent_by_all (reverse s.told) ++ ps) lost.is_judged
+              mine,
         )
       ]
     ]

@@ -11,10 +11,10 @@ use Rattle.log_grammar.specs.Demands.{Accounts, IsVerdictDue, demands}
 use Rattle.log_grammar.specs.state_machine.Steps.{IsTransition}
 use Rattle.sasl_desk.specs.Alone.{IsSameRequest, HaveSameRequests, up_to_acceptance, HaveSameEntries}
 use Rattle.sasl_desk.specs.Halls.{HallFields, hall_lines, busy_lines, IsSessionRun, IsHallAfter}
-use Rattle.sasl_desk.specs.Runs.{Asked, greets, hears, Call, server_nonce_after, server_nonce_of, IsAnsweredBy, IsRun}
+use Rattle.sasl_desk.specs.Runs.{Request, greets, hears, Call, server_nonce_after, server_nonce_of, IsAnsweredBy, IsRun}
 use Rattle.sasl_desk.specs.Serves.{call_lines}
 use Rattle.sasl_desk.specs.Sessions.{IsChallengeWith}
-use Rattle.sasl_desk.specs.Turns.{IsPath}
+use Rattle.sasl_desk.specs.DueLines.{IsPath}
 use Rattle.book_format.specs.Book.{BookFields}
 use Rattle.account_book.specs.Store.{StoreFacts}
 use Rattle.log_grammar.specs.Books.{accounts_in}
@@ -23,43 +23,43 @@ use Rattle.sasl_desk.proofs.lemmas.halls.Laws.{of_number_lines}
 use Rattle.sasl_desk.proofs.lemmas.runs.OneAnswer.{Texts, has_acceptance, accepted_left, accepted_right, no_more, call_once}
 
 -- after calls that asked the same, sessions have the same part of the nonce:
-server_nonce_after_alike : (asked other : Asked) (server_nonce theirs : List ℕ) → IsSameRequest asked other → server_nonce ≡ theirs
-    → server_nonce_after asked server_nonce ≡ server_nonce_after other theirs
+server_nonce_after_alike : (request other : Request) (server_nonce theirs : List ℕ) → IsSameRequest request other → server_nonce ≡ theirs
+    → server_nonce_after request server_nonce ≡ server_nonce_after other theirs
 server_nonce_after_alike (greets one) (greets two) server_nonce theirs same alike = same
 server_nonce_after_alike (hears event moment) (hears other later) server_nonce theirs same alike = alike
-server_nonce_after_alike asked other server_nonce theirs same alike = absurd same
+server_nonce_after_alike request other server_nonce theirs same alike = absurd same
 
 server_nonce_alike : (calls others : List Call) → HaveSameRequests calls others → server_nonce_of calls ≡ server_nonce_of others
 server_nonce_alike [] [] same = refl
-server_nonce_alike (c ∷ calls) (d ∷ others) same = server_nonce_after_alike c.asked d.asked (server_nonce_of calls)
+server_nonce_alike (c ∷ calls) (d ∷ others) same = server_nonce_after_alike c.request d.request (server_nonce_of calls)
     (server_nonce_of others) same.0
     (server_nonce_alike calls others same.1)
 server_nonce_alike calls others same = absurd same
 
 -- of two runs of a session: both have come to the same acceptance, or they are the same so far and wait for no code
-abbrev AreAlone : List Call → List Call → Place → Place → Type 0
-AreAlone calls others at also =
+abbrev AreSameOrAccepted : List Call → List Call → Place → Place → Type 0
+AreSameOrAccepted calls others at also =
     ((has_acceptance (call_lines calls) ≡ true) × (has_acceptance (call_lines others) ≡ true)
     × (up_to_acceptance (call_lines calls) ≡ up_to_acceptance (call_lines others)))
     ⊎ ((call_lines calls ≡ call_lines others) × (at ≡ also) × ((account : List ℕ) → at ≡ waits_code account → ⊥))
 
 -- two runs of a session that were asked the same are the same so far, or have both come to the same acceptance
-alone : Texts → (accounts : Accounts) (calls others : List Call) (at also : Place) → IsRun accounts calls at → IsRun accounts others also
-    → HaveSameRequests calls others → AreAlone calls others at also
-alone t accounts [] [] at also run runs same =
+same_or_accepted : Texts → (accounts : Accounts) (calls others : List Call) (at also : Place) → IsRun accounts calls at
+    → IsRun accounts others also → HaveSameRequests calls others → AreSameOrAccepted calls others at also
+same_or_accepted t accounts [] [] at also run runs same =
     inr (refl, run ∙ sym runs, λ account is. let wrong : between ≡ waits_code account = sym run ∙ is in cc wrong)
-alone t accounts (c ∷ calls) (d ∷ others) at also (place, run, answered) (other, runs, answers) same =
-    elim (alone t accounts calls others place other run runs same.1) [
+same_or_accepted t accounts (c ∷ calls) (d ∷ others) at also (place, run, answered) (other, runs, answers) same =
+    elim (same_or_accepted t accounts calls others place other run runs same.1) [
       | inl (one, two, told) ↦ inl (
         accepted_left (call_lines calls) c.lines one,
         accepted_left (call_lines others) d.lines two,
         no_more (call_lines calls) c.lines one ∙ told ∙ sym (no_more (call_lines others) d.lines two),
       )
       | inr (lines, here, apart) ↦
-          let once = call_once t accounts (server_nonce_of calls) (server_nonce_of others) c.asked d.asked place c.lines d.lines at also
+          let once = call_once t accounts (server_nonce_of calls) (server_nonce_of others) c.request d.request place c.lines d.lines at also
           apart
           (server_nonce_alike calls others same.1) same.0
-          answered (subst (λ (p : Place). IsAnsweredBy accounts (server_nonce_of others) d.asked p d.lines also) (sym here) answers) in
+          answered (subst (λ (p : Place). IsAnsweredBy accounts (server_nonce_of others) d.request p d.lines also) (sym here) answers) in
           let whole = ap (λ (l : List LogLine). l ++ c.lines) lines ∙ ap (λ (l : List LogLine). call_lines others ++ l) once.0 in
           elim once.2 [
             | inl is ↦
@@ -68,7 +68,7 @@ alone t accounts (c ∷ calls) (d ∷ others) at also (place, run, answered) (ot
             | inr apart_too ↦ inr (whole, once.1, apart_too)
           ]
     ]
-alone t accounts calls others at also run runs same = absurd same
+same_or_accepted t accounts calls others at also run runs same = absurd same
 
 -- what is demanded of a session, and its whole run, are the same by accounts with the same entries:
 verdict_moved : (one other : Accounts) → HaveSameEntries other one → (mechanism name first challenge last : List ℕ) (due : Due)
@@ -112,8 +112,8 @@ challenge_moved one other same server_nonce (waits_final mechanism account first
 challenge_moved one other same server_nonce at is = tt
 
 answered_moved : (one other : Accounts) → HaveSameEntries other one
-    → (server_nonce : List ℕ) (asked : Asked) (at : Place) (lines : List LogLine) (next : Place)
-    → IsAnsweredBy other server_nonce asked at lines next → IsAnsweredBy one server_nonce asked at lines next
+    → (server_nonce : List ℕ) (request : Request) (at : Place) (lines : List LogLine) (next : Place)
+    → IsAnsweredBy other server_nonce request at lines next → IsAnsweredBy one server_nonce request at lines next
 answered_moved one other same server_nonce (greets new) at lines next g = g
 answered_moved one other same server_nonce (hears event moment) at lines next t = record {
   recorded = t.recorded;
@@ -134,7 +134,7 @@ run_moved one other same [] at run = run
 run_moved one other same (c ∷ calls) at (place, run, answered) = (
   place,
   run_moved one other same calls place run,
-  answered_moved one other same (server_nonce_of calls) c.asked place c.lines at
+  answered_moved one other same (server_nonce_of calls) c.request place c.lines at
       answered,
 )
 
@@ -143,7 +143,7 @@ pub told_alone : Texts → (one other : Accounts) (calls others : List Call) (at
     → IsRun one calls at
     → IsRun other others also → HaveSameRequests calls others → up_to_acceptance (call_lines calls) ≡ up_to_acceptance (call_lines others)
 told_alone t one other calls others at also entries run runs same =
-    elim (alone t one calls others at also run (run_moved one other (λ m name. sym (entries m name)) others also runs) same) [
+    elim (same_or_accepted t one calls others at also run (run_moved one other (λ m name. sym (entries m name)) others also runs) same) [
       | inl (accepted, too, told) ↦ told
       | inr (lines, here, apart) ↦ ap up_to_acceptance lines
     ]
@@ -152,7 +152,7 @@ told_alone t one other calls others at also entries run runs same =
 not_away : (accounts : Accounts) (calls : List Call) (at : Place) → (call_lines calls ≡ busy_lines → ⊥) → IsSessionRun accounts calls at
     → IsRun accounts calls at
 not_away accounts calls at let_in (inl run) = run
-not_away accounts calls at let_in (inr (server_nonce, turned, is)) = absurd (let_in (ap call_lines turned))
+not_away accounts calls at let_in (inr (turned, is)) = absurd (let_in (ap call_lines turned.1))
 
 -- two sessions with equal entries and requests, neither turned away, have equal lines up to an acceptance
 pub sessions_alone : Texts

@@ -19,7 +19,8 @@ use Rattle.log_grammar.specs.Books.{accounts_in}
 use Rattle.log_grammar.specs.LoggedReply.{LoggedReply, logged_reply_of}
 use Rattle.log_grammar.specs.Demands.{attempts_of, IsReplyDueBy}
 use Rattle.sasl_log.specs.Tokens.{LeadsTo, IsBookAfter}
-use Rattle.sasl_desk.specs.Spent.{IsCounterSpent, AreSpent, used_by_answer, of_account, SpentStaysSpent}
+use Rattle.log_grammar.proofs.lemmas.ListEnds.{each_first, each_rest}
+use Rattle.sasl_desk.specs.Spent.{IsCounterSpent, AreSpent, used_by_reply, of_account, SpentStaysSpent}
 
 -- a counter is below each that can pass with a token
 abbrev pub IsBelow : TokenFields → ℕ → Type 0
@@ -50,21 +51,11 @@ still_below join start attempts token counter after below history moment c is le
     let before = could_pass join start attempts token after history moment c is legal can in
     below (history ++ attempts) moment c is before.0 before.1
 
--- what is above some counters is above the last of them
-above_rest : (xs ys : List ℕ) (c : ℕ) → IsAbove (xs ++ ys) c → IsAbove ys c
-above_rest [] ys c above = above
-above_rest (x ∷ xs) ys c above = above_rest xs ys c above.1
-
--- what is above some counters is above the first of them
-pub above_first : (xs ys : List ℕ) (c : ℕ) → IsAbove (xs ++ ys) c → IsAbove xs c
-above_first [] ys c above = tt
-above_first (x ∷ xs) ys c above = (above.0, above_first xs ys c above.1)
-
 -- what is above the counters of some attempts is above those of the earlier of them
 above_earlier : (later earlier : List Attempt) (c : ℕ) → IsAbove (used_in (later ++ earlier)) c → IsAbove (used_in earlier) c
 above_earlier [] earlier c above = above
 above_earlier (a ∷ later) earlier c above =
-    above_earlier later earlier c (above_rest (used_in_reply a.sent a.reply) (used_in (later ++ earlier)) c above)
+    above_earlier later earlier c (each_rest (λ (used : ℕ). used < c) (used_in_reply a.sent a.reply) (used_in (later ++ earlier)) above)
 
 -- what can pass after an attempt is above each counter that the attempt used
 now_above : LegalHistoriesJoin → CandidatesAreNew → (start : TokenFields) (a : Attempt) (token : TokenFields) → IsAfter start (a ∷ []) token
@@ -72,7 +63,8 @@ now_above : LegalHistoriesJoin → CandidatesAreNew → (start : TokenFields) (a
     → (IsCandidate token history moment c ⊎ IsPairCandidate token history c) → IsAbove (used_in_reply a.sent a.reply) c
 now_above join fresh start a token after history moment c is legal can =
     let before = could_pass join start (a ∷ []) token after history moment c is legal can in
-    above_first (used_in_reply a.sent a.reply) [] c (above_earlier history (a ∷ []) c (fresh start (history ++ a ∷ []) moment c before.1))
+    each_first (λ (used : ℕ). used < c) (used_in_reply a.sent a.reply) []
+    (above_earlier history (a ∷ []) c (fresh start (history ++ a ∷ []) moment c before.1))
 
 -- the attempts that an account's own reply adds are that one
 own_attempt : (t : LoggedReply) (r : Reply) → t.reply ≡ Some r → attempts_of t.account (t ∷ []) ≡ attempt_of t.moment t.sent r ∷ []
@@ -126,9 +118,9 @@ after_pass_of join fresh old new name moment sent c start has after =
     let t = logged_reply_of name moment sent (Some (Pass c)) in
     let a = attempt_of moment sent (Pass c) in
     let leads = subst (λ (o : Option TokenFields). LeadsTo o (attempts_of name (t ∷ [])) (token_at new name)) has (after.tokens name) in
-    let server_nonce = subst (λ (attempts : List Attempt). LeadsTo (Some start) attempts (token_at new name))
+    let by_attempt = subst (λ (attempts : List Attempt). LeadsTo (Some start) attempts (token_at new name))
     (own_attempt t (Pass c) refl) leads in
-    let later = token_later start (a ∷ []) (token_at new name) server_nonce in
+    let later = token_later start (a ∷ []) (token_at new name) by_attempt in
     (later.0, later.1, now_above join fresh start a later.0 later.2)
 
 -- the counter of a pass is spent after it, and so are both of a pass of two codes in a row:
@@ -197,7 +189,7 @@ spent_next : LegalHistoriesJoin → CandidatesAreNew
     → (old new : BookFields) (name : List ℕ) (moment : ℕ) (sent : CodeTexts) (reply : Option Reply)
     (ps : List (List ℕ × ℕ)) (o : Option TokenFields) → token_at old name ≡ o → IsReplyDueBy o [] moment sent reply → IsMoment moment
     → IsBookAfter (accounts_in old) (logged_reply_of name moment sent reply ∷ []) new → AreSpent ps old
-    → AreSpent (of_account name (used_by_answer sent reply) ++ ps) new
+    → AreSpent (of_account name (used_by_reply sent reply) ++ ps) new
 spent_next join fresh old new name moment sent None ps o has due is after spent = spent_stays join old new _ ps after spent
 spent_next join fresh old new name moment sent (Some Fail) ps o has due is after spent = spent_stays join old new _ ps after spent
 spent_next join fresh old new name moment sent (Some Locked) ps o has due is after spent = spent_stays join old new _ ps after spent

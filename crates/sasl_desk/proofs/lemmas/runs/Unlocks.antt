@@ -12,7 +12,7 @@ use Rattle.otp_core.specs.Window.{IsCandidate, IsPairCandidate}
 use Rattle.otp_core.specs.Reply.{IsDueReply}
 use Rattle.otp_core.specs.History.{IsLegal}
 use Rattle.otp_core.specs.Laws.{CandidatesAreNew}
-use Rattle.otp_core.specs.Settings.{unlocked}
+use Rattle.otp_core.specs.State.{unlocked}
 use Rattle.otp_core.specs.declared.token.answer.Reply.{Reply}
 use Rattle.otp_core.specs.declared.token.answer.Reply.TheVariants.{Pass, Fail, Locked}
 use Rattle.otp_core.specs.declared.token.kinds.TokenFields.{TokenFields}

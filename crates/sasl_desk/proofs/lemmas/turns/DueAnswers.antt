@@ -29,13 +29,13 @@ use Rattle.sasl_desk.specs.declared.session.event.Saying.TheVariants.{Nothing, C
 pub bare_no_due : (accounts : Accounts) (server_nonce : List ℕ) (at : Place) → IsBareNoDue at
     → IsAnswer accounts server_nonce at (answer_of Refuses None) []
 bare_no_due accounts server_nonce leaving away =
-    record { next = between; path = (over, (refl, refl), (between, refl, refl)); left = refl; server_nonce_of = tt; plain = (tt, (tt, tt)) }
+    record { next = between; path = (over, (refl, refl), (between, refl, refl)); left = refl; challenge = tt; plain = (tt, (tt, tt)) }
 bare_no_due accounts server_nonce (asks_bare mechanism) away =
     record {
       next = between;
       path = (over, ((away, refl), refl), (between, refl, refl));
       left = refl;
-      server_nonce_of = tt;
+      challenge = tt;
       plain = (tt, (tt, tt));
     }
 bare_no_due accounts server_nonce (got_first mechanism first) away =
@@ -43,7 +43,7 @@ bare_no_due accounts server_nonce (got_first mechanism first) away =
       next = between;
       path = (over, ((away, refl), refl), (between, refl, refl));
       left = refl;
-      server_nonce_of = tt;
+      challenge = tt;
       plain = (tt, (tt, tt));
     }
 bare_no_due accounts server_nonce at away = absurd away
@@ -54,7 +54,7 @@ departure_due accounts server_nonce = record {
   next = between;
   path = (between, refl, refl);
   left = refl;
-  server_nonce_of = tt;
+  challenge = tt;
   plain = (tt, tt);
 }
 
@@ -82,7 +82,7 @@ invitation_due accounts server_nonce mechanism m named = record {
   next = waits_first mechanism;
   path = (waits_first mechanism, (((m, named), refl), refl), refl);
   left = ap waits_first named;
-  server_nonce_of = tt;
+  challenge = tt;
   plain = (tt, tt);
 }
 
@@ -102,7 +102,7 @@ challenge_to once names accounts server_nonce wait m mechanism name client_first
     refl,
   );
   left = (client_first, server_first, ap (λ (t : List ℕ). waits_final t name client_first server_first) named, stands);
-  server_nonce_of = (m, named, shows);
+  challenge = (m, named, shows);
   plain = (tt, tt);
 }
 
@@ -142,7 +142,7 @@ acceptance_due accounts server_nonce m name client_first server_first client_fin
           last = final_due (accept signature);
           is_last = is;
           not_mandatory = refl;
-          verifier = refl;
+          is_verifier = refl;
         },
       ),
       refl,
@@ -150,7 +150,7 @@ acceptance_due accounts server_nonce m name client_first server_first client_fin
     refl,
   );
   left = refl;
-  server_nonce_of = tt;
+  challenge = tt;
   plain = ((signature, is), tt);
 }
 
@@ -165,7 +165,7 @@ denial_due accounts server_nonce m name client_first server_first client_final w
   next = between;
   path = (over, ((why, (m, refl, due), refl), refl), (between, refl, refl));
   left = refl;
-  server_nonce_of = tt;
+  challenge = tt;
   plain = (tt, (tt, tt));
 }
 

@@ -1,10 +1,11 @@
 -- What is recorded of a client may stand where it is due, and nowhere else.
-use Rattle.std.proofs.Common.{◌≡◌, true, refl, sym, subst}
+use Rattle.std.proofs.Common.{◌≡◌, true, refl, sym, subst, arith}
 use Rattle.log_grammar.specs.Lines.{heard, bad, gone, ClientLine, auth, auth_with, resp, abort, code, sync}
 use Rattle.log_grammar.specs.Places.{Place, offered, waits_first, waits_final, waits_code, leaving, over}
 use Rattle.log_grammar.specs.Demands.{Demands, demands}
 use Rattle.log_grammar.specs.state_machine.Steps.{IsTransition}
-use Rattle.sasl_desk.specs.Turns.{is_client_turn, is_due, heard_place, DueLinesStand, BadLinesStand, GoneClientsStand}
+use Rattle.sasl_desk.specs.DueLines.{is_client_turn, is_due, heard_place, DueLinesStand, BadLinesStand, GoneClientsStand}
+use Rattle.sasl_desk.specs.Sessions.{LongTextsAreBad}
 
 -- a line that is due may stand, and leads to the place after it
 pub due_goes : (d : Demands) (line : ClientLine) (at : Place) → is_due at line ≡ true → IsTransition d at (heard line) (heard_place at line)
@@ -97,3 +98,9 @@ gone_clients_stand accounts at next = (
   goes_gone (demands accounts) at next,
   λ due. subst (λ (p : Place). IsTransition (demands accounts) at gone p) (sym due.1) (gone_goes (demands accounts) at due.0),
 )
+
+-- a text with more bytes than a client's line may have is recorded as `C BAD`
+pub long_texts_are_bad : LongTextsAreBad
+long_texts_are_bad text at (heard line) long is = let short = is.0.short in absurd (omega (arith, short, long))
+long_texts_are_bad text at bad long is = refl
+long_texts_are_bad text at kept long is = absurd is

@@ -10,8 +10,9 @@ use Rattle.log_grammar.specs.Places.{Place}
 use Rattle.log_grammar.specs.Demands.{Accounts}
 use Rattle.sasl_desk.specs.Events.{ClientEvent, sends, goes_away}
 use Rattle.otp_core.specs.Sent.{texts_of}
-use Rattle.sasl_desk.specs.Turns.{is_due}
-use Rattle.sasl_desk.specs.Sessions.{IsLineOf, IsRecord, IsRecordOfLine, ComesOfEvent, ComesOfLine, AsksFor, AsksForEvent, TakesMemory}
+use Rattle.sasl_desk.specs.DueLines.{is_due}
+use Rattle.sasl_desk.specs.Sessions.{IsLineOf, IsRecord, IsRecordOfLine, ComesOfEvent, ComesOfLine, TakesMemory}
+use Rattle.sasl_desk.specs.Sessions.{JudgesOnlyLine, JudgesOnlyWhatWasSent}
 use Rattle.sasl_desk.specs.Sessions.{SentWhatTakesMemory}
 use Rattle.sasl_desk.specs.declared.session.Session.{Session}
 use Rattle.sasl_desk.specs.declared.session.event.HearResult.{HearResult}
@@ -61,16 +62,17 @@ no_line_record goes_away at no_line sent = absurd (sent refl)
 no_line_record (sends text) at no_line sent = λ line is. absurd (no_line line is)
 
 -- a code that is to be judged is that of the event, where it is that of the line that the event was
-asks_of_line : (event : ClientEvent) (line : ClientLine) (h : HearResult) → IsLineOf event line → AsksFor h line → AsksForEvent h event
-asks_of_line event line (Answered turn) is same = tt
-asks_of_line event line (ToJudge name sent) is same = subst (λ (l : ClientLine). IsLineOf event l) same is
+sent_by_line : (event : ClientEvent) (line : ClientLine) (h : HearResult) → IsLineOf event line → JudgesOnlyLine h line
+    → JudgesOnlyWhatWasSent h event
+sent_by_line event line (Answered turn) is same = tt
+sent_by_line event line (ToJudge name sent) is same = subst (λ (l : ClientLine). IsLineOf event l) same is
 
 -- unless the call failed, a code that is to be judged is that of the event, where it is that of the line that the event was
-pub all_asks_of_line : (event : ClientEvent) (line : ClientLine) (r : Result HearResult Session) → IsLineOf event line
-    → IfOk r (λ h. AsksFor h line)
-    → IfOk r (λ h. AsksForEvent h event)
-all_asks_of_line event line (Ok h) is same = asks_of_line event line h is same
-all_asks_of_line event line (Err back) is same = tt
+pub all_sent_by_line : (event : ClientEvent) (line : ClientLine) (r : Result HearResult Session) → IsLineOf event line
+    → IfOk r (λ h. JudgesOnlyLine h line)
+    → IfOk r (λ h. JudgesOnlyWhatWasSent h event)
+all_sent_by_line event line (Ok h) is same = sent_by_line event line h is same
+all_sent_by_line event line (Err back) is same = tt
 
 -- a line with a code, or with two in a row, takes memory to answer
 takes_code : (sent : CodeTexts) → TakesMemory (asking sent)

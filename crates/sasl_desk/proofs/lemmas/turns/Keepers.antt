@@ -1,11 +1,10 @@
 -- What a keeper told, and a token that it puts back.
 use Rattle.std.proofs.Common.{◌≡◌, ◌≢◌, ◌≤◌, ℕ, true, List, [], ◌∷◌, ◌++◌, reverse, refl, sym, ap, subst, ◌∙◌}
 use Rattle.std.specs.declared.option.Option.TheVariants.{None, Some}
-use Rattle.otp_core.specs.Attempt.{Attempt, CodeTexts, attempt_of}
-use Rattle.otp_core.specs.History.{IsAfter}
-use Rattle.otp_core.specs.Reply.{IsDueReply}
+use Rattle.otp_core.specs.Attempt.{CodeTexts}
 use Rattle.otp_core.specs.Ranges.{IsMoment, most_counter}
-use Rattle.otp_core.specs.State.{advanced}
+use Rattle.otp_core.specs.State.{after_reply}
+use Rattle.otp_core.specs.TokenAttempt.{IsTokenAttempt}
 use Rattle.otp_core.specs.declared.token.answer.Reply.{Reply}
 use Rattle.otp_core.specs.declared.token.answer.Reply.TheVariants.{Pass, Fail, Locked}
 use Rattle.otp_core.specs.declared.token.kinds.TokenFields.{TokenFields}
@@ -13,7 +12,7 @@ use Rattle.book_format.specs.Book.{BookFields}
 use Rattle.account_book.specs.Accounts.{IsChanged, with_changed}
 use Rattle.account_book.specs.SavedBooks.{needs_save, SavesBook}
 use Rattle.account_book.specs.Store.{StoreFacts}
-use Rattle.account_book.specs.Tokens.{token_at, with_token, IsAttempt}
+use Rattle.account_book.specs.Tokens.{token_at, with_token}
 use Rattle.account_book.proofs.lemmas.Maps.{is_changed}
 use Rattle.account_book.proofs.lemmas.Tokens.{tokens_go_back, tokens_stay}
 use Rattle.log_grammar.specs.Lines.{IsReplyInRange}
@@ -23,30 +22,13 @@ use Rattle.sasl_log.proofs.lemmas.steps.Tokens.{reply_by, book_after}
 use Rattle.sasl_log.specs.Tokens.{IsBookAfter}
 use Rattle.sasl_desk.specs.Keeper.{IsAttemptJudged, IsKept}
 
--- a token judged what was sent by the reply due to it, and now is the one after that attempt
-pub record IsStep (token : TokenFields) (moment : ℕ) (sent : CodeTexts) (reply : Reply) (now : TokenFields) : Type 0 where
-  pub due : (start : TokenFields) (history : List Attempt) → IsAfter start history token → IsDueReply start history moment sent reply
-  pub after : (start : TokenFields) (history : List Attempt) → IsAfter start history token
-      → IsAfter start (attempt_of moment sent reply ∷ history) now
-  pub state : now ≡ advanced token moment reply
-
--- a book with the token after an attempt is the one after the attempt
-attempted : (old new : BookFields) (name : List ℕ) (token now : TokenFields) (moment : ℕ) (sent : CodeTexts) (reply : Reply)
-    → IsStep token moment sent reply now → IsChanged old name (with_token now) new → IsAttempt old name token moment sent reply new
-attempted old new name token now moment sent reply step put = record {
-  due = step.due;
-  after = λ start history after. subst (λ (t : TokenFields). IsAfter start (attempt_of moment sent reply ∷ history) t) step.state
-      (step.after start history after);
-  kept = subst (λ (t : TokenFields). IsChanged old name (with_token t) new) step.state put;
-}
-
 -- the reply to an attempt is told of the account
 pub told_by : (old new : BookFields) (name : List ℕ) (token now : TokenFields) (moment : ℕ) (sent : CodeTexts) (reply : Reply)
     → IsMoment moment
-    → token_at old name ≡ Some token → IsStep token moment sent reply now → IsChanged old name (with_token now) new
+    → token_at old name ≡ Some token → IsTokenAttempt token moment sent reply now → IsChanged old name (with_token now) new
     → IsAttemptJudged old (logged_reply_of name moment sent (Some reply)) new
-told_by old new name token now moment sent reply is has step put =
-    record { is_moment = is; answered = rw has (reply, refl, attempted old new name token now moment sent reply step put) }
+told_by old new name token now moment sent reply is has attempt put =
+    record { is_moment = is; answered = rw has (reply, refl, record { next = now; judged = attempt; kept = put }) }
 
 -- nothing is told of an account without a token
 pub told_none : (old : BookFields) (name : List ℕ) (moment : ℕ) (sent : CodeTexts) → IsMoment moment → token_at old name ≡ None
@@ -81,13 +63,14 @@ saved_unless_locked Locked apart = absurd (apart refl)
 -- LOCKED is told of a book that stays as it was
 pub told_locked : (IsStored : List ℕ → Type 0) (old : BookFields) (name : List ℕ) (token now : TokenFields) (moment : ℕ) (sent : CodeTexts)
     (reply : Reply) → IsMoment moment
-    → token_at old name ≡ Some token → IsStep token moment sent reply now → reply ≡ Locked → (was : StoreFacts)
+    → token_at old name ≡ Some token → IsTokenAttempt token moment sent reply now → reply ≡ Locked → (was : StoreFacts)
     → IsAttemptJudged old (logged_reply_of name moment sent (Some reply)) old × IsKept IsStored (needs_save (Some reply)) old was old was
-told_locked IsStored old name token now moment sent reply is has step locked was =
-    let same : now ≡ token = step.state ∙ ap (advanced token moment) locked in
+told_locked IsStored old name token now moment sent reply is has attempt locked was =
+    let same : now ≡ token = attempt.state ∙ ap (after_reply token moment) locked in
     let stays : old ≡ with_changed old name (with_token now) =
     sym (ap (λ (t : TokenFields). with_changed old name (with_token t)) same ∙ tokens_stay old name token has) in
-    (told_by old old name token now moment sent reply is has step (is_changed old name (with_token now) old stays), rw locked (refl, refl))
+    let put = is_changed old name (with_token now) old stays in
+    (told_by old old name token now moment sent reply is has attempt put, rw locked (refl, refl))
 
 -- a reply that is not LOCKED is kept by a store that holds the book's text
 pub kept_by : (IsStored : List ℕ → Type 0) (old new : BookFields) (was now : StoreFacts) (reply : Reply) → reply ≢ Locked

@@ -4,7 +4,7 @@ use Rattle.log_grammar.specs.Places.{Place, offered, waits_code}
 use Rattle.sasl_log.specs.Shown.{client_shown}
 use Rattle.sasl_log.specs.declared.line.ClientLine.{ClientLine}
 use Rattle.sasl_log.specs.declared.line.ClientLine.TheVariants.{Auth, AuthWith, Resp, Abort, Code, Sync}
-use Rattle.sasl_desk.specs.Turns.{is_auth_due, is_code_due, is_due}
+use Rattle.sasl_desk.specs.DueLines.{is_auth_due, is_code_due, is_due}
 
 -- after the offer a line that is no AUTH and no ABORT is not due
 pub all_but_auth : (line : ClientLine) → ((mechanism : Bor (List ℕ)) → line ≡ Auth mechanism → ⊥)

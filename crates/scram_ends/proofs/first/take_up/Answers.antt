@@ -1,23 +1,31 @@
-use Rattle.std.proofs.Common.{◌≡◌, ◌≤◌, ℕ, List, length, false, sym, ◌∙◌, subst, ap, arith, length-append}
+use Rattle.std.proofs.Common.{◌≡◌, ◌≤◌, ℕ, List, length, sym, ◌∙◌, subst, ap, refl, inl, inr, arith, length-append}
 use Rattle.scram_text.specs.Limits.{longest_message}
-use Rattle.scram_text.specs.Messages.{ClientFirstParts, header_text, bare_text, client_first_text, client_first_mandatory, IsClientFirst}
+use Rattle.scram_text.specs.Messages.{ClientFirstParts, header_text, bare_text, client_first_text, IsClientFirst}
+use Rattle.scram_text.proofs.lemmas.FirstUnmet.{first_found}
 use Rattle.scram_ends.specs.Opening.{IsUnbound}
+use Rattle.scram_ends.specs.First.{first_faults_in_order, AsksOfFirst}
+use Rattle.scram_ends.specs.declared.first.FirstFault.TheVariants.{OutsideProfile}
 use Rattle.scram_ends.proofs.first.take_up.Goals as goal
 
 pub returns-in_default-clause-err : goal.returns-in_default-clause-err
 returns-in_default-clause-err c =
     let found = c.in_ok-message.ensures.found in
-    let shows = found.2 in
-    let none : client_first_mandatory found.0 ≡ false = sym shows.mandatory ∙ c.if-message.false in
-    let unbound : IsUnbound found.0.flag = subst IsUnbound shows.flag c.if-not-is_unbound.ensures.unbound in (
+    let shows = found.2 in (
       found.0,
       found.1,
-      none,
-      unbound,
-      λ name authzid is_name is_authzid. c.in_default.ensures.none name authzid (rw shows.name is_name) (rw shows.authzid is_authzid),
+      first_found (λ row. AsksOfFirst row found.0) first_faults_in_order OutsideProfile (inr (
+        sym shows.mandatory ∙ c.if-message.false,
+        inr (
+          subst IsUnbound shows.flag c.if-not-is_unbound.ensures.unbound,
+          inl (
+            refl,
+            λ plain. c.in_default.ensures.none plain.0 plain.1 (rw shows.name plain.2) (rw shows.authzid plain.3),
+          ),
+        ),
+      )),
     )
 
--- the header is a front of the message
+-- the header of a client-first message is no longer than a message may be
 header_short : (client_first : List ℕ) (p : ClientFirstParts) (header : List ℕ) → IsClientFirst client_first p → header ≡ header_text p
     → length header ≤ longest_message
 unfolding client_first_text

@@ -10,7 +10,7 @@ returns-clause-draft c = λ proof.
     (without_proof_composed c.args.channel.now c.args.nonce.now c.args.extensions.now proof)
     (c.add_extensions.ensures _ (c.add-3.ensures _ (c.add-2.ensures _ (c.add_base64.ensures _ (c.add.ensures _ c.new-draft.ensures)))))
 
-pub returns-clause-is_text : goal.returns-clause-is_text
-returns-clause-is_text c = λ proof.
+pub returns-clause-utf8_text : goal.returns-clause-utf8_text
+returns-clause-utf8_text c = λ proof.
     let channel : IsBytes c.args.channel.now = λ i. omega (arith, c.type_inv.channel i) in
     without_proof_text c.args.channel.now c.args.nonce.now c.args.extensions.now proof channel c.requires

@@ -16,7 +16,7 @@ returns-clause-cut c =
     c.in-Some.ensures.no_comma in
     let without_proof = rw (c.in-Some-rest.is, c.cut-2.ensures.parts) at c.cut.ensures.parts in record {
       short = c.in_ok-parts.ensures.short;
-      is_text = c.in_ok-parts.ensures.is_text;
+      utf8_text = c.in_ok-parts.ensures.utf8_text;
       whole = c.in-Some.ensures.whole;
       cut = without_proof;
       cut_whole = rw without_proof at whole;

@@ -1,5 +1,6 @@
 use Rattle.std.proofs.Common.{sym, ◌+◌}
-use Rattle.scram_text.proofs.lemmas.Parts.{rest_taken, cut_at, cut_none, cut_text}
+use Rattle.std.proofs.lemmas.List.{take_rest}
+use Rattle.scram_text.proofs.lemmas.Parts.{cut_at, cut_none, cut_text}
 use Rattle.scram_text.proofs.cut.cut.Goals as goal
 
 pub returns-in-None-clause-parts : goal.returns-in-None-clause-parts
@@ -15,5 +16,5 @@ pub returns-in-Some-clause-no_comma : goal.returns-in-Some-clause-no_comma
 returns-in-Some-clause-no_comma c = (cut_at c.args.text.now c.in-Some.at (sym c.in-Some.ensures)).1
 
 pub returns-in-Some-clause-whole : goal.returns-in-Some-clause-whole
-returns-in-Some-clause-whole c = rw (rest_taken c.args.text.now (c.in-Some.at + 1))
+returns-in-Some-clause-whole c = rw (take_rest c.args.text.now (c.in-Some.at + 1))
     (cut_text c.args.text.now c.in-Some.at (sym c.in-Some.ensures))

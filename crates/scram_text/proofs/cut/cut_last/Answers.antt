@@ -3,6 +3,7 @@ use Rattle.scram_text.specs.Name.{LacksComma}
 use Rattle.scram_text.proofs.lemmas.Parts.{parts_whole}
 use Rattle.scram_text.proofs.cut.cut_last.Goals as goal
 
+-- a text that has no comma from its start on has none
 whole_lacks : (text : List ℕ) (at : ℕ) → at ≡ 0 → LacksComma (drop at text) → LacksComma text
 whole_lacks text at none lacks = rw none at lacks
 

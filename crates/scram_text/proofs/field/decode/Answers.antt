@@ -1,11 +1,8 @@
-use Rattle.std.proofs.Common.{◌≡◌, ◌≤◌, ℕ, List, length, take, arith, length-take}
+use Rattle.std.proofs.Common.{◌≡◌, length, take, arith, length-take}
+use Rattle.std.proofs.lemmas.List.{length-take-le}
 use Rattle.base64.specs.GeneralPurpose.{IsBytes}
-use Rattle.scram_text.proofs.lemmas.Base64.{read_field, field_read, field_error}
+use Rattle.scram_text.proofs.lemmas.Base64.{taken_bytes, read_field, field_read, field_error}
 use Rattle.scram_text.proofs.field.decode.Goals as goal
-
--- the bytes at the front of a buffer that is long enough
-front_length : (size : ℕ) (buffer : List ℕ) → size ≤ length buffer → length (take size buffer) ≡ size
-front_length size buffer room = omega (arith, length-take size buffer)
 
 pub returns-in-Ok-eq0-clause-none : goal.returns-in-Ok-eq0-clause-none
 returns-in-Ok-eq0-clause-none c = λ spells.
@@ -15,17 +12,21 @@ returns-in-Ok-eq0-clause-none c = λ spells.
 pub returns-in-Ok-clause-field : goal.returns-in-Ok-clause-field
 returns-in-Ok-clause-field c =
     let size : length (take c.in-Ok.size c.decode_slice_unchecked.new.output) ≡ c.in-Ok.size =
-    front_length c.in-Ok.size c.decode_slice_unchecked.new.output (omega (arith, c.in-Ok.ensures.ok.2)) in
+    length-take-le c.in-Ok.size c.decode_slice_unchecked.new.output (omega (arith, c.in-Ok.ensures.ok.2)) in
     let fits : IsBytes c.args.text.now = λ i. omega (arith, c.type_inv.text i) in
-    (read_field (length c.args.buffer.now) c.args.text.now _ fits c.in-Ok.ensures.ok.0 (omega arith)
+    let read : IsBytes (take c.in-Ok.size c.decode_slice_unchecked.new.output) =
+    taken_bytes c.in-Ok.size c.decode_slice_unchecked.new.output (λ i. omega (arith, c.type_inv.buffer i)) in
+    (read_field (length c.args.buffer.now) c.args.text.now _ fits read c.in-Ok.ensures.ok.0 (omega arith)
     (omega (arith, c.in-Ok.ensures.ok.2))).0
 
 pub returns-in-Ok-clause-text : goal.returns-in-Ok-clause-text
 returns-in-Ok-clause-text c =
     let size : length (take c.in-Ok.size c.decode_slice_unchecked.new.output) ≡ c.in-Ok.size =
-    front_length c.in-Ok.size c.decode_slice_unchecked.new.output (omega (arith, c.in-Ok.ensures.ok.2)) in
+    length-take-le c.in-Ok.size c.decode_slice_unchecked.new.output (omega (arith, c.in-Ok.ensures.ok.2)) in
     let fits : IsBytes c.args.text.now = λ i. omega (arith, c.type_inv.text i) in
-    (read_field (length c.args.buffer.now) c.args.text.now _ fits c.in-Ok.ensures.ok.0 (omega arith)
+    let read : IsBytes (take c.in-Ok.size c.decode_slice_unchecked.new.output) =
+    taken_bytes c.in-Ok.size c.decode_slice_unchecked.new.output (λ i. omega (arith, c.type_inv.buffer i)) in
+    (read_field (length c.args.buffer.now) c.args.text.now _ fits read c.in-Ok.ensures.ok.0 (omega arith)
     (omega (arith, c.in-Ok.ensures.ok.2))).1
 
 pub returns-in-Err-clause-none : goal.returns-in-Err-clause-none

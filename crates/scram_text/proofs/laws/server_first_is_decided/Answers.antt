@@ -1,4 +1,4 @@
-use Rattle.scram_text.proofs.lemmas.MessagesDecided.{server_first_is_decided}
+use Rattle.scram_text.proofs.lemmas.messages_decided.ServerFirst.{server_first_is_decided}
 use Rattle.scram_text.proofs.laws.server_first_is_decided.Goals as goal
 
 pub returns : goal.returns

@@ -11,17 +11,17 @@ pub returns-clause-is_saslname : goal.returns-clause-is_saslname
 returns-clause-is_saslname g c = spelling_saslname c.args.name.now c.add_name.ensures.plain.at_least
 
 -- of three faults two are excluded, so a fault is NoMemory
-memory_alone : {T : Type 0} (r : Result T WriteFault) (Room : Type 0) → (r ≡ Err Unwritable → ⊥) → (r ≡ Err OverLimit → ⊥)
+only_memory : {T : Type 0} (r : Result T WriteFault) (Room : Type 0) → (r ≡ Err Unwritable → ⊥) → (r ≡ Err OverLimit → ⊥)
     → (r ≡ Err NoMemory → Room) → IfErr r (λ f. (f ≡ NoMemory) × Room)
-memory_alone (Ok done) Room unwritable over_limit room = tt
-memory_alone (Err Unwritable) Room unwritable over_limit room = absurd (unwritable refl)
-memory_alone (Err OverLimit) Room unwritable over_limit room = absurd (over_limit refl)
-memory_alone (Err NoMemory) Room unwritable over_limit room = (refl, room refl)
+only_memory (Ok done) Room unwritable over_limit room = tt
+only_memory (Err Unwritable) Room unwritable over_limit room = absurd (unwritable refl)
+only_memory (Err OverLimit) Room unwritable over_limit room = absurd (over_limit refl)
+only_memory (Err NoMemory) Room unwritable over_limit room = (refl, room refl)
 
 pub returns-clause-no_memory : goal.returns-clause-no_memory
 returns-clause-no_memory g c =
     let is = c.add_name.ensures.draft _ c.new-draft.ensures in
-    memory_alone c.append_to.result _ c.append_to.ensures.unwritable
+    only_memory c.append_to.result _ c.append_to.ensures.unwritable
     (λ e. let long = c.append_to.ensures.over_limit e _ is in omega
     (arith, long, length-spelling c.args.name.now, c.add_name.ensures.plain.at_most))
     (λ e. (c.append_to.ensures.no_memory e _ is).1)

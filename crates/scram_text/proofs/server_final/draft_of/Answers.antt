@@ -12,5 +12,5 @@ returns-clause-draft c =
 
 pub returns-clause-is_message : goal.returns-clause-is_message
 returns-clause-is_message c = λ short.
-    server_final_related (verifier_or_error_of c.args.outcome.now) c.args.extensions.now c.outcome_draft-draft.ensures.is_text c.requires
+    server_final_related (verifier_or_error_of c.args.outcome.now) c.args.extensions.now c.outcome_draft-draft.ensures.utf8_text c.requires
     short

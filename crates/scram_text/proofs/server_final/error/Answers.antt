@@ -1,5 +1,5 @@
 use Rattle.scram_text.proofs.lemmas.Composed.{error_text}
 use Rattle.scram_text.proofs.server_final.error.Goals as goal
 
-pub returns-clause-is_text : goal.returns-clause-is_text
-returns-clause-is_text c = error_text c.args.value.now c.requires
+pub returns-clause-utf8_text : goal.returns-clause-utf8_text
+returns-clause-utf8_text c = error_text c.args.value.now c.requires

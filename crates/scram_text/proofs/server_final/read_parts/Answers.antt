@@ -11,14 +11,14 @@ pub returns-in_err-result-clause-fault : goal.returns-in_err-result-clause-fault
 returns-in_err-result-clause-fault c =
     let p = err_from_is_err_and c.from_residual-in_err-result.result c.from_residual-in_err-result.ensures.1 in
     rw (p.1, p.2) (result_fault c.args.message.now c.cut.result.0.now _ _ c.in_ok-checked_part_count.ensures.short
-    c.in_ok-checked_part_count.ensures.is_text
+    c.in_ok-checked_part_count.ensures.utf8_text
     c.cut.ensures.parts c.in_err-result.ensures.fault)
 
 pub returns-in_err-extensions-clause-fault : goal.returns-in_err-extensions-clause-fault
 returns-in_err-extensions-clause-fault c =
     let p = err_from_is_err_and c.from_residual-in_err-extensions.result c.from_residual-in_err-extensions.ensures.1 in
     rw (p.1, p.2) (extension_fault c.args.message.now c.cut.result.0.now _ _ c.in_ok-checked_part_count.ensures.short
-    c.in_ok-checked_part_count.ensures.is_text
+    c.in_ok-checked_part_count.ensures.utf8_text
     c.cut.ensures.parts (result_fits c.cut.result.0.now
     (verifier_or_error_of c.in_ok-result.result) c.in_ok-result.ensures.spelled c.in_ok-result.ensures.class)
     c.in_err-extensions.ensures.fault)
@@ -34,7 +34,7 @@ returns-clause-found c =
         spelled = server_final_spelled c.args.message.now c.cut.result.0.now p c.cut.ensures.parts c.in_ok-result.ensures.spelled;
         outcome = c.in_ok-result.ensures.class;
         extensions = c.in_ok-extensions.ensures.found;
-        is_text = c.in_ok-checked_part_count.ensures.is_text;
+        utf8_text = c.in_ok-checked_part_count.ensures.utf8_text;
         short = c.in_ok-checked_part_count.ensures.short;
       },
       record {

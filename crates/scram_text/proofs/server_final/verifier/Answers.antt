@@ -3,7 +3,7 @@ use Rattle.base64.specs.GeneralPurpose.{IsBytes}
 use Rattle.scram_text.proofs.lemmas.Composed.{signature_text}
 use Rattle.scram_text.proofs.server_final.verifier.Goals as goal
 
-pub returns-clause-is_text : goal.returns-clause-is_text
-returns-clause-is_text c =
+pub returns-clause-utf8_text : goal.returns-clause-utf8_text
+returns-clause-utf8_text c =
     let fits : IsBytes c.args.signature.now = λ i. omega (arith, c.type_inv.signature i) in
     signature_text c.args.signature.now fits

@@ -7,8 +7,8 @@ use Rattle.std.specs.String.{string_cmp}
 use Rattle.toml.specs.Data.{Data, Members, member}
 use Rattle.toml.specs.View.{view}
 use Rattle.toml.proofs.Views.{Entry}
-use Rattle.book_format.specs.Reading.{accounts_from, named_account_of}
-use Rattle.book_format.specs.Rows.{◌>>=◌}
+use Rattle.book_format.specs.reading.Books.{accounts_from, named_account_of}
+use Rattle.book_format.specs.reading.Steps.{◌>>=◌}
 use Rattle.book_format.specs.declared.fault.BookFault.{BookFault}
 use Rattle.book_format.proofs.lemmas.Steps.{on_ok}
 use Rattle.book_format.proofs.lemmas.InOrder.{Named, HaveKeys-last, inserted_last}

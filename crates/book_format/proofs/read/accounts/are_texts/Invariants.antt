@@ -1,6 +1,6 @@
 use Rattle.std.proofs.Common.{◌≡◌, drop}
 use Rattle.toml.specs.View.{items_view}
-use Rattle.book_format.specs.ValueTypes.{are_texts}
+use Rattle.book_format.specs.Names.{are_texts}
 use Rattle.book_format.proofs.read.accounts.are_texts.Given as goal
 
 -- all values are texts exactly where those that are left are

@@ -2,8 +2,9 @@ use Rattle.std.proofs.Common.{subst}
 use Rattle.mac_core.specs.Mechanism.{length_by}
 use Rattle.mac_core.specs.declared.mechanism.Mechanism.TheVariants.{ScramSha1, ScramSha256}
 use Rattle.book_format.specs.Account.{IsAccount}
-use Rattle.book_format.specs.ValueTypes.{AreNames}
-use Rattle.book_format.specs.Rows.{WritesItself, in_table}
+use Rattle.book_format.specs.Names.{AreNames}
+use Rattle.book_format.specs.Rows.{WritesItself}
+use Rattle.book_format.specs.RowKinds.{in_table}
 use Rattle.book_format.specs.Tables.{account}
 use Rattle.book_format.proofs.lemmas.WritesItself.{account_writes_itself}
 use Rattle.book_format.proofs.write.account.account_value.Goals as goal

@@ -3,7 +3,7 @@ use Rattle.std.proofs.lemmas.List.{take_more, map_push, map_more}
 use Rattle.scram_text.specs.Class.{IsPlainName}
 use Rattle.toml.specs.Data.{string}
 use Rattle.toml.specs.View.{view}
-use Rattle.book_format.specs.ValueTypes.{AreNames}
+use Rattle.book_format.specs.Names.{AreNames}
 use Rattle.book_format.proofs.lemmas.WritesItself.{names_more}
 use Rattle.book_format.proofs.write.account.names_value.Goals as goal
 

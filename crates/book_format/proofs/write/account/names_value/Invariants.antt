@@ -1,7 +1,7 @@
 use Rattle.std.proofs.Common.{◌≡◌, map, take}
 use Rattle.toml.specs.Data.{string}
 use Rattle.toml.specs.View.{view}
-use Rattle.book_format.specs.ValueTypes.{AreNames}
+use Rattle.book_format.specs.Names.{AreNames}
 use Rattle.book_format.proofs.write.account.names_value.Given as goal
 
 -- a text for each name that was given

@@ -2,7 +2,8 @@ use Rattle.std.proofs.Common.{◌≡◌, ℕ, Option, Some, Result, Ok, Err, sub
 use Rattle.std.specs.Option.{ForSome}
 use Rattle.std.specs.Result.{OnOk}
 use Rattle.book_format.specs.Account.{AreKeys}
-use Rattle.book_format.specs.Rows.{WritesItself, in_table}
+use Rattle.book_format.specs.Rows.{WritesItself}
+use Rattle.book_format.specs.RowKinds.{in_table}
 use Rattle.book_format.specs.Tables.{mech}
 use Rattle.book_format.specs.declared.account.MechKeys.{MechKeys}
 use Rattle.book_format.proofs.write.account.put_keys.Goals as goal

@@ -1,6 +1,6 @@
 use Rattle.std.proofs.Common.{◌≡◌, ◌≤◌, ◌<◌, ◌+◌, ◌↔◌, ℕ, List, Bool}
 use Rattle.std.specs.Prelude.{IsTrue}
-use Rattle.otp_core.specs.Code.{hotp_text_by}
+use Rattle.otp_core.specs.Hash.{hotp_text_by}
 use Rattle.otp_core.specs.declared.hash.OtpHash.TheVariants.{Sha1}
 use Rattle.otp_core.proofs.token.answer.find_pair_with.Given as goal
 

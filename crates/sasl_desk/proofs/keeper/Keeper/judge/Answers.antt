@@ -9,7 +9,7 @@ returns-then-eq-clause-ok g c =
     let locked : c.judge-reply.result ≡ Locked = search rules in
     told_locked g.S.BookStore.IsStored _ c.args.name.now c.in-Some.token c.judge-reply.new.self c.args.moment _ c.judge-reply.result
     c.moment_is_in_range.ensures (sym c.token.ensures ∙ c.in-Some.is)
-    (record { due = c.judge-reply.ensures.due; after = c.judge-reply.ensures.after; state = c.judge-reply.ensures.state })
+    c.judge-reply.ensures
     locked _
 
 pub returns-then-eq-clause-counter : goal.returns-then-eq-clause-counter
@@ -30,7 +30,7 @@ returns-in-Err-clause-memory g c = (
   (let apart : c.judge-reply.result ≢ Locked = search rules in saved_unless_locked c.judge-reply.result apart),
   told_by _ _ c.args.name.now c.in-Some.token c.judge-reply.new.self c.args.moment _ c.judge-reply.result c.moment_is_in_range.ensures
       (sym c.token.ensures ∙ c.in-Some.is)
-      (record { due = c.judge-reply.ensures.due; after = c.judge-reply.ensures.after; state = c.judge-reply.ensures.state })
+      c.judge-reply.ensures
       c.put_token.ensures.put,
 )
 
@@ -38,7 +38,7 @@ pub returns-in-Ok-saved-clause-ok : goal.returns-in-Ok-saved-clause-ok
 returns-in-Ok-saved-clause-ok g c = let apart : c.judge-reply.result ≢ Locked = search rules in (
   told_by _ _ c.args.name.now c.in-Some.token c.judge-reply.new.self c.args.moment _ c.judge-reply.result c.moment_is_in_range.ensures
       (sym c.token.ensures ∙ c.in-Some.is)
-      (record { due = c.judge-reply.ensures.due; after = c.judge-reply.ensures.after; state = c.judge-reply.ensures.state })
+      c.judge-reply.ensures
       c.put_token.ensures.put,
   kept_by g.S.BookStore.IsStored _ _ _ _ c.judge-reply.result apart
       (record { text = _; is_text = c.in-Ok.ensures.stands; saved = c.in-Ok-saved.ensures.saves; stored = c.in-Ok-saved.ensures.stored }),
@@ -58,7 +58,7 @@ returns-in-Err-saved-clause-ok g c = (
     (let apart : c.judge-reply.result ≢ Locked = search rules in saved_unless_locked c.judge-reply.result apart),
     told_by _ _ c.args.name.now c.in-Some.token c.judge-reply.new.self c.args.moment _ c.judge-reply.result c.moment_is_in_range.ensures
         (sym c.token.ensures ∙ c.in-Some.is)
-        (record { due = c.judge-reply.ensures.due; after = c.judge-reply.ensures.after; state = c.judge-reply.ensures.state })
+        c.judge-reply.ensures
         c.put_token.ensures.put,
     record { text = _; is_text = c.in-Ok.ensures.stands; lost = c.in-Err-saved.ensures.saves },
   ),

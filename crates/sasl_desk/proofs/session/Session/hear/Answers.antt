@@ -1,7 +1,7 @@
 use Rattle.std.proofs.lemmas.Result.{on_err_weaker}
 use Rattle.sasl_log.specs.Shown.{client_shown}
 use Rattle.sasl_desk.specs.Events.{sends, goes_away}
-use Rattle.sasl_desk.proofs.lemmas.turns.HeardLines.{all_heard_of_line, no_line_record, all_asks_of_line}
+use Rattle.sasl_desk.proofs.lemmas.turns.HeardLines.{all_heard_of_line, no_line_record, all_sent_by_line}
 use Rattle.sasl_desk.proofs.session.Session.hear.Goals as goal
 
 pub returns-in-Gone-clause-heard : goal.returns-in-Gone-clause-heard
@@ -21,11 +21,11 @@ returns-in-None-clause-heard g c = λ accounts at keeps is.
     (c.bad_turn.ensures.turn accounts c.args.server_nonce.now at (sends c.in-Line.text.now)
     (no_line_record (sends c.in-Line.text.now) at c.in-None.ensures.none (λ same. cc same)))
 
-pub returns-in-Some-clause-asked : goal.returns-in-Some-clause-asked
-returns-in-Some-clause-asked g c =
+pub returns-in-Some-clause-sent : goal.returns-in-Some-clause-sent
+returns-in-Some-clause-sent g c =
     rw c.in-Line.is
-    (all_asks_of_line (sends c.in-Line.text.now)
-    (client_shown c.in-Some.line) c.hear_line.result c.in-Some.ensures.some c.hear_line.ensures.asked)
+    (all_sent_by_line (sends c.in-Line.text.now)
+    (client_shown c.in-Some.line) c.hear_line.result c.in-Some.ensures.some c.hear_line.ensures.sent)
 
 pub returns-in-Some-clause-memory : goal.returns-in-Some-clause-memory
 returns-in-Some-clause-memory g c =

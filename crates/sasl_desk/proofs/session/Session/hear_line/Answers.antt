@@ -29,5 +29,5 @@ returns-in-WaitCode-clause-heard g c = λ accounts at keeps is.
     (subst (λ (p : Place). ComesOfLine accounts c.args.server_nonce.now (client_shown c.args.line) p c.hear_code.result []) (sym here)
     (c.hear_code.ensures.heard accounts c.args.server_nonce.now))
 
-pub returns-in-WaitCode-clause-asks : goal.returns-in-WaitCode-clause-asks
-returns-in-WaitCode-clause-asks g c = rw c.in-WaitCode.is c.hear_code.ensures.asks
+pub returns-in-WaitCode-clause-waits : goal.returns-in-WaitCode-clause-waits
+returns-in-WaitCode-clause-waits g c = rw c.in-WaitCode.is c.hear_code.ensures.waits

@@ -6,7 +6,8 @@ use Rattle.scram_text.specs.Messages.{client_first_text, IsClientFirst}
 use Rattle.scram_text.specs.Written.{client_first_of}
 use Rattle.scram_text.specs.declared.client_first.Flag.TheVariants.{NoBinding}
 use Rattle.scram_text.specs.declared.fault.WriteFault.{WriteFault}
-use Rattle.scram_ends.proofs.lemmas.Clients.{first_fails, appended, honest_first, bare_length, header_fits}
+use Rattle.scram_ends.proofs.lemmas.Clients.{first_fails, honest_first, bare_length, header_fits}
+use Rattle.scram_ends.proofs.lemmas.Written.{after_front}
 use Rattle.scram_ends.proofs.client.Client.start.Goals as goal
 
 pub returns-in_err-write_client_first-clause-no_memory : goal.returns-in_err-write_client_first-clause-no_memory
@@ -39,9 +40,8 @@ copy_of-requires-2 g c =
     let authzid = option_copied c.args.authzid in
     let first = client_first_of NoBinding authzid c.args.name.now c.args.nonce.now [] in
     let start : c.len-start.result ≡ length c.args.out.now.items = search rules in
-    let written = appended c.deref.result.now c.write_client_first.new.out.items c.args.out.now.items
-    (client_first_text first) c.len-start.result
-    c.deref.ensures.value c.in_ok-write_client_first.ensures.appended.0 start in
+    let written = after_front c.deref.result.now c.args.out.now.items (client_first_text first) c.len-start.result
+    (c.deref.ensures.value ∙ c.in_ok-write_client_first.ensures.appended.0) start in
     let shows = c.in-Ok.ensures.only first
     (subst (λ (client_first : List ℕ). IsClientFirst client_first first) (sym written) c.in_ok-write_client_first.ensures.is_message) in (
       omega arith,

@@ -8,9 +8,10 @@ use Rattle.scram_text.specs.Written.{client_final_of}
 use Rattle.scram_text.specs.declared.fault.WriteFault.{WriteFault}
 use Rattle.scram_text.proofs.lemmas.Base64.{field_of_bytes}
 use Rattle.scram_ends.proofs.lemmas.HonestLogins.{length_range}
-use Rattle.scram_ends.proofs.lemmas.Clients.{front_fails, answer_fails, header_range, expecting}
+use Rattle.scram_ends.proofs.lemmas.Clients.{front_never_fails, answer_fails, header_range, expecting}
 use Rattle.scram_ends.proofs.client.ClientOne.answer.Goals as goal
 
+-- what is the same as a nonce is a nonce
 sent_nonce : (nonce part : List ℕ) → nonce ≡ part → IsNonce longest_nonce part → IsNonce longest_nonce nonce
 sent_nonce nonce part same is = subst (λ (n : List ℕ). IsNonce longest_nonce n) (sym same) is
 
@@ -19,7 +20,7 @@ returns-in_err-without_proof-clause-no_memory g c =
     let e = err_from_is_err_and c.from_residual.result c.from_residual.ensures.1 in
     rw (e.1, e.2) (λ l p started is shows.
     let range = header_range c.args.self.now l c.as_slice-header.result.now started c.as_slice-header.ensures.value in
-    absurd (front_fails c.new.result _ c.as_slice-header.result.now c.args.challenge.now.nonce.now c.in_err-without_proof.was
+    absurd (front_never_fails c.new.result _ c.as_slice-header.result.now c.args.challenge.now.nonce.now c.in_err-without_proof.was
     c.are_bytes.ensures range.0 range.1 (sent_nonce _ p.nonce shows.nonce is.nonce)
     c.new.ensures.unwritable c.new.ensures.over_limit c.new.ensures.no_memory))
 

@@ -1,4 +1,4 @@
-use Rattle.scram_ends.proofs.lemmas.Challenges.{not_refused, fault_of}
+use Rattle.scram_ends.proofs.lemmas.Challenges.{not_refused, fault_of_started}
 use Rattle.scram_ends.proofs.client.ClientOne.first.Goals as goal
 
 pub returns-in-Ok-answer-clause-ok : goal.returns-in-Ok-answer-clause-ok
@@ -14,4 +14,4 @@ returns-in-Err-answer-clause-no_memory g c = λ l started.
 pub returns-in-Err-clause-only : goal.returns-in-Err-clause-only
 returns-in-Err-clause-only g c = λ l challenge started answerable.
     absurd (not_refused l.limits l.nonce c.args.server_first.now c.in-Err.fault challenge
-    (fault_of c.args.self l c.args.server_first.now c.in-Err.fault started c.in-Err.ensures.err) answerable)
+    (fault_of_started c.args.self l c.args.server_first.now c.in-Err.fault started c.in-Err.ensures.err) answerable)

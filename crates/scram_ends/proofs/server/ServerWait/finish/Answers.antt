@@ -3,7 +3,7 @@ use Rattle.scram_text.specs.declared.fault.WriteFault.{WriteFault}
 use Rattle.scram_text.specs.declared.fault.WriteFault.TheVariants.{NoMemory}
 use Rattle.scram_ends.specs.Verdict.{due_of, due_text}
 use Rattle.scram_ends.proofs.lemmas.Verdicts.{valid_iff}
-use Rattle.scram_ends.proofs.lemmas.Servers.{memory_alone}
+use Rattle.scram_ends.proofs.lemmas.Servers.{verdict_fails}
 use Rattle.scram_ends.proofs.server.ServerWait.finish.Goals as goal
 
 pub returns-in-Ok-clause-valid : goal.returns-in-Ok-clause-valid
@@ -19,7 +19,7 @@ returns-in-Err-clause-no_memory g c = λ l stands.
     let d = due_of c.verdict_on-judged.result in
     let due = c.verdict_on-judged.ensures l stands in
     let memory : c.in-Err.fault ≡ NoMemory =
-    memory_alone l c.args.client_final.now d c.in-Err.fault due
+    verdict_fails l c.args.client_final.now d c.in-Err.fault due
     (λ same. c.in-Err.ensures.unwritable (ap (λ (f : WriteFault). Err f) same))
     (λ same. c.in-Err.ensures.over_limit (ap (λ (f : WriteFault). Err f) same)) in
     let room = c.in-Err.ensures.no_memory (ap (λ (f : WriteFault). Err f) memory) in

@@ -9,5 +9,5 @@ returns-in-Ok c = λ l stands.
       final = found.0;
       is_opening = stands.is_opening;
       is_final = found.1;
-      weighed = c.weigh.ensures l stands found.0 found.2;
+      is_verdict = c.judge_final.ensures l stands found.0 found.2;
     })

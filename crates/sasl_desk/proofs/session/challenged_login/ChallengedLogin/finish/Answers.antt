@@ -38,5 +38,5 @@ returns-in-Err-clause-err g c =
     let memory = (c.in-Err.ensures.no_memory (challenged_login entry c.self.inside.mechanism client_first server_first) stands).0 in (
       ap (λ (w : ServerWait). challenged_login_of w c.self.inside.mechanism c.self.inside.name) (c.in-Err.ensures.back memory) ∙
           c.self.view_is,
-      c.in-Err.ensures.unchanged.0 ∙ c.requires,
+      c.in-Err.ensures.unchanged ∙ c.requires,
     )

@@ -1,0 +1,6 @@
+-- How a book's text is read, step by step. For private functions alone: no public contract cites these files.
+pub mod Steps
+pub mod Values
+pub mod Rows
+pub mod Tokens
+pub mod Books

@@ -1,0 +1,68 @@
+-- Which faults end the command `login`, and what is known of each.
+use Rattle.std.specs.Prelude.{ℕ, ◌≡◌, ◌≤◌, length, ◌⊎◌, true, List, [], ◌∷◌}
+use Rattle.std.specs.Io.KnownBytes.{Consumes, IsAtEnd}
+use Rattle.std.specs.declared.option.Option.{Option}
+use Rattle.clap.specs.declared.parser.matches.ArgMatches.{ArgMatches}
+use Rattle.command_line.specs.Fault.{IsUnwritten}
+use Rattle.command_line.specs.declared.option_name.OptionName.TheVariants as option
+use Rattle.command_line.specs.declared.fault.Fault.{Fault}
+use Rattle.command_line.specs.declared.fault.Fault.TheVariants.{Socket, CannotWriteOutput, NoMemory}
+use Rattle.log_grammar.specs.Bytes.{LacksLf}
+use Rattle.sasl_log.specs.Sink.{SinkFacts}
+use Rattle.sasl_log.specs.Source.{SourceFacts}
+use Rattle.sasl_desk.specs.declared.fault.ServeFault.{ServeFault}
+use Rattle.sasl_desk.specs.declared.fault.ServeFault.TheVariants as serve
+use Rattle.command_io.specs.BadValues.{GivesBadValue, HasBadPassword, HasBadValue}
+use Rattle.command_io.specs.File.{IsFileUnread}
+use Rattle.command_io.specs.HeldBook.{CannotOpenBook}
+use Rattle.command_io.specs.Input.{IsInputUnread}
+use Rattle.command_words.specs.Values.{given_value}
+use Rattle.commands.specs.PrintedLog.{IsUnsavedOrUnlogged}
+
+-- a source gives no line of at most so many bytes with its LF: it has failed, or it has ended, or these bytes have no LF
+pub record GivesNoLine (most : ℕ) (old new : SourceFacts) : Type 0 where
+  pub begun : List ℕ
+  pub taken : Consumes old.left new.left begun
+  pub lacks : LacksLf begun
+  pub why : (new.failed ≡ true) ⊎ (IsAtEnd new.left ⊎ (most ≤ length begun))
+
+-- why a client is not served, as the command says it: the book, whose file has this path, can't be saved, the log has failed, or
+-- memory ran out. `WriteFault` is that memory ran out: what the desk says is first kept in memory.
+abbrev pub IsFaultOfServing : (path : List ℕ) → ServeFault → Fault → Type 0
+IsFaultOfServing path serve.Halted fault = IsUnwritten path fault
+IsFaultOfServing path serve.Unwritable fault = ⊥
+IsFaultOfServing path serve.NoMemory fault = fault ≡ NoMemory
+IsFaultOfServing path serve.WriteFault fault = fault ≡ NoMemory
+IsFaultOfServing path serve.LogFault fault = fault ≡ CannotWriteOutput
+
+-- the fault of a turn: the socket fails; the book, whose file has this path, can't be saved; memory ran out; or the log has failed
+abbrev pub IsFaultInTurn : (path : List ℕ) → (log : SinkFacts) → Fault → Type 0
+IsFaultInTurn path log fault = (fault ≡ Socket) ⊎ IsUnsavedOrUnlogged path log fault
+
+-- an option of `login` refuses the value that the words give, and the fault names it
+abbrev pub HasBadLoginValue : ArgMatches → Fault → Type 0
+HasBadLoginValue words fault =
+    HasBadValue (option.Name ∷ []) words fault
+    ⊎ (GivesBadValue option.Mechanism words fault
+    ⊎ (GivesBadValue option.As words fault
+    ⊎ (GivesBadValue option.ClientNonce words fault
+    ⊎ (GivesBadValue option.ServerNonce words fault ⊎ GivesBadValue option.Moment words fault))))
+
+-- what a login begins with is not there: an option refuses its value, the first line of the input is no password or can't be read, the
+-- book can't be held or read, the file of random bytes can't be read, or memory ran out
+abbrev pub CannotPrepare : {File : Type 0} → (bytes_of : File → Option (List ℕ)) → ArgMatches → (input : Option (List ℕ)) → Fault → Type 0
+CannotPrepare bytes_of words input fault =
+    HasBadLoginValue words fault
+    ⊎ (HasBadPassword input fault
+    ⊎ (IsInputUnread fault
+    ⊎ (CannotOpenBook bytes_of (given_value words option.Book) fault ⊎ IsFileUnread (given_value words option.Random) fault)))
+
+-- the fault that ends a talk: a line of the input can't be read, the socket fails, the book, whose file has this path, can't be saved, the
+-- output can't be written, or memory ran out
+abbrev pub StopsTalking : (path : List ℕ) → Fault → Type 0
+StopsTalking path fault = IsInputUnread fault ⊎ ((fault ≡ Socket) ⊎ (IsUnwritten path fault ⊎ (fault ≡ CannotWriteOutput)))
+
+-- the fault that ends `login`: what it begins with is not there, or its talk ends
+abbrev pub CannotLogIn : {File : Type 0} → (bytes_of : File → Option (List ℕ)) → ArgMatches → (input : Option (List ℕ)) → Fault → Type 0
+CannotLogIn bytes_of words input fault =
+    CannotPrepare bytes_of words input fault ⊎ StopsTalking (given_value words option.Book) fault

@@ -1,0 +1,130 @@
+//! The line that is printed for the answer of an audit or an upgrade, and the exit status that goes with it.
+ghost use Rattle.std.specs.Prelude.{◌≡◌, ◌≢◌, ◌++◌, Err, IfErr, IfOk, OnOk, string_bytes};
+ghost use Rattle.log_grammar.specs.Lines.{line_text};
+ghost use Rattle.commands.specs.Audit.{acceptance_line, audit_status, fault_status, outcome_line, printed_audit, printed_clean};
+ghost use Rattle.commands.specs.Audit.{printed_fault, printed_why, refusal_line};
+
+use base64::engine::general_purpose::STANDARD;
+use command_line::Fault;
+use command_line::status::{DONE, FAILED, REFUSED};
+use sasl_log::{AuditFault, AuditWhy, Clean, DueOutcome, NoText, write_reply};
+use std::alloc::Global;
+
+/// The exit status that goes with an answer.
+pub(crate) fn audit_status(answer: &Result<Clean, AuditFault>) -> u8
+    ensures { result ≡ audit_status answer.now }
+{
+    match answer {
+        Ok(_) => DONE,
+        Err(fault) => fault_status(fault),
+    }
+}
+
+/// The exit status that goes with a fault of a log: 1 for a line at fault or too many lines, 3 where a read failed or memory
+/// ran out.
+pub(crate) fn fault_status(fault: &AuditFault) -> u8
+    ensures { result ≡ fault_status fault.now }
+{
+    match fault {
+        AuditFault::At { .. } | AuditFault::TooManyLines => REFUSED,
+        AuditFault::ReadFault | AuditFault::NoMemory => FAILED,
+    }
+}
+
+/// The line that is printed for an answer.
+pub(crate) fn audit_line(
+    alloc: Global,
+    answer: &Result<Clean, AuditFault>,
+) -> Result<Vec<u8>, Fault>
+    ensures ok { IfOk result (λ line. (line.items ≡ printed_audit answer.now) × (answer.now ≢ Err AuditFault.NoMemory)) }
+    ensures err { IfErr result (λ fault. fault ≡ Fault.NoMemory) }
+{
+    match answer {
+        Ok(clean) => clean_line(alloc, clean),
+        Err(fault) => fault_line(alloc, fault),
+    }
+}
+
+/// The line that is printed for a fault of a log. Running out of memory is a fault of the command, and has no line.
+pub(crate) fn fault_line(alloc: Global, fault: &AuditFault) -> Result<Vec<u8>, Fault>
+    ensures ok { IfOk result (λ line. (line.items ≡ printed_fault fault.now) × (fault.now ≢ AuditFault.NoMemory)) }
+    ensures err { IfErr result (λ fault. fault ≡ Fault.NoMemory) }
+{
+    let mut text = Vec::new(alloc);
+    match fault {
+        AuditFault::At { line, why } => {
+            text.extend_from_slice(format!(in alloc; "line {line}: ")?.as_bytes())?;
+            add_why(alloc, why, &mut text)?;
+            text.extend_from_slice(b"\n")?;
+        }
+        AuditFault::TooManyLines => text.extend_from_slice(b"too many lines\n")?,
+        AuditFault::ReadFault => text.extend_from_slice(b"read fault\n")?,
+        AuditFault::NoMemory => return Err(Fault::NoMemory),
+    }
+    Ok(text)
+}
+
+// The line that is printed for a clean log.
+fn clean_line(alloc: Global, clean: &Clean) -> Result<Vec<u8>, Fault>
+    ensures ok { IfOk result (λ line. line.items ≡ printed_clean clean.now) }
+    ensures err { IfErr result (λ fault. fault ≡ Fault.NoMemory) }
+{
+    let (sessions, accepted, codes) = (clean.sessions, clean.accepted, clean.codes_passed);
+    let line = format!(in alloc; "clean sessions={sessions} accepted={accepted} codes={codes}\n")?;
+    Ok(line.into_bytes())
+}
+
+// Adds why a line is at fault, as it is printed.
+fn add_why(alloc: Global, why: &AuditWhy, text: &mut Vec<u8>) -> Result<(), Fault>
+    ensures ok { OnOk result (text.new.items ≡ text.old.items ++ printed_why why.now) }
+    ensures err { IfErr result (λ fault. fault ≡ Fault.NoMemory) }
+{
+    match why {
+        AuditWhy::Cut => text.extend_from_slice(b"cut")?,
+        AuditWhy::NotALine => text.extend_from_slice(b"not a line")?,
+        AuditWhy::Order => text.extend_from_slice(b"order")?,
+        AuditWhy::Mechs => text.extend_from_slice(b"mechs")?,
+        AuditWhy::Challenge => text.extend_from_slice(b"challenge")?,
+        AuditWhy::Outcome(due) => {
+            text.extend_from_slice(b"outcome, due ")?;
+            text.extend_from_slice(outcome_text(alloc, due)?.as_bytes())?;
+        }
+        AuditWhy::Reply(due) => {
+            text.extend_from_slice(b"reply, due ")?;
+            write_reply(due.moment, due.reply, text).map_err(|_| Fault::NoMemory)?;
+        }
+    }
+    Ok(())
+}
+
+// The line of an outcome that is due.
+fn outcome_text(alloc: Global, due: &DueOutcome) -> Result<String, Fault>
+    ensures ok { IfOk result (λ text. string_bytes text ≡ line_text (outcome_line due.now)) }
+    ensures err { IfErr result (λ fault. fault ≡ Fault.NoMemory) }
+{
+    match due {
+        DueOutcome::Accept(signature) => acceptance(alloc, signature.as_slice()),
+        DueOutcome::Refuse(text) => refusal(alloc, *text),
+    }
+}
+
+// The line of an acceptance with this signature.
+fn acceptance(alloc: Global, signature: &[u8]) -> Result<String, Fault>
+    ensures ok { IfOk result (λ text. string_bytes text ≡ line_text (acceptance_line signature.now)) }
+    ensures err { IfErr result (λ fault. fault ≡ Fault.NoMemory) }
+{
+    let verifier = STANDARD.encode(alloc, signature)?;
+    Ok(format!(in alloc; "OK :v={verifier}")?)
+}
+
+// The line of a refusal that is due. No byte of its message has to be escaped.
+#[tactic(auto, using(crate::proofs::lemmas::Spellings::refused_line, crate::proofs::lemmas::Spellings::bare_line))]
+fn refusal(alloc: Global, text: NoText) -> Result<String, Fault>
+    ensures ok { IfOk result (λ line. string_bytes line ≡ line_text (refusal_line text)) }
+    ensures err { IfErr result (λ fault. fault ≡ Fault.NoMemory) }
+{
+    match text.error_value() {
+        Some(value) => Ok(format!(in alloc; "NO :e={value}")?),
+        None => Ok(String::from_str(alloc, "NO :")?),
+    }
+}

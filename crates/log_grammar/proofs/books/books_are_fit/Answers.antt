@@ -1,5 +1,0 @@
-use Rattle.log_grammar.proofs.lemmas.demands.FitBooks.{book_fits}
-use Rattle.log_grammar.proofs.books.books_are_fit.Goals as goal
-
-pub returns : goal.returns
-returns c = book_fits

@@ -1,0 +1,90 @@
+-- Some verdict is due to each login, and the server's line that tells it can be written.
+use Rattle.std.proofs.Common.{◌≡◌, inl, inr, ℕ, ◌≤◌, List, [], length, refl, sym, ◌∙◌, ap, subst, arith}
+use Rattle.std.proofs.lemmas.Bool.{cases_lt}
+use Rattle.mac_core.specs.Mechanism.{length_by}
+use Rattle.mac_core.specs.declared.mechanism.Mechanism.{Mechanism}
+use Rattle.scram_text.specs.Laws.{HasOneClientFirst, ClientFirstIsDecided, NameIsDecided}
+use Rattle.scram_text.specs.Messages.{verifier, server_error, IsServerFinal}
+use Rattle.scram_text.proofs.lemmas.Base64.{field_of_bytes}
+use Rattle.scram_text.proofs.lemmas.Composed.{signature_text, error_text, server_final_related}
+use Rattle.scram_ends.specs.Stages.{challenged_login}
+use Rattle.scram_ends.specs.Verdict.{Due, accept, refuse, due_text, final_due, error_value}
+use Rattle.scram_ends.specs.Login.{IsAuthentic}
+use Rattle.scram_ends.specs.Laws.{SomeVerdictIsDue}
+use Rattle.scram_ends.specs.declared.verdict.Refusal.{Refusal}
+use Rattle.mac_core.proofs.lemmas.Lengths.{length-hmac_by}
+use Rattle.scram_ends.proofs.lemmas.Digests.{AreBytes, mac_bytes}
+use Rattle.scram_ends.proofs.lemmas.HonestLogins.{length_range}
+use Rattle.scram_ends.proofs.lemmas.Verdicts.{signature_due}
+use Rattle.scram_ends.proofs.lemmas.Written.{can_be_signature, signature_fits, can_be_refusal, refusal_fits}
+use Rattle.log_grammar.specs.Lines.{said, accepts, refuses, IsWritable}
+use Rattle.log_grammar.specs.Demands.{Accounts, IsChallenged, IsVerdictDue}
+use Rattle.log_grammar.proofs.lemmas.lines.Written.{refuses_written, accepts_written}
+use Rattle.log_grammar.proofs.lemmas.lines.TextBytes.{utf8_message}
+
+-- the laws of the crates below: a client-first message has one list of parts and is decided, so is a name, and some verdict is due
+pub record Ground : Type 0 where
+  pub once : HasOneClientFirst
+  pub firsts : ClientFirstIsDecided
+  pub names : NameIsDecided
+  pub verdicts : SomeVerdictIsDue
+
+-- some verdict is due to any client-final message, where the texts before it open a login
+pub some_verdict : SomeVerdictIsDue → (accounts : Accounts) (mechanism account first challenge last : List ℕ)
+    → IsChallenged accounts mechanism account first challenge
+    → (due : Due) × IsVerdictDue accounts mechanism account first challenge last due
+some_verdict verdicts accounts mechanism account first challenge last is =
+    let due = verdicts (challenged_login (accounts.entry is.m account) is.m first challenge) last is.opening is.opens in
+    (due.0, (is.m, is.offered, due.1))
+
+-- the message that accepts with a signature, or refuses for a reason, is a server-final message:
+accepting : (signature : List ℕ) → AreBytes signature → 1 ≤ length signature → length signature ≤ 64
+    → IsServerFinal (due_text (accept signature)) (final_due (accept signature))
+accepting signature fits some within =
+    let field = field_of_bytes 64 signature fits some within in
+    let short : length (due_text (accept signature)) ≤ 2048 = elim (cases_lt 2048 (length (due_text (accept signature)))) [
+      | inl long ↦ absurd (signature_fits signature within long)
+      | inr fits ↦ fits
+    ] in
+    server_final_related (verifier signature) [] (signature_text signature fits) (can_be_signature signature field) short
+
+refusing : (why : Refusal) → IsServerFinal (due_text (refuse why)) (final_due (refuse why))
+refusing why =
+    let can = can_be_refusal why in
+    let short : length (due_text (refuse why)) ≤ 2048 = elim (cases_lt 2048 (length (due_text (refuse why)))) [
+      | inl long ↦ absurd (refusal_fits why long)
+      | inr fits ↦ fits
+    ] in
+    server_final_related (server_error (error_value why)) [] (error_text (error_value why) can.outcome_class.1) can short
+
+-- a signature as long as a mechanism's digests has from 1 to 64 bytes
+signature_range : (m : Mechanism) (n : ℕ) → n ≡ length_by m → (1 ≤ n) × (n ≤ 64)
+signature_range m n is = let range = length_range m in (omega (arith, is, range.0), omega (arith, is, range.1))
+
+-- `S NO` with the message of a refusal can be written
+pub refusal_line : (why : Refusal) → IsWritable (said (refuses (due_text (refuse why))))
+refusal_line why =
+    let final = refusing why in
+    let text = due_text (refuse why) in
+    refuses_written text (utf8_message text final.utf8_text.utf8) final.short
+
+-- an acceptance with this signature can be written, by a message that bears it
+pub record Accepting (signature : List ℕ) : Type 0 where
+  pub text : List ℕ
+  pub line : IsWritable (said (accepts text))
+  pub authentic : IsAuthentic text signature
+
+-- where acceptance is due to a login, `S OK` can be written with a message that bears the signature due
+pub acceptance_line : (accounts : Accounts) (mechanism account first challenge last signature : List ℕ)
+    → IsVerdictDue accounts mechanism account first challenge last (accept signature) → Accepting signature
+acceptance_line accounts mechanism account first challenge last signature is =
+    let (keys, auth, signed) = signature_due (challenged_login (accounts.entry is.0 account) is.0 first challenge) last signature is.2 in
+    let bytes = subst AreBytes (sym signed) (mac_bytes is.0 keys.server auth) in
+    let range = signature_range is.0 (length signature) (ap length signed ∙ length-hmac_by is.0 keys.server auth) in
+    let final = accepting signature bytes range.0 range.1 in
+    let text = due_text (accept signature) in
+    record {
+      text = text;
+      line = accepts_written text (utf8_message text final.utf8_text.utf8) final.short;
+      authentic = record { last = final_due (accept signature); is_last = final; not_mandatory = refl; is_verifier = refl };
+    }

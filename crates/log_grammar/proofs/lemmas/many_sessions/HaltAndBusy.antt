@@ -1,0 +1,36 @@
+-- Where HALT and BUSY lead. After every other line any line may follow.
+use Rattle.std.proofs.Common.{◌≡◌, ◌⊎◌, inl, inr, ℕ, refl, sym, ◌∙◌, subst}
+use Rattle.log_grammar.specs.Lines.{LogLine, said, halt, busy}
+use Rattle.log_grammar.specs.Places.{Place, before_all, got_code, over, halted}
+use Rattle.log_grammar.specs.Demands.{Demands}
+use Rattle.log_grammar.specs.state_machine.Steps.{IsTransition}
+use Rattle.log_grammar.specs.Numbered.{MayFollow}
+use Rattle.log_grammar.specs.state_machine.NumberedSteps.{IsVisitTransition}
+
+-- `S HALT` leads from a place of a session only to where the log is halted
+pub halt_leads : (d : Demands) (place next : Place) → IsTransition d place (said halt) next → next ≡ halted
+halt_leads d (got_code account sent) next h = h
+halt_leads d place next h = absurd h
+
+-- BUSY may stand at no place of a session
+pub no_busy_line : (d : Demands) (place next : Place) → IsTransition d place (said busy) next → ⊥
+no_busy_line d before_all next h = h
+no_busy_line d place next h = absurd h
+
+-- HALT leads a number to the place where the log is halted
+pub halt_leads_in : (d : Demands) (place : Place) (line : LogLine) (next : Place) → line ≡ said halt → IsVisitTransition d place line next
+    → next ≡ halted
+halt_leads_in d place line next is (inl h) = halt_leads d place next (subst (λ (l : LogLine). IsTransition d place l next) is h)
+halt_leads_in d place line next is (inr b) = let wrong = sym is ∙ b.1 in absurd (cc wrong)
+
+-- BUSY leads a number to the place where its `E` is due
+pub busy_leads_in : (d : Demands) (place : Place) (line : LogLine) (next : Place) → line ≡ said busy → IsVisitTransition d place line next
+    → next ≡ over
+busy_leads_in d place line next is (inl h) = absurd (no_busy_line d place next (subst (λ (l : LogLine). IsTransition d place l next) is h))
+busy_leads_in d place line next is (inr b) = b.2
+
+-- a line is HALT, or BUSY, or any line may follow it
+pub last_kind : (line : LogLine) → (line ≡ said halt) ⊎ ((line ≡ said busy) ⊎ ((n m : ℕ) (next : LogLine) → MayFollow n line m next))
+last_kind (said halt) = inl refl
+last_kind (said busy) = inr (inl refl)
+last_kind line = inr (inr (λ n m next. tt))

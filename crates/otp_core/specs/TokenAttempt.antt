@@ -1,0 +1,20 @@
+-- What an attempt does to a token.
+use Rattle.std.specs.Prelude.{ℕ, ◌≡◌, ◌≤◌, List, ◌∷◌}
+use Rattle.otp_core.specs.Ranges.{most_counter}
+use Rattle.otp_core.specs.Attempt.{Attempt, CodeTexts, attempt_of}
+use Rattle.otp_core.specs.History.{IsAfter}
+use Rattle.otp_core.specs.Reply.{IsDueReply}
+use Rattle.otp_core.specs.State.{after_reply}
+use Rattle.otp_core.specs.declared.token.answer.Reply.{Reply}
+use Rattle.otp_core.specs.declared.token.answer.Reply.TheVariants.{Pass}
+use Rattle.otp_core.specs.declared.token.kinds.TokenFields.{TokenFields}
+
+-- an attempt on a token gets this reply and leaves the new token: for every start and history that lead to the old token, the
+-- reply is the one due after them, and with this attempt added they lead to the new one. The new token is the old one after
+-- the reply, and a counter that passes is at most the greatest that can pass.
+pub record IsTokenAttempt (old : TokenFields) (moment : ℕ) (sent : CodeTexts) (reply : Reply) (new : TokenFields) : Type 0 where
+  pub due : (start : TokenFields) (history : List Attempt) → IsAfter start history old → IsDueReply start history moment sent reply
+  pub after : (start : TokenFields) (history : List Attempt) → IsAfter start history old
+      → IsAfter start (attempt_of moment sent reply ∷ history) new
+  pub state : new ≡ after_reply old moment reply
+  pub counter : (c : ℕ) → reply ≡ Pass c → c ≤ most_counter

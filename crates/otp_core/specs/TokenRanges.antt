@@ -1,0 +1,72 @@
+-- The ranges of the fields of tokens, and which field is the first outside its range.
+use Rattle.std.specs.Prelude.{◌+◌, ◌≤◌, ◌≡◌, ◌⊎◌, List, [], ◌∷◌, nat_abs}
+use Rattle.std.specs.Option.{ForSome}
+use Rattle.otp_core.specs.Ranges.{most_counter, most_look_ahead, most_sync_ahead, longest_step, most_steps_aside, most_drift, most_limit}
+use Rattle.otp_core.specs.declared.fault.OtpFault.{OtpFault}
+use Rattle.otp_core.specs.declared.fault.OtpFault.TheVariants as fault
+use Rattle.otp_core.specs.declared.fault.Setting.{Setting}
+use Rattle.otp_core.specs.declared.fault.Setting.TheVariants.{Next, LookAhead, SyncAhead, Step, Back, Ahead, MaxDrift, Last, Drift, Limit}
+use Rattle.otp_core.specs.declared.fault.Setting.TheVariants.{Failures}
+use Rattle.otp_core.specs.declared.token.kinds.HotpFields.{HotpFields}
+use Rattle.otp_core.specs.declared.token.kinds.TotpFields.{TotpFields}
+use Rattle.otp_core.specs.declared.token.kinds.TokenFields.{TokenFields}
+use Rattle.otp_core.specs.declared.token.kinds.TokenFields.TheVariants.{Hotp, Totp}
+
+-- a field that has a range, and what the range asks of it
+pub record Ranged : Type 1 where
+  pub setting : Setting
+  pub IsIn : Type 0
+
+-- each field is in its range
+abbrev pub AreInRange : List Ranged → Type 0
+AreInRange [] = Unit {0}
+AreInRange (r ∷ rest) = r.IsIn × AreInRange rest
+
+-- this field is the first that is not in its range
+abbrev pub IsFirstOutside : List Ranged → Setting → Type 0
+IsFirstOutside [] found = ⊥
+IsFirstOutside (r ∷ rest) found = ((r.IsIn → ⊥) × (found ≡ r.setting)) ⊎ (r.IsIn × IsFirstOutside rest found)
+
+-- a field with its range
+abbrev pub range : Setting → Type 0 → Ranged
+range setting IsIn = record { setting = setting; IsIn = IsIn }
+
+-- the fields of a HOTP token that have a range, in their order
+abbrev pub hotp_ranges : HotpFields → List Ranged
+hotp_ranges t =
+    range Next (t.next ≤ most_counter + 1)
+    ∷ range LookAhead (t.look_ahead ≤ most_look_ahead)
+    ∷ range SyncAhead (t.sync_ahead ≤ most_sync_ahead)
+    ∷ range Limit ((1 ≤ t.limit) × (t.limit ≤ most_limit))
+    ∷ range Failures (t.failures ≤ t.limit)
+    ∷ []
+
+-- the fields of a TOTP token that have a range, in their order
+abbrev pub totp_ranges : TotpFields → List Ranged
+totp_ranges t =
+    range Step ((1 ≤ t.step) × (t.step ≤ longest_step))
+    ∷ range Back (t.back ≤ most_steps_aside)
+    ∷ range Ahead (t.ahead ≤ most_steps_aside)
+    ∷ range MaxDrift (t.max_drift ≤ most_drift)
+    ∷ range Last (ForSome t.last (λ l. l ≤ most_counter))
+    ∷ range Drift (nat_abs t.drift ≤ t.max_drift)
+    ∷ range Limit ((1 ≤ t.limit) × (t.limit ≤ most_limit))
+    ∷ range Failures (t.failures ≤ t.limit)
+    ∷ []
+
+-- the fields of a HOTP token are in their ranges
+abbrev pub IsHotpInRange : HotpFields → Type 0
+IsHotpInRange t = AreInRange (hotp_ranges t)
+
+-- the fields of a TOTP token are in their ranges
+abbrev pub IsTotpInRange : TotpFields → Type 0
+IsTotpInRange t = AreInRange (totp_ranges t)
+
+-- the fields of a token are in their ranges
+abbrev pub IsInRange : TokenFields → Type 0
+IsInRange (Hotp t) = IsHotpInRange t
+IsInRange (Totp t) = IsTotpInRange t
+
+-- the refusal names the first field that is not in its range
+abbrev pub IsRefusalOf : List Ranged → OtpFault → Type 0
+IsRefusalOf ranges refusal = (setting : Setting) × (refusal ≡ fault.Setting setting) × IsFirstOutside ranges setting

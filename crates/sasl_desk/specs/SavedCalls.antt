@@ -1,0 +1,49 @@
+-- What a call of a desk or a hall does to its keeper: what its lines tell has been saved, and nothing else is asked of the store.
+use Rattle.std.specs.Prelude.{◌≡◌, ◌+◌, true, false, Bool, List, [], ◌∷◌, length, filter}
+use Rattle.book_format.specs.Book.{BookFields}
+use Rattle.book_format.specs.Trees.{IsBookText}
+use Rattle.account_book.specs.SavedBooks.{needs_save}
+use Rattle.account_book.specs.Store.{StoreFacts}
+use Rattle.log_grammar.specs.Lines.{LogLine, said, heard, replies, halt, asking}
+use Rattle.log_grammar.specs.LoggedReply.{LoggedReply}
+use Rattle.log_grammar.specs.Places.{Place, waits_code}
+use Rattle.sasl_desk.specs.Events.{ClientEvent}
+use Rattle.sasl_desk.specs.Keeper.{IsAttemptJudged}
+use Rattle.sasl_desk.specs.Runs.{Request, hears}
+use Rattle.sasl_desk.specs.declared.keeper.Keeper.{Keeper}
+
+-- a line for which the store was asked to save: a reply that needs it, or HALT
+abbrev pub is_saving : LogLine → Bool
+is_saving (said (replies moment reply)) = needs_save reply
+is_saving (said halt) = true
+is_saving line = false
+
+-- the attempt of a call: of the account whose client may send a code at this place, at the moment that was handed in, with
+-- what the client sent
+pub record IsAttemptOf (request : Request) (at : Place) (lines : List LogLine) (t : LoggedReply) : Type 0 where
+  pub event : ClientEvent
+  pub answer : LogLine
+  pub is_request : request ≡ hears event t.moment
+  pub place : at ≡ waits_code t.account
+  pub lines_are : lines ≡ heard (asking t.sent) ∷ answer ∷ []
+  pub to_save : needs_save t.reply ≡ true
+
+-- a keeper before and after calls, or a call: `facts` are those of its store
+module _ {S : Type 0} (facts : S → StoreFacts) where
+  -- the store was asked for one save for each such line: a reply that needs one, or HALT
+  abbrev pub CountsSaves : List LogLine → (old new : Keeper S) → Type 0
+  CountsSaves lines old new = (facts new.store).saves ≡ (facts old.store).saves + length (filter is_saving lines)
+
+  -- where the store was asked to save, it was given the text of the book with the attempt of this call
+  abbrev pub AsksForSave : Request → Place → List LogLine → (old new : Keeper S) → Type 0
+  AsksForSave request place lines old new = (filter is_saving lines ≡ [] → ⊥)
+      → (t : LoggedReply) × (next : BookFields) × IsAttemptOf request place lines t × IsAttemptJudged old.book t next
+      × IsBookText (facts new.store).asked next
+
+  -- a call without a reply that needs a save, and without HALT, leaves the book and the store as they are
+  abbrev pub IsQuiet : List LogLine → (old new : Keeper S) → Type 0
+  IsQuiet lines old new = filter is_saving lines ≡ [] → (new.book ≡ old.book) × (facts new.store ≡ facts old.store)
+
+  -- the store has failed, and the book is as before
+  abbrev pub FailsInSave : (old new : Keeper S) → Type 0
+  FailsInSave old new = ((facts new.store).failed ≡ true) × (new.book ≡ old.book)

@@ -1,0 +1,49 @@
+-- The parts of a text of UTF-8 are UTF-8.
+use Rattle.std.proofs.Common.{◌≡◌, ℕ, zero, suc, ◌+◌, ◌≤◌, ◌<◌, List, ◌∷◌, ◌++◌, length, take, drop, get_or, refl, sym, ◌∙◌, ap, arith}
+use Rattle.std.proofs.Common.{subst, length-append}
+use Rattle.std.specs.Prelude.{position}
+use Rattle.std.specs.List.{AllByRecursion}
+use Rattle.std.specs.Str.{IsUtf8}
+use Rattle.std.specs.declared.option.Option.{Option}
+use Rattle.std.specs.declared.option.Option.TheVariants.{None, Some}
+use Rattle.std.proofs.Math.Seq.{take-append_seam, drop-append-add, get_or-append_seam}
+use Rattle.std.proofs.lemmas.Str.{IsUtf8-take, IsUtf8-drop, IsCharBoundary-before_ascii, IsCharBoundary-after_ascii}
+use Rattle.scram_text.specs.Class.{is_comma}
+use Rattle.scram_text.specs.Laws.{PartsAreUtf8}
+use Rattle.scram_text.specs.Parts.{parts}
+use Rattle.scram_text.proofs.lemmas.Parts.{cut_none, cut_text, cut_at, parts_front}
+
+-- the texts before and after a comma in UTF-8 are UTF-8
+utf8_pieces : (front back : List ℕ) → IsUtf8 (front ++ 44 ∷ back) → IsUtf8 front × IsUtf8 back
+utf8_pieces front back utf8 =
+    let within : length front < length (front ++ 44 ∷ back) = omega (arith, length-append front (44 ∷ back)) in
+    let ascii : get_or (front ++ 44 ∷ back) (length front) 0 < 128 = rw (get_or-append_seam front 44 back 0) (omega arith) in (
+      rw (take-append_seam front (44 ∷ back)) at
+          (IsUtf8-take (front ++ 44 ∷ back) (length front) utf8
+          (IsCharBoundary-before_ascii (front ++ 44 ∷ back) (length front) within ascii)),
+      rw (drop-append-add front (44 ∷ back) 1) at
+          (IsUtf8-drop (front ++ 44 ∷ back) (length front + 1) utf8
+          (IsCharBoundary-after_ascii (front ++ 44 ∷ back) (length front) utf8 within ascii)),
+    )
+
+-- the parts of a text of UTF-8 are UTF-8, each up to a length
+parts_utf8_at : (n : ℕ) (text : List ℕ) (o : Option ℕ) → position is_comma text ≡ o → length text ≤ n → IsUtf8 text
+    → AllByRecursion IsUtf8 (parts text)
+parts_utf8_at n text None none short utf8 =
+    subst (λ (ps : List (List ℕ)). AllByRecursion IsUtf8 ps) (sym (cut_none text none).0) (utf8, tt)
+parts_utf8_at zero text (Some at) some short utf8 =
+    let cut = cut_text text at some in
+    absurd (omega (arith, short, ap length cut, length-append (take at text) (44 ∷ drop (at + 1) text)))
+parts_utf8_at (suc n) text (Some at) some short utf8 =
+    let cut = cut_text text at some in
+    let pieces = utf8_pieces (take at text) (drop (at + 1) text) (subst IsUtf8 cut utf8) in
+    let shorter : length (drop (at + 1) text)
+    ≤ n = omega (arith, short, ap length cut, length-append (take at text) (44 ∷ drop (at + 1) text)) in
+    let whole : parts text ≡ take at text ∷ parts (drop (at + 1) text) =
+    ap parts cut ∙ parts_front (take at text) (drop (at + 1) text) (cut_at text at some).1 in
+    subst (λ (ps : List (List ℕ)). AllByRecursion IsUtf8 ps) (sym whole)
+    (pieces.0, parts_utf8_at n (drop (at + 1) text) (position is_comma (drop (at + 1) text)) refl shorter pieces.1)
+
+-- the law: the parts of a text of UTF-8 are UTF-8
+pub parts_are_utf8 : PartsAreUtf8
+parts_are_utf8 text utf8 = parts_utf8_at (length text) text (position is_comma text) refl (omega arith) utf8

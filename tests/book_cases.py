@@ -1,0 +1,31 @@
+"""The rows of data/book_faults/cases.csv: account books, most of them faulty.
+
+Each row is a book: a file beside the table, in which `old`, which is there once, is replaced by `new`, and then `old2` by `new2`. `\\n`,
+`\\\\` and `\\xNN` are written as in Python. `base` names the file, and `shows` says what the row is about. The answer is a fault's number,
+as docs/FORMATS.md has it, or what `unlock` prints for the account `user` in a book that it reads.
+"""
+import csv
+from typing import NamedTuple
+
+from expected import BOOK_FAULTS, edited
+
+TABLE = BOOK_FAULTS / "cases.csv"
+
+
+class Case(NamedTuple):
+    """A book, the answer, and what it is about."""
+
+    book: bytes
+    answer: str
+    shows: str
+
+
+def case(row):
+    """The case of a row."""
+    return Case(edited((BOOK_FAULTS / row["base"]).with_suffix(".toml").read_bytes(), row), row["answer"], row["shows"])
+
+
+def cases():
+    """The cases of the table, in its order."""
+    with open(TABLE, newline="", encoding="ascii") as table:
+        return [case(row) for row in csv.DictReader(table)]

@@ -1,0 +1,142 @@
+"""Where the functions of a crate stand in its sources, and what its edits change: for edits.py.
+
+An edit has the form that `rt help` describes, and changes src/ or specs/. One of a definition in specs/ belongs to no function.
+"""
+import re
+from collections.abc import Iterable
+from dataclasses import dataclass
+from pathlib import Path
+
+# Where the edits of a crate are.
+FOLDERS = ("must-fail", "edits")
+# Where an edit may change it.
+EDITED = ("src/", "specs/")
+
+FUNCTION = re.compile(r"( *)(?:pub(?:\([a-z ]+\))? )?(?:(?:const|unsafe) )*fn (\w+)")
+IMPL = re.compile(r"impl(?:<.*?>)? (?:(?:\w+::)*(\w+)(?:<(.*?)>)? for )?(?:\w+::)*(\w+)")
+
+
+class Unusable(Exception):
+    """An edit that cannot be applied, and why."""
+
+
+@dataclass(frozen=True)
+class Function:
+    """A function: the path of its module, its type and trait or nothing, its name, and its first and last line in a file of src/."""
+
+    module: tuple[str, ...]
+    of: str
+    trait: str
+    name: str
+    file: str
+    first: int
+    last: int
+
+    def __str__(self) -> str:
+        return "::".join([*self.module, *[self.of] * bool(self.of), self.name])
+
+    def path(self) -> str:
+        """Returns the end of its name as a check prints it, in which the name of a trait and of its arguments follow the type's in one
+        word, as `FaultFromIoError`. A method's module is left out, since it is that of its type."""
+        return f"{self.of}{self.trait}::{self.name}" if self.of else str(self)
+
+    def holds(self, file: str, line: int) -> bool:
+        """Returns whether the line is one of its lines."""
+        return self.file == file and self.first <= line <= self.last
+
+    def is_proved_in(self, folder: tuple[str, ...]) -> bool:
+        """Returns whether this folder below proofs/ is its own. A method's is at the module of its type, which may be another
+        than its own; the name of a trait follows the type's in one word."""
+        if self.of:
+            return len(folder) > 1 and folder[-1] == self.name and folder[-2].startswith(self.of)
+        return folder == (*self.module, self.name)
+
+
+@dataclass
+class Edit:
+    """A wrong body: the lines that it writes, by file and number, the functions from its first line to its last, and its text."""
+
+    name: str
+    lines: dict[tuple[str, int], str]
+    owners: set[Function]
+    is_inside: bool
+    text: str = ""
+
+
+def functions_of(crate: Path) -> list[Function]:
+    """Finds a crate's functions by the layout of `rt fmt`, in which a body ends with a brace below its first letter."""
+    found = []
+    for path in sorted((crate / "src").rglob("*.rt")):
+        file, of, trait = path.relative_to(crate).as_posix(), "", ""
+        module = () if file in ("src/lib.rt", "src/main.rt") else tuple(file.removeprefix("src/").removesuffix(".rt").split("/"))
+        lines = path.read_text(encoding="utf-8").split("\n")
+        for at, line in enumerate(lines):
+            if line[:1].isalpha() and line != "where":
+                trait, arguments, of = it.groups("") if (it := IMPL.match(line)) else ("", "", "")
+                trait += "".join(word[0].upper() + word[1:] for word in re.findall(r"\b[A-Za-z]\w*", arguments))
+            if it := FUNCTION.match(line):
+                found.append(Function(module, of, trait, it[2], file, first_line(lines, at, it[1]), last_line(lines, at, it[1])))
+    return found
+
+
+def first_line(lines: list[str], at: int, indent: str) -> int:
+    """Returns the number of the first line of the function whose `fn` is at index `at`, with its attributes, after this indent."""
+    while at > 0 and lines[at - 1].startswith(indent + "#["):
+        at -= 1
+    return at + 1
+
+
+def last_line(lines: list[str], at: int, indent: str) -> int:
+    """Returns the number of the last line of the function that begins at index `at`, after this indent."""
+    if lines[at].endswith((";", "}")):
+        return at + 1
+    for below in range(at + 1, len(lines)):
+        if lines[below] == indent + "}":
+            return below + 1
+        if FUNCTION.match(lines[below]) or lines[below] and not lines[below].startswith(indent):
+            return below
+    return len(lines)
+
+
+def read_edit(path: Path, crate: Path, functions: list[Function]) -> Edit:
+    """Reads an edit and applies it to the crate's sources, or raises Unusable."""
+    file, old, whole = "", "", path.read_text(encoding="utf-8")
+    texts: dict[str, str] = {}
+    places: set[tuple[str, int]] = set()
+    for line in whole.split("\n"):
+        if line.startswith("file: "):
+            file = line.removeprefix("file: ").strip()
+            if not file.startswith(EDITED) or not (crate / file).is_file():
+                raise Unusable(f"there is no source {file}")
+            texts.setdefault(file, (crate / file).read_text(encoding="utf-8"))
+        elif line.startswith("old: "):
+            old = line.removeprefix("old: ")
+        elif line.startswith("new:"):
+            if not file or not old:
+                raise Unusable("a line 'new:' has no 'file:' or no 'old:' above it")
+            before, *others = texts[file].split(old)
+            if len(others) != 1:
+                raise Unusable(f"an 'old:' text is in {file} {len(others)} times, and not once")
+            places.add((file, before.count("\n") + 1))
+            texts[file] = before + line.removeprefix("new:").removeprefix(" ") + others[0]
+            old = ""
+        elif line:
+            raise Unusable(f"a line begins with none of 'file:', 'old:' and 'new:': {line.strip()[:60]}")
+    if not places:
+        raise Unusable("it has no pair of 'old:' and 'new:'")
+    # no text has the end of a line in it, so lines keep their numbers
+    lines = {(file, at): texts[file].split("\n")[at - 1] for file, at in places}
+    owners = {it for it in functions for place in between(places) if it.holds(*place)}
+    return Edit(path.stem, lines, owners, all(any(it.holds(*place) for it in functions) for place in places), whole)
+
+
+def between(places: set[tuple[str, int]]) -> Iterable[tuple[str, int]]:
+    """Returns each line from a file's first place to its last."""
+    for file in {file for file, _ in places}:
+        lines = [at for it, at in places if it == file]
+        yield from ((file, at) for at in range(min(lines), max(lines) + 1))
+
+
+def edits_of(crate: Path) -> list[Path]:
+    """Returns the files of a crate's edits."""
+    return [it for folder in FOLDERS for it in sorted((crate / folder).glob("*.edit"))]
