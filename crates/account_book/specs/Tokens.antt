@@ -4,7 +4,7 @@ use Rattle.std.specs.declared.option.Option.TheVariants.{None, Some}
 use Rattle.otp_core.specs.Attempt.{CodeTexts}
 use Rattle.otp_core.specs.State.{unlocked}
 use Rattle.otp_core.specs.TokenAttempt.{IsTokenAttempt}
-use Rattle.otp_core.specs.declared.token.answer.Reply.{Reply}
+use Rattle.otp_core.specs.declared.token.reply.Reply.{Reply}
 use Rattle.otp_core.specs.declared.token.kinds.TokenFields.{TokenFields}
 use Rattle.book_format.specs.Account.{AccountFields}
 use Rattle.book_format.specs.Book.{BookFields}

@@ -5,7 +5,7 @@ use Rattle.std.specs.Io.KnownBytes.{Appends}
 use Rattle.std.specs.declared.option.Option.TheVariants.{Some}
 use Rattle.otp_core.specs.Attempt.{CodeTexts}
 use Rattle.otp_core.specs.Attempt.CodeTexts.{OneText, TwoTexts}
-use Rattle.otp_core.specs.declared.token.answer.Reply.TheVariants.{Pass}
+use Rattle.otp_core.specs.declared.token.reply.Reply.TheVariants.{Pass}
 use Rattle.log_grammar.specs.Bytes.{LacksLf}
 use Rattle.log_grammar.specs.Lines.{IsLine, longest_line, from_server, from_client, replies, sync}
 use Rattle.commands.specs.Talked.{Talked, IsTold}

@@ -2,7 +2,7 @@
 //! on lines that need no hash.
 ghost use Rattle.std.specs.Prelude.{ℕ, ◌≡◌, ◌<◌, ◌≤◌, ◌+◌, List, [], ◌∷◌, ◌++◌, length, codes, flat_map, Some};
 ghost use Rattle.otp_core.specs.Ranges.{IsDigitCount, IsMoment};
-ghost use Rattle.otp_core.specs.declared.token.answer.Reply.TheVariants.{Pass, Fail};
+ghost use Rattle.otp_core.specs.declared.token.reply.Reply.TheVariants.{Pass, Fail};
 ghost use Rattle.otp_core.specs.declared.token.kinds.TokenFields.TheVariants.{Hotp, Totp};
 ghost use Rattle.otp_core.specs.declared.token.kinds.HotpFields.{HotpFields};
 ghost use Rattle.otp_core.specs.declared.token.kinds.TotpFields.{TotpFields};

@@ -1,8 +1,8 @@
 -- Attempts to pass with codes of a token. A history is the list of those so far, the latest first.
 use Rattle.std.specs.Prelude.{ℕ, ◌-◌, List, [], ◌∷◌}
 use Rattle.std.specs.List.{flat_map}
-use Rattle.otp_core.specs.declared.token.answer.Reply.{Reply}
-use Rattle.otp_core.specs.declared.token.answer.Reply.TheVariants.{Pass, Fail, Locked}
+use Rattle.otp_core.specs.declared.token.reply.Reply.{Reply}
+use Rattle.otp_core.specs.declared.token.reply.Reply.TheVariants.{Pass, Fail, Locked}
 
 -- what a client sent: the text of one code, or those of two codes in a row (RFC 4226, section 7.4)
 pub data CodeTexts : Type 0 where

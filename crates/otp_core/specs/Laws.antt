@@ -5,7 +5,7 @@ use Rattle.otp_core.specs.Attempt.{Attempt, CodeTexts, used_in}
 use Rattle.otp_core.specs.Window.{IsCandidate, IsPairCandidate, IsAbove}
 use Rattle.otp_core.specs.Reply.{IsDueReply}
 use Rattle.otp_core.specs.History.{IsAfter, IsLegal, AreAlike}
-use Rattle.otp_core.specs.declared.token.answer.Reply.{Reply}
+use Rattle.otp_core.specs.declared.token.reply.Reply.{Reply}
 use Rattle.otp_core.specs.declared.token.kinds.TokenFields.{TokenFields}
 use Rattle.otp_core.specs.declared.token.kinds.TokenFields.TheVariants.{Hotp, Totp}
 

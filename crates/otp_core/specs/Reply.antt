@@ -4,8 +4,8 @@ use Rattle.otp_core.specs.Hash.{hotp_text_by}
 use Rattle.otp_core.specs.Attempt.{Attempt, CodeTexts}
 use Rattle.otp_core.specs.Window.{IsCandidate, IsPairCandidate}
 use Rattle.otp_core.specs.declared.hash.OtpHash.TheVariants.{Sha1}
-use Rattle.otp_core.specs.declared.token.answer.Reply.{Reply}
-use Rattle.otp_core.specs.declared.token.answer.Reply.TheVariants.{Pass, Fail, Locked}
+use Rattle.otp_core.specs.declared.token.reply.Reply.{Reply}
+use Rattle.otp_core.specs.declared.token.reply.Reply.TheVariants.{Pass, Fail, Locked}
 use Rattle.otp_core.specs.declared.token.kinds.TokenFields.{TokenFields}
 use Rattle.otp_core.specs.declared.token.kinds.TokenFields.TheVariants.{Hotp, Totp}
 

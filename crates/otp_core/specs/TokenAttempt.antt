@@ -5,8 +5,8 @@ use Rattle.otp_core.specs.Attempt.{Attempt, CodeTexts, attempt_of}
 use Rattle.otp_core.specs.History.{IsAfter}
 use Rattle.otp_core.specs.Reply.{IsDueReply}
 use Rattle.otp_core.specs.State.{after_reply}
-use Rattle.otp_core.specs.declared.token.answer.Reply.{Reply}
-use Rattle.otp_core.specs.declared.token.answer.Reply.TheVariants.{Pass}
+use Rattle.otp_core.specs.declared.token.reply.Reply.{Reply}
+use Rattle.otp_core.specs.declared.token.reply.Reply.TheVariants.{Pass}
 use Rattle.otp_core.specs.declared.token.kinds.TokenFields.{TokenFields}
 
 -- an attempt on a token gets this reply and leaves the new token: for every start and history that lead to the old token, the

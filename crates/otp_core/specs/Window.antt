@@ -5,8 +5,8 @@ use Rattle.std.specs.Option.{ForSome, option_map_or}
 use Rattle.otp_core.specs.Ranges.{most_counter}
 use Rattle.otp_core.specs.Code.{steps_from}
 use Rattle.otp_core.specs.Attempt.{Attempt, used_in}
-use Rattle.otp_core.specs.declared.token.answer.Reply.{Reply}
-use Rattle.otp_core.specs.declared.token.answer.Reply.TheVariants.{Pass, Fail, Locked}
+use Rattle.otp_core.specs.declared.token.reply.Reply.{Reply}
+use Rattle.otp_core.specs.declared.token.reply.Reply.TheVariants.{Pass, Fail, Locked}
 use Rattle.otp_core.specs.declared.token.kinds.TotpFields.{TotpFields}
 use Rattle.otp_core.specs.declared.token.kinds.TokenFields.{TokenFields}
 use Rattle.otp_core.specs.declared.token.kinds.TokenFields.TheVariants.{Hotp, Totp}

@@ -7,19 +7,19 @@ ghost use Rattle.otp_core.specs.State.{unlocked};
 ghost use Rattle.otp_core.specs.TokenAttempt.{IsTokenAttempt};
 ghost use Rattle.otp_core.specs.declared.token.kinds.TokenFields.TheVariants.{Hotp, Totp};
 
-mod answer;
 mod kinds;
+mod reply;
 mod window;
 
 use crate::fault::OtpFault;
 use crate::moment::{LAST_MOMENT, Moment};
 use crate::sent::Sent;
-pub use answer::Reply;
-use answer::{judge_one, judge_pair};
 pub use kinds::{
     HotpFields, LONGEST_STEP, MOST_COUNTER, MOST_DRIFT, MOST_LIMIT, MOST_LOOK_AHEAD,
     MOST_STEPS_ASIDE, MOST_SYNC_AHEAD, TokenFields, TotpFields,
 };
+pub use reply::Reply;
+use reply::{judge_one, judge_pair};
 use std::marker::Model;
 
 /// A token: settings and state of one kind, each within its range. Contracts see it as its

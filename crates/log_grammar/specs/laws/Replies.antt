@@ -6,7 +6,7 @@ use Rattle.otp_core.specs.Attempt.{CodeTexts, used_in}
 use Rattle.otp_core.specs.Ranges.{IsDigitCount, IsMoment}
 use Rattle.otp_core.specs.Window.{IsAbove}
 use Rattle.otp_core.specs.Reply.{code_text, IsFitting}
-use Rattle.otp_core.specs.declared.token.answer.Reply.TheVariants.{Pass}
+use Rattle.otp_core.specs.declared.token.reply.Reply.TheVariants.{Pass}
 use Rattle.otp_core.specs.declared.token.kinds.TokenFields.{TokenFields}
 use Rattle.otp_core.specs.declared.token.kinds.TokenFields.TheVariants.{Hotp}
 use Rattle.otp_core.specs.declared.token.kinds.HotpFields.{HotpFields}

@@ -1,7 +1,7 @@
 -- At most one reply is due to an attempt.
 use Rattle.std.proofs.Common.{◌≡◌, ◌≤◌, ◌<◌, ℕ, refl, ap, arith}
 use Rattle.otp_core.specs.Laws.{OnlyOneReplyIsDue}
-use Rattle.otp_core.specs.declared.token.answer.Reply.TheVariants.{Pass, Fail, Locked}
+use Rattle.otp_core.specs.declared.token.reply.Reply.TheVariants.{Pass, Fail, Locked}
 
 -- failures cannot both have reached the limit and be below it
 not_both : (limit failures : ℕ) → limit ≤ failures → failures < limit → ⊥

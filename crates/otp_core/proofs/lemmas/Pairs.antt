@@ -8,7 +8,7 @@ use Rattle.otp_core.specs.Window.{IsInHotpWindow}
 use Rattle.otp_core.specs.Reply.{IsFitting, IsDueReply, limit_of, failures_of}
 use Rattle.otp_core.specs.Passes.{CanMoveTo, reply_of}
 use Rattle.otp_core.specs.declared.hash.OtpHash.TheVariants.{Sha1}
-use Rattle.otp_core.specs.declared.token.answer.Reply.{Reply}
+use Rattle.otp_core.specs.declared.token.reply.Reply.{Reply}
 use Rattle.otp_core.specs.declared.token.kinds.HotpFields.{HotpFields}
 use Rattle.otp_core.specs.declared.token.kinds.TokenFields.{TokenFields}
 use Rattle.otp_core.specs.declared.token.kinds.TokenFields.TheVariants.{Hotp, Totp}

@@ -12,8 +12,8 @@ use Rattle.otp_core.specs.Window.{IsAbove, IsCandidate, IsPairCandidate, IsInHot
 use Rattle.otp_core.specs.Window.{drift_after, step_at}
 use Rattle.otp_core.specs.Reply.{IsDueReply, IsFitting, code_text, failures_after, limit_of}
 use Rattle.otp_core.specs.Laws.{SomeReplyIsDue}
-use Rattle.otp_core.specs.declared.token.answer.Reply.{Reply}
-use Rattle.otp_core.specs.declared.token.answer.Reply.TheVariants.{Pass, Fail, Locked}
+use Rattle.otp_core.specs.declared.token.reply.Reply.{Reply}
+use Rattle.otp_core.specs.declared.token.reply.Reply.TheVariants.{Pass, Fail, Locked}
 use Rattle.otp_core.specs.declared.token.kinds.TokenFields.{TokenFields}
 use Rattle.otp_core.specs.declared.token.kinds.TokenFields.TheVariants.{Hotp, Totp}
 use lib.Signed.{le_z}

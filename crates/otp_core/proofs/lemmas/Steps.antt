@@ -11,8 +11,8 @@ use Rattle.otp_core.specs.Reply.{IsDueReply, IsFitting, code_text, limit_of, fai
 use Rattle.otp_core.specs.History.{IsAfter, AreAlike, settings_of}
 use Rattle.otp_core.specs.State.{after_reply, after_pass}
 use Rattle.otp_core.specs.TokenAttempt.{IsTokenAttempt}
-use Rattle.otp_core.specs.declared.token.answer.Reply.{Reply}
-use Rattle.otp_core.specs.declared.token.answer.Reply.TheVariants.{Pass, Fail, Locked}
+use Rattle.otp_core.specs.declared.token.reply.Reply.{Reply}
+use Rattle.otp_core.specs.declared.token.reply.Reply.TheVariants.{Pass, Fail, Locked}
 use Rattle.otp_core.specs.declared.token.kinds.HotpFields.{HotpFields}
 use Rattle.otp_core.specs.declared.token.kinds.TotpFields.{TotpFields}
 use Rattle.otp_core.specs.declared.token.kinds.TokenFields.{TokenFields}

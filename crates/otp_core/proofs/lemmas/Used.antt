@@ -7,8 +7,8 @@ use Rattle.otp_core.specs.Window.{IsAbove, first_in_window, greatest}
 use Rattle.otp_core.specs.Reply.{IsDueReply, IsFitting}
 use Rattle.otp_core.specs.History.{IsLegal}
 use Rattle.otp_core.specs.Laws.{CandidatesAreNew, UsedStaysUsed}
-use Rattle.otp_core.specs.declared.token.answer.Reply.{Reply}
-use Rattle.otp_core.specs.declared.token.answer.Reply.TheVariants.{Pass, Fail, Locked}
+use Rattle.otp_core.specs.declared.token.reply.Reply.{Reply}
+use Rattle.otp_core.specs.declared.token.reply.Reply.TheVariants.{Pass, Fail, Locked}
 use Rattle.otp_core.specs.declared.token.kinds.HotpFields.{HotpFields}
 use Rattle.otp_core.specs.declared.token.kinds.TokenFields.TheVariants.{Hotp, Totp}
 use Rattle.otp_core.proofs.lemmas.Steps.{first_after}

@@ -6,8 +6,8 @@ use Rattle.otp_core.specs.Attempt.{Attempt, CodeTexts, OneText, TwoTexts}
 use Rattle.otp_core.specs.Ranges.{IsMoment}
 use Rattle.otp_core.specs.TokenRanges.{IsInRange}
 use Rattle.otp_core.specs.Reply.{IsDueReply}
-use Rattle.otp_core.specs.declared.token.answer.Reply.{Reply}
-use Rattle.otp_core.specs.declared.token.answer.Reply.TheVariants.{Pass, Fail, Locked}
+use Rattle.otp_core.specs.declared.token.reply.Reply.{Reply}
+use Rattle.otp_core.specs.declared.token.reply.Reply.TheVariants.{Pass, Fail, Locked}
 use Rattle.otp_core.specs.declared.token.kinds.TokenFields.{TokenFields}
 use Rattle.otp_core.specs.declared.token.kinds.TokenFields.TheVariants.{Hotp, Totp}
 use Rattle.log_grammar.specs.Lines.{IsReplyInRange}

@@ -6,8 +6,8 @@ use Rattle.std.specs.declared.option.Option.TheVariants.{None, Some}
 use Rattle.mac_core.proofs.lemmas.Decided.{Decided, decided_by, decided_both, decided_le, decided_same}
 use Rattle.scram_text.proofs.lemmas.Decided.{decided_run}
 use Rattle.otp_core.specs.Ranges.{last_moment, most_counter}
-use Rattle.otp_core.specs.declared.token.answer.Reply.{Reply}
-use Rattle.otp_core.specs.declared.token.answer.Reply.TheVariants.{Pass, Fail, Locked}
+use Rattle.otp_core.specs.declared.token.reply.Reply.{Reply}
+use Rattle.otp_core.specs.declared.token.reply.Reply.TheVariants.{Pass, Fail, Locked}
 use Rattle.log_grammar.specs.Payload.{IsMessage}
 use Rattle.log_grammar.specs.Words.{is_mech_char, is_code_char, is_space, longest_mech_name, longest_code, IsMechName}
 use Rattle.log_grammar.specs.Lines.{ServerLine, mechs, cont, accepts, refuses, replies, halt, busy, ClientLine, auth, auth_with, resp}

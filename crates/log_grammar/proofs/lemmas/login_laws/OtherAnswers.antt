@@ -8,7 +8,7 @@ use Rattle.scram_ends.specs.Login.{IsAuthentic}
 use Rattle.scram_ends.specs.Laws.{AcceptsExactlyValid}
 use Rattle.otp_core.specs.Attempt.{CodeTexts}
 use Rattle.otp_core.specs.Ranges.{IsMoment}
-use Rattle.otp_core.specs.declared.token.answer.Reply.{Reply}
+use Rattle.otp_core.specs.declared.token.reply.Reply.{Reply}
 use Rattle.log_grammar.specs.Lines.{header, said, heard, refuses, replies, asking, log_line_text, IsReplyInRange, IsClientInRange}
 use Rattle.log_grammar.specs.Lines.{IsLogLine}
 use Rattle.log_grammar.specs.Places.{got_final, got_code}

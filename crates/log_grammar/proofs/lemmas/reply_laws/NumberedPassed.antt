@@ -7,8 +7,8 @@ use Rattle.scram_text.specs.Laws.{SpellsOneName, HasOneClientFirst}
 use Rattle.otp_core.specs.Attempt.{CodeTexts, used_in}
 use Rattle.otp_core.specs.Reply.{IsDueReply}
 use Rattle.otp_core.specs.Laws.{CandidatesAreNew}
-use Rattle.otp_core.specs.declared.token.answer.Reply.{Reply}
-use Rattle.otp_core.specs.declared.token.answer.Reply.TheVariants.{Pass}
+use Rattle.otp_core.specs.declared.token.reply.Reply.{Reply}
+use Rattle.otp_core.specs.declared.token.reply.Reply.TheVariants.{Pass}
 use Rattle.otp_core.specs.declared.token.kinds.TokenFields.{TokenFields}
 use Rattle.log_grammar.specs.Lines.{LogLine}
 use Rattle.log_grammar.specs.LoggedReply.{LoggedReply}

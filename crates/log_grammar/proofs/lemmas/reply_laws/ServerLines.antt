@@ -8,7 +8,7 @@ use Rattle.scram_ends.specs.Verdict.{accept, refuse, IsDue}
 use Rattle.scram_ends.specs.Laws.{AtMostOneVerdictIsDue, AcceptsExactlyValid}
 use Rattle.scram_ends.specs.declared.verdict.Refusal.{Refusal}
 use Rattle.otp_core.specs.Attempt.{CodeTexts}
-use Rattle.otp_core.specs.declared.token.answer.Reply.{Reply}
+use Rattle.otp_core.specs.declared.token.reply.Reply.{Reply}
 use Rattle.log_grammar.specs.Lines.{LogLine, said, mechs, cont, refuses, replies, halt}
 use Rattle.log_grammar.specs.LoggedReply.{LoggedReply}
 use Rattle.log_grammar.specs.Places.{Place, between, offered, asks_bare, got_first, got_final, got_code, leaving, over, halted}

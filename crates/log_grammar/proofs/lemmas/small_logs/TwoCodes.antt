@@ -5,7 +5,7 @@ use Rattle.std.specs.declared.option.Option.TheVariants.{Some}
 use Rattle.otp_core.specs.Attempt.{TwoTexts}
 use Rattle.otp_core.specs.Ranges.{IsDigitCount, IsMoment}
 use Rattle.otp_core.specs.Reply.{IsDueReply, code_text}
-use Rattle.otp_core.specs.declared.token.answer.Reply.TheVariants.{Pass, Fail}
+use Rattle.otp_core.specs.declared.token.reply.Reply.TheVariants.{Pass, Fail}
 use Rattle.otp_core.specs.declared.token.kinds.TokenFields.{TokenFields}
 use Rattle.otp_core.specs.declared.token.kinds.TokenFields.TheVariants.{Hotp, Totp}
 use Rattle.otp_core.specs.declared.token.kinds.HotpFields.{HotpFields}

@@ -10,8 +10,8 @@ use Rattle.otp_core.specs.Window.{IsCandidate, IsPairCandidate, IsAbove}
 use Rattle.otp_core.specs.Reply.{IsFitting, IsDueReply}
 use Rattle.otp_core.specs.History.{IsAfter, IsLegal}
 use Rattle.otp_core.specs.Laws.{CandidatesAreNew, LegalHistoriesJoin}
-use Rattle.otp_core.specs.declared.token.answer.Reply.{Reply}
-use Rattle.otp_core.specs.declared.token.answer.Reply.TheVariants.{Pass, Fail, Locked}
+use Rattle.otp_core.specs.declared.token.reply.Reply.{Reply}
+use Rattle.otp_core.specs.declared.token.reply.Reply.TheVariants.{Pass, Fail, Locked}
 use Rattle.otp_core.specs.declared.token.kinds.TokenFields.{TokenFields}
 use Rattle.book_format.specs.Book.{BookFields}
 use Rattle.account_book.specs.Tokens.{token_at}

@@ -1,6 +1,6 @@
 use Rattle.std.proofs.Common.{rules, ◌≡◌, ◌≢◌, refl, sym, ◌∙◌}
 use Rattle.std.specs.declared.option.Option.TheVariants.{Some}
-use Rattle.otp_core.specs.declared.token.answer.Reply.TheVariants.{Locked}
+use Rattle.otp_core.specs.declared.token.reply.Reply.TheVariants.{Locked}
 use Rattle.sasl_desk.proofs.lemmas.turns.Keepers.{reply_in_range, told_by, told_none, told_locked, saved_unless_locked, kept_by, put_back}
 use Rattle.sasl_desk.proofs.keeper.Keeper.judge.Goals as goal
 

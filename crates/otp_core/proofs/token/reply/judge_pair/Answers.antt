@@ -1,5 +1,5 @@
 use Rattle.otp_core.proofs.lemmas.Pairs.{found_moves, found_due}
-use Rattle.otp_core.proofs.token.answer.judge_pair.Goals as goal
+use Rattle.otp_core.proofs.token.reply.judge_pair.Goals as goal
 
 pub reply_by-requires-clause-counter : goal.reply_by-requires-clause-counter
 reply_by-requires-clause-counter c =

@@ -2,7 +2,7 @@ use Rattle.std.proofs.Common.{◌≡◌, ◌≤◌, ◌<◌, ◌+◌, ℕ, List,
 use Rattle.std.proofs.lemmas.Bool.{both_ways}
 use borrow.Author.Count.{below_more}
 use Rattle.otp_core.specs.Code.{hotp_text}
-use Rattle.otp_core.proofs.token.answer.find_with.Goals as goal
+use Rattle.otp_core.proofs.token.reply.find_with.Goals as goal
 
 -- no counter up to i has the text, where none before i has it and i does not
 none_up_to : (text_of : ℕ → List ℕ) (text : List ℕ) (first i : ℕ)

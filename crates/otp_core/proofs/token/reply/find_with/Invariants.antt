@@ -1,6 +1,6 @@
 use Rattle.std.proofs.Common.{◌≡◌, ◌≤◌, ◌<◌, ℕ}
 use Rattle.otp_core.specs.Code.{hotp_text}
-use Rattle.otp_core.proofs.token.answer.find_with.Given as goal
+use Rattle.otp_core.proofs.token.reply.find_with.Given as goal
 
 -- no counter so far has the text
 abbrev pub invariant-loop-counter : goal.invariant-loop-counter

@@ -1,5 +1,5 @@
 use Rattle.otp_core.proofs.lemmas.Pairs.{found_fits, found_least, none_fits}
-use Rattle.otp_core.proofs.token.answer.find_pair.Goals as goal
+use Rattle.otp_core.proofs.token.reply.find_pair.Goals as goal
 
 pub returns-in-Hotp-clause-some : goal.returns-in-Hotp-clause-some
 returns-in-Hotp-clause-some c =
