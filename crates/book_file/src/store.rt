@@ -20,13 +20,13 @@ pub struct FileStore<'a, R: Files> {
     saved: String,
 
     // The text of the save that failed.
-    failing: Option<String>,
+    failed_text: Option<String>,
 
     // How many saves it was asked for, up to the one that failed.
     saves: u64,
 
     // While none has failed, one more can be counted: the save of the last number fails.
-    ghost room: { failing ≡ None → saves + 1 < 2 ^ 64 },
+    ghost room: { failed_text ≡ None → saves + 1 < 2 ^ 64 },
 }
 
 impl<'a, R> FileStore<'a, R>
@@ -42,7 +42,7 @@ where
         FileStore {
             file,
             saved: text,
-            failing: None,
+            failed_text: None,
             saves: 0,
         }
     }
@@ -55,15 +55,15 @@ where
 {
     ghost facts = { λ s. record {
       saved = string_bytes s.saved;
-      asked = unwrap_or (option_map string_bytes s.failing) (string_bytes s.saved);
-      failed = is_some s.failing;
+      asked = unwrap_or (option_map string_bytes s.failed_text) (string_bytes s.saved);
+      failed = is_some s.failed_text;
       saves = s.saves;
     } };
 
     ghost IsStored = { IsWritten R.File.contents };
 
     fn save(&mut self, text: String) -> Result<(), StoreFault> {
-        if self.failing.is_some() {
+        if self.failed_text.is_some() {
             return Err(StoreFault);
         }
         self.saves += 1;
@@ -71,7 +71,7 @@ where
             self.saved = text;
             Ok(())
         } else {
-            self.failing = Some(text);
+            self.failed_text = Some(text);
             Err(StoreFault)
         }
     }

@@ -69,11 +69,11 @@ pub(crate) fn first_answer<A: Allocator>(
     ensures err { OnErr result (message.new.items ≡ []) }
 {
     let text = client_first.bytes(alloc)?;
-    taken_up(mechanism, text.as_slice(), book, server_nonce, message)
+    answer_to(mechanism, text.as_slice(), book, server_nonce, message)
 }
 
 // Reads the name that the message gives, and challenges its login; a bare `S NO` where no server takes the message up.
-fn taken_up<A: Allocator>(
+fn answer_to<A: Allocator>(
     mechanism: Mechanism,
     client_first: &[u8],
     book: &Book,

@@ -1,6 +1,6 @@
 use Rattle.log_grammar.specs.Places.{got_first}
 use Rattle.sasl_desk.proofs.lemmas.turns.DueAnswers.{not_first}
-use Rattle.sasl_desk.proofs.session.first.taken_up.Goals as goal
+use Rattle.sasl_desk.proofs.session.first.answer_to.Goals as goal
 
 pub returns-in-Err-clause-due : goal.returns-in-Err-clause-due
 returns-in-Err-clause-due g c = λ accounts name keeps named.
