@@ -1,3 +1,4 @@
+-- A book by its accounts: their changes, their tokens, what a SCRAM server is shown of a name, and how a book is saved.
 pub mod Accounts
 pub mod Enrolled
 pub mod View

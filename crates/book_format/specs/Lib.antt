@@ -1,3 +1,4 @@
+-- Which text is that of an account book, which first fault another text has, and the text that a book is written as.
 pub mod Account
 pub mod Book
 pub mod Faults

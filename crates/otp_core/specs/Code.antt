@@ -6,7 +6,7 @@ use Rattle.std.specs.Str.{byte}
 use Rattle.mac_core.specs.Hmac.{hmac}
 use Rattle.otp_core.specs.Ranges.{IsDigitCount}
 
--- the offset: the low four bits of the last byte
+-- the offset of the dynamic truncation: the low four bits of the tag's last byte
 abbrev pub offset : List ℕ → ℕ
 offset tag = slice_index tag (length tag - 1) % 16
 

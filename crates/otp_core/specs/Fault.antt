@@ -1,4 +1,4 @@
--- The numbers of the refusals, and the names of the settings that they name.
+-- The numbers of the refusals, and the names of the settings.
 use Rattle.std.specs.Prelude.{ℕ, List, codes}
 use Rattle.otp_core.specs.declared.fault.OtpFault.{OtpFault}
 use Rattle.otp_core.specs.declared.fault.OtpFault.TheVariants.{SecretLength, DigitCount, Setting}

@@ -22,7 +22,7 @@ hash_named name =
     else if bytes_eq name (hash_name Sha512) then Some Sha512
     else None
 
--- the digest of a hash function
+-- the function itself, from a message to its digest
 abbrev pub otp_hash_by : OtpHash → List ℕ → List ℕ
 otp_hash_by Sha1 = sha1
 otp_hash_by Sha256 = sha256

@@ -1,4 +1,4 @@
--- What a client sends, as a value shows it.
+-- What a client sends: the texts that a `Sent` of the code holds.
 use Rattle.otp_core.specs.Attempt.{CodeTexts, OneText, TwoTexts}
 use Rattle.otp_core.specs.declared.sent.Sent.{Sent}
 use Rattle.otp_core.specs.declared.sent.Sent.TheVariants.{One, Two}

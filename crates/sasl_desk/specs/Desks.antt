@@ -75,7 +75,7 @@ abbrev pub IsStoredAt : (IsStored : List ℕ → Type 0) → Accounts → List C
 IsStoredAt IsStored accounts calls halted book store = IsLostAfter IsStored accounts calls book store
 IsStoredAt IsStored accounts calls place book store = HoldsBook IsStored book store
 
--- the book after what was told, the latest first: each attempt was judged by the book before it
+-- the book after these replies, the latest of which comes first: each attempt was judged in the book before it
 abbrev pub IsBookWith : (start : BookFields) → (told : List LoggedReply) → (book : BookFields) → Type 0
 IsBookWith start [] book = book ≡ start
 IsBookWith start (t ∷ before) book = (old : BookFields) × IsBookWith start before old × IsAttemptJudged old t book

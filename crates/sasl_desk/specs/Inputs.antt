@@ -7,8 +7,8 @@ use Rattle.sasl_log.specs.declared.line_bytes.LineEnd.TheVariants.{ByLf, ByTheEn
 use Rattle.log_grammar.specs.Lines.{longest_line}
 use Rattle.sasl_desk.specs.Events.{ClientEvent, sends, goes_away}
 
--- bytes without an LF, and how they end: with an LF, with the input, with a read that failed, or not yet, where they are more
--- than a line may have
+-- the bytes of a line without its LF, and how they end: by an LF, by the end of the input, by a read that failed; or as a line that is too
+-- long, after one byte more than a line may have
 pub record LineRead : Type 0 where
   pub text : List ℕ
   pub ended : LineEnd

@@ -53,13 +53,13 @@ IsJudged IsStored old_book old_store name moment sent Lost new_book new_store =
     × IsAttemptJudged old_book (logged_reply_of name moment sent reply) next
     × FailsToSave old_store next new_store)
 
--- the reply that is due needs a save
+-- some reply that is due to this attempt needs a save
 abbrev pub IsToBeSaved : BookFields → (name : List ℕ) → (moment : ℕ) → CodeTexts → Type 0
 IsToBeSaved old name moment sent =
     (reply : Option Reply) × (next : BookFields) × (needs_save reply ≡ true)
     × IsAttemptJudged old (logged_reply_of name moment sent reply) next
 
--- the counter of a reply is one that can pass
+-- what came of a code is no pass, or a pass whose counter is in its range
 abbrev pub IsJudgedInRange : CodeJudged → Type 0
 IsJudgedInRange (Replied reply) = IsReplyInRange reply
 IsJudgedInRange Lost = Unit {0}

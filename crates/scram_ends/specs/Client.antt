@@ -1,4 +1,4 @@
--- What a client stands for at each of its steps, and why it ends a login.
+-- What a client stands for after each of its steps, and why it ends a login (RFC 5802, section 5).
 use Rattle.std.specs.Prelude.{ℕ, ◌≡◌, ◌≤◌, ◌<◌, false, List, [], ◌∷◌, ◌++◌, length}
 use Rattle.std.specs.List.{AllByRecursion}
 use Rattle.std.specs.declared.result.Result.{Result}

@@ -125,7 +125,7 @@ IsServerFirstFault text f = IsFault longest_nonce (server_first_places (parts te
 abbrev pub IsClientFinalFault : List ℕ → TextFault → Type 0
 IsClientFinalFault text f = IsFault longest_nonce (Channel ∷ Nonce ∷ []) (Proof ∷ []) text f
 
--- the place of a first part of server-final: one that begins with "e=" is an error
+-- the place of server-final's first part: ErrorValue, where it begins with "e=", else Verifier
 abbrev pub result_place : List ℕ → TextWhy
 result_place part = if is_named (byte "e") part then ErrorValue else Verifier
 

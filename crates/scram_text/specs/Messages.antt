@@ -126,7 +126,7 @@ abbrev pub verifier_or_error_text : VerifierOrError → List ℕ
 verifier_or_error_text (verifier signature) = codes "v=" ++ base64 signature
 verifier_or_error_text (server_error value) = codes "e=" ++ value
 
--- a signature of 1 to 64 bytes, or an error value of one or more value-chars
+-- the signature has 1 to 64 bytes, or the error value has one or more value-chars
 abbrev pub IsVerifierOrError : VerifierOrError → Type 0
 IsVerifierOrError (verifier signature) = IsField longest_tag signature
 IsVerifierOrError (server_error value) = IsValue value

@@ -1,4 +1,4 @@
--- A book's accounts change alike in their order and as a map.
+-- What is changed, added or removed in the list of a book's accounts is so in their map.
 use Rattle.std.proofs.Common.{◌≡◌, ◌∙◌, refl, ap, sym, subst, cond, List, [], ◌∷◌, ℕ, Bor, Option, IsSome, option_copied}
 use Rattle.std.specs.declared.option.Option.TheVariants.{None, Some}
 use Rattle.std.specs.declared.cmp.Ordering.{Ordering}

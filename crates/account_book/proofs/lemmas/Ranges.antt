@@ -1,4 +1,4 @@
--- Each account of a book stays in its ranges.
+-- Each account of a book stays in its ranges, whatever is changed, added or removed.
 use Rattle.std.proofs.Common.{◌≡◌, ◌≤◌, cond, length, unwrap_or, ap, sym, subst, Bool, true, false, List, [], ◌∷◌, ℕ, IfSome, OnOk, OnErr}
 use Rattle.std.proofs.Common.{Option, Result, Bor, option_copied}
 use Rattle.std.specs.declared.option.Option.TheVariants.{None, Some}
@@ -15,7 +15,7 @@ use Rattle.book_format.specs.Book.{AreAccounts}
 use Rattle.account_book.specs.Accounts.{with_act_as}
 use Rattle.account_book.specs.Tokens.{with_token}
 
--- of accounts in their ranges, whichever a test or an ordering chooses are in them: of two lists, of three, and of two optional ones:
+-- what a test or an ordering chooses is in its ranges: of two lists of accounts, of three, and of an account and an optional one:
 either : (b : Bool) (es fs : List (List ℕ × AccountFields)) → AreAccounts es → AreAccounts fs → AreAccounts (cond b es fs)
 either true es fs h k = h
 either false es fs h k = k

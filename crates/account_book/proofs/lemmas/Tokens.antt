@@ -52,7 +52,7 @@ same_entry ScramSha256 token account decoy = refl
 abbrev entry_by : Mechanism → Entry → Option AccountFields → Entry
 entry_by m decoy o = unwrap_or (option_and_then (λ account. option_map (keys_entry account.act_as) (mech_keys m account)) o) decoy
 
--- where the token of an optional account is there, so is the account
+-- where an optional account has a token, the account is there
 pub owner : (o : Option AccountFields) (token : TokenFields) → option_and_then (λ account. account.token) o ≡ Some token
     → (account : AccountFields) × (o ≡ Some account)
 owner None token has = absurd (cc has)
@@ -104,7 +104,7 @@ pub entries_stay : EntriesStay
 entries_stay old name token next has m other =
     let account = owner (account_at old name) token has in entry_kept old name next account.0 account.1 m other
 
--- a value that is set twice is the second
+-- where a value is set twice, the second stays
 set_twice : {K X : Type 0} (test : K → Bool) (es : List (K × X)) (first second : X)
     → set_value test (set_value test es first) second ≡ set_value test es second
 set_twice test [] first second = refl
@@ -126,7 +126,7 @@ set_back es name account token found has =
     set_value_same (is_at (name_cmp name)) es (with_token token account)
     (found ∙ ap (λ (a : AccountFields). Some a) (sym (same_account account token has)))
 
--- a book in which an account that is there is changed has the changed one at its name
+-- to change an account that is there is to set the changed one at its name
 changed_is : (book : BookFields) (name : List ℕ) (change : AccountFields → AccountFields) (account : AccountFields)
     → account_at book name ≡ Some account
     → with_changed book name change ≡ record book { accounts = set_value (is_at (name_cmp name)) book.accounts (change account) }

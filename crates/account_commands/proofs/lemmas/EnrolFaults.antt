@@ -46,7 +46,7 @@ taken_in_read bytes_of old new name this book (inl (text, read, same)) (inl is) 
 taken_in_read bytes_of old new name this book (inr (key, long, lost, made)) (inl is) taken =
     let none : false ≡ true = sym (ap (λ (b : BookFields). is_some (account_at b name)) (is ∙ made)) ∙ taken in absurd (cc none)
 
--- where an account was not added and saved, the fault is one of those that `enrol` says
+-- where an account was not added and saved, the fault is one that ends `enrol`
 pub not_enrolled : {File : Type 0} (bytes_of : File → Option (List ℕ)) (old new input : Option (List ℕ)) (words : ArgMatches)
     (path name : List ℕ) (book : BookFields) (fault : Fault) → path ≡ given_value words option.Book → name ≡ given_value words option.Name
     → IsReadOrNew bytes_of old new book → IsNameTakenIn bytes_of book name fault ⊎ CannotBeChanged bytes_of path fault

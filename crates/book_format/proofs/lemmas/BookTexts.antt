@@ -44,7 +44,7 @@ pub whole : (bytes : List ℕ) (ms : Members) (top : TopFields) (entries : List 
 unfolding book_in book_of
 whole bytes ms top entries read h accounts = rw (read, ← h, accounts) refl
 
--- a text that has a tree is UTF-8, and the parser gives this tree
+-- where a document is read from a text, the text is UTF-8, and the parser gives this document
 tree_found : (bytes : List ℕ) (ms : Members) → tree_in bytes ≡ Ok ms → IsUtf8 bytes × (parse_document bytes ≡ Some ms)
 unfolding tree_in
 tree_found bytes ms h = elim (cases_Bool (is_utf8 bytes)) [
@@ -53,7 +53,7 @@ tree_found bytes ms h = elim (cases_Bool (is_utf8 bytes)) [
       let none = rw not at h in absurd (cc none)
 ]
 
--- the book that is read from a text is the one that it is the text of
+-- where a book is read from a text, the text is that of the book
 pub text_found : (bytes : List ℕ) (book : BookFields) → book_in bytes ≡ Ok book → IsBookText bytes book
 unfolding book_in
 text_found bytes book h =
@@ -80,11 +80,11 @@ text_follows bytes = follows (is_utf8 bytes) (parse_document bytes)
     follows true (Some ms) = book_follows ms
     follows false parsed = refl
 
--- the fault that a text is read with is its first
+-- the fault that a text is refused for is its first
 pub first_of_text : (bytes : List ℕ) (fault : BookFault) → book_in bytes ≡ Err fault → IsFirstFault bytes fault
 first_of_text bytes fault h = first_fault (book_demands bytes) fault (book_in bytes) (text_follows bytes) h
 
--- a text is read with its first fault
+-- a text is refused for its first fault
 pub text_refused : (bytes : List ℕ) (fault : BookFault) → IsFirstFault bytes fault → book_in bytes ≡ Err fault
 text_refused bytes fault first = fault_read (book_demands bytes) fault (book_in bytes) (text_follows bytes) first
 

@@ -25,7 +25,7 @@ Follows demands read = judged demands ≡ bare read
 
 -- Steps of a reading.
 
--- demands after a step are judged where the step is passed
+-- a step before two lists of demands stands before the first of them
 after : {F : Type 0} (first : Result (Unit {0}) F) (demands others : List (Demand F))
     → judged (demands ++ others) ≡ (judged demands >>= λ u. judged others)
     → (first >>= λ u. judged (demands ++ others)) ≡ ((first >>= λ u. judged demands) >>= λ u. judged others)
@@ -61,7 +61,7 @@ pub there_follows : {A F : Type 0} (fault : F) (o : Option A) → Follows (must 
 there_follows fault None = refl
 there_follows fault (Some x) = refl
 
--- what is made of a value changes nothing of whether there is one
+-- what is made of a value changes neither whether there is a fault nor which
 pub bare_made : {A B F : Type 0} (read : Result A F) (make : A → B) → bare read ≡ bare (read >>= λ x. Ok (make x))
 bare_made (Ok x) make = refl
 bare_made (Err fault) make = refl

@@ -1,4 +1,4 @@
--- Each text is that of one book or has one first fault, since it is read as one of both.
+-- Each text is that of one book, or has one first fault, and never both: what it is read as says which.
 use Rattle.std.proofs.Common.{◌≡◌, ◌⊎◌, inl, inr, Result, Ok, Err, refl, sym, ◌∙◌}
 use Rattle.book_format.specs.Book.{BookFields}
 use Rattle.book_format.specs.FirstFault.{IsFirstFault}

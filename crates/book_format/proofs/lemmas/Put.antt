@@ -1,4 +1,4 @@
--- What an insert into a table does, and what keys that are put into it are there then.
+-- What an insert does to a table, and which keys are there after it.
 use Rattle.std.proofs.Common.{◌≡◌, ℕ, Bool, true, false, not, ◌&&◌, List, [], ◌∷◌, ◌++◌, String, Global, Ordering, Less, Equal, Greater}
 use Rattle.std.proofs.Common.{is_eq, nat_cmp, string_bytes, string_cmp, Option, Some, None, refl, sym, ap, ◌∙◌, subst}
 use Rattle.std.proofs.lemmas.Bool.{and_parts, false≢true, not-true}
@@ -65,7 +65,7 @@ itself Less h = absurd (cc h)
 itself Equal h = refl
 itself Greater h = absurd (cc h)
 
--- a key compared to itself is Equal
+-- a key is Equal to itself
 same_as_itself : (key : List ℕ) → slice_cmp nat_cmp key key ≡ Equal
 same_as_itself key = itself (slice_cmp nat_cmp key key) (nat_list_cmp_total.antisymm key key)
 

@@ -1,4 +1,4 @@
--- Of any table: what is read of it is what it is the table of, and else the fault of the first demand that it does not meet.
+-- A table is read as the value whose table it is; any other is refused for the first demand that it does not meet.
 use Rattle.std.proofs.Common.{◌≡◌, ◌⊎◌, ℕ, List, [], ◌∷◌, codes, Option, Some, None, Result, Ok, Err, refl, sym, ap, subst, ◌∙◌, inl, inr}
 use Prim.Native.String.{String}
 use Rattle.toml.specs.Data.{Data, table, Members, get_member, as_table}
@@ -35,24 +35,24 @@ abbrev pub HasValues : {T : Type 0} (rows : List (Row T)) → Members → Values
 HasValues [] ms vs = Unit {0}
 HasValues (r ∷ rows) ms vs = r.Has ms vs.0 × HasValues rows ms vs.1
 
--- a row reads exactly the values that it has, and else the fault of its first demand that is not met
+-- a row is exact: it reads the value that the table has there and no other, and else refuses for the first demand that is not met
 pub record IsSoundRow {T : Type 0} (r : Row T) : Type 0 where
   pub found : (ms : Members) (v : r.V) → r.read ms ≡ Ok v → r.Has ms v
   pub held : (ms : Members) (v : r.V) → r.Has ms v → r.read ms ≡ Ok v
   pub follows : (ms : Members) → Follows (r.demands ms) (r.read ms)
 
--- each row of the list reads exactly the values that it has
+-- each row of the list is exact
 abbrev pub AreSound : {T : Type 0} → List (Row T) → Type 0
 AreSound [] = Unit {0}
 AreSound (r ∷ rows) = IsSoundRow r × AreSound rows
 
--- a table's T is its fields and nothing else, and its rows are sound
+-- a table is exact: its T is its fields and nothing else, and each of its rows is exact
 pub record IsSound {T : Type 0} (t : Table T) : Type 0 where
   pub gives : (vs : Values t.rows) → fields_of t.rows (made t.rows t.make vs) ≡ vs
   pub keeps : (x : T) → made t.rows t.make (fields_of t.rows x) ≡ x
   pub rows : AreSound t.rows
 
--- values that were read by sound rows are those that the table has there, and what was read is made of them
+-- values that were read by exact rows are those that the table has there, and what was read is made of them
 read_found : {T X : Type 0} (rows : List (Row T)) (make : Maker rows X) (ms : Members) (x : X) → AreSound rows
     → read_rows rows make ms ≡ Ok x
     → (vs : Values rows) × HasValues rows ms vs × (made rows make vs ≡ x)
@@ -62,7 +62,7 @@ read_found (r ∷ rows) make ms x sound h =
     let (vs, has, same) = read_found rows (make v) ms x sound.1 rest in
     ((v, vs), (sound.0.found ms v read, has), same)
 
--- where the table has the values of sound rows, what is made of them is read
+-- where the table has the values of exact rows, what is made of them is read
 read_held : {T X : Type 0} (rows : List (Row T)) (make : Maker rows X) (ms : Members) (vs : Values rows) → AreSound rows
     → HasValues rows ms vs
     → read_rows rows make ms ≡ Ok (made rows make vs)
@@ -78,7 +78,7 @@ has_fields : {T : Type 0} (rows : List (Row T)) (ms : Members) (x : T) → HasRo
 has_fields [] ms x h = tt
 has_fields (r ∷ rows) ms x h = (h.0, has_fields rows ms x h.1)
 
--- what is read of a table with its marks is what it is the table of
+-- where a value is read of a table that has its marks, the table is that of the value
 pub table_found : {T : Type 0} (t : Table T) → IsSound t → (ms : Members) (x : T) → HasMarks t.marks ms → read_table t ms ≡ Ok x
     → IsTable t ms x
 unfolding read_table
@@ -92,7 +92,7 @@ table_found t sound ms x marks h =
       rows = has_rows t.rows ms x (subst (λ vs. HasValues t.rows ms vs) fields has);
     }
 
--- a table is read as what it is the table of
+-- the table of a value is read as this value
 pub table_held : {T : Type 0} (t : Table T) → IsSound t → (ms : Members) (x : T) → IsTable t ms x → read_table t ms ≡ Ok x
 unfolding read_table
 table_held t sound ms x h =
@@ -113,7 +113,7 @@ table_follows t sound ms = test_follows (has_only (is_among (table_keys t)) ms) 
 
 -- Types of values.
 
--- a type reads exactly the values that it is of, and else the fault of its first demand that is not met
+-- a type of values is exact: it reads the values of its own and no other, and else refuses for the first demand that is not met
 pub record IsSoundType {V : Type 0} (values : ValueType V) : Type 0 where
   pub found : (d : Data) (v : V) → values.read d ≡ Ok v → values.Is d v
   pub held : (d : Data) (v : V) → values.Is d v → values.read d ≡ Ok v
@@ -124,7 +124,7 @@ pub table_said : (d : Data) (ms : Members) → table_of d ≡ Ok ms → d ≡ ta
 table_said (table ns) ms h = ap table (ok_same ns ms h)
 table_said d ms h = absurd (cc h)
 
--- a table without marks that is sound makes a sound type of values
+-- an exact table without marks makes an exact type of values
 pub in_table_sound : {T : Type 0} (t : Table T) → IsSound t → ((ms : Members) → HasMarks t.marks ms) → IsSoundType (in_table t)
 unfolding table_in
 in_table_sound t sound marks = record {
@@ -135,7 +135,7 @@ in_table_sound t sound marks = record {
   follows = λ d. required_follows Key (table_demands t) (as_table d) (read_table t) (table_follows t sound);
 }
 
--- Rows of each sort.
+-- Rows of each kind.
 
 -- a value that was read at a key that must be there stands there
 pub at_found : {V : Type 0} (values : ValueType V) → IsSoundType values → (v : V) (o : Option Data) → read_or (Err Key) values.read o ≡ Ok v
@@ -188,7 +188,7 @@ some_follows : {V : Type 0} (values : ValueType V) → IsSoundType values → (o
 some_follows values sound None = refl
 some_follows values sound (Some d) = sound.follows d ∙ bare_made (values.read d) Some
 
--- a row of a sound type reads exactly the value that the table has at its key
+-- a row whose key has to be there is exact, where its type is
 pub row_sound : {T V : Type 0} (name : String) (values : ValueType V) (field : T → V) → IsSoundType values
     → IsSoundRow (row name values field)
 row_sound name values field sound = record {
@@ -197,7 +197,7 @@ row_sound name values field sound = record {
   follows = λ ms. at_follows values sound (get_member (codes name) ms);
 }
 
--- a row whose type depends on the number at another key reads exactly its value, where the type is sound for each number
+-- a row whose type depends on the number at another key is exact, where the type is exact for each number
 pub row_to_sound : {T V : Type 0} (name : String) (values : ℕ → ValueType V) (bound : String) (field : T → V)
     → ((n : ℕ) → IsSoundType (values n)) → IsSoundRow (row_to name values bound field)
 row_to_sound name values bound field sound = record {
@@ -206,7 +206,7 @@ row_to_sound name values bound field sound = record {
   follows = λ ms. at_follows (values (bound_at (codes bound) ms)) (sound (bound_at (codes bound) ms)) (get_member (codes name) ms);
 }
 
--- a row with a default reads exactly its value, where its type is sound
+-- a row with a default is exact, where its type is
 pub row_or_sound : {T V : Type 0} (other : V) (name : String) (values : ValueType V) (field : T → V) → IsSoundType values
     → IsSoundRow (row_or other name values field)
 row_or_sound other name values field sound = record {
@@ -218,7 +218,7 @@ row_or_sound other name values field sound = record {
   follows = λ ms. or_follows values sound other (get_member (codes name) ms);
 }
 
--- a row that may be missing reads exactly its optional value, where its type is sound
+-- a row that may be missing is exact, where its type is
 pub optional_sound : {T V : Type 0} (name : String) (values : ValueType V) (field : T → Option V) → IsSoundType values
     → IsSoundRow (optional name values field)
 optional_sound name values field sound = record {

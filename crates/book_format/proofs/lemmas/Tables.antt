@@ -1,5 +1,5 @@
--- Each table of the format is read exactly where it is that of what is read, and then in its ranges; else its fault is that of
--- the first demand that it does not meet.
+-- Each table of the format is read as the value whose table it is, and this value is in its ranges; any other is refused for the
+-- first demand that it does not meet.
 use Rattle.std.proofs.Common.{◌≡◌, ◌≤◌, ◌+◌, ◌⊎◌, ◌==◌, pos, negsuc, ℕ, List, [], ◌∷◌, length, codes, true, false, Option, Some, None, Ok}
 use Rattle.std.proofs.Common.{Result, Err, Bool, ok_or, refl, sym, ap, subst, ◌∙◌, arith, inl, inr}
 use Rattle.std.specs.Option.{option_and_then}
@@ -41,7 +41,7 @@ use Rattle.book_format.proofs.lemmas.ValueTypes.{name_found, name_held, name_lis
 use Rattle.book_format.proofs.lemmas.Rows.{IsSound, IsSoundType, table_found, table_held, table_follows, table_said, in_table_sound}
 use Rattle.book_format.proofs.lemmas.Rows.{row_sound, row_to_sound, row_or_sound, optional_sound}
 
--- the tables of a mechanism's keys, of a HOTP and of a TOTP token are read exactly where they are those of what is read:
+-- the tables of a mechanism's keys, of a HOTP token and of a TOTP token are exact:
 pub mech_sound : (len : ℕ) → IsSound (mech len)
 mech_sound len = record { gives = λ vs. refl; keeps = λ m. refl; rows = search (row_sound, bytes_sound, number_sound) parts 8 }
 
@@ -112,7 +112,7 @@ kind_follows name ms = elim (cases_Bool (bytes_eq name (codes "hotp"))) [
   ]
 ]
 
--- the text at a key is one that has to be there
+-- to demand a text of an option and to read it there give one result
 text_there : (o : Option Data) → ok_or (option_and_then as_str o) Key ≡ read_or (Err Key) text_in o
 unfolding text_in
 text_there None = refl
@@ -134,7 +134,7 @@ token_sound = record { found = token_found; held = token_held; follows = token_f
 
 -- An account.
 
--- the table of an account is read exactly where it is that of what is read:
+-- the table of an account is exact, and so is the type of such tables:
 account_sound : IsSound account
 account_sound = record {
   gives = λ vs. refl;
@@ -177,7 +177,7 @@ entry_name key d entry h = sym (entry_parts key d entry h).0
 
 -- The accounts.
 
--- a reading that gives a value with an account named gives it without
+-- a value that is read in an account is also read where no account is named with the fault
 in_account_ok : {A : Type 0} (index : ℕ) (r : Result A BookWhy) (x : A) → in_account index r ≡ Ok x → r ≡ Ok x
 in_account_ok index (Ok y) x h = cc h
 in_account_ok index (Err why) x h = absurd (cc h)
@@ -257,7 +257,7 @@ of_table_follows (Some ms) = accounts_follow 0 ms
 
 -- The document.
 
--- the top table is read exactly where it is that of what is read
+-- the table of the document's own keys is exact
 document_sound : IsSound document
 document_sound = record {
   gives = λ vs. refl;
@@ -265,7 +265,7 @@ document_sound = record {
   rows = search (row_sound, optional_sound, bytes_sound, number_sound, any_table_sound) parts 8;
 }
 
--- a reading that gives a value with no account named gives it without
+-- a value that is read at the top is also read where nothing is said of an account
 pub at_top_ok : {A : Type 0} (r : Result A BookWhy) (x : A) → at_top r ≡ Ok x → r ≡ Ok x
 at_top_ok (Ok y) x h = cc h
 at_top_ok (Err why) x h = absurd (cc h)
@@ -280,7 +280,7 @@ one_said (Some (integer (pos n))) h = ap (λ n. Some (integer (pos n))) (is_one_
 one_said (Some (integer (negsuc n))) h = absurd (cc h)
 one_said (Some d) h = absurd (cc h)
 
--- the table that the document's own keys are read from is that of their values
+-- where the document's own keys are read of a table, it is the table of their values
 top_found : (ms : Members) (top : TopFields) → top_of ms ≡ Ok top → IsTable document ms top
 unfolding top_of
 top_found ms top h =

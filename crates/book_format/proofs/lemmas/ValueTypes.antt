@@ -1,4 +1,4 @@
--- What the types of values read: exactly what they are of, in its range, and else the fault of the first demand that is not met.
+-- Each type of values reads the values of its own, in their range; any other is refused for the first demand that it does not meet.
 use Rattle.std.proofs.Common.{◌≡◌, ◌≤◌, ◌&&◌, nat_le, le-leb, ℤ, pos, negsuc, nat_abs, ℕ, List, [], ◌∷◌, length, map, Bool, true, false}
 use Rattle.std.proofs.Common.{Some, is_some, ok_or, Result, Ok, Err, refl, ap, subst, ◌∙◌, arith, inl, inr}
 use Rattle.std.proofs.lemmas.Bool.{and_parts, cases_Bool}
@@ -26,7 +26,7 @@ use Rattle.book_format.proofs.lemmas.Demands.{Follows, test_follows, required_fo
 use Rattle.book_format.proofs.lemmas.Steps.{bind_ok, ok_or_ok, pass_or_ok, ok_same}
 use Rattle.book_format.proofs.lemmas.Rows.{IsSoundType, table_said}
 
--- a value that was let through by a test passed it
+-- a value that was let through by a test passed it, and is the one that came through
 such_ok : {V : Type 0} (fits : Bool) (v x : V) (why : BookWhy) → such fits v why ≡ Ok x → (fits ≡ true) × (v ≡ x)
 such_ok true v x why h = (refl, ok_same v x h)
 such_ok false v x why h = absurd (cc h)

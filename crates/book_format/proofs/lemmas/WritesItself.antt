@@ -1,4 +1,4 @@
--- The trees that are written are those of their values.
+-- The tree that a value is written as is that of the value.
 use Rattle.std.proofs.Common.{◌≡◌, inr, ℕ, ℤ, pos, nat_abs, ◌≤◌, List, [], ◌∷◌, ◌++◌, length, codes, true, Option, Some, None}
 use Rattle.std.proofs.Common.{option_map, refl, arith}
 use Rattle.std.specs.Option.{ForSome}
@@ -44,12 +44,12 @@ some_writes_itself : {V : Type 0} (values : ValueType V) (key : List ℕ) (ms : 
 some_writes_itself values key ms None at h = at
 some_writes_itself k key ms (Some v) at h = (k.write v, at, h v refl)
 
--- the number at another key is the bound
+-- where the bound stands at another key, a number from 0 to it is that of the value that it is written as
 bound_again : (key : List ℕ) (ms : Members) (most n : ℕ) → get_member key ms ≡ Some (integer (pos most)) → n ≤ most
     → IsNumber 0 (bound_at key ms) (integer (pos n)) n
 bound_again key ms most n there few = rw there (number_again 0 most n (omega arith) few)
 
--- where the bound stands at another key, a signed number within it is that number again
+-- where the bound stands at another key, a number within it to either side of 0 is that of the value that it is written as
 sides_again : (key : List ℕ) (ms : Members) (most : ℕ) (z : ℤ) → get_member key ms ≡ Some (integer (pos most)) → nat_abs z ≤ most
     → IsSigned (bound_at key ms) (integer z) z
 sides_again key ms most z there few = rw there (record { there = refl; at_most = few })
@@ -171,7 +171,7 @@ unfolding written
 with_last t None = refl
 with_last t (Some last) = refl
 
--- a TOTP token's table is the same where the key that may be missing is put last
+-- to put the last step of a TOTP token after all its other keys is to write the token
 pub last_put_last : (t : TotpFields) → put_some (codes "last") (option_map (λ n. integer (pos n)) t.last)
     (written totp (record t { last = None }))
     ≡ written totp t

@@ -7,10 +7,11 @@ use Rattle.log_grammar.specs.Bytes.{LacksLf, ended_by_lf, IsSplit}
 use Rattle.log_grammar.proofs.lemmas.lines.Cuts.{cut_somehow, cut_one_way}
 use Rattle.command_io.specs.Input.{line_bytes, TakesLine, IsFirstLine, last_line, AreLinesOf}
 
--- no bytes are cut into no texts, and are no lines:
+-- no bytes are cut into no texts and no rest
 no_cut : IsSplit [] [] []
 no_cut = record { bytes_are = refl; lines = tt; after = refl }
 
+-- no bytes have no lines
 no_bytes : AreLinesOf [] []
 no_bytes = record { texts = []; rest = []; cut = no_cut; are = refl }
 
@@ -19,7 +20,7 @@ pub none_left : (known : Option (List ℕ)) → IsAtEnd known → IfSome known (
 none_left None end = tt
 none_left (Some bytes) end = subst (λ (b : List ℕ). AreLinesOf b []) (sym end) no_bytes
 
--- an input of no bytes has no line
+-- no bytes have no lines but these
 no_lines : (lines : List (List ℕ)) → AreLinesOf [] lines → lines ≡ []
 no_lines lines a =
     let one = cut_one_way [] a.texts [] a.rest [] a.cut no_cut in

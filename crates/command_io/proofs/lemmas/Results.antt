@@ -9,7 +9,7 @@ pub on_ok_both : {T E P Q R : Type 0} (result : Result T E) → OnOk result P �
 on_ok_both (Ok x) p q follows = follows p q
 on_ok_both (Err e) p q follows = tt
 
--- where a result is Ok, what follows from its fact and from what is done then holds of it
+-- where a result is Ok, what follows from a fact of its value, and from another fact that holds then, holds of its value
 pub if_ok_and : {T E : Type 0} (result : Result T E) (fact more : T → Type 0) (done : Type 0) → IfOk result fact → OnOk result done
     → ((x : T) → fact x → done → more x) → IfOk result more
 if_ok_and (Ok x) fact more done is did follows = follows x is did

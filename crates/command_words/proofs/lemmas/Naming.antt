@@ -58,7 +58,7 @@ found_is P test (shape ∷ shapes) (first, rest) = by (test shape) (found_is P t
     by true later = first
     by false later = later
 
--- where each name has a property, what was entered has the property and values
+-- where each name has a property, what was entered has a name with this property, and values
 entered_is : (P : Text → Type 0) (app : App) (stop : Option (Text × List Text)) → Each P (names_in app) → is_some (entered app stop) ≡ true
     → (name : Text) × (rows : List Row) × P name × (entered app stop ≡ Some (name, rows))
 entered_is P app None each there = absurd (cc there)
@@ -70,7 +70,8 @@ entered_is P app (Some (word, rest)) each there =
     by None is there = absurd (cc there)
     by (Some shape) is there = (_, _, is, refl)
 
--- a command that needs a subcommand has entered one of its own, where nothing is wrong with its words
+-- where each name of an app's commands has a property, and the app needs a command, a line with which nothing is wrong
+-- gives the name of one that has it
 names_one : (P : Text → Type 0) (app : App) (line : List Text) → (built app).top.subcommand_required ≡ true → Each P (names_in (built app))
     → fault_of app line ≡ [] → (name : Text) × (rows : List Row) × P name × (subcommand_of app line ≡ Some (name, rows))
 names_one P app line needed each none =

@@ -21,10 +21,11 @@ symbol_is test (c ∷ symbols) (suc k) short all =
 abbrev table : List ℕ
 table = standard.encode_table
 
--- where the 64 symbols pass a test, so do those of the texts of bytes:
+-- where the 64 symbols pass a test, the one at each index does
 standard_symbol : (test : ℕ → Bool) → list_all test table ≡ true → (k : ℕ) → k < 64 → test (slice_index table k) ≡ true
 standard_symbol test all k short = symbol_is test table k short all
 
+-- where the 64 symbols pass a test, so do those of the text of bytes
 symbols_are : (test : ℕ → Bool) → list_all test table ≡ true → (bytes : List ℕ) → IsBytes bytes
     → list_all test (encode_symbols table bytes) ≡ true
 unfolding encode_symbols

@@ -96,7 +96,7 @@ leaves_at : (client : ClientEnd) (stage : Stage) (told : List ℕ) → client.st
     → HasToLeave client told
 leaves_at client stage told is leaves = subst (λ (s : Stage). LeavesAt client s told) (sym is) leaves
 
--- a client at a stage where no line that it was told is due has to leave
+-- a client that was told no line at which it may go on has to leave
 not_due : (client : ClientEnd) (stage : Stage) (told : List ℕ)
     → ((line : ServerLine) → IsLine told (from_server line) → IsDueTo stage line → ⊥)
     → LeavesAt client stage told

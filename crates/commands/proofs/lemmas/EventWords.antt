@@ -22,7 +22,7 @@ pub moment_first : (text front back : List ℕ) → LacksSpace front × (text �
 moment_first text front back (lacks, whole) n is rest same =
     (cut_once front (decimal n) back rest (spaceless front lacks) (spaceless_number n (moment_fits n is)) (sym whole ∙ same)).0
 
--- one text follows the first word of a line
+-- at most one text follows the first word of a line
 after_word : (word line text rest : List ℕ) → line ≡ word ++ text → line ≡ word ++ rest → text ≡ rest
 after_word word line text rest is same = append_cancel_left word text rest (sym is ∙ same)
 
@@ -34,7 +34,7 @@ number_after word line text is session rest number whole = record {
   whole = after_word word line text (decimal session ++ (byte " " ∷ rest)) is whole;
 }
 
--- one text follows the first word of a line, the number of a session and a space
+-- at most one text follows the first word of a line, the number of a session and a space
 pub rest_after : (word line text : List ℕ) (n : ℕ) (rest : List ℕ) → line ≡ word ++ text → BeginsWithNumber text n rest → (session : ℕ)
     (more : List ℕ) → IsSessionNumber session → line ≡ word ++ (decimal session ++ (byte " " ∷ more)) → rest ≡ more
 rest_after word line text n rest is begins session more number whole =

@@ -1,4 +1,5 @@
--- A desk or a hall that can't begin, the faults at which a hall stops hearing, and which fault is none of a bad event.
+-- A desk or a hall that can't begin, the faults at which a hall stops hearing, and which faults are not that of
+-- a bad event.
 use Rattle.std.proofs.Common.{◌≡◌, ◌⊎◌, inl, inr, ℕ, List, Option, ap, ◌∙◌, sym, subst}
 use Rattle.book_format.specs.declared.fault.BookWhy.{BookWhy}
 use Rattle.book_format.specs.declared.fault.BookWhy.TheVariants as why
@@ -18,7 +19,7 @@ fails_to_begin path old new fault before after Printed was is (inl (output, fail
 fails_to_begin path old new fault before after Printed was is (inr (same, unwritten)) =
     inl (inr (is ∙ (ap (λ (f : SinkFacts). f.given) same ∙ was)))
 
--- a hall that can't begin has no bad event
+-- the fault of a desk or a hall that can't begin is not that of a bad event
 pub begins_with_no_event : (path : List ℕ) (old new : SinkFacts) (fault : Fault) → FailsToBegin path old new fault → fault ≡ BadEvent → ⊥
 begins_with_no_event path old new fault (inl (output, failed)) is = cc (output, is)
 begins_with_no_event path old new fault (inr (same, unwritten)) is = let wrong = subst (IsUnwritten path) is unwritten in cc wrong
@@ -28,7 +29,7 @@ no_why : (reason : BookWhy) → fault_of_book_why reason ≡ BadEvent → ⊥
 no_why why.NoMemory is = cc is
 no_why reason is = cc is
 
--- the fault of a book that can't be held or read is no bad event
+-- the fault of a book that can't be held or read is not that of a bad event
 pub holds_no_event : {File : Type 0} (bytes_of : File → Option (List ℕ)) (path : List ℕ) (fault : Fault) → CannotOpenBook bytes_of path fault
     → fault ≡ BadEvent → ⊥
 holds_no_event bytes_of path fault (inl held) is = let wrong = subst (CannotHold path) is held in cc wrong

@@ -41,7 +41,7 @@ answered_in_log facts IsStored old new event n request phase wire wire' none wri
           (Appends-trans before log.given log'.given (hall_bytes l.calls) more l.logged putting);
     }
 
--- a hall that is the same has the keeper, the count and the halt that it had, and guests
+-- a hall that is the same, up to the order of its guests, differs from what it was in its guests alone
 same_hall : {S : Type 0} (old new : HallFields S) → IsSameHall old new → new ≡ hall_of old.keeper new.guests old.given old.is_halted
 same_hall {S} old new same =
     let book = ap (λ (b : BookFields). hall_of
@@ -77,7 +77,7 @@ hears_more facts IsStored events more old middle new a b c first second start be
     subst (λ (all : List InputEvent). IsHallLogOf facts IsStored start before all new c) (sym (append_assoc more events earlier))
     (second start before (events ++ earlier) (first start before earlier l))
 
--- the fault of an unsaved book or of a failed log is no bad event
+-- the fault of an unsaved book or of a failed log is not that of a bad event
 pub not_bad : (path : List ℕ) (log : SinkFacts) (fault : Fault) → IsUnsavedOrUnlogged path log fault → fault ≡ BadEvent → ⊥
 not_bad path log fault (inl unwritten) is = let wrong = subst (IsUnwritten path) is unwritten in cc wrong
 not_bad path log fault (inr (output, failed)) is = cc (output, is)

@@ -1,4 +1,4 @@
--- The log of a login after one more call of its desk.
+-- The log of a login: it stays the log of its desk at each step, what of it is printed, and which faults end a talk.
 use Rattle.std.proofs.Common.{◌≡◌, ◌≢◌, inl, inr, ℕ, Option, List, [], ◌∷◌, ◌++◌, refl, sym, ◌∙◌, ap, subst}
 use Rattle.std.specs.Io.KnownBytes.{Appends}
 use Rattle.std.proofs.KnownBytes.{Appends-trans}
@@ -80,7 +80,7 @@ served_log facts IsStored IsNow moment old new input input' wire wire' log log' 
     one_more facts IsStored IsNow server_nonce old new _ served.done.lines log log' now served.done.answers.stands
     served.done.written.by_log
 
--- a log stays the desk's after a turn that was not served, or the fault is that the log has failed:
+-- after an event that was not done the log is still the desk's, or the fault is that the log has failed
 undone_log : {S : Type 0} (facts : S → StoreFacts) (IsStored : List ℕ → Type 0) (IsNow : ℕ → Type 0) (event : ClientEvent) (moment : ℕ)
     (old new : Desk S) (wire wire' log log' : SinkFacts) (path : List ℕ) (why : ServeFault)
     (fault : Fault) → (why ≢ Halted → IsNow moment) → IsFaultOfServing path why fault
@@ -96,6 +96,7 @@ undone_log facts IsStored IsNow event moment old new wire wire' log log' path Wr
     (now (λ same. cc same)) undone.answers.stands undone.logged)
 undone_log facts IsStored IsNow event moment old new wire wire' log log' path LogFault fault now is undone = inl (is, undone.failed)
 
+-- where nothing of a service has changed, its log is still the desk's
 unchanged_log : {S : Type 0} (facts : S → StoreFacts) (IsStored : List ℕ → Type 0) (IsNow : ℕ → Type 0) (old new : Service S)
     (fault : Fault) → new ≡ old
     → IsLogAfterFault facts IsStored IsNow old.desk old.log new.desk new.log fault
@@ -195,7 +196,7 @@ passes_printed user nonce password input first last begun before given after pas
   printed = sym is;
 }
 
--- running out of memory is a fault of any file that was not written
+-- the fault that memory ran out is one of a file that can't be written, whatever its path
 unwritten : (path : List ℕ) (fault : Fault) → fault ≡ OutOfMemory → IsUnwritten path fault
 unwritten path fault is = subst (λ (f : Fault). IsUnwritten path f) (sym is) refl
 

@@ -18,14 +18,14 @@ use Rattle.command_words.specs.Commands.{CommandName, NamesCommand, program, wor
 use Rattle.command_words.proofs.lemmas.Naming.{names_command}
 use Rattle.commands.specs.Program.{EndsCommand, EndsRun, HasDone, IsWordsError, Names, RunsCommand, RunsUntil, StopsAt, exit_status, found_in}
 
--- how a command ends, by what is known of its answer and of its fault
+-- what follows from a fact of a command's answer, or from one of its fault, holds where the command ends
 pub ends_as : {T : Type 0} {P : T → Type 0} {S : Fault → Type 0} (Q : T → Type 0) (R : Fault → Type 0) (ended : Result T Fault)
     → IfOk ended P → IfErr ended S
     → ((x : T) → P x → Q x) → ((fault : Fault) → S fault → R fault) → MatchResult ended Q R
 ends_as Q R (Ok x) did stopped runs stops = runs x did
 ends_as Q R (Err fault) did stopped runs stops = stops fault stopped
 
--- how a command ends whose status is computed from its answer, by what is known of that answer and of its fault
+-- what follows so holds where a command ends whose exit status is computed from its answer
 pub ends_by : {T : Type 0} {P : T → Type 0} {S : Fault → Type 0} (Q : ℕ → Type 0) (R : Fault → Type 0) (value : T → ℕ)
     (ended : Result T Fault)
     (result : Result ℕ Fault) → MatchResult ended (λ x. result ≡ Ok (value x)) (λ fault. result ≡ Err fault) → IfOk ended P → IfErr ended S

@@ -1,4 +1,5 @@
--- Whether a challenge, an outcome or a reply is the one demanded: it is decided, and of one account alone.
+-- Whether a challenge, an outcome or a reply is the one demanded is decided, and replies are judged by each account's own alone. For
+-- account books: a challenge can be written for each name, and a reply that is due is in its range.
 pub mod EachAccount
 pub mod Challenges
 pub mod StillChallenged

@@ -1,4 +1,4 @@
--- For src/examples.rt: logs of a few lines, judged line by line.
+-- For src/examples.rt, src/upgraded_examples.rt and src/numbered.rt: logs of a few lines, judged line by line.
 pub mod SmallLogs
 pub mod Edges
 pub mod TwoCodes

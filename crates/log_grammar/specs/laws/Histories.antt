@@ -9,11 +9,11 @@ use Rattle.otp_core.specs.declared.token.kinds.TokenFields.{TokenFields}
 use Rattle.log_grammar.specs.LoggedReply.{LoggedReply}
 use Rattle.log_grammar.specs.Demands.{attempts_of}
 
--- where this is told of this account, there was no reply
+-- if this was told of this account, there was no reply
 abbrev pub HasNoReply : List ℕ → LoggedReply → Type 0
 HasNoReply account t = t.account ≡ account → t.reply ≡ None
 
--- where this is told of this account, there was a reply
+-- if this was told of this account, there was a reply
 abbrev pub HasReply : List ℕ → LoggedReply → Type 0
 HasReply account t = t.account ≡ account → (reply : Reply) × (t.reply ≡ Some reply)
 

@@ -21,11 +21,11 @@ two_at_once =
     offer 1 ∷ offer 2 ∷ numbered 1 gone ∷ turns_away 3 ∷ numbered 3 ended ∷ numbered 2 (heard abort) ∷ numbered 1 ended
     ∷ numbered 2 (said (refuses [])) ∷ numbered 2 ended ∷ []
 
--- for two sessions at once these are the lines of a log that may end there
+-- where two sessions may be open at once, these are the lines of a log that may end there
 abbrev pub IsWholeForTwo : Accounts → List (Numbered LogLine) → Type 0
 IsWholeForTwo accounts log = (places : ℕ → Place) × SpellsNumbered 2 (demands accounts) log places [] × MayEndNumbered places
 
--- for two sessions at once no log begins so
+-- where two sessions may be open at once, no log begins with these lines
 abbrev pub BeginsNoneForTwo : Accounts → List (Numbered LogLine) → Type 0
 BeginsNoneForTwo accounts log = (rest : List (Numbered LogLine)) (places : ℕ → Place) (told : List LoggedReply)
     → SpellsNumbered 2 (demands accounts) (log ++ rest) places told → ⊥

@@ -35,7 +35,7 @@ limit_alike s t e = sym (limit_settled s) ∙ (ap limit_of e ∙ limit_settled t
 code_alike : (s t : TokenFields) (c : ℕ) → settings_of s ≡ settings_of t → code_text s c ≡ code_text t c
 code_alike s t c e = sym (code_settled s c) ∙ (ap (λ f. code_text f c) e ∙ code_settled t c)
 
--- an equivalence goes the other way too, and from one to the next:
+-- an equivalence holds the other way round too, and two that follow one another make one:
 back : {A B : Type 0} → A ↔ B → B ↔ A
 back one = (one.1, one.0)
 
@@ -116,7 +116,7 @@ first_after_two : (o : Option ℕ) (next w : ℕ) → option_map_or (λ m. m + 1
 first_after_two None next w h = omega arith
 first_after_two (Some m) next w h = omega arith
 
--- HOTP's first counter is one after what was sent has passed
+-- after a pass, HOTP's first counter is one more than the counter that passed
 pub first_after : (t : HotpFields) (h : List Attempt) (m : ℕ) (sent : CodeTexts) (p : ℕ) → IsFitting (Hotp t) h m sent p
     → first_in_window t.next (counters_of sent p ++ used_in h) ≡ p + 1
 first_after t h m (OneText text) p fits = first_after_one (greatest (used_in h)) t.next p fits.0.not_before
@@ -181,7 +181,7 @@ can_pass_after_pass (Totp s) (Totp t) h m (TwoTexts one other) p e fits = absurd
 can_pass_after_pass (Hotp s) (Totp t) h m sent p e fits = absurd (cc)
 can_pass_after_pass (Totp s) (Hotp t) h m sent p e fits = absurd (cc)
 
--- `CanPassAlike` is reflexive
+-- `CanPassAlike` holds of a past and itself
 can_pass_same : (s : TokenFields) (h : List Attempt) → CanPassAlike s h s h
 can_pass_same s h = ((λ m c is. ((λ x. x), (λ x. x))), (λ w. ((λ x. x), (λ x. x))))
 

@@ -1,4 +1,4 @@
--- Counters that can pass are above those that have passed.
+-- Counters that can pass are above those that were used.
 use Rattle.std.proofs.Common.{◌≡◌, ◌≤◌, ◌<◌, ◌+◌, ◌++◌, inl, inr, ℕ, List, [], ◌∷◌, Option, Some, None, max, refl, arith}
 use Rattle.std.specs.Option.{option_map_or}
 use Rattle.otp_core.specs.Attempt.{Attempt, CodeTexts, counters_of, used_in_reply, used_in}
@@ -13,7 +13,7 @@ use Rattle.otp_core.specs.declared.token.kinds.HotpFields.{HotpFields}
 use Rattle.otp_core.specs.declared.token.kinds.TokenFields.TheVariants.{Hotp, Totp}
 use Rattle.otp_core.proofs.lemmas.Steps.{first_after}
 
--- a number above the greatest of an option and another is above both
+-- a number above the greater of an optional number and another is above both
 parts_below : (o : Option ℕ) (x c : ℕ) → option_map_or (λ most. max x most) o x < c
     → (x < c) × ((m : ℕ) → o ≡ Some m → m < c)
 parts_below None x c h = (h, λ m is. absurd (cc))
@@ -31,11 +31,11 @@ below_first : (o : Option ℕ) (next c : ℕ) → option_map_or (λ m. m + 1) o 
 below_first None next c h m is = absurd (cc)
 below_first (Some g) next c h m is = let same : g ≡ m = cc in omega arith
 
--- a number from HOTP's first counter on is above each counter that passed
+-- a number from HOTP's first counter on is above each counter that was used
 new_counter : (t : HotpFields) (history : List Attempt) (c : ℕ) → first_in_window t.next (used_in history) ≤ c → IsAbove (used_in history) c
 new_counter t history c reached = above_greatest (used_in history) c (below_first (greatest (used_in history)) t.next c reached)
 
--- the law: a counter that can pass is above those that passed
+-- the law: a counter that can pass is above each that the history has used
 pub candidates_are_new : CandidatesAreNew
 candidates_are_new (Hotp t) history moment c (inl due) = new_counter t history c due.not_before
 candidates_are_new (Hotp t) history moment c (inr pair) = new_counter t history c pair.0.not_before

@@ -13,13 +13,13 @@ use Rattle.scram_ends.specs.declared.client.ClientOne.{ClientOne}
 use Rattle.scram_ends.specs.declared.client.ClientFault.{ClientFault}
 use Rattle.scram_ends.specs.declared.client.ClientFault.TheVariants.{Text}
 
--- a challenge's nonce that does not begin with the client's does not go on from it
+-- a challenge's nonce that does not begin with the client's is not the client's with more after it
 pub not_mine : (client_nonce nonce sent prefix : List ℕ) → sent ≡ nonce → prefix ≡ client_nonce → ((rest : List ℕ) → sent ≢ prefix ++ rest)
     → (more : List ℕ) → nonce ≡ client_nonce ++ more → ⊥
 not_mine client_nonce nonce sent prefix same is none more cut =
     none more (same ∙ (cut ∙ ap (λ (front : List ℕ). front ++ more) (sym is)))
 
--- a challenge's nonce that begins with the client's goes on from it
+-- a challenge's nonce that begins with the client's is the client's with the rest after it
 pub begins : (client_nonce nonce sent prefix rest : List ℕ) → sent ≡ nonce → prefix ≡ client_nonce → sent ≡ prefix ++ rest
     → nonce ≡ client_nonce ++ rest
 begins client_nonce nonce sent prefix rest same is cut = sym same ∙ (cut ∙ ap (λ (front : List ℕ). front ++ rest) is)
@@ -45,7 +45,7 @@ not_refused limits client_nonce server_first fault c h a =
     (subst (λ (p : ServerFirstParts). IsFirstUnmet (λ row. AsksOfChallenge row limits client_nonce p) challenge_faults_in_order fault)
     (server_first_once server_first h.0 c h.1 a.is_challenge) h.2)
 
--- a fault by the limits and the nonce that the client keeps is one by those that it stands for
+-- a challenge's fault by the limits and the nonce that the client keeps is a fault by those of its login
 pub fault_of_started : (w : ClientOne) (l : Started) (server_first : List ℕ) (fault : ClientFault)
     → IsStarted w l → IsChallengeFault w.limits w.nonce.items server_first fault → IsChallengeFault l.limits l.nonce server_first fault
 fault_of_started w l server_first fault started is =

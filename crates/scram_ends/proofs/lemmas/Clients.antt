@@ -1,4 +1,4 @@
--- The client's messages: that they can be written and are short, and that they are honest.
+-- The client's messages: they can be written, they are within the limits, and they are honest.
 use Rattle.std.proofs.Common.{◌≡◌, ℕ, ◌+◌, ◌*◌, ◌<◌, ◌≤◌, List, [], ◌∷◌, ◌++◌, length, length-append, sym, ◌∙◌, ap, subst}
 use Rattle.std.proofs.Common.{refl, arith, inl}
 use Rattle.std.specs.Prelude.{codes, option_map, IfSome}
@@ -57,7 +57,7 @@ length-first f a n r =
       length-append n (44 ∷ r),
     )
 
--- the name to act as, spelled, has at most 767 bytes with its letter
+-- the name to act as, spelled, has at most 767 bytes with the `a=` before it
 spelled_authzid : (authzid : Option (List ℕ)) → IfSome authzid IsPlainName → length (authzid_text (option_map name_spelling authzid)) ≤ 767
 spelled_authzid None is = omega arith
 spelled_authzid (Some name) is = omega (arith, length-spelling name, is.at_most)
@@ -126,7 +126,7 @@ bare_length text bare p is same =
     let part : length bare ≡ length (bare_text p) = ap length same in
     omega (arith, whole, part, is.short)
 
--- the name to act as in a message has at most 767 bytes with its letter
+-- the name to act as in a message has at most 767 bytes with the `a=` before it
 authzid_length : (authzid part : Option (List ℕ)) → IsAuthzidOf authzid part → length (authzid_text part) ≤ 767
 authzid_length None None is = omega arith
 authzid_length None (Some part) is = absurd is
@@ -185,7 +185,7 @@ length-final c n p = omega (arith, length-append (c ++ 44 ∷ n) (44 ∷ p), len
 final_bound : (c n p : ℕ) → c ≤ 1030 → n ≤ 514 → p ≤ 90 → c + n + p + 2 ≤ longest_message
 final_bound c n p channel nonce proof = omega arith
 
--- the base64 of at most three times so many bytes has at most four times so many
+-- the base64 of at most 3 n bytes has at most 4 n bytes
 field_bound : (bytes : List ℕ) (most : ℕ) → length bytes ≤ 3 * most → length (base64 bytes) ≤ 4 * most
 field_bound bytes most within = omega (arith, length-base64 bytes)
 
@@ -257,7 +257,7 @@ pub same_signature : (m n : Mechanism) (password salt other auth text : List ℕ
     → expected_signature m password salt count auth ≡ expected_signature n password other also text
 same_signature m n password salt other auth text count also e f g h = λ i. expected_signature (e i) password (f i) (g i) (h i)
 
--- a client-final message that is written is honest, and its signature is the one to expect
+-- a client that has written client-final has done so honestly, and expects the signature of this login
 pub expecting : (w : ClientOne) (two : ClientTwo) (l : Started) (server_first password header nonce salt front proof : List ℕ) (count : ℕ)
     (p : ServerFirstParts)
     → (started : IsStarted w l) → IsServerFirst server_first p

@@ -31,7 +31,7 @@ pub length_range : (m : Mechanism) → (1 ≤ length_by m) × (length_by m ≤ 3
 length_range ScramSha1 = (omega arith, omega arith)
 length_range ScramSha256 = (omega arith, omega arith)
 
--- the server-final message of a signature bears it
+-- the server-final message that accepts with a signature bears this signature as verifier
 shown : (signature : List ℕ) → AreBytes signature → 1 ≤ length signature → length signature ≤ 64
     → IsAuthentic (due_text (accept signature)) signature
 shown signature fits some within = record {
@@ -42,7 +42,7 @@ shown signature fits some within = record {
   is_verifier = refl;
 }
 
--- the proof of a password passes by its keys: what the signature hides is ClientKey
+-- the proof of a password is a proof by the keys of this password
 proved : (m : Mechanism) (password salt auth proof : List ℕ) (count : ℕ) → proof ≡ proof_of m password salt count auth
     → IsProof m (password_keys m password salt count) auth proof
 proved m password salt auth proof count is =

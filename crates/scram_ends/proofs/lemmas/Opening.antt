@@ -43,7 +43,7 @@ opening_of : (a b : ClientFirstParts) (name other : List ℕ) (authzid also : Op
     → a ≡ b → name ≡ other → authzid ≡ also → x ≡ y → opened a name authzid x ≡ opened b other also y
 opening_of a b name other authzid also x y e f g h = cc
 
--- an opening has one list of parts and one pair of names
+-- two texts are one opening of an account at most
 pub same_opening : (e : Entry) (client_first server_first : List ℕ) (o other : Opening) → IsOpening e client_first server_first o
     → IsOpening e client_first server_first other → o ≡ other
 same_opening e client_first server_first o other is also =

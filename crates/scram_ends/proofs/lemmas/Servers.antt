@@ -1,4 +1,4 @@
--- The challenge that a server sends opens a login.
+-- The challenge that a server sends opens a login, and a verdict fails to be written only where memory runs out.
 use Rattle.std.proofs.Common.{◌≡◌, ◌≤◌, ℕ, List, [], ◌++◌, length, ap, subst, refl, arith, ◌∙◌}
 use Rattle.mac_core.specs.Mechanism.{length_by, hmac_by}
 use Rattle.mac_core.specs.declared.mechanism.Mechanism.{Mechanism}

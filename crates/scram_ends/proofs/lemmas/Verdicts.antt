@@ -33,7 +33,7 @@ one_verdict_on_parts l o p (refuse r) (accept other) is also = absurd (none_unme
 one_verdict_on_parts l o p (refuse r) (refuse q) is also = ap (λ (x : Refusal). refuse x)
     (one_first (λ r. Asks r l o p) refusals_in_order r q is also)
 
--- the verdict that is due to the messages is the one due to the parts that they have
+-- what is due to the messages is the verdict on the parts that they have
 verdict_of_opening : (l : Challenged) (client_final : List ℕ) (o : Opening) (p : ClientFinalParts) (d : Due)
     → IsOpening l.entry l.client_first l.server_first o → IsClientFinal client_final p → IsDueToParts l client_final d → IsVerdictOn l o p d
 verdict_of_opening l client_final o p d is_opening is_final due =

@@ -17,7 +17,7 @@ use Rattle.scram_ends.specs.declared.verdict.Refusal.{Refusal}
 use Rattle.scram_ends.specs.declared.verdict.Refusal.TheVariants.{InvalidEncoding, ExtensionsNotSupported, OtherNonce, Channel}
 use Rattle.scram_ends.specs.declared.verdict.Refusal.TheVariants.{InvalidProof, NotAuthorised}
 
--- where a buffer is a front and a text after it, what it has from the front's end on is that text
+-- where a buffer is a front and a text after it, its slice from the front's end on is that text
 pub after_front : (items front text : List ℕ) (start : ℕ) → items ≡ front ++ text → start ≡ length front
     → take (length items - start) (drop start items) ≡ text
 after_front items front text start same at = rw (same, at) (grind (arith, common_steps))
@@ -57,7 +57,7 @@ pub signature_fits : (signature : List ℕ) → length signature ≤ 64
     → longest_message < length (server_final_text (server_final_of (verifier signature) [])) → ⊥
 signature_fits signature most over = omega (arith, over, signature_short signature most)
 
--- a refusal's value can be told
+-- a refusal's value can be the outcome of server-final
 can_be_told : (r : Refusal) → CanBeVerifierOrError (server_error (error_value r))
 can_be_told InvalidEncoding = (record { at_least = omega arith; no_comma = refl }, plain_text _ refl)
 can_be_told ExtensionsNotSupported = (record { at_least = omega arith; no_comma = refl }, plain_text _ refl)

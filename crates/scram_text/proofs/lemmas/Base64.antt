@@ -68,12 +68,12 @@ length-base64 bytes =
     length-append (encode_symbols table bytes) (replicate (padding_len (length bytes)) 61)
     ∙ rw (length-encode_symbols table bytes, length-replicate) (padded_length (length bytes))
 
--- a text of bytes is decoded to them
+-- the base64 of bytes is decoded to them
 pub base64_back : (bytes : List ℕ) → IsBytes bytes → base64_decoded (base64 bytes) ≡ Ok bytes
 unfolding base64_decoded base64
 base64_back bytes fits = decode_of-encode_of standard bytes refl fits
 
--- a text that is decoded is the text of what it is decoded to
+-- a text that is decoded is the base64 of what it is decoded to
 pub base64_read : (text bytes : List ℕ) → IsBytes text → base64_decoded text ≡ Ok bytes → text ≡ base64 bytes
 unfolding base64_decoded base64
 base64_read text bytes fits read = decode_of_strict standard text bytes (refl, refl) fits read
@@ -87,7 +87,7 @@ has_usual_base64 bytes fits least most =
 pub taken_bytes : (n : ℕ) (bytes : List ℕ) → IsBytes bytes → IsBytes (take n bytes)
 taken_bytes n bytes fits = front_bytes (take n bytes) (drop n bytes) (subst IsBytes (sym (take-append-drop n bytes)) fits)
 
--- what was decoded to 1 to `most` bytes is a field
+-- 1 to `most` bytes to which a text was decoded are what a field may hold, and the text is their base64
 pub read_field : (most : ℕ) (text bytes : List ℕ) → IsBytes text → IsBytes bytes → decode_of standard text ≡ Ok bytes
     → 1 ≤ length bytes → length bytes ≤ most → IsField most bytes × (text ≡ base64 bytes)
 unfolding base64_decoded
@@ -118,12 +118,12 @@ too_long most other text bytes field is long (spelt, spelled, within) =
     let same : spelt ≡ bytes = cc (read, back) in
     omega (arith, long, within.at_most, ap length same)
 
--- the text of at most 64 bytes has at most 88 characters
+-- the base64 of at most 64 bytes has at most 88 characters
 pub short_text : (text bytes : List ℕ) → text ≡ base64 bytes → IsField 64 bytes → length text ≤ 88
 short_text text bytes spelled field =
     let whole : length text ≡ length (base64 bytes) = ap length spelled in
     omega (arith, whole, length-base64 bytes, field.at_most)
 
--- bytes of a length within the limits fit a field
+-- 1 to `most` bytes are what a field may hold
 pub field_of_bytes : (most : ℕ) (bytes : List ℕ) → IsBytes bytes → 1 ≤ length bytes → length bytes ≤ most → IsField most bytes
 field_of_bytes most bytes fits least within = record { at_least = least; at_most = within; each = fits }

@@ -22,12 +22,12 @@ use Rattle.scram_text.proofs.lemmas.Parts.{parts-append, parts_whole, misfit_her
 use Rattle.scram_text.proofs.lemmas.Places.{AllFit, fits_cons, fits_end, places_of, misfit-append, misfit_after, fit_after, no_fault}
 use Rattle.scram_text.proofs.lemmas.Places.{nonce_lacks, extensions_lack, parts-joined, field_fits, field_once}
 
--- the parts of the message that these parts make
+-- the parts, with their letters, of the client-final message that has these values
 abbrev pub final_parts : ClientFinalParts → List (List ℕ)
 final_parts p =
     (codes "c=" ++ base64 p.channel) ∷ (codes "r=" ++ p.nonce) ∷ (p.extensions ++ (codes "p=" ++ base64 p.proof) ∷ [])
 
--- the front has a part for each of its pieces
+-- client-final before its proof is cut into its channel field, its nonce and its extensions
 front_parts : (p : ClientFinalParts) → IsNonce longest_nonce p.nonce → AreExtensions p.extensions
     → parts (client_final_without_proof p) ≡ (codes "c=" ++ base64 p.channel) ∷ (codes "r=" ++ p.nonce) ∷ p.extensions
 unfolding client_final_without_proof
@@ -63,7 +63,7 @@ client_final_once text p q is also =
     let proof = field_once 64 p.proof q.proof is.proof also.proof proofs in
     parts_once p q channel nonces ends.0 proof
 
--- the places of client-final's parts are Channel, Nonce, one Extension for each of those, and Proof
+-- the places of client-final's parts are Channel, Nonce, one Extension for each extension, and Proof
 pub final_places : (channel nonce proof : List ℕ) (extensions : List (List ℕ))
     → places (Channel ∷ Nonce ∷ []) (Proof ∷ []) (length (channel ∷ nonce ∷ (extensions ++ proof ∷ [])))
     ≡ Channel ∷ Nonce ∷ (replicate (length extensions) Extension ++ Proof ∷ [])

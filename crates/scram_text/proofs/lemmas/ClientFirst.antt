@@ -106,7 +106,7 @@ client_first_once text p q is also =
     let extensions : p.extensions ≡ q.extensions = cc later in
     parts_once p q flags (authzid_once p.authzid q.authzid authzids) rest.0 names nonces extensions
 
--- the places of the parts after the header are Name, Nonce and one Extension for each of those
+-- the places of the parts after the mandatory extension are Name, Nonce and one Extension for each extension
 pub later_places : (name nonce : List ℕ) (extensions : List (List ℕ))
     → places (Name ∷ Nonce ∷ []) [] (length (name ∷ nonce ∷ extensions)) ≡ Name ∷ Nonce ∷ replicate (length extensions) Extension
 later_places name nonce extensions =
@@ -122,7 +122,7 @@ later_fit name nonce extensions is_name is_nonce are =
     (fits_cons longest_nonce_part Name _ name _ is_name (fits_cons longest_nonce_part Nonce _ nonce _ is_nonce
     (rw (append-nil (replicate (length extensions) Extension), append-nil extensions) at after)))
 
--- the places with those of the header before them
+-- the places of the header's parts and of those after it are Flag, Authzid and the places of those after it
 pub header_places : (later : List TextWhy) (n : ℕ) → places (Flag ∷ Authzid ∷ later) [] (suc (suc n)) ≡ Flag ∷ Authzid ∷ places later [] n
 header_places later n =
     places-cons Flag (Authzid ∷ later) [] (suc n) ∙ ap (λ (ps : List TextWhy). Flag ∷ ps) (places-cons Authzid later [] n)
@@ -146,7 +146,7 @@ header_fit flag authzid bare is_flag is_authzid fit =
     (sym (header_places (marked_places bare (Name ∷ Nonce ∷ [])) (length bare)))
     (fits_cons longest_nonce_part Flag _ flag _ is_flag (fits_cons longest_nonce_part Authzid _ authzid _ is_authzid fit))
 
--- the bare message has a mandatory extension at its beginning, where it has one
+-- the parts of the bare message are its mandatory extension, where it has one, and the others
 pub bare_marked : (p : ClientFirstParts) → IfSome p.mext IsValue → IsMarked (bare_parts p) (later_parts p) p.mext
 bare_marked p mext = marked_of p.mext (codes "n=" ++ p.name) _ refl mext
 
@@ -217,7 +217,7 @@ bare_fault text flag authzid bare f short utf8_text cut enough is_a_flag is_auth
     (misfit_later longest_nonce_part 0 Flag _ flag _ f is_a_flag
     (misfit_later longest_nonce_part 1 Authzid _ authzid _ f is_authzid misfit))
 
--- a misfit after the mandatory extension; k is the index of the name
+-- a misfit after the mandatory extension is one of the bare message; k is the index of the name
 later_misfit : (pieces : List (List ℕ)) (name nonce : List ℕ) (extensions : List (List ℕ)) (mext : Option (List ℕ)) (k : ℕ) (f : TextFault)
     → IsMarked pieces (name ∷ nonce ∷ extensions) mext → k ≡ 2 + length (mext_parts mext)
     → IsFirstMisfit longest_nonce_part (Name ∷ Nonce ∷ replicate (length extensions) Extension) k (name ∷ nonce ∷ extensions) f

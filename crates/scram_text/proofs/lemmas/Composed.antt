@@ -85,14 +85,14 @@ unfolding client_final_text
 with_proof_composed p front proof held same =
     append_assoc front (codes ",p=") (base64 proof) ∙ (λ i. held i ++ (codes ",p=" ++ base64 (sym same i)))
 
--- client-final is a text, where it is one before its proof
+-- client-final is a text, where what stands before its proof is one
 with_proof_text : (p : ClientFinalParts) → IsUtf8Text (client_final_without_proof p) → IsBytes p.proof → IsUtf8Text (client_final_text p)
 unfolding client_final_text
 with_proof_text p front bytes =
     text-append (client_final_without_proof p) (codes ",p=" ++ base64 p.proof) front
     (text-append (codes ",p=") (base64 p.proof) (plain_text (codes ",p=") refl) (base64_text p.proof bytes))
 
--- client-final with its proof is one, where it is within the limit
+-- what was written before the proof, with the proof, is a client-final message, where it is within the limit
 pub with_proof_related : (w : ClientFinalWithoutProof) (p : ClientFinalParts) (proof : List ℕ) → IsClientFinalWithoutProof w p
     → p.proof ≡ proof
     → IsBytes proof → IsField 64 proof → length (client_final_text p) ≤ longest_message → IsClientFinal (client_final_text p) p
@@ -106,7 +106,7 @@ with_proof_related w p proof is same bytes field short = record {
   short = short;
 }
 
--- the message is longer than the text before its proof
+-- the message is no shorter than the text before its proof
 pub with_proof_longer : (channel nonce extensions proof : List ℕ)
     → length (client_final_without_proof (client_final_of channel nonce extensions []))
     ≤ length (client_final_text (client_final_of channel nonce extensions proof))
@@ -118,7 +118,7 @@ with_proof_longer channel nonce extensions proof =
           (44 ∷ (codes "p=" ++ base64 proof)),
     )
 
--- a client-final message of what can be written is one, where it is within the limit
+-- the text of what can be written as client-final is a client-final message, where it is within the limit
 pub client_final_related : (channel nonce extensions proof : List ℕ) → IsBytes channel → IsBytes proof
     → CanBeClientFinal channel nonce extensions proof
     → length (client_final_text (client_final_of channel nonce extensions proof)) ≤ longest_message
@@ -150,7 +150,7 @@ server_first_composed nonce salt count extensions =
     ∙ ap (λ (t : List ℕ). (codes "r=" ++ nonce) ++ 44 ∷ ((codes "s=" ++ base64 salt) ++ 44 ∷ t))
     (sym (joined_after (codes "i=" ++ decimal count) extensions))
 
--- a server-first message of what can be written is one, where it is within the limit
+-- the text of what can be written as server-first is a server-first message, where it is within the limit
 pub server_first_related : (nonce salt : List ℕ) (count : ℕ) (extensions : List ℕ) → IsBytes salt
     → CanBeServerFirst nonce salt count extensions
     → length (server_first_text (server_first_of nonce salt count extensions)) ≤ longest_message
@@ -179,19 +179,19 @@ pub server_final_composed : (outcome : VerifierOrError) (extensions : List ℕ)
 unfolding server_final_text
 server_final_composed outcome extensions = sym (joined_after (verifier_or_error_text outcome) extensions)
 
--- a signature with its letter, and an error with its, is a text:
+-- a signature with its letter is a text, and so is an error value with its letter:
 pub signature_text : (signature : List ℕ) → IsBytes signature → IsUtf8Text (codes "v=" ++ base64 signature)
 signature_text signature bytes = text-append (codes "v=") (base64 signature) (plain_text (codes "v=") refl) (base64_text signature bytes)
 
 pub error_text : (value : List ℕ) → IsUtf8Text value → IsUtf8Text (codes "e=" ++ value)
 error_text value is = text-append (codes "e=") value (plain_text (codes "e=") refl) is
 
--- what can be told is a verifier or an error
+-- an outcome that can be written is a verifier or an error
 told_class : (outcome : VerifierOrError) → CanBeVerifierOrError outcome → IsVerifierOrError outcome
 told_class (verifier signature) can = can
 told_class (server_error value) can = can.0
 
--- a server-final message of what can be written is one, where it is within the limit
+-- the text of what can be written as server-final is a server-final message, where it is within the limit
 pub server_final_related : (outcome : VerifierOrError) (extensions : List ℕ) → IsUtf8Text (verifier_or_error_text outcome)
     → CanBeServerFinal outcome extensions → length (server_final_text (server_final_of outcome extensions)) ≤ longest_message
     → IsServerFinal (server_final_text (server_final_of outcome extensions)) (server_final_of outcome extensions)
@@ -240,7 +240,7 @@ flag_is_text NoBinding is = plain_text (codes "n") refl
 flag_is_text NotOffered is = plain_text (codes "y") refl
 flag_is_text (Binding name) is = text-append (codes "p=") name.now (plain_text (codes "p=") refl) (cb_name_text name.now is)
 
--- a client-first message of what can be written is one, where it is within the limit
+-- the text of what can be written as client-first is a client-first message, where it is within the limit
 pub client_first_related : (flag : Flag) (authzid : Option (List ℕ)) (name nonce extensions : List ℕ)
     → IfSome authzid IsPlainName → IsPlainName name → IsNoncePart nonce → CanBeClientFirst flag extensions
     → length (client_first_text (client_first_of flag authzid name nonce extensions)) ≤ longest_message

@@ -42,7 +42,7 @@ decided_text bytes =
     (λ h. record { utf8 = IsUtf8-from_is_utf8 bytes h.0; no_nul = h.1 }) (λ r. (is_utf8-from_IsUtf8 bytes r.utf8, r.no_nul))
     (decided_both _ _ (decided_test (is_utf8 bytes)) (decided_test _))
 
--- whether a value, a saslname, an extension or a count is one is decided:
+-- whether bytes are a value, a saslname or an extension is decided, and so is whether a number is a count:
 decided_value : (value : List ℕ) → Decided (IsValue value)
 decided_value value =
     decided_by ((1 ≤ length value) × LacksComma value) (IsValue value)

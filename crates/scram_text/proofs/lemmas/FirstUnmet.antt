@@ -9,7 +9,7 @@ abbrev pub IsFound : {R : Type 0} → (R → Type 0) → List R → R → Type 0
 IsFound Asked [] r = ⊥
 IsFound Asked (row ∷ rows) r = ((row ≡ r) × (Asked row → ⊥)) ⊎ (Asked row × IsFound Asked rows r)
 
--- one more row at the top, which is met
+-- with one more row at the top, which is met, the first that is not met is the same
 abbrev pub below : {R : Type 0} (Asked : R → Type 0) (row : R) (rows : List R) (r : R)
     → Asked row → IsFirstUnmet Asked rows r → IsFirstUnmet Asked (row ∷ rows) r
 below Asked row rows r met first = record {
@@ -51,7 +51,7 @@ one_found Asked (row ∷ rows) r q (inl found) (inr other) = absurd (found.1 oth
 one_found Asked (row ∷ rows) r q (inr found) (inl other) = absurd (other.1 found.0)
 one_found Asked (row ∷ rows) r q (inr found) (inr other) = one_found Asked rows r q found.1 other.1
 
--- one row alone is the first that is not met
+-- at most one row is the first that is not met
 pub one_first : {R : Type 0} (Asked : R → Type 0) (rows : List R) (r q : R) → IsFirstUnmet Asked rows r → IsFirstUnmet Asked rows q → r ≡ q
 one_first Asked rows r q first other = one_found Asked rows r q (found_first Asked rows r first) (found_first Asked rows q other)
 

@@ -21,7 +21,7 @@ pub places-cons : (place : TextWhy) (front back : List TextWhy) (n : ℕ) → pl
 places-cons place front back n =
     let same : suc n - (suc (length front) + length back) ≡ n - (length front + length back) = omega arith in rw same refl
 
--- the places of parts of which only extensions follow the fixed ones are these, and one Extension for each
+-- the places of parts, where only extensions follow the fixed ones, are the fixed places, and one Extension for each extension
 pub places_front : (front : List TextWhy) (n middle : ℕ) → n ≡ length front + middle
     → places front [] n ≡ front ++ replicate middle Extension
 places_front front n middle count =
@@ -80,7 +80,7 @@ marked_fault most later pieces rest mext f marked enough misfit =
       marked_misfit most 0 (length (mext_parts mext)) later pieces rest mext f marked (omega arith) misfit,
     )
 
--- parts after a mandatory extension, or without one, are marked so, and have no comma where each has none:
+-- a mandatory extension, if there is one, and other parts are together these two, and have no comma where each has none:
 pub marked_of : (mext : Option (List ℕ)) (piece : List ℕ) (rest : List (List ℕ)) → is_named 109 piece ≡ false → IfSome mext IsValue
     → IsMarked (mext_parts mext ++ piece ∷ rest) (piece ∷ rest) mext
 marked_of None piece rest headed value = record { cut = refl; value = value; headed = headed }
@@ -96,7 +96,7 @@ pub marked_some : (mext : Option (List ℕ)) (piece : List ℕ) (rest : List (Li
 marked_some None piece rest = omega arith
 marked_some (Some v) piece rest = omega arith
 
--- parts of which the first after the mandatory extension is none show whether they have one
+-- parts are a mandatory extension and others in one way, where the first of the others is not one too
 pub marked_once : (one other : Option (List ℕ)) (a b : List ℕ) (x y : List (List ℕ)) → is_named 109 a ≡ false → is_named 109 b ≡ false
     → mext_parts one ++ a ∷ x ≡ mext_parts other ++ b ∷ y → (one ≡ other) × (a ∷ x ≡ b ∷ y)
 marked_once None None a b x y ha hb same = (refl, same)

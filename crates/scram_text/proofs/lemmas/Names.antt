@@ -96,7 +96,7 @@ spelling_lacks [] = refl
 spelling_lacks (c ∷ name) =
     rw (list_all-append (λ b. not (is_comma b)) (escape c) (name_spelling name), escape_lacks c, spelling_lacks name) refl
 
--- the escapes of a spelling are whole where those of what follows a byte are, and those of a name's are whole:
+-- whole escapes stay whole with the spelling of a byte before them, and those of a name's spelling are whole:
 escaped_before : (c : ℕ) (rest : List ℕ) → is_escaped rest ≡ true → is_escaped (escape c ++ rest) ≡ true
 escaped_before c rest is = elim (escape_cases c) [
   | inl p ↦ rw p.1 is

@@ -9,7 +9,7 @@ use Rattle.scram_text.specs.Laws.{NameIsDecided}
 use Rattle.scram_text.proofs.lemmas.Decided.{decided_run}
 use Rattle.scram_text.proofs.lemmas.Names.{escape_cases}
 
--- the bytes that a saslname may spell: from k = 1 on, the byte after `=` says which is meant
+-- the bytes that a saslname may spell, where k bytes of an escape were read: the byte after `=` says which is meant
 unescaped_from : ℕ → List ℕ → List ℕ
 unescaped_from k [] = []
 unescaped_from zero (c ∷ text) = if c == 61 then unescaped_from 1 text else c ∷ unescaped_from 0 text

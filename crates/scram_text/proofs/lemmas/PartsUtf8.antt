@@ -26,7 +26,7 @@ utf8_pieces front back utf8 =
           (IsCharBoundary-after_ascii (front ++ 44 ∷ back) (length front) utf8 within ascii)),
     )
 
--- the parts of a text of UTF-8 are UTF-8, each up to a length
+-- the parts of a text of UTF-8 are UTF-8, for texts up to a length
 parts_utf8_at : (n : ℕ) (text : List ℕ) (o : Option ℕ) → position is_comma text ≡ o → length text ≤ n → IsUtf8 text
     → AllByRecursion IsUtf8 (parts text)
 parts_utf8_at n text None none short utf8 =

@@ -56,7 +56,7 @@ server_final_once text p q is also =
     let outcome = outcome_once p.outcome q.outcome is.outcome also.outcome outcomes in
     λ i. record { outcome = outcome i; extensions = extensions i }
 
--- the places of server-final's parts are the outcome's, and one Extension for each of those
+-- the places of server-final's parts are the outcome's, and one Extension for each extension
 pub result_places : (first : List ℕ) (extensions : List (List ℕ))
     → places (result_place first ∷ []) [] (length (first ∷ extensions)) ≡ result_place first ∷ replicate (length extensions) Extension
 result_places first extensions = places_front (result_place first ∷ []) (length (first ∷ extensions)) (length extensions) (omega arith)

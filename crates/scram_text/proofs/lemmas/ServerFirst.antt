@@ -44,7 +44,7 @@ parts_server_first text p is =
       ),
     )))
 
--- a message begins with a mandatory extension where it has one
+-- the parts of a server-first message are its mandatory extension, where it has one, and the others
 pub is_marked : (text : List ℕ) (p : ServerFirstParts) → IsServerFirst text p → IsMarked (parts text) (later_parts p) p.mext
 is_marked text p is =
     subst (λ (ps : List (List ℕ)). IsMarked ps (later_parts p) p.mext) (sym (parts_server_first text p is))
@@ -69,7 +69,7 @@ server_first_once text p q is also =
     parts_once p q same.0 nonces (field_once 64 p.salt q.salt is.salt also.salt salts)
     (decimal_injective p.count q.count (below_64 p.count is.count) (below_64 q.count also.count) counts) extensions
 
--- the places of server-first's parts are Nonce, Salt, Count and one Extension for each of those
+-- the places of the parts after the mandatory extension are Nonce, Salt, Count and one Extension for each extension
 pub later_places : (nonce salt count : List ℕ) (extensions : List (List ℕ))
     → places (Nonce ∷ Salt ∷ Count ∷ []) [] (length (nonce ∷ salt ∷ count ∷ extensions))
     ≡ Nonce ∷ Salt ∷ Count ∷ replicate (length extensions) Extension

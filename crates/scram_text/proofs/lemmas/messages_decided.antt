@@ -1,4 +1,4 @@
--- Texts whose parts all fit have parts in the relation, so the grammar is decided.
+-- A text is a message exactly where its parts all fit their places, so whether it is one is decided.
 pub mod ClientFinal
 pub mod ClientFirst
 pub mod Fitting

@@ -22,7 +22,8 @@ use Rattle.log_grammar.specs.Demands.{Accounts, IsChallenged, IsVerdictDue}
 use Rattle.log_grammar.proofs.lemmas.lines.Written.{refuses_written, accepts_written}
 use Rattle.log_grammar.proofs.lemmas.lines.TextBytes.{utf8_message}
 
--- the laws of the crates below: a client-first message has one list of parts and is decided, so is a name, and some verdict is due
+-- the laws of the crates below: a client-first message has one list of parts at most; whether a text is one, and whether a text spells
+-- a name, is decided; and some verdict is due to each login
 pub record Ground : Type 0 where
   pub once : HasOneClientFirst
   pub firsts : ClientFirstIsDecided

@@ -1,4 +1,4 @@
--- The counter of a reply that is due to a token in its ranges is in its own.
+-- Where a token is in its ranges, the counter of the reply that is due is in the range of counters.
 use Rattle.std.proofs.Common.{ℕ, ◌-◌, List, sym, subst, arith}
 use Rattle.std.specs.declared.option.Option.TheVariants.{Some}
 use Rattle.std.proofs.Math.Nat.{div-le_self}
@@ -13,7 +13,7 @@ use Rattle.otp_core.specs.declared.token.kinds.TokenFields.TheVariants.{Hotp, To
 use Rattle.log_grammar.specs.Lines.{IsReplyInRange}
 use Rattle.log_grammar.specs.laws.Reasons.{DueRepliesCanBeWritten}
 
--- the reply that is due to a token in its ranges is in its own
+-- where a token is in its ranges, the reply that is due is in its range
 counter_in_range : (token : TokenFields) (attempts : List Attempt) (moment : ℕ) (sent : CodeTexts) (reply : Reply) → IsInRange token
     → IsMoment moment
     → IsDueReply token attempts moment sent reply → IsReplyInRange (Some reply)
@@ -27,7 +27,7 @@ counter_in_range (Totp t) attempts moment (TwoTexts first second) (Pass c) range
 counter_in_range token attempts moment sent Fail range at due = tt
 counter_in_range token attempts moment sent Locked range at due = tt
 
--- the law: a reply that is due to a token in its ranges, at a moment in its own, can be written
+-- the law: where a token and the moment are in their ranges, the reply that is due can be written
 pub due_in_range : DueRepliesCanBeWritten
 due_in_range token attempts moment sent due range at (reply, is, by) =
     subst IsReplyInRange (sym is) (counter_in_range token attempts moment sent reply range at by)

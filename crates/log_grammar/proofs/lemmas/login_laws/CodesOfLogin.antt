@@ -31,7 +31,7 @@ of_quit P (goes_away closed) = of_closing P closed
 of_quit P (aborts f) = of_farewell P f
 of_quit P (sends_bad f) = of_farewell P f
 
--- all that is told after a challenge is of its account
+-- all these replies are to codes of this account
 abbrev AllOf : List ℕ → List LoggedReply → Type 0
 AllOf account told = AllByRecursion (λ t. t.account ≡ account) told
 

@@ -1,4 +1,4 @@
--- Where HALT and BUSY lead. After every other line any line may follow.
+-- Where HALT and BUSY lead. Any line may follow a line that is neither.
 use Rattle.std.proofs.Common.{◌≡◌, ◌⊎◌, inl, inr, ℕ, refl, sym, ◌∙◌, subst}
 use Rattle.log_grammar.specs.Lines.{LogLine, said, halt, busy}
 use Rattle.log_grammar.specs.Places.{Place, before_all, got_code, over, halted}

@@ -42,7 +42,7 @@ numbers_of numbered_told = map (λ t. t.number) numbered_told
 abbrev pub values_of : List (Numbered LoggedReply) → List LoggedReply
 values_of numbered_told = map (λ t. t.value) numbered_told
 
--- what was told is the same again without the number that it was given
+-- replies that are given a number are the same again without it
 pub values_numbered : (n : ℕ) (told : List LoggedReply) → values_of (numbered_told_of n told) ≡ told
 values_numbered n [] = refl
 values_numbered n (t ∷ told) = ap (λ l. t ∷ l) (values_numbered n told)
@@ -78,7 +78,7 @@ told_before_none n numbered_told numbers before order mine =
       mine = mine ∙ append-nil before;
     }
 
--- one reply of a number is all that was told under it
+-- of a list of one reply, what is of this reply's number is the reply
 of_number_last : (n : ℕ) (m : Numbered LoggedReply) → m.number ≡ n → of_number n (m ∷ []) ≡ m.value ∷ []
 of_number_last n m same = rw (eq-eqb n m.number (sym same)) refl
 

@@ -1,5 +1,5 @@
--- A log of version 2 is read in one way, and its first lines are again such a log. The place of a number follows from
--- the lines of this number alone.
+-- A log of version 2 is read in one way, its first lines are again such a log, and the challenge that a number's place has
+-- meets what is demanded of it.
 use Rattle.std.proofs.Common.{◌≡◌, inl, inr, ℕ, zero, suc, ◌≤◌, List, [], ◌∷◌, ◌++◌, length, reverse, refl, sym, ◌∙◌, ap, subst, arith}
 use Rattle.std.proofs.Common.{append_assoc, append-nil}
 use Rattle.log_grammar.specs.Lines.{LogLine}

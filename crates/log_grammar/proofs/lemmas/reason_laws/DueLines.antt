@@ -35,7 +35,7 @@ says_once (other_outcome (accepted signature)) one other single says also = absu
 says_once (other_outcome (refused_with message)) one other single says also = says ∙ sym also
 says_once (other_reply moment due) one other single says also = says ∙ sym also
 
--- a reason that a line can say is one that names what is due
+-- where a line that can be written says what a reason names as due, the reason does name it
 pub named : (why : Why) (line : LogLine) → SaysWhatIsDue why line → IsWritable line → NamesWhatIsDue why
 named is_cut line says writable = says
 named no_line line says writable = says
@@ -61,7 +61,7 @@ goes_ok accounts (got_final m account first challenge last) signature text (acce
 goes_ok accounts leaving signature text same bears = absurd (cc same)
 goes_ok accounts place signature text wrong bears = absurd wrong
 
--- no reply in place of the one due is wrong for the reason that another outcome is due
+-- a reply that is not the one due is never wrong for the reason that an acceptance is due
 no_reply_why : (accounts : Accounts) (place : Place) (told : List LoggedReply) (moment : ℕ) (signature : List ℕ)
     → IsWrongReply accounts place told moment (other_outcome (accepted signature)) → ⊥
 no_reply_why accounts (got_code account sent) told moment signature (due, is, same) = cc same

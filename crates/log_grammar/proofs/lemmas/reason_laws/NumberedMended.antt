@@ -49,7 +49,7 @@ record FaultOf (limit : ℕ) (accounts : Accounts) (before : List (List ℕ)) (x
   due : IsNumberDueAt limit log (places x.number) x.number (class_of x.value)
   wrong : IsWrong accounts (places x.number) told x.value why
 
--- a line after the first, at fault for a reason that names what is due, is one where some line of its class is due
+-- a line after the first that is at fault for a reason that names what is due is at fault where some line of its class is due
 later_fault : (limit : ℕ) (accounts : Accounts) (first : List ℕ) (texts : List (List ℕ)) (text : List ℕ) (log : List (Numbered LogLine))
     (x : Numbered LogLine) (why : Why)
     → first ≡ log_line_text header_two → AllZip IsNumberedLine texts log → IsNumberedLine text x → NamesWhatIsDue why
@@ -116,7 +116,7 @@ class_due (other_outcome due) class = class ≡ of_login_answers
 class_due (other_reply moment due) class = class ≡ of_replies
 class_due why class = ⊥
 
--- the class of a line that says what is due is the one that the reason names:
+-- the class that a reason names is that of a line that says what is due, and that of the line at fault:
 says_class : (why : Why) (line : LogLine) → SaysWhatIsDue why line → class_due why (class_of line)
 says_class is_cut line says = says
 says_class no_line line says = says
@@ -151,7 +151,7 @@ wrong_class accounts place told (said (refuses message)) why wrong = word_class 
 wrong_class accounts place told (said (replies moment reply)) why wrong = reply_class accounts place told moment why wrong
 wrong_class accounts place told line why wrong = absurd wrong
 
--- one class is due for each reason
+-- a reason names one class at most
 one_class : (why : Why) (one other : LineClass) → class_due why one → class_due why other → one ≡ other
 one_class is_cut one other a b = absurd a
 one_class no_line one other a b = absurd a

@@ -119,7 +119,7 @@ above_pass account t before c d is passes above = elim (of_account t account) [
   | inr other ↦ absurd (other.1 is)
 ]
 
--- a list turned round about one of its elements is what is after it, turned, then it, then what is before it, turned
+-- a list reversed is what stood after one of its elements, reversed, then that element, then what stood before it, reversed
 turned_part : (front middle : List LoggedReply) (t : LoggedReply) → reverse (front ++ t ∷ middle) ≡ reverse middle ++ t ∷ reverse front
 turned_part front middle t = reverse-append front (t ∷ middle) ∙ turned t middle (reverse front)
 

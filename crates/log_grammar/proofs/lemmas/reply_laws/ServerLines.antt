@@ -24,14 +24,14 @@ use Rattle.log_grammar.proofs.lemmas.ListEnds.{length-last}
 use Rattle.log_grammar.proofs.lemmas.state_machine.PlaceBefore.{stood_before}
 use Rattle.log_grammar.proofs.lemmas.kinds.OneWhy.{mechanism_once}
 
--- a line that tells nothing leaves what was told
+-- where no more was told, what was told in a log's lines is the same
 quiet : (accounts : Accounts) (log : List LogLine) (at : Place) (all told : List LoggedReply) → all ≡ told ++ []
     → Begins (demands accounts) log at told
     → Begins (demands accounts) log at all
 quiet accounts log at all told same begins = subst (λ (t : List LoggedReply). Begins (demands accounts) log at t)
     (sym (same ∙ append-nil told)) begins
 
--- a log goes on by a line that tells nothing, and has told the same
+-- a log goes on by a line that tells nothing, and what was told in it stays the same
 on_quietly : (accounts : Accounts) (log : List LogLine) (at : Place) (told : List LoggedReply) (line : LogLine) (next : Place)
     → told_at at line ≡ []
     → Begins (demands accounts) log at told → IsTransition (demands accounts) at line next

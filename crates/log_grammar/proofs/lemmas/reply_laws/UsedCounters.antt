@@ -30,7 +30,7 @@ pass_rises new token attempts t c fits rising = by_sent t.sent fits
         let first_above = subst (IsAbove (used_in attempts)) (sym before) (new token attempts t.moment fits.0 (inr fits.2)) in
         ((omega (arith, fits.1), above), (first_above, rising))
 
--- with a reply that is due, the counters that an account's codes use go on rising:
+-- with a reply that is due, of a token, of an account that may have none, and among those of other accounts, they go on rising:
 reply_rises : CandidatesAreNew → (token : TokenFields) (attempts : List Attempt) (t : LoggedReply) (reply : Reply)
     → IsDueReply token attempts t.moment t.sent reply
     → AreRising (used_in attempts) → AreRising (used_in (attempts_by t (Some reply) attempts))

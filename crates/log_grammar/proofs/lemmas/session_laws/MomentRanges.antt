@@ -21,11 +21,11 @@ use Rattle.log_grammar.proofs.lemmas.ListEnds.{all_append, each_first, each_rest
 abbrev pub Ranged : List LogLine → Type 0
 Ranged lines = AllByRecursion IsLogLineInRange lines
 
--- all replies are at moments
+-- all replies are at moments in their range
 abbrev pub Timed : List LoggedReply → Type 0
 Timed told = AllByRecursion (λ t. IsMoment t.moment) told
 
--- where the lines are in their ranges, what they tell is at moments
+-- where the lines are in their ranges, what they tell is at moments in their range
 abbrev InTime : Part → Type 0
 InTime part = Ranged part.lines → Timed part.told
 

@@ -85,6 +85,6 @@ of_sessions (s ∷ sessions) =
     ∙ ap (λ (n : ℕ). n + count_by is_offer (flat_map session_lines sessions)) (of_session s)
     ∙ ap (λ (n : ℕ). 1 + n) (of_sessions sessions) ∙ one_more (length sessions)
 
--- in a log of some sessions as many lines begin a session as there are sessions
+-- as many sessions are counted in a log of version 1 as it has
 pub sessions_counted : (sessions : List Session) → (counts_of (header ∷ flat_map session_lines sessions)).sessions ≡ length sessions
 sessions_counted sessions = of_sessions sessions

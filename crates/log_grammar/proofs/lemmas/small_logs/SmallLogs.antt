@@ -1,4 +1,5 @@
--- The small logs, line by line.
+-- The small logs of version 1, line by line: the texts that are lines, where they lead, which logs are clean, and where and
+-- why the others are at fault.
 use Rattle.std.proofs.Common.{◌≡◌, inl, inr, ℕ, ◌+◌, ◌≤◌, List, [], ◌∷◌, ◌++◌, length, get_or, refl, sym, ap, subst, arith}
 use Rattle.std.specs.Prelude.{codes}
 use Rattle.mac_core.specs.declared.mechanism.Mechanism.{Mechanism}
@@ -350,7 +351,7 @@ is_due : (accounts : Accounts) (lines : List LogLine) (place : Place) (class : L
     → IsClassDue lines class
 is_due accounts lines place class begins is = (classes_due accounts lines place [] class begins).1 is
 
--- the name of one mechanism is not those of both
+-- the name of one mechanism is not the names of both
 other_names : codes "SCRAM-SHA-1" ≡ codes "SCRAM-SHA-256 SCRAM-SHA-1" → ⊥
 other_names e = let wrong : 49 ≡ 50 = ap (λ (l : List ℕ). get_or l 10 0) e in omega (arith, wrong)
 

@@ -1,4 +1,4 @@
--- The small logs of version 2, line by line.
+-- The small logs of version 2 in which more than one session is open, line by line.
 use Rattle.std.proofs.Common.{◌≡◌, ◌∙◌, ◌≤◌, inl, inr, ℕ, suc, zero, List, [], ◌∷◌, ◌++◌, refl, sym, subst, arith}
 use Rattle.std.specs.List.{AllByRecursion}
 use Rattle.log_grammar.specs.Lines.{LogLine, said, heard, gone, ended, refuses, abort}

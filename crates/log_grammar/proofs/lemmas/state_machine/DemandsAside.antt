@@ -69,11 +69,11 @@ pub record IsBareOf (bare own : Part) : Type 0 where
   pub told : bare.told ≡ map bare_told own.told
   pub meets : bare.Meets no_demands
 
--- with a line put before both, a part and the same with no account named are again such
+-- where a part is the same with no account named, it is so with a line before it
 pub bare_line : (l : LogLine) (b own : Part) → IsBareOf b own → IsBareOf (next_line l b) (next_line l own)
 bare_line l b own is = record { lines = ap (λ (t : List LogLine). l ∷ t) is.lines; place = is.place; told = is.told; meets = is.meets }
 
--- so are such parts with a line that meets a demand, and with one that tells of a reply:
+-- so it is with a line of which something is demanded, and with a line that tells a reply:
 bare_due : (B Own : Demands → Type 0) (l : LogLine) (b own : Part) → B no_demands → IsBareOf b own
     → IsBareOf (due_line B l b) (due_line Own l own)
 bare_due B Own l b own due is =

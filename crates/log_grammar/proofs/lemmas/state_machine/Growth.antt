@@ -1,5 +1,5 @@
--- A session goes on by one line: where the line may stand at the session's place, there is a session with
--- that line more.
+-- A session goes on by one line: where the line may stand at the session's place, there is the same session with this line
+-- after it.
 use Rattle.std.proofs.Common.{◌≡◌, ◌⊎◌, inl, inr, ℕ, true, false, List, [], ◌∷◌, ◌++◌, refl, sym, ◌∙◌, ap, append_assoc}
 use Rattle.otp_core.specs.Attempt.{OneText, TwoTexts}
 use Rattle.log_grammar.specs.Lines.{LogLine, said, heard, bad, gone, ended, mechs, cont, accepts, refuses, replies, halt, auth, auth_with}

@@ -32,7 +32,7 @@ use Rattle.log_grammar.proofs.lemmas.ListEnds.{all_append, each_first}
 use Rattle.log_grammar.proofs.lemmas.lines.TextBytes.{lacks-append}
 use Rattle.log_grammar.proofs.lemmas.lines.Words.{after_space, after-word, spaceless_number}
 
--- each line of a session may have a number
+-- each of these lines may have a number
 abbrev AreSession : List LogLine → Type 0
 AreSession lines = AllByRecursion MayHaveNumber lines
 
@@ -114,7 +114,8 @@ next_within n line = elim (cases_Bool (is_end line)) [
 abbrev FitNumbers : ℕ → List LogLine → Type 0
 FitNumbers n lines = (1 ≤ n) × (n + length lines ≤ last_session_number)
 
--- few lines are numbered from a session's number on, and stay few without the first of them:
+-- where the numbers from this one on fit the lines, it is a session's number, and those after it fit the lines after the first;
+-- the numbers from 1 on fit lines that can be numbered:
 first_number : (n : ℕ) (lines : List LogLine) → FitNumbers n lines → IsSessionNumber n
 first_number n lines few = (few.0, omega (arith, few.1))
 
@@ -154,7 +155,7 @@ pub new_lack : (lines : List LogLine) → CanBeNumbered lines
     → AllByRecursion LacksLf (log_line_text header_two ∷ map numbered_text (with_numbers 1 lines))
 new_lack lines can = (refl, lack_from 1 lines (few_from_one lines can) can.each)
 
--- a new text is read as no other than its number and its line:
+-- a text of an upgraded log is read as no other than its number and its line, and so are the texts of many lines:
 one_back : (n : ℕ) (line : LogLine) (x : Numbered LogLine) → IsSessionNumber n → IsWritable line
     → IsNumberedLine (numbered_text (numbered n line)) x
     → x ≡ numbered n line

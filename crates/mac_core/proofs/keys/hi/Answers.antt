@@ -3,12 +3,12 @@ use Rattle.mac_core.specs.Hmac.{hmac}
 use Rattle.mac_core.specs.Keys.{xor_bytes, iterated, xor_of_iterated}
 use Rattle.mac_core.proofs.keys.hi.Goals as goal
 
--- U of the next number
+-- U of the next number is the MAC of this one
 iterated-next : (mac : List ℕ → List ℕ) (salt : List ℕ) (n : ℕ) → iterated mac salt (n + 1) ≡ mac (iterated mac salt n)
 unfolding iterated
 iterated-next mac salt n = rw add-one refl
 
--- the xor up to the next number
+-- the xor up to the next number is the xor up to this one, xor U of the next
 xor_of_iterated-next : (mac : List ℕ → List ℕ) (salt : List ℕ) (n : ℕ) → 1 ≤ n
     → xor_of_iterated mac salt (n + 1) ≡ xor_bytes (xor_of_iterated mac salt n) (iterated mac salt (n + 1))
 unfolding xor_of_iterated

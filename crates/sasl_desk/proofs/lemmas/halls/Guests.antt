@@ -1,4 +1,4 @@
--- The guests of a hall, by their numbers.
+-- The guests of a hall, counted and found by their numbers, and what is counted and found in lists.
 use Rattle.std.proofs.Common.{◌≡◌, ◌+◌, ◌<◌, inl, inr, Bool, true, false, ℕ, List, [], ◌∷◌, ◌++◌, length, refl, sym, ◌∙◌, ap, subst, arith}
 use Rattle.std.specs.Prelude.{count_by, slice_get, nat_lt}
 use Rattle.std.specs.Bool.{Decides}
@@ -105,7 +105,7 @@ found_holds P p (x ∷ xs) y all is = elim (cases_Bool (p x)) [
   | inr fails ↦ found_holds P p xs y all.1 (rw fails at is)
 ]
 
--- where no element that passes is counted, `find` finds none
+-- an element that `find` finds is counted
 pub found_counted : {X : Type 0} (p : X → Bool) (xs : List X) (y : X) → find p xs ≡ Some y → count_by p xs ≡ 0 → ⊥
 found_counted p [] y is none = cc is
 found_counted p (x ∷ xs) y is none = elim (cases_Bool (p x)) [

@@ -1,4 +1,5 @@
--- The laws of halls.
+-- What holds of every hall, whatever it was asked: its log is a front, and clean at its end; each phase is that of its place; each session
+-- has its records; and what was told was saved.
 use Rattle.std.proofs.Common.{◌≡◌, ◌⊎◌, inl, inr, Bool, true, false, ℕ, List, [], ◌∷◌, ◌++◌, map, reverse, refl, sym, ◌∙◌, ap, subst, arith}
 use Rattle.std.proofs.Common.{append_assoc, append-nil}
 use Rattle.std.specs.List.{AllByRecursion, find}
@@ -277,7 +278,7 @@ run_to facts IsStored start calls hall s left leaves = (
   refl,
 )
 
--- the text that the store of a hall holds is that of a book which the run leaves where it stops here
+-- the store of a hall holds the text of a book that its run may leave
 pub left_book : {S : Type 0} (facts : S → StoreFacts) (IsStored : List ℕ → Type 0) (start : BookFields) (calls : List (Numbered Call))
     (hall : HallFields S)
     → IsHallAfter facts IsStored start calls hall

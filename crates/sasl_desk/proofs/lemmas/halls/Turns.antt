@@ -42,11 +42,11 @@ use Rattle.sasl_desk.proofs.lemmas.halls.Paths.{IsTurnLine, turn_number, turn_be
 use Rattle.sasl_desk.proofs.lemmas.turns.Paths.{client_turn}
 use Rattle.sasl_desk.proofs.lemmas.runs.IsDeskAfter.{held_unless}
 
--- a call of a number is the latest of that number's calls
+-- the first element of a numbered list is the first of those of its number
 pub of_number_here : {X : Type 0} (n : ℕ) (x : X) (xs : List (Numbered X)) → of_number n (numbered n x ∷ xs) ≡ x ∷ of_number n xs
 of_number_here n x xs = rw (eq-eqb n n refl) refl
 
--- a call of another number is none of this number's calls
+-- the first element of a numbered list is none of those of another number
 pub of_number_skip : {X : Type 0} (n m : ℕ) (x : X) (xs : List (Numbered X)) → (n ≡ m → ⊥)
     → of_number m (numbered n x ∷ xs) ≡ of_number m xs
 of_number_skip n m x xs other = elim (eqb_tells m n) [
@@ -258,7 +258,8 @@ others_seated accounts calls places n call next others seated differ =
       is.1 ∙ ap server_nonce_of (sym (of_number_skip n guest.number call calls (λ same. apart (sym same)))),
     ))
 
--- a turn of the session of a number has such lines, leads to a place, and leaves the book and the store as the hall needs them there
+-- what a turn of the session of this number gives its hall: the place to which it leads, the log with its lines, and the book and the store
+-- as they are due there
 pub record HallStep {S : Type 0} (facts : S → StoreFacts) (IsStored : List ℕ → Type 0) (start : BookFields) (calls : List (Numbered Call))
     (places : ℕ → Place) (n : ℕ) (event : ClientEvent)
     (moment : ℕ) (lines : List LogLine) (left : AfterTurn) (keeper : Keeper S) : Type 0 where

@@ -61,7 +61,7 @@ answer_saves Continues going message = ends_save going
 answer_saves Accepts going message = ends_save going
 answer_saves Refuses going message = ends_save going
 
--- for no line of a turn that a session answers is the store asked to save
+-- the store is not asked to save for any line of a turn that a session answers
 pub turn_saves : (turn : Turn) (message : List ℕ) → filter is_saving (turn_lines turn message) ≡ []
 turn_saves turn message =
     recorded_saves turn.recorded (lines_of_answer turn.answer message) ∙ answer_saves turn.answer.says turn.answer.session message

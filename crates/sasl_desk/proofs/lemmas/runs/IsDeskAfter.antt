@@ -49,7 +49,7 @@ use Rattle.sasl_desk.proofs.lemmas.turns.Paths.{client_turn, turn_path, turn_no_
 use Rattle.sasl_desk.proofs.lemmas.runs.Bytes.{left_rests, answer_bears, answer_answers}
 use Rattle.sasl_log.proofs.lemmas.audits.AuditedLineByLine.{book_first}
 
--- a book with what was told, the latest first, is the one after what was told, the earliest first
+-- the book after replies, given with the latest first, is the book after them, given with the earliest first
 with_after : BeginsWithItself → (start : BookFields) (before : List LoggedReply) (book : BookFields) → IsBookWith start before book
     → IsBookAfter (accounts_in start) (reverse before) book
 with_after itself start [] book is = subst (λ (b : BookFields). IsBookAfter (accounts_in start) [] b) (sym is) (book_first itself start)
@@ -57,7 +57,7 @@ with_after itself start (t ∷ before) book (old, with_old, one) =
     subst (λ (l : List LoggedReply). IsBookAfter (accounts_in start) l book) (sym (reverse_onto before t []))
     (told_after old book t one (accounts_in start) (reverse before) (with_after itself start before old with_old))
 
--- a book with what was told, turned round, is the one after what was told
+-- the book after replies, given in the reverse of their order, is the book after them
 pub book_after_told : BeginsWithItself → (start : BookFields) (told : List LoggedReply) (book : BookFields)
     → IsBookWith start (reverse told) book
     → IsBookAfter (accounts_in start) told book

@@ -1,4 +1,4 @@
--- An answer is one: what is recorded of an event, the lines that are due at a place, and where they lead.
+-- There is one answer to an event: one record of it, one list of lines that is due after the record, and one place to which they lead.
 use Rattle.std.proofs.Common.{◌≡◌, ◌⊎◌, inl, inr, true, false, Bool, ℕ, List, [], ◌∷◌, ◌++◌, refl, sym, ◌∙◌, ap, subst}
 use Rattle.std.specs.List.{AllByRecursion}
 use Rattle.mac_core.specs.declared.mechanism.Mechanism.{Mechanism}
@@ -129,7 +129,7 @@ tail_turn d at (line ∷ lines) next turn (middle, goes, path) all = absurd (cli
 abbrev pub IsRefusal : (text : List ℕ) → List LogLine → Place → Type 0
 IsRefusal text lines next = (lines ≡ said (refuses text) ∷ ended ∷ []) × (next ≡ between)
 
--- the answer that may stand at a place where one is due, and where it leads
+-- the lines are an answer that may stand at this place, where one is due, and lead to the next. Of other places nothing is said.
 abbrev pub ShapeAt : Accounts → Place → List LogLine → Place → Type 0
 ShapeAt accounts leaving lines next = IsRefusal [] lines next
 ShapeAt accounts over lines next = (lines ≡ ended ∷ []) × (next ≡ between)
@@ -148,7 +148,7 @@ ShapeAt accounts (got_final mechanism account first challenge last) lines next =
     × ((lines ≡ said (accepts text) ∷ []) × (next ≡ waits_code account)))
 ShapeAt accounts at lines next = Unit {0}
 
--- an answer that begins with a refusal is that refusal, and one that leaves the client's turn is one line:
+-- an answer that begins with a refusal is that refusal, and one whose first line leads to the client's turn is that line:
 refused_lines : (text due : List ℕ) (lines : List LogLine) (next middle : Place) (d : Demands) → text ≡ due → middle ≡ over
     → IsPath d middle lines next → AllByRecursion IsAnswerLine lines → IsAtRest next → IsRefusal due (said (refuses text) ∷ lines) next
 refused_lines text due lines next middle d same at path all rests =
@@ -237,7 +237,7 @@ own_challenge_once one_first accounts server_nonce mechanism account first text 
     challenge_once one_first (accounts.entry m account) first server_nonce text other a
     (subst (λ (x : Mechanism). IsChallengeTo (accounts.entry x account) first server_nonce other) same b)
 
--- there is one acceptance, without extensions, of a signature
+-- an acceptance with this signature and no extensions has one text: the one that is due
 plain_text : HasOneServerFinal → (text signature : List ℕ) → IsAuthentic text signature → LacksExtensions (said (accepts text))
     → text ≡ due_text (accept signature)
 plain_text one_last text signature is (other, plain) =
@@ -246,7 +246,7 @@ plain_text one_last text signature is (other, plain) =
     let signatures : signature ≡ other = cc outcome in
     plain.spelled ∙ ap (λ (k : List ℕ). due_text (accept k)) (sym signatures)
 
--- where each of two is one of two that are the same, both are the same
+-- two things are the same, where each is the same as one of two that are the same
 both_same : {X : Type 0} (one other : X) (same also : X) → one ≡ same → other ≡ also → same ≡ also → one ≡ other
 both_same one other same also a b e = a ∙ e ∙ sym b
 

@@ -1,4 +1,4 @@
--- A session is told one thing, up to its outcome.
+-- What a session is told up to its outcome follows from what it was asked: two sessions that were asked the same are told the same.
 use Rattle.std.proofs.Common.{◌≡◌, ◌≢◌, ◌⊎◌, inl, inr, true, ℕ, List, [], ◌∷◌, ◌++◌, refl, sym, ◌∙◌, ap, subst}
 use Rattle.scram_ends.specs.Entry.{Entry}
 use Rattle.scram_ends.specs.First.{IsChallengeTo}

@@ -33,7 +33,7 @@ token_later : (start : TokenFields) (attempts : List Attempt) (o : Option TokenF
 token_later start attempts None leads = absurd leads
 token_later start attempts (Some token) leads = (token, refl, leads)
 
--- what can pass in a token after some attempts could pass in the first token after these attempts and those
+-- a counter that can pass after a legal history of a later token can pass after that history and the attempts before it of the first token
 could_pass : LegalHistoriesJoin → (start : TokenFields) (attempts : List Attempt) (token : TokenFields) → IsAfter start attempts token
     → (history : List Attempt) (moment c : ℕ) → IsMoment moment → IsLegal token history
     → (IsCandidate token history moment c ⊎ IsPairCandidate token history c)
@@ -79,7 +79,7 @@ stays_spent join old new t after name counter used =
     let later = token_later used.token (attempts_of name (t ∷ [])) (token_at new name) leads in
     record { token = later.0; has = later.1; below = still_below join used.token _ later.0 counter later.2 used.below }
 
--- where each in a list has a property, each has what follows from it
+-- where each in a list has a property, and another follows from it, each has the other
 pub all_stay : {X : Type 0} (P Q : X → Type 0) → ((x : X) → P x → Q x) → (xs : List X) → AllByRecursion P xs → AllByRecursion Q xs
 all_stay P Q on [] all = tt
 all_stay P Q on (x ∷ xs) all = (on x all.0, all_stay P Q on xs all.1)

@@ -154,7 +154,7 @@ acceptance_due accounts server_nonce m name client_first server_first client_fin
   plain = ((signature, is), tt);
 }
 
--- a denial is due where its verdict is, with the message that says why
+-- a refusal is due where its verdict is, with the message that says why
 pub denial_due : (accounts : Accounts) (server_nonce : List ℕ) (m : Mechanism) (name client_first server_first client_final : List ℕ)
     (why : Refusal)
     → IsDue (challenged_login (accounts.entry m name) m client_first server_first) client_final (refuse why)

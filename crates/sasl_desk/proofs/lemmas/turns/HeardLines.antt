@@ -1,4 +1,4 @@
--- What came of a line is what came of the event that it was.
+-- What is recorded of a line, and what came of it, is recorded of the event by which the line was sent, and came of that event.
 use Rattle.std.proofs.Common.{◌≡◌, true, false, ℕ, List, refl, sym, subst}
 use Rattle.std.specs.Prelude.{IfOk}
 use Rattle.std.specs.declared.result.Result.{Result}
@@ -18,7 +18,7 @@ use Rattle.sasl_desk.specs.declared.session.Session.{Session}
 use Rattle.sasl_desk.specs.declared.session.event.HearResult.{HearResult}
 use Rattle.sasl_desk.specs.declared.session.event.HearResult.TheVariants.{Answered, ToJudge}
 
--- lines of a client that are one line of the protocol are the same
+-- two lines of a client are the same, where they are the same as lines of the protocol
 pub line_inside : (one other : ClientLine) → from_client one ≡ from_client other → one ≡ other
 line_inside one other same = cc
 

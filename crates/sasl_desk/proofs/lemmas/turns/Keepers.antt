@@ -1,4 +1,4 @@
--- What a keeper told, and a token that it puts back.
+-- What a keeper did with a code: the attempt was judged, and kept or lost; and a token that it puts back.
 use Rattle.std.proofs.Common.{◌≡◌, ◌≢◌, ◌≤◌, ℕ, true, List, [], ◌∷◌, ◌++◌, reverse, refl, sym, ap, subst, ◌∙◌}
 use Rattle.std.specs.declared.option.Option.TheVariants.{None, Some}
 use Rattle.otp_core.specs.Attempt.{CodeTexts}
@@ -22,7 +22,7 @@ use Rattle.sasl_log.proofs.lemmas.steps.Tokens.{reply_by, book_after}
 use Rattle.sasl_log.specs.Tokens.{IsBookAfter}
 use Rattle.sasl_desk.specs.Keeper.{IsAttemptJudged, IsKept}
 
--- the reply to an attempt is told of the account
+-- an attempt that an account's token judged is judged in the book: the reply is the token's, and the new book has the token after it
 pub told_by : (old new : BookFields) (name : List ℕ) (token now : TokenFields) (moment : ℕ) (sent : CodeTexts) (reply : Reply)
     → IsMoment moment
     → token_at old name ≡ Some token → IsTokenAttempt token moment sent reply now → IsChanged old name (with_token now) new
@@ -30,7 +30,7 @@ pub told_by : (old new : BookFields) (name : List ℕ) (token now : TokenFields)
 told_by old new name token now moment sent reply is has attempt put =
     record { is_moment = is; answered = rw has (reply, refl, record { next = now; judged = attempt; kept = put }) }
 
--- nothing is told of an account without a token
+-- an attempt of an account without a token is judged: there is no reply, and the book stays as it was
 pub told_none : (old : BookFields) (name : List ℕ) (moment : ℕ) (sent : CodeTexts) → IsMoment moment → token_at old name ≡ None
     → IsAttemptJudged old (logged_reply_of name moment sent None) old
 told_none old name moment sent is has = record { is_moment = is; answered = rw has (refl, refl) }
@@ -60,7 +60,7 @@ saved_unless_locked (Pass counter) apart = refl
 saved_unless_locked Fail apart = refl
 saved_unless_locked Locked apart = absurd (apart refl)
 
--- LOCKED is told of a book that stays as it was
+-- an attempt that LOCKED answers is judged and kept, and the book and the store stay as they were
 pub told_locked : (IsStored : List ℕ → Type 0) (old : BookFields) (name : List ℕ) (token now : TokenFields) (moment : ℕ) (sent : CodeTexts)
     (reply : Reply) → IsMoment moment
     → token_at old name ≡ Some token → IsTokenAttempt token moment sent reply now → reply ≡ Locked → (was : StoreFacts)

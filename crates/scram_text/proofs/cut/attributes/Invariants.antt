@@ -4,6 +4,7 @@ use Rattle.scram_text.specs.Parts.{parts, parts_of_some}
 use Rattle.scram_text.proofs.lemmas.Extensions.{Leads}
 use Rattle.scram_text.proofs.cut.attributes.Given as goal
 
+-- what holds of the extensions that are left holds of all
 abbrev pub invariant-loop-left : goal.invariant-loop-left
 invariant-loop-left l =
     Leads l.first (parts l.fn.text) l.index l.mandatory (parts_of_some (option_copied l.left))

@@ -4,7 +4,7 @@ use Rattle.otp_core.specs.Hash.{hotp_text_by}
 use Rattle.otp_core.specs.declared.hash.OtpHash.TheVariants.{Sha1}
 use Rattle.otp_core.proofs.token.reply.find_pair_with.Given as goal
 
--- no pair so far has the texts, and this says whether the counter before has the first
+-- no pair so far has the texts, and the flag says whether the counter before has the first text
 pub record IsSought (text_of : ℕ → List ℕ) (from counter : ℕ) (first second : List ℕ) (follows : Bool) : Type 0 where
   pub flag : IsTrue follows ↔ ((w : ℕ) × (counter ≡ w + 1) × (from ≤ w) × (text_of w ≡ first))
   pub none : (w : ℕ) → from ≤ w → w + 1 < counter → text_of w ≡ first → text_of (w + 1) ≡ second → ⊥
